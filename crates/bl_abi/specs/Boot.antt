@@ -9,7 +9,7 @@ use Rattle.bl_load.specs.HandoffFacts.{max_parts}
 use Rattle.bl_load.specs.Value.{HasLimits}
 use Rattle.bl_plan.specs.Limits.{max_entries}
 use Rattle.bl_session.specs.Attempts.{attempt_order, NameEntries}
-use Rattle.bl_session.specs.Memory.{IsMemoryInState}
+use Rattle.bl_session.specs.Memory.{IsMemoryAt}
 use Rattle.bl_session.specs.Menu.{EntryFacts, MenuFacts}
 use Rattle.bl_session.specs.Outcome.{File, missing, whole, size_of, IsOutcome, HasEnded}
 use Rattle.bl_session.specs.Phases.{PhaseFacts, boot_facts, state_at}
@@ -76,7 +76,8 @@ files_misuse given =
 
 -- that of a menu: of its entries, or else of its files
 abbrev pub entries_or_files_misuse : GivenFacts → List EntryRecord → Option Misuse
-entries_or_files_misuse given entries = option_or (entries_misuse given entries) (files_misuse given)
+entries_or_files_misuse given entries =
+    option_or (entries_misuse given entries) (files_misuse given)
 
 -- few entries, each within its limits
 abbrev pub AreFewGiven : GivenFacts → List EntryRecord → Type 0
@@ -109,7 +110,7 @@ pub record HasBootEnded (facts : MachineFacts) (menu : MenuFacts) (files : List 
     (old new : List ℕ) (end : PhaseFacts) : Type 0 where
   pub outcome : HasEnded (state_at new end)
       → IsOutcome (boot_facts facts menu (map size_of files)) files (λ _. None) (state_at new end)
-  pub memory : IsMemoryInState facts.pool (state_at new end) old new
+  pub memory : IsMemoryAt facts.pool (state_at new end) old new
 
 -- a boot on the machine that is given ended so, where no misuse stands: there is room for the
 -- places, memory ends with the machine's, and the machine, the menu and its files have none
@@ -124,7 +125,8 @@ pub record IsBooted (machine : MachineRecord) (regions : List RegionRecord) (giv
   pub allowed : IsMenuAllowed given entries default fallbacks
   pub stored : files_misuse given ≡ None
   pub booted :
-      HasBootEnded facts (menu_given given entries default fallbacks) (given_files given) old new end
+      HasBootEnded facts (menu_given given entries default fallbacks) (given_files given)
+      old new end
 
 -- why there is no menu: the first misuse of its entries and files, or else why these make none
 pub data IsBootMenuFault (given : GivenFacts) (entries : List EntryRecord) (default : ℕ)

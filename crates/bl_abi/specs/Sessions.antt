@@ -100,4 +100,5 @@ abbrev pub TellsOutcome : PhaseFacts → ℕ → (old new : Telling) → Type 0
 TellsOutcome phase status old new =
     MatchBool (nat_lt (length old.places) max_parts)
     ((status ≡ misuse_status FewPlaces) × (new ≡ old))
-    ((status ≡ outcome_status (end_facts phase)) × (new ≡ telling_after_outcome (end_facts phase) old))
+    ((status ≡ outcome_status (end_facts phase))
+    × (new ≡ telling_after_outcome (end_facts phase) old))

@@ -21,7 +21,8 @@ abbrev pub region_begin_hint : ℕ → Region → List ℕ
 region_begin_hint index region = if is_unaligned region.base then region_begin_line index else []
 
 abbrev pub region_end_hint : ℕ → Region → List ℕ
-region_end_hint index region = if is_unaligned (region_end region) then region_end_line index else []
+region_end_hint index region =
+    if is_unaligned (region_end region) then region_end_line index else []
 
 -- of kind usable, which has the number 1
 abbrev pub region_hint : ℕ → Region → List ℕ

@@ -21,7 +21,8 @@ pub record IsTorn (before after : SourceFacts) (old new : List ℕ) : Type 0 whe
   pub begun : TookBeginning old new (spelling written_version handover)
 
 -- what came is no image, and that was said
-pub record IsUnreadable (before after : SourceFacts) (blamed_before blamed_after : List ℕ) : Type 0 where
+pub record IsUnreadable (before after : SourceFacts)
+    (blamed_before blamed_after : List ℕ) : Type 0 where
   pub number : ℕ
   pub bad : IsNoImage before after number
   pub blamed : blamed_after ≡ blamed_before ++ bad_image_line number

@@ -20,7 +20,8 @@ use Rattle.bl_boot.specs.Attempted.{entry_value}
 use Rattle.bl_say.specs.EntryNames.{file_names}
 use Rattle.bl_say.specs.Sought.{SoughtFacts, bytes_found}
 use Rattle.bl_say.specs.declared.told.refusal_detail.RefusalDetail.{RefusalDetail}
-use Rattle.bl_say.specs.declared.told.refusal_detail.RefusalDetail.TheVariants.{Nothing, NoPlace, Frames}
+use Rattle.bl_say.specs.declared.told.refusal_detail.RefusalDetail.TheVariants.{Nothing, NoPlace}
+use Rattle.bl_say.specs.declared.told.refusal_detail.RefusalDetail.TheVariants.{Frames}
 use Rattle.bl_say.specs.declared.told.refusal_detail.ToldRefusal.{ToldRefusal}
 
 -- the value of an entry with what was found for the names of its files
@@ -70,7 +71,8 @@ IsRefusalDetail facts value NoRoom detail = IsPlaceDetail facts value detail
 IsRefusalDetail facts value NoPool detail = IsFramesDetail facts value detail
 IsRefusalDetail facts value _ detail = detail ≡ Nothing
 
-abbrev pub IsRefusalDetailOrNothing : MachineFacts → SoughtFacts → Option Entry → Refusal → RefusalDetail → Type 0
+abbrev pub IsRefusalDetailOrNothing : MachineFacts → SoughtFacts → Option Entry → Refusal
+    → RefusalDetail → Type 0
 IsRefusalDetailOrNothing facts sought None refusal detail = detail ≡ Nothing
 IsRefusalDetailOrNothing facts sought (Some entry) refusal detail =
     IsRefusalDetail facts (value_sought sought entry) refusal detail
@@ -78,7 +80,8 @@ IsRefusalDetailOrNothing facts sought (Some entry) refusal detail =
 -- of an entry of a menu
 abbrev pub HasDetail : MachineFacts → List Entry → SoughtFacts → ToldRefusal → Type 0
 HasDetail facts entries sought told =
-    IsRefusalDetailOrNothing facts sought (slice_get entries told.refused.entry) told.refused.refusal told.detail
+    IsRefusalDetailOrNothing facts sought (slice_get entries told.refused.entry)
+    told.refused.refusal told.detail
 
 -- these refusals are told, each with what is told beside it
 pub record AreToldRefusals (facts : MachineFacts) (entries : List Entry) (sought : SoughtFacts)

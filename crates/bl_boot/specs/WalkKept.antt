@@ -30,7 +30,8 @@ end_of_walk_fault walking.BadInfo = BadImage (walk_fault_number walking.BadInfo)
 end_of_walk_fault walking.BadState = BadImage (walk_fault_number walking.BadState)
 
 -- the walk ends so, and says nothing if it does not end well
-abbrev pub WalkEnds : SourceFacts → SourceFacts → List ℕ → List ℕ → Result (Unit {0}) WalkEnd → Type 0
+abbrev pub WalkEnds : SourceFacts → SourceFacts → List ℕ → List ℕ → Result (Unit {0}) WalkEnd
+    → Type 0
 WalkEnds before after old new (Ok done) = IsWalked before after old new
 WalkEnds before after old new (Err (BadImage number)) = IsBadImage before after number × (new ≡ old)
 WalkEnds before after old new (Err Device) = new ≡ old

@@ -57,7 +57,8 @@ abbrev pub IsBadImage : SourceFacts → SourceFacts → ℕ → Type 0
 IsBadImage before after number = IsNoImage before after number ⊎ ShowsNothing before after number
 
 -- the image is refused, and that was said
-pub record IsBlamed (before after : SourceFacts) (blamed_before blamed_after : List ℕ) : Type 0 where
+pub record IsBlamed (before after : SourceFacts)
+    (blamed_before blamed_after : List ℕ) : Type 0 where
   pub number : ℕ
   pub bad : IsBadImage before after number
   pub blamed : blamed_after ≡ blamed_before ++ bad_image_line number

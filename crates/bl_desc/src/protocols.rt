@@ -30,7 +30,8 @@ pub fn protocol_in(table: &Table) -> Result<Protocol, DescFault>
 /// Whether an entry has no key but those of each entry and of its protocol.
 pub fn has_keys(table: &Table, protocol: Protocol) -> bool
     ensures { result
-        ≡ values.has_only (common_entry_keys ++ (protocol_row protocol).keys) (table_view table.now) }
+        ≡ values.has_only (common_entry_keys ++ (protocol_row protocol).keys)
+        (table_view table.now) }
 {
     match protocol {
         Protocol::Multiboot2 => {

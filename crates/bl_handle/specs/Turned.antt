@@ -5,7 +5,7 @@ use Rattle.bl_mem.specs.Memory.{memory_from}
 use Rattle.bl_session.specs.declared.outcome.Progress.{Progress}
 use Rattle.bl_session.specs.Boot.{EventFacts, StepsOrFails, StartsOrFails, is_taken, attempt_number}
 use Rattle.bl_session.specs.Boot as steps
-use Rattle.bl_session.specs.Memory.{IsMemoryInState}
+use Rattle.bl_session.specs.Memory.{IsMemoryAt}
 use Rattle.bl_session.specs.Phases.{SessionFacts, state_at, not_started}
 use Rattle.bl_handle.specs.declared.handle_fault.HandleFault.{HandleFault}
 use Rattle.bl_handle.specs.Faults.{IsHandleFault}
@@ -24,7 +24,7 @@ pub record IsStarted (old new : Option SessionFacts) (base : ℕ) (before after 
       ≡ steps.progress (attempt_number (state_at (memory_from base before) one.phase))
       (state_at (memory_from base after) other.phase)))
   pub memory : OnOk told (Between old new ⊥ (λ one other. one.phase ≡ not_started
-      → IsMemoryInState one.boot.machine.pool (state_at (memory_from base after) other.phase)
+      → IsMemoryAt one.boot.machine.pool (state_at (memory_from base after) other.phase)
       (memory_from base before) (memory_from base after)))
   pub same : OnOk told (Between old new ⊥ (λ one other. one.phase ≢ not_started
       → memory_from base after ≡ memory_from base before))
@@ -43,6 +43,6 @@ pub record IsStepped (old new : Option SessionFacts) (base : ℕ) (before after 
       (state_at (memory_from base after) other.phase)))
   pub memory : OnOk told (Between old new ⊥ (λ one other. MatchBool
       (is_taken (state_at (memory_from base before) one.phase) event)
-      (IsMemoryInState one.boot.machine.pool (state_at (memory_from base after) other.phase)
+      (IsMemoryAt one.boot.machine.pool (state_at (memory_from base after) other.phase)
       (memory_from base before) (memory_from base after))
       (memory_from base after ≡ memory_from base before)))

@@ -3,7 +3,7 @@ ghost use Rattle.std.specs.Prelude.{◌≡◌, ◌≢◌, IfErr, IfOk, MatchBool
 ghost use Rattle.bl_mem.specs.Memory.{memory_from};
 ghost use Rattle.bl_session.specs.Boot.{StepsOrFails, StartsOrFails, is_taken, attempt_number};
 ghost use Rattle.bl_session.specs.Boot as boot;
-ghost use Rattle.bl_session.specs.Memory.{IsMemoryInState};
+ghost use Rattle.bl_session.specs.Memory.{IsMemoryAt};
 ghost use Rattle.bl_session.specs.Phases.{event_facts, state_at, not_started};
 ghost use Rattle.bl_handle.specs.Faults.{IsMemoryFault, IsMachineMemory};
 
@@ -49,7 +49,7 @@ pub fn start_over<A: Allocator + Copy>(
         (attempt_number (state_at (memory_from base bytes.old) session.old.phase))
         (state_at (memory_from base bytes.new) session.new.phase)) }
     ensures memory { OnOk result (session.old.phase ≡ not_started
-        → IsMemoryInState session.old.boot.machine.pool
+        → IsMemoryAt session.old.boot.machine.pool
         (state_at (memory_from base bytes.new) session.new.phase)
         (memory_from base bytes.old) (memory_from base bytes.new)) }
     ensures same { OnOk result (session.old.phase ≢ not_started
@@ -79,7 +79,7 @@ pub fn event_over<A: Allocator + Copy>(
     ensures memory { OnOk result (MatchBool
         (is_taken (state_at (memory_from base bytes.old) session.old.phase)
         (event_facts event.entry))
-        (IsMemoryInState session.old.boot.machine.pool
+        (IsMemoryAt session.old.boot.machine.pool
         (state_at (memory_from base bytes.new) session.new.phase)
         (memory_from base bytes.old) (memory_from base bytes.new))
         (memory_from base bytes.new ≡ memory_from base bytes.old)) }

@@ -3,7 +3,7 @@ ghost use Rattle.std.specs.Prelude.{◌≡◌, ◌≢◌, IfErr, IfOk, MatchBool
 ghost use Rattle.bl_mem.specs.Memory.{memory_from};
 ghost use Rattle.bl_session.specs.Boot.{StepsOrFails, StartsOrFails, is_taken, attempt_number};
 ghost use Rattle.bl_session.specs.Boot as boot;
-ghost use Rattle.bl_session.specs.Memory.{IsMemoryInState};
+ghost use Rattle.bl_session.specs.Memory.{IsMemoryAt};
 ghost use Rattle.bl_session.specs.Phases.{event_facts, state_at, not_started};
 ghost use Rattle.bl_handle.specs.Faults.{IsHandleFault};
 ghost use Rattle.bl_handle.specs.Handles.{Between};
@@ -36,7 +36,7 @@ impl Handle {
             (attempt_number (state_at (memory_from base bytes.old) old.phase))
             (state_at (memory_from base bytes.new) new.phase))) }
         ensures memory { OnOk result (Between self.old.kept self.new.kept ⊥
-            (λ old new. old.phase ≡ not_started → IsMemoryInState old.boot.machine.pool
+            (λ old new. old.phase ≡ not_started → IsMemoryAt old.boot.machine.pool
             (state_at (memory_from base bytes.new) new.phase)
             (memory_from base bytes.old) (memory_from base bytes.new))) }
         ensures same { OnOk result (Between self.old.kept self.new.kept ⊥
@@ -77,7 +77,7 @@ impl Handle {
         ensures memory { OnOk result (Between self.old.kept self.new.kept ⊥
             (λ old new. MatchBool
             (is_taken (state_at (memory_from base bytes.old) old.phase) (event_facts event.entry))
-            (IsMemoryInState old.boot.machine.pool (state_at (memory_from base bytes.new) new.phase)
+            (IsMemoryAt old.boot.machine.pool (state_at (memory_from base bytes.new) new.phase)
             (memory_from base bytes.old) (memory_from base bytes.new))
             (memory_from base bytes.new ≡ memory_from base bytes.old))) }
     {

@@ -2,7 +2,8 @@
 use Rattle.std.specs.Prelude.{ℕ, Bool, true, false, List, [], ◌∷◌, ◌++◌, ◌==◌, if◌then◌else◌}
 use Rattle.std.specs.Prelude.{replicate}
 use Rattle.bl_mem.specs.LittleEndian.{u32_at}
-use Rattle.bl_image.specs.Fields.{Field, register_field, zero_extended_field, absent_field, wide_register_field}
+use Rattle.bl_image.specs.Fields.{Field, register_field, zero_extended_field, absent_field}
+use Rattle.bl_image.specs.Fields.{wide_register_field}
 use Rattle.bl_image.specs.Fields.{count_field, zero_field}
 
 -- where version, protocol and registers stand in each image
@@ -40,7 +41,8 @@ layout_1 = record { registers = registers_1; count_at = 96; records_at = 104; ma
 unfoldable pub registers_2_narrow : List Field
 registers_2_narrow =
     replicate 9 zero_extended_field ++ (replicate 8 absent_field
-    ++ (replicate 2 zero_extended_field ++ (replicate 3 absent_field ++ replicate 9 zero_extended_field)))
+    ++ (replicate 2 zero_extended_field
+    ++ (replicate 3 absent_field ++ replicate 9 zero_extended_field)))
 
 abbrev pub layout_2_narrow : Layout
 layout_2_narrow = record {

@@ -31,7 +31,8 @@ FaultIn = List ℕ → Option ImageFault
 pub record Shows (fault_in : FaultIn) (old new : SourceFacts) (fault : ImageFault) : Type 0 where
   pub came : List ℕ
   pub comes : Comes old new came
-  pub shown : (bytes : List ℕ) → IsPossibleRest new.rest bytes → fault_in (came ++ bytes) ≡ Some fault
+  pub shown : (bytes : List ℕ) → IsPossibleRest new.rest bytes
+      → fault_in (came ++ bytes) ≡ Some fault
 
 -- a fault of what came; but a device may fail and memory run out at any time
 abbrev pub IsInputFault : FaultIn → SourceFacts → SourceFacts → ImageFault → Type 0

@@ -39,7 +39,8 @@ pub record PassAll (fields : List Field) (old new : SourceFacts) (bytes : List �
       → fields_fault (fields ++ others) (bytes ++ more) ≡ fields_fault others more
 
 -- what was read is the field; or it has a fault, whatever fields follow
-abbrev pub ReadsField : {X : Type 0} → Field → SourceFacts → SourceFacts → (X → List ℕ) → Result X ImageFault
+abbrev pub ReadsField : {X : Type 0} → Field → SourceFacts → SourceFacts → (X → List ℕ)
+    → Result X ImageFault
     → Type 0
 ReadsField field old new spelled result =
     MatchResult result (λ value. Passes field old new (spelled value))

@@ -78,11 +78,13 @@ impl<A: Allocator> Source for MemSource<A> {
         requires { self.old.faults < 2 ^ 64 - 1 }
         ensures within { IfOk result (λ count. count ≤ length out.new) }
         ensures gave { IfOk result
-            (λ count. Comes (mem_source_input self.old) (mem_source_input self.new) (take count out.new)) }
+            (λ count. Comes (mem_source_input self.old) (mem_source_input self.new)
+            (take count out.new)) }
         ensures ended { IfOk result
             (λ count. count ≡ 0 → 1 ≤ length out.new → IsEnded (mem_source_input self.new)) }
         ensures sound { OnOk result (self.new.faults ≡ self.old.faults) }
-        ensures nothing { OnErr result (Comes (mem_source_input self.old) (mem_source_input self.new) []) }
+        ensures nothing { OnErr result
+            (Comes (mem_source_input self.old) (mem_source_input self.new) []) }
         ensures fault { OnErr result (self.new.faults ≡ self.old.faults + 1) }
 
         // As much as it may; a fault exactly where its read has come.

@@ -99,7 +99,9 @@ kernel_entry_base (linux setup) places = address_of Kernel 0 places
 -- the registers as the kernel begins, where the parts have these places
 abbrev pub registers_of : Protocol → Reading → List Place → Registers
 registers_of protocols.Multiboot2 reading places =
-    Bits32 (multiboot2_registers (kernel_entry_base reading places) (address_of Information 0 places))
+    Bits32
+    (multiboot2_registers
+    (kernel_entry_base reading places) (address_of Information 0 places))
 registers_of protocols.Linux reading places =
     Bits32
     (linux_registers
@@ -107,7 +109,8 @@ registers_of protocols.Linux reading places =
 registers_of protocols.Linux64 reading places =
     Bits64
     (linux64_registers
-    (kernel_entry_base reading places + entry_64) (address_of BootParams 0 places) (address_of Gdt 0 places)
+    (kernel_entry_base reading places + entry_64) (address_of BootParams 0 places)
+    (address_of Gdt 0 places)
     (address_of PageTables 0 places))
 
 -- what an entry hands over, where its rows have these places

@@ -45,7 +45,8 @@ handoff_by plan =
 
 -- a part as memory holds it
 abbrev pub part_in : List ℕ → Place → Part
-part_in bytes place = placed_part place (slice_range bytes place.address (place.address + place.length))
+part_in bytes place =
+    placed_part place (slice_range bytes place.address (place.address + place.length))
 
 -- what memory hands over, with this protocol, these registers and places
 abbrev pub handover_in : List ℕ → Protocol → Registers → List Place → Handover

@@ -38,7 +38,8 @@ fn info_of_tags<A: Allocator + Copy>(alloc: A, rest: Rest) -> Result<Info<A>, In
 /// The tags, where the bytes are exactly `total_size` and the reserved word is 0.
 #[tactic(auto, unfolding(crate::specs::Reading::info_of))]
 fn tags_in(bytes: &[u8]) -> Result<Rest, InfoFault>
-    ensures tags { IfOk result (λ rest. spec.info_of bytes.now ≡ spec.info_of_tags (rest_facts rest)) }
+    ensures tags { IfOk result
+        (λ rest. spec.info_of bytes.now ≡ spec.info_of_tags (rest_facts rest)) }
     ensures first_fault { IfErr result (λ fault. spec.info_of bytes.now ≡ Err fault) }
 {
     if bytes.len() < MIN_INFO_SIZE as usize {

@@ -13,7 +13,8 @@ use Rattle.bl_say.specs.Frames.{number_between, frames_line, frames_wanted, name
 use Rattle.bl_say.specs.HandedLines.{role_name}
 use Rattle.bl_say.specs.Sought.{SoughtFacts}
 use Rattle.bl_say.specs.declared.told.refusal_detail.RefusalDetail.{RefusalDetail}
-use Rattle.bl_say.specs.declared.told.refusal_detail.RefusalDetail.TheVariants.{Nothing, NoPlace, Frames}
+use Rattle.bl_say.specs.declared.told.refusal_detail.RefusalDetail.TheVariants.{Nothing, NoPlace}
+use Rattle.bl_say.specs.declared.told.refusal_detail.RefusalDetail.TheVariants.{Frames}
 
 -- ---- a part that finds no place
 

@@ -64,7 +64,8 @@ unattempted_line index =
     ++ codes " is not attempted: neither default nor fallback names it\n"
 
 abbrev pub unattempted_hint_at : Described → ℕ → List ℕ
-unattempted_hint_at description index = if is_attempted description index then [] else unattempted_line index
+unattempted_hint_at description index =
+    if is_attempted description index then [] else unattempted_line index
 
 abbrev pub unattempted_hints : Described → List ℕ
 unattempted_hints description =

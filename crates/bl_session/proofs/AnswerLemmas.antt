@@ -12,7 +12,7 @@ use Rattle.bl_session.specs.Boot.{is_running, progress}
 use Rattle.bl_session.specs.Outcome.{File}
 use Rattle.bl_session.specs.History.{Item, came, failed, nothing, file_under, IsPieceOf}
 use Rattle.bl_session.specs.Asked.{orders, orders_after}
-use Rattle.bl_session.specs.Memory.{IsMemoryInState}
+use Rattle.bl_session.specs.Memory.{IsMemoryAt}
 use Rattle.bl_session.specs.Phases.{PhaseFacts, not_started, waits, hands_over, has_none}
 use Rattle.bl_session.specs.Phases.{lacks_memory, state_at, is_waiting}
 use Rattle.bl_session.specs.Run.{RunState, run_state_of, IsAnswer, IsEventOf}
@@ -84,7 +84,7 @@ running_waiting bytes (has_none refusals) w = absurd cc
 running_waiting bytes lacks_memory w = absurd cc
 
 pub waiting_memory : (pool : Range ℕ) (phase : PhaseFacts) (bytes old new : List ℕ)
-    → is_waiting phase ≡ true → IsMemoryInState pool (state_at bytes phase) old new
+    → is_waiting phase ≡ true → IsMemoryAt pool (state_at bytes phase) old new
     → IsSameOutside pool old new
 waiting_memory pool (waits entry rest earlier stage) bytes old new w memory = memory
 waiting_memory pool not_started bytes old new w memory = absurd cc

@@ -8,7 +8,7 @@ use Rattle.bl_session.specs.declared.outcome.Progress.TheVariants.{Waiting}
 use Rattle.bl_session.specs.declared.outcome.RefusedEntry.{RefusedEntry}
 use Rattle.bl_session.specs.Boot.{BootFacts, EventFacts, unstarted, running, is_taken, StepsOrFails}
 use Rattle.bl_session.specs.Boot.{attempt_number, progress}
-use Rattle.bl_session.specs.Memory.{IsMemoryInState}
+use Rattle.bl_session.specs.Memory.{IsMemoryAt}
 use Rattle.bl_session.specs.Phases.{PhaseFacts, not_started, waits, hands_over, has_none}
 use Rattle.bl_session.specs.Phases.{lacks_memory, state_at, is_waiting}
 use Rattle.bl_session.specs.TurnsKept.{attempts_left}
@@ -98,8 +98,8 @@ pub hears_memory : (pool : Range ℕ) (facts : BootFacts) (event : EventFacts) (
     (before after : List ℕ) → is_waiting old ≡ true
     → StepsOrFails facts (state_at before old) event (state_at after new)
     → MatchBool (is_taken (state_at before old) event)
-    (IsMemoryInState pool (state_at after new) before after) (after ≡ before)
-    → IsMemoryInState pool (state_at after new) before after
+    (IsMemoryAt pool (state_at after new) before after) (after ≡ before)
+    → IsMemoryAt pool (state_at after new) before after
 hears_memory pool facts event (waits entry rest earlier stage) new before after w step memory =
     memory_step pool facts entry rest earlier (piece_states before stage) event (state_at after new)
     before

@@ -10,7 +10,7 @@ use Rattle.bl_load.specs.After.{IsAfter}
 use Rattle.bl_load.specs.Handover.{Part}
 use Rattle.bl_stage.specs.Ranges.{IsSameOutside, scrubbed}
 use Rattle.bl_session.specs.Boot.{State, running, handed_over, none_left, unstarted, out_of_memory}
-use Rattle.bl_session.specs.Memory.{IsMemoryInState}
+use Rattle.bl_session.specs.Memory.{IsMemoryAt}
 
 -- ---- memory
 
@@ -45,7 +45,7 @@ after_on pool parts old mid new first second = record {
 }
 
 pub memory_on : (pool : Range ℕ) (state : State) (old mid new : List ℕ) → IsSameOutside pool old mid
-    → IsMemoryInState pool state mid new → IsMemoryInState pool state old new
+    → IsMemoryAt pool state mid new → IsMemoryAt pool state old new
 memory_on pool unstarted old mid new first second = same_on pool old mid new first second
 memory_on pool (running entry rest earlier files) old mid new first second =
     same_on pool old mid new first second
@@ -57,8 +57,8 @@ memory_on pool out_of_memory old mid new first second = same_on pool old mid new
 
 pub memory_later : {P E : Type 0} (pool : Range ℕ) (old mid new : List ℕ) (result : Result P E)
     (state : P → State)
-    → IsSameOutside pool old mid → IfOk result (λ phase. IsMemoryInState pool (state phase) mid new)
-    → IfOk result (λ phase. IsMemoryInState pool (state phase) old new)
+    → IsSameOutside pool old mid → IfOk result (λ phase. IsMemoryAt pool (state phase) mid new)
+    → IfOk result (λ phase. IsMemoryAt pool (state phase) old new)
 memory_later pool old mid new (Err e) state first second = tt
 memory_later pool old mid new (Ok phase) state first second =
     memory_on pool (state phase) old mid new first second

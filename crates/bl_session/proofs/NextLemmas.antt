@@ -16,7 +16,7 @@ use Rattle.bl_session.specs.Boot.{BootFacts, EventFacts, fault, State, unstarted
 use Rattle.bl_session.specs.Boot.{handed_over, none_left, out_of_memory, is_wanted, is_taken, Takes}
 use Rattle.bl_session.specs.Boot.{StepsOrFails, progress}
 use Rattle.bl_session.specs.Asked.{first_ticket}
-use Rattle.bl_session.specs.Memory.{IsMemoryInState}
+use Rattle.bl_session.specs.Memory.{IsMemoryAt}
 use Rattle.bl_session.specs.TurnsKept.{attempts_left}
 use Rattle.bl_session.proofs.MissingLemmas.{first_wanted}
 use Rattle.bl_session.proofs.StepFaultLemmas.{ends_taken}
@@ -112,7 +112,7 @@ memory_if : (pool : Range ℕ) (facts : BootFacts) (entry : ℕ) (rest : List �
     (old new : List ℕ) (wanted : Bool)
     → is_wanted earlier files event ≡ wanted
     → StepsOrFails facts (running entry rest earlier files) event state
-    → MatchBool wanted (IsMemoryInState pool state old new) (new ≡ old) → IsMemoryInState pool state old new
+    → MatchBool wanted (IsMemoryAt pool state old new) (new ≡ old) → IsMemoryAt pool state old new
 memory_if pool facts entry rest earlier files event state old new true is step memory = memory
 memory_if pool facts entry rest earlier files event state old new false is (inl steps) same =
     let stays =
@@ -120,7 +120,7 @@ memory_if pool facts entry rest earlier files event state old new false is (inl 
     (λ (b : Bool).
     MatchBool b (Takes facts entry rest earlier files event state)
     (state ≡ running entry rest earlier files)) is steps in
-    subst (λ (s : State). IsMemoryInState pool s old new) (sym stays)
+    subst (λ (s : State). IsMemoryAt pool s old new) (sym stays)
     (subst (λ (m : List ℕ). IsSameOutside pool old m) (sym same) (λ a outside. refl))
 memory_if pool facts entry rest earlier files event state old new false is (inr fails) same =
     let taken = ends_taken (running entry rest earlier files) event fails.1 in
@@ -131,8 +131,8 @@ pub memory_step : (pool : Range ℕ) (facts : BootFacts) (entry : ℕ) (rest : L
     (state : State)
     (old new : List ℕ)
     → StepsOrFails facts (running entry rest earlier files) event state
-    → MatchBool (is_taken (running entry rest earlier files) event) (IsMemoryInState pool state old new)
-    (new ≡ old) → IsMemoryInState pool state old new
+    → MatchBool (is_taken (running entry rest earlier files) event) (IsMemoryAt pool state old new)
+    (new ≡ old) → IsMemoryAt pool state old new
 memory_step pool facts entry rest earlier files event state old new step memory =
     memory_if pool facts entry rest earlier files event state old new
     (is_wanted earlier files event) refl step memory

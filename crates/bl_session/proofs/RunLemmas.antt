@@ -12,7 +12,7 @@ use Rattle.bl_session.specs.Outcome.{File, missing, size_of}
 use Rattle.bl_session.specs.Attempts.{files_named}
 use Rattle.bl_session.specs.Menu.{MenuFacts}
 use Rattle.bl_session.specs.History.{Item}
-use Rattle.bl_session.specs.Memory.{IsMemoryInState}
+use Rattle.bl_session.specs.Memory.{IsMemoryAt}
 use Rattle.bl_session.specs.Asked.{orders}
 use Rattle.bl_session.specs.Phases.{PhaseFacts, not_started, state_at, is_waiting, boot_facts}
 use Rattle.bl_session.specs.Run.{RunState, run_state_of, IsRun}
@@ -157,9 +157,9 @@ room_on start end old new had kept = λ a low high. kept a (had a low high)
 
 -- after an attempt that waited
 pub memory_later : (pool : Range ℕ) (old new : PhaseFacts) (first before after : List ℕ)
-    → is_waiting old ≡ true → IsMemoryInState pool (state_at before old) first before
-    → IsMemoryInState pool (state_at after new) before after
-    → IsMemoryInState pool (state_at after new) first after
+    → is_waiting old ≡ true → IsMemoryAt pool (state_at before old) first before
+    → IsMemoryAt pool (state_at after new) before after
+    → IsMemoryAt pool (state_at after new) first after
 memory_later pool old new first before after w so_far more =
     memory_on pool (state_at after new) first before after
     (waiting_memory pool old before first before w so_far) more

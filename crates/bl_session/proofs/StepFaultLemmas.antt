@@ -11,7 +11,7 @@ use Rattle.bl_session.specs.Pieces.{with_piece, are_whole}
 use Rattle.bl_session.specs.Boot.{BootFacts, EventFacts, piece, fault, State, unstarted, running}
 use Rattle.bl_session.specs.Boot.{handed_over, none_left, out_of_memory, Begins, Steps, is_wanted}
 use Rattle.bl_session.specs.Boot.{is_taken, ends_attempt}
-use Rattle.bl_session.specs.Memory.{IsMemoryInState}
+use Rattle.bl_session.specs.Memory.{IsMemoryAt}
 use Rattle.bl_session.proofs.StepLemmas.{by_test}
 
 -- ---- a fault
@@ -62,7 +62,7 @@ ends_taken out_of_memory event e = absurd cc
 
 pub memory_lacking : (pool : Range ℕ) (state : State) (event : EventFacts) (old new : List ℕ)
     → ends_attempt state event ≡ true → IsSameOutside pool old new
-    → MatchBool (is_taken state event) (IsMemoryInState pool out_of_memory old new) (new ≡ old)
+    → MatchBool (is_taken state event) (IsMemoryAt pool out_of_memory old new) (new ≡ old)
 memory_lacking pool state event old new e outside =
-    by_test true (is_taken state event) (IsMemoryInState pool out_of_memory old new) (new ≡ old)
+    by_test true (is_taken state event) (IsMemoryAt pool out_of_memory old new) (new ≡ old)
     (ends_taken state event e) outside

@@ -16,7 +16,7 @@ use Rattle.bl_session.specs.declared.ticket.Ticket.{Ticket}
 use Rattle.bl_session.specs.Pieces.{awaits, piece_state_of, with_piece, are_whole}
 use Rattle.bl_session.specs.Boot.{BootFacts, EventFacts, piece, State, running, Begins, Continues}
 use Rattle.bl_session.specs.Boot.{Steps, is_wanted, ends_attempt}
-use Rattle.bl_session.specs.Memory.{IsMemoryInState}
+use Rattle.bl_session.specs.Memory.{IsMemoryAt}
 use Rattle.bl_session.proofs.KeptMemoryLemmas.{memory_on, same_on}
 use Rattle.bl_session.proofs.StoredLemmas.{stored, not_stored, put_with}
 
@@ -139,8 +139,8 @@ lacks_piece entry rest earlier files after ticket bytes (Err e) wanted is whole 
 -- memory after a wanted event
 pub memory_taken : {P E : Type 0} (pool : Range ℕ) (wanted : Bool) (old mid new : List ℕ)
     (result : Result P E) (state : P → State) → wanted ≡ true → IsSameOutside pool old mid
-    → IfOk result (λ phase. IsMemoryInState pool (state phase) mid new)
-    → IfOk result (λ phase. MatchBool wanted (IsMemoryInState pool (state phase) old new) (new ≡ old))
+    → IfOk result (λ phase. IsMemoryAt pool (state phase) mid new)
+    → IfOk result (λ phase. MatchBool wanted (IsMemoryAt pool (state phase) old new) (new ≡ old))
 memory_taken pool wanted old mid new (Err e) state is first second = tt
 memory_taken pool wanted old mid new (Ok phase) state is first second =
     by_test true wanted _ (new ≡ old) is (memory_on pool (state phase) old mid new first second)

@@ -7,9 +7,10 @@ use Rattle.bl_session.specs.Boot.{State, unstarted, running, handed_over, none_l
 
 -- after a handover the parts, 0 elsewhere in the pool, and each other byte as before; where no
 -- entry is left the same with no parts; else no byte outside the pool changed
-abbrev pub IsMemoryInState : Range ℕ → State → (old new : List ℕ) → Type 0
-IsMemoryInState pool unstarted old new = IsSameOutside pool old new
-IsMemoryInState pool (running entry rest earlier files) old new = IsSameOutside pool old new
-IsMemoryInState pool (handed_over entry earlier handover) old new = IsAfter pool handover.parts old new
-IsMemoryInState pool (none_left earlier) old new = IsAfter pool [] old new
-IsMemoryInState pool out_of_memory old new = IsSameOutside pool old new
+abbrev pub IsMemoryAt : Range ℕ → State → (old new : List ℕ) → Type 0
+IsMemoryAt pool unstarted old new = IsSameOutside pool old new
+IsMemoryAt pool (running entry rest earlier files) old new = IsSameOutside pool old new
+IsMemoryAt pool (handed_over entry earlier handover) old new =
+    IsAfter pool handover.parts old new
+IsMemoryAt pool (none_left earlier) old new = IsAfter pool [] old new
+IsMemoryAt pool out_of_memory old new = IsSameOutside pool old new

@@ -5,7 +5,7 @@ ghost use Rattle.bl_stage.specs.Ranges.{IsSameOutside};
 ghost use Rattle.bl_stage.specs.PieceStates.{piece_states};
 ghost use Rattle.bl_session.specs.Boot.{Begins, Continues};
 ghost use Rattle.bl_session.specs.Pieces.{are_whole};
-ghost use Rattle.bl_session.specs.Memory.{IsMemoryInState};
+ghost use Rattle.bl_session.specs.Memory.{IsMemoryAt};
 ghost use Rattle.bl_session.specs.PhasesKept.{facts_of_boot, state_in, phase_by};
 ghost use Rattle.bl_session.specs.PhasesKept.{IsPhaseKept, IsWaiting};
 
@@ -33,7 +33,7 @@ pub fn begin<M: PhysMem, A: Allocator + Copy>(
     ensures begun { IfOk result (λ phase. Begins (facts_of_boot boot.now)
         (drop next boot.now.menu.now.attempts) earlier.items
         (state_in boot.now (M.bytes memory.new) phase)) }
-    ensures memory { IfOk result (λ phase. IsMemoryInState boot.now.machine.now.pool
+    ensures memory { IfOk result (λ phase. IsMemoryAt boot.now.machine.now.pool
         (state_in boot.now (M.bytes memory.new) phase)
         (M.bytes memory.old) (M.bytes memory.new)) }
     ensures phase { IfOk result (IsPhaseKept boot.now.machine.now boot.now.menu.now) }
@@ -95,7 +95,7 @@ pub fn refuse<M: PhysMem, A: Allocator + Copy>(
         (running.old.earlier.items
         ++ record { entry = running.old.entry; refusal = refusal } ∷ [])
         (state_in boot.now (M.bytes memory.new) (phase_by running.new ended))) }
-    ensures memory { IfOk result (λ ended. IsMemoryInState boot.now.machine.now.pool
+    ensures memory { IfOk result (λ ended. IsMemoryAt boot.now.machine.now.pool
         (state_in boot.now (M.bytes memory.new) (phase_by running.new ended))
         (M.bytes memory.old) (M.bytes memory.new)) }
     ensures phase { IfOk result (λ ended.
@@ -129,7 +129,7 @@ pub fn settle<M: PhysMem, A: Allocator + Copy>(
         running.old.entry (drop running.old.next boot.now.menu.now.attempts)
         running.old.earlier.items (piece_states (M.bytes memory.old) running.old.stage)
         (state_in boot.now (M.bytes memory.new) (phase_by running.new ended))) }
-    ensures memory { IfOk result (λ ended. IsMemoryInState boot.now.machine.now.pool
+    ensures memory { IfOk result (λ ended. IsMemoryAt boot.now.machine.now.pool
         (state_in boot.now (M.bytes memory.new) (phase_by running.new ended))
         (M.bytes memory.old) (M.bytes memory.new)) }
     ensures phase { IfOk result (λ ended.

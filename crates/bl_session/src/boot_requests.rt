@@ -83,7 +83,8 @@ impl<'a, A: Allocator + Copy> Boot<'a, A> {
     pub fn first_missing_ticket(&self, phase: &Phase<A>) -> Ticket
         requires standing { IsPhaseKept self.now.machine.now self.now.menu.now phase.now }
         requires waiting { is_waiting (phase_facts self.now.menu.now.attempts phase.now) ≡ true }
-        ensures { (bytes : List ℕ) → first_awaited_ticket (state_in self.now bytes phase.now) ≡ Some result }
+        ensures { (bytes : List ℕ) → first_awaited_ticket (state_in self.now bytes phase.now)
+            ≡ Some result }
     {
         match phase {
             Phase::Waits(waiting) => {

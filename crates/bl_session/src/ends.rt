@@ -12,7 +12,8 @@ use std::alloc::Allocator;
 
 /// The end, if a phase is one.
 pub fn end_of<A: Allocator>(phase: &Phase<A>) -> Option<Result<&Outcome<A>, &BootFault<A>>>
-    ensures end { (attempts : List ℕ) → told_end result ≡ end_facts (phase_facts attempts phase.now) }
+    ensures end { (attempts : List ℕ)
+        → told_end result ≡ end_facts (phase_facts attempts phase.now) }
     ensures inside { (machine : MachineFacts) → (menu : MenuFacts)
         → IsPhaseKept machine menu phase.now
         → IfSome result (λ end. IfOk end (λ outcome.

@@ -5,7 +5,7 @@ ghost use Rattle.bl_mem.specs.Memory.{HasRoom, KeepsSizeAndRoom};
 ghost use Rattle.bl_stage.specs.Ranges.{IsSameOutside};
 ghost use Rattle.bl_stage.specs.PieceStates.{piece_states};
 ghost use Rattle.bl_session.specs.Boot.{Steps, piece, fault, is_wanted, is_taken, ends_attempt};
-ghost use Rattle.bl_session.specs.Memory.{IsMemoryInState};
+ghost use Rattle.bl_session.specs.Memory.{IsMemoryAt};
 ghost use Rattle.bl_session.specs.Phases.{event_facts};
 ghost use Rattle.bl_session.specs.PhasesKept.{facts_of_boot, running_in, state_in, phase_by};
 ghost use Rattle.bl_session.specs.PhasesKept.{IsPhaseKept, IsWaiting, LacksPiece};
@@ -65,7 +65,7 @@ fn take_piece<M: PhysMem, A: Allocator + Copy>(
     ensures memory { IfOk result (λ ended. MatchBool
         (is_taken (running_in boot.now (M.bytes memory.old) running.old)
         (piece ticket bytes.now))
-        (IsMemoryInState boot.now.machine.now.pool
+        (IsMemoryAt boot.now.machine.now.pool
         (state_in boot.now (M.bytes memory.new) (phase_by running.new ended))
         (M.bytes memory.old) (M.bytes memory.new))
         (M.bytes memory.new ≡ M.bytes memory.old)) }
@@ -108,7 +108,7 @@ fn take_fault<M: PhysMem, A: Allocator + Copy>(
         (running_in boot.now (M.bytes memory.old) running.old) (fault ticket) ≡ true) }
     ensures memory { IfOk result (λ ended. MatchBool
         (is_taken (running_in boot.now (M.bytes memory.old) running.old) (fault ticket))
-        (IsMemoryInState boot.now.machine.now.pool
+        (IsMemoryAt boot.now.machine.now.pool
         (state_in boot.now (M.bytes memory.new) (phase_by running.new ended))
         (M.bytes memory.old) (M.bytes memory.new))
         (M.bytes memory.new ≡ M.bytes memory.old)) }
@@ -147,7 +147,7 @@ pub fn take<M: PhysMem, A: Allocator + Copy>(
     ensures memory { IfOk result (λ ended. MatchBool
         (is_taken (running_in boot.now (M.bytes memory.old) running.old)
         (event_facts event.entry))
-        (IsMemoryInState boot.now.machine.now.pool
+        (IsMemoryAt boot.now.machine.now.pool
         (state_in boot.now (M.bytes memory.new) (phase_by running.new ended))
         (M.bytes memory.old) (M.bytes memory.new))
         (M.bytes memory.new ≡ M.bytes memory.old)) }

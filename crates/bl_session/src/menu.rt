@@ -5,7 +5,8 @@ ghost use Rattle.std.specs.List.{list_any};
 ghost use Rattle.bl_load.specs.Offered.{IsOfferedEntry, IsOffered};
 ghost use Rattle.bl_load.specs.Value.{IsWithinLimits};
 ghost use Rattle.bl_session.specs.Menu.{facts_of, entry_at};
-ghost use Rattle.bl_session.specs.Attempts.{attempt_order, AreWithinLimits, NameEntries, HasMenuFault};
+ghost use Rattle.bl_session.specs.Attempts.{attempt_order, AreWithinLimits, NameEntries};
+ghost use Rattle.bl_session.specs.Attempts.{HasMenuFault};
 ghost use Rattle.bl_session.specs.Attempts as attempts;
 
 use crate::menu::fault::{is_small, name_entries};

@@ -4,7 +4,7 @@ ghost use Rattle.std.specs.Prelude.{length, option_map};
 ghost use Rattle.bl_mem.specs.Memory.{HasRoom, KeepsSizeAndRoom};
 ghost use Rattle.bl_session.specs.Boot.{StepsOrFails, StartsOrFails, is_taken, attempt_number};
 ghost use Rattle.bl_session.specs.Boot as boot;
-ghost use Rattle.bl_session.specs.Memory.{IsMemoryInState};
+ghost use Rattle.bl_session.specs.Memory.{IsMemoryAt};
 ghost use Rattle.bl_session.specs.Phases.{boot_facts, event_facts, state_at, is_waiting};
 ghost use Rattle.bl_session.specs.Phases.{end_facts, told_end, not_started, LiesWithin};
 ghost use Rattle.bl_session.specs.Requests.{first_request, request_after};
@@ -94,7 +94,7 @@ impl<A: Allocator + Copy> OwnedSession<A> {
             (attempt_number (state_at (M.bytes memory.old) self.old.phase))
             (state_at (M.bytes memory.new) self.new.phase) }
         ensures memory { self.old.phase ≡ not_started
-            → IsMemoryInState self.old.boot.machine.pool (state_at (M.bytes memory.new) self.new.phase)
+            → IsMemoryAt self.old.boot.machine.pool (state_at (M.bytes memory.new) self.new.phase)
             (M.bytes memory.old) (M.bytes memory.new) }
         ensures unchanged { self.old.phase ≢ not_started
             → (self.new ≡ self.old) × (M.bytes memory.new ≡ M.bytes memory.old) }
@@ -126,7 +126,7 @@ impl<A: Allocator + Copy> OwnedSession<A> {
             (state_at (M.bytes memory.new) self.new.phase) }
         ensures memory { MatchBool
             (is_taken (state_at (M.bytes memory.old) self.old.phase) (event_facts event.entry))
-            (IsMemoryInState self.old.boot.machine.pool (state_at (M.bytes memory.new) self.new.phase)
+            (IsMemoryAt self.old.boot.machine.pool (state_at (M.bytes memory.new) self.new.phase)
             (M.bytes memory.old) (M.bytes memory.new))
             (M.bytes memory.new ≡ M.bytes memory.old) }
         ensures unchanged { is_taken (state_at (M.bytes memory.old) self.old.phase)

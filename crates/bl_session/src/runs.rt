@@ -6,7 +6,7 @@ ghost use Rattle.std.specs.List.{range_with_len};
 ghost use Rattle.bl_mem.specs.Memory.{KeepsSizeAndRoom};
 ghost use Rattle.bl_stage.specs.Ranges.{IsSameOutside};
 ghost use Rattle.bl_session.specs.Boot.{out_of_memory};
-ghost use Rattle.bl_session.specs.Memory.{IsMemoryInState};
+ghost use Rattle.bl_session.specs.Memory.{IsMemoryAt};
 ghost use Rattle.bl_session.specs.Faithful.{IsFaithful};
 ghost use Rattle.bl_session.specs.Outcome.{Faults, IsOutcome, HasEnded, missing};
 ghost use Rattle.bl_session.specs.Outcome as outcome;
@@ -58,7 +58,7 @@ fn run_session<'a, M: PhysMem, S: Store, A: Allocator + Copy>(
     ensures machine { IfOk result (λ session. session.boot.machine ≡ machine.now) }
     ensures started { IfOk result (λ session. session.phase ≢ not_started) }
     ensures ended { IfOk result (λ session. is_waiting session.phase ≡ false) }
-    ensures memory { IfOk result (λ session. IsMemoryInState machine.now.pool
+    ensures memory { IfOk result (λ session. IsMemoryAt machine.now.pool
         (state_at (M.bytes memory.new) session.phase)
         (M.bytes memory.old) (M.bytes memory.new)) }
     ensures lacking { OnErr result (IsRun
@@ -123,7 +123,7 @@ pub fn run<M: PhysMem, S: Store, A: Allocator + Copy>(
         → HasEnded (state_at (M.bytes memory.new) (boot_end result))
         → IsOutcome (boot_facts machine.now menu.now (map outcome.size_of (S.files store.old)))
         (S.files store.old) (λ _. None) (state_at (M.bytes memory.new) (boot_end result)) }
-    ensures memory { IsMemoryInState machine.now.pool (state_at (M.bytes memory.new) (boot_end result))
+    ensures memory { IsMemoryAt machine.now.pool (state_at (M.bytes memory.new) (boot_end result))
         (M.bytes memory.old) (M.bytes memory.new) }
     ensures inside { IfOk result (λ outcome. All (λ place.
         place.address + place.length ≤ machine.now.size) outcome.handoff.places) }

@@ -4,9 +4,10 @@ ghost use Rattle.std.specs.Prelude.{option_map};
 ghost use Rattle.bl_mem.specs.Memory.{HasRoom, KeepsSizeAndRoom};
 ghost use Rattle.bl_session.specs.Boot.{StepsOrFails, StartsOrFails, is_taken, attempt_number};
 ghost use Rattle.bl_session.specs.Boot as boot;
-ghost use Rattle.bl_session.specs.Memory.{IsMemoryInState};
+ghost use Rattle.bl_session.specs.Memory.{IsMemoryAt};
 ghost use Rattle.bl_session.specs.Phases.{boot_facts, event_facts, state_at, is_waiting};
-ghost use Rattle.bl_session.specs.Phases.{phase_facts, end_facts, told_end, not_started, LiesWithin};
+ghost use Rattle.bl_session.specs.Phases.{phase_facts, end_facts, told_end, not_started};
+ghost use Rattle.bl_session.specs.Phases.{LiesWithin};
 ghost use Rattle.bl_session.specs.Run.{boot_end};
 
 use crate::ends::{end_of, into_end};
@@ -84,7 +85,7 @@ impl<'a, A: Allocator + Copy> Session<'a, A> {
             (attempt_number (state_at (M.bytes memory.old) self.old.phase))
             (state_at (M.bytes memory.new) self.new.phase) }
         ensures memory { self.old.phase ≡ not_started
-            → IsMemoryInState self.old.boot.machine.pool (state_at (M.bytes memory.new) self.new.phase)
+            → IsMemoryAt self.old.boot.machine.pool (state_at (M.bytes memory.new) self.new.phase)
             (M.bytes memory.old) (M.bytes memory.new) }
         ensures unchanged { self.old.phase ≢ not_started
             → (self.new ≡ self.old) × (M.bytes memory.new ≡ M.bytes memory.old) }
@@ -120,7 +121,7 @@ impl<'a, A: Allocator + Copy> Session<'a, A> {
             (state_at (M.bytes memory.new) self.new.phase) }
         ensures memory { MatchBool
             (is_taken (state_at (M.bytes memory.old) self.old.phase) (event_facts event.entry))
-            (IsMemoryInState self.old.boot.machine.pool (state_at (M.bytes memory.new) self.new.phase)
+            (IsMemoryAt self.old.boot.machine.pool (state_at (M.bytes memory.new) self.new.phase)
             (M.bytes memory.old) (M.bytes memory.new))
             (M.bytes memory.new ≡ M.bytes memory.old) }
         ensures unchanged { is_taken (state_at (M.bytes memory.old) self.old.phase)

@@ -71,7 +71,8 @@ impl<'a, A: Allocator + Copy> Session<'a, A> {
     /// The ticket of the first piece that the attempt awaits.
     pub(crate) fn first_missing_ticket(&self) -> Ticket
         requires { is_waiting self.now.phase ≡ true }
-        ensures { (bytes : List ℕ) → first_awaited_ticket (state_at bytes self.now.phase) ≡ Some result }
+        ensures { (bytes : List ℕ) → first_awaited_ticket (state_at bytes self.now.phase)
+            ≡ Some result }
     {
         let boot = Boot {
             alloc: self.alloc,

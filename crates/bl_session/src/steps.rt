@@ -6,7 +6,7 @@ ghost use Rattle.bl_stage.specs.Ranges.{IsSameOutside};
 ghost use Rattle.bl_session.specs.Boot.{is_taken, attempt_number, Begins};
 ghost use Rattle.bl_session.specs.Boot.{StepsOrFails, StartsOrFails};
 ghost use Rattle.bl_session.specs.Boot as boot_specs;
-ghost use Rattle.bl_session.specs.Memory.{IsMemoryInState};
+ghost use Rattle.bl_session.specs.Memory.{IsMemoryAt};
 ghost use Rattle.bl_session.specs.Phases.{event_facts, phase_facts};
 ghost use Rattle.bl_session.specs.Phases.{is_waiting, not_started};
 ghost use Rattle.bl_session.specs.PhasesKept.{facts_of_boot, state_in, IsPhaseKept};
@@ -41,7 +41,7 @@ pub fn advance<M: PhysMem, A: Allocator + Copy>(
     ensures memory { MatchBool
         (is_taken (state_in boot.now (M.bytes memory.old) phase.old)
         (event_facts event.entry))
-        (IsMemoryInState boot.now.machine.now.pool (state_in boot.now (M.bytes memory.new) phase.new)
+        (IsMemoryAt boot.now.machine.now.pool (state_in boot.now (M.bytes memory.new) phase.new)
         (M.bytes memory.old) (M.bytes memory.new))
         (M.bytes memory.new ≡ M.bytes memory.old) }
     ensures unchanged { is_taken (state_in boot.now (M.bytes memory.old) phase.old)
@@ -91,7 +91,7 @@ fn begin_all<M: PhysMem, A: Allocator + Copy>(
     requires { length (M.bytes memory.old) ≡ boot.now.machine.now.size }
     ensures begun { IfOk result (λ phase. Begins (facts_of_boot boot.now)
         boot.now.menu.now.attempts [] (state_in boot.now (M.bytes memory.new) phase)) }
-    ensures memory { IfOk result (λ phase. IsMemoryInState boot.now.machine.now.pool
+    ensures memory { IfOk result (λ phase. IsMemoryAt boot.now.machine.now.pool
         (state_in boot.now (M.bytes memory.new) phase)
         (M.bytes memory.old) (M.bytes memory.new)) }
     ensures phase { IfOk result (IsPhaseKept boot.now.machine.now boot.now.menu.now) }
@@ -121,7 +121,7 @@ pub fn begin_first<M: PhysMem, A: Allocator + Copy>(
         (attempt_number (state_in boot.now (M.bytes memory.old) phase.old))
         (state_in boot.now (M.bytes memory.new) phase.new) }
     ensures memory { phase_facts boot.now.menu.now.attempts phase.old ≡ not_started
-        → IsMemoryInState boot.now.machine.now.pool (state_in boot.now (M.bytes memory.new) phase.new)
+        → IsMemoryAt boot.now.machine.now.pool (state_in boot.now (M.bytes memory.new) phase.new)
         (M.bytes memory.old) (M.bytes memory.new) }
     ensures same { phase_facts boot.now.menu.now.attempts phase.old ≢ not_started
         → (phase.new ≡ phase.old) × (M.bytes memory.new ≡ M.bytes memory.old) }

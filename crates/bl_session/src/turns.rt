@@ -5,7 +5,7 @@ ghost use Rattle.bl_mem.specs.Memory.{HasRoom, KeepsSizeAndRoom};
 ghost use Rattle.bl_stage.specs.Ranges.{IsSameOutside};
 ghost use Rattle.bl_session.specs.Boot.{StepsOrFails, attempt_number, is_running};
 ghost use Rattle.bl_session.specs.Boot as boot;
-ghost use Rattle.bl_session.specs.Memory.{IsMemoryInState};
+ghost use Rattle.bl_session.specs.Memory.{IsMemoryAt};
 ghost use Rattle.bl_session.specs.Asked.{orders_after};
 ghost use Rattle.bl_session.specs.Phases.{event_facts, state_at, is_waiting, not_started};
 ghost use Rattle.bl_session.specs.Run.{RunState, run_state_of};
@@ -43,7 +43,7 @@ fn hear<M: PhysMem, A: Allocator + Copy>(
         → attempts_left (state_at (M.bytes memory.new) session.new.phase)
         < attempts_left (state_at (M.bytes memory.old) session.old.phase) }
     ensures started { session.new.phase ≢ not_started }
-    ensures memory { IsMemoryInState session.old.boot.machine.pool
+    ensures memory { IsMemoryAt session.old.boot.machine.pool
         (state_at (M.bytes memory.new) session.new.phase)
         (M.bytes memory.old) (M.bytes memory.new) }
     ensures kept { KeepsSizeAndRoom M.lender M.bytes M.room memory.old memory.new }
@@ -85,7 +85,7 @@ fn answer<M: PhysMem, S: Store, A: Allocator + Copy>(
         → attempts_left (state_at (M.bytes memory.new) session.new.phase)
         < attempts_left (state_at (M.bytes memory.old) session.old.phase)) }
     ensures started { OnOk result (session.new.phase ≢ not_started) }
-    ensures memory { OnOk result (IsMemoryInState session.old.boot.machine.pool
+    ensures memory { OnOk result (IsMemoryAt session.old.boot.machine.pool
         (state_at (M.bytes memory.new) session.new.phase)
         (M.bytes memory.old) (M.bytes memory.new)) }
     ensures unchanged { OnErr result (M.bytes memory.new ≡ M.bytes memory.old) }
@@ -123,7 +123,7 @@ fn await_end<M: PhysMem, S: Store, A: Allocator + Copy>(
     ensures fewer { OnOk result (attempts_left (state_at (M.bytes memory.new) session.new.phase)
         < attempts_left (state_at (M.bytes memory.old) session.old.phase)) }
     ensures started { OnOk result (session.new.phase ≢ not_started) }
-    ensures memory { OnOk result (IsMemoryInState session.old.boot.machine.pool
+    ensures memory { OnOk result (IsMemoryAt session.old.boot.machine.pool
         (state_at (M.bytes memory.new) session.new.phase)
         (M.bytes memory.old) (M.bytes memory.new)) }
     ensures lacking { OnErr result ((run_state : RunState) × IsHeard session.old.boot
@@ -162,16 +162,16 @@ pub fn drive<M: PhysMem, S: Store, A: Allocator + Copy>(
     ensures ended { OnOk result (is_waiting session.new.phase ≡ false) }
     ensures started { OnOk result (session.new.phase ≢ not_started) }
     ensures memory { OnOk result ((first : List ℕ)
-        → IsMemoryInState session.old.boot.machine.pool
+        → IsMemoryAt session.old.boot.machine.pool
         (state_at (M.bytes memory.old) session.old.phase) first (M.bytes memory.old)
-        → IsMemoryInState session.old.boot.machine.pool
+        → IsMemoryAt session.old.boot.machine.pool
         (state_at (M.bytes memory.new) session.new.phase) first (M.bytes memory.new)) }
     ensures lacking { OnErr result ((run_state : RunState) × IsHeard session.old.boot
         (S.files store.old) (S.given store.old) (S.given store.new)
         (run_state_of session.old.boot (state_at (M.bytes memory.old) session.old.phase)) run_state
         × (is_running run_state.state ≡ true)) }
     ensures outside { OnErr result ((first : List ℕ)
-        → IsMemoryInState session.old.boot.machine.pool
+        → IsMemoryAt session.old.boot.machine.pool
         (state_at (M.bytes memory.old) session.old.phase) first (M.bytes memory.old)
         → IsSameOutside session.old.boot.machine.pool first (M.bytes memory.new)) }
     ensures files { S.files store.new ≡ S.files store.old }

@@ -1,7 +1,8 @@
 //! What is told of refusals beside their numbers and names is found.
 ghost use Rattle.std.specs.Prelude.{◌≡◌, All, IfOk, map, slice_get, true};
 ghost use Rattle.bl_load.specs.Parts.{IsRefusal};
-ghost use Rattle.bl_boot.specs.Details.{AreToldRefusals, HasDetail, IsRefusalDetail, IsRefusalDetailOrNothing};
+ghost use Rattle.bl_boot.specs.Details.{AreToldRefusals, HasDetail, IsRefusalDetail};
+ghost use Rattle.bl_boot.specs.Details.{IsRefusalDetailOrNothing};
 ghost use Rattle.bl_boot.specs.Details.{IsFramesDetail, IsPlaceDetail, value_sought};
 ghost use Rattle.bl_boot.specs.ExplainKept.{HasNoPlace, HasPlaceRefusal, is_placing};
 ghost use Rattle.bl_desc.specs.Views.{entry_view};

@@ -4,7 +4,7 @@ use Rattle.bl_mem.specs.Memory.{HasRoom}
 use Rattle.std.proofs.lemmas.Result.{err_from_is_err_and}
 use Rattle.bl_stage.specs.Ranges.{IsSameOutside}
 use Rattle.bl_session.specs.Boot.{BootFacts, out_of_memory}
-use Rattle.bl_session.specs.Memory.{IsMemoryInState}
+use Rattle.bl_session.specs.Memory.{IsMemoryAt}
 use Rattle.bl_session.specs.Outcome.{missing, size_of}
 use Rattle.bl_session.specs.Phases.{SessionFacts, boot_facts, state_at}
 use Rattle.bl_session.specs.Run.{run_state_of}
@@ -135,9 +135,9 @@ returns-clause-memory g c =
     c.start.ensures.boot ∙ ap (λ (s : SessionFacts). s.boot) c.in_ok-session.ensures in
     let memory =
     c.start.ensures.memory (ap (λ (s : SessionFacts). s.phase) c.in_ok-session.ensures) in
-    subst (λ (b : BootFacts). IsMemoryInState b.machine.pool end first new) boot_is
+    subst (λ (b : BootFacts). IsMemoryAt b.machine.pool end first new) boot_is
     (c.in_ok-drive.ensures.memory first
-    (subst (λ (b : BootFacts). IsMemoryInState b.machine.pool begun first (bytes c.start.new.memory))
+    (subst (λ (b : BootFacts). IsMemoryAt b.machine.pool begun first (bytes c.start.new.memory))
     (sym c.start.ensures.boot) memory))
 
 pub returns-clause-lacking : goal.returns-clause-lacking
@@ -220,7 +220,7 @@ returns-in_err-drive-clause-outside g c =
     rw p.1
     (subst (λ (b : BootFacts). IsSameOutside b.machine.pool first (bytes c.drive.new.memory)) e
     (c.in_err-drive.ensures.outside first
-    (subst (λ (b : BootFacts). IsMemoryInState b.machine.pool begun first (bytes c.start.new.memory))
+    (subst (λ (b : BootFacts). IsMemoryAt b.machine.pool begun first (bytes c.start.new.memory))
     (sym c.start.ensures.boot) memory)))
 
 pub returns-clause-run : goal.returns-clause-run

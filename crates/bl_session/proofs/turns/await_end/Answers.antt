@@ -1,6 +1,6 @@
 use Rattle.std.proofs.Common.{◌<◌, ◌∙◌, subst}
 use Rattle.bl_session.specs.Boot.{BootFacts}
-use Rattle.bl_session.specs.Memory.{IsMemoryInState}
+use Rattle.bl_session.specs.Memory.{IsMemoryAt}
 use Rattle.bl_session.specs.Phases.{state_at}
 use Rattle.bl_session.specs.TurnsKept.{attempts_left}
 use Rattle.bl_session.proofs.KeptMemoryLemmas.{memory_on, same_on, keeps_on}
@@ -28,7 +28,7 @@ answers-preserved g c =
     let memory =
     subst
     (λ (b : BootFacts).
-    IsMemoryInState b.machine.pool new (bytes c.answers.memory) (bytes c.answer.new.memory))
+    IsMemoryAt b.machine.pool new (bytes c.answers.memory) (bytes c.answer.new.memory))
     so_far.boot told.memory in
     record {
       boot = c.answer.ensures.boot ∙ so_far.boot;
@@ -66,7 +66,7 @@ returns-in_default g c =
     let memory =
     subst
     (λ (b : BootFacts).
-    IsMemoryInState b.machine.pool new (bytes c.answers.memory) (bytes c.answer.new.memory))
+    IsMemoryAt b.machine.pool new (bytes c.answers.memory) (bytes c.answer.new.memory))
     so_far.boot told.memory in
     record {
       boot = c.answer.ensures.boot ∙ so_far.boot;

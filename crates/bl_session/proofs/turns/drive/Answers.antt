@@ -1,7 +1,7 @@
 use Rattle.std.proofs.Common.{◌∙◌, subst, sym}
 use Rattle.std.proofs.lemmas.Result.{err_from_is_err_and}
 use Rattle.bl_session.specs.Boot.{BootFacts}
-use Rattle.bl_session.specs.Memory.{IsMemoryInState}
+use Rattle.bl_session.specs.Memory.{IsMemoryAt}
 use Rattle.bl_session.specs.Phases.{state_at}
 use Rattle.bl_session.specs.Run.{run_state_of}
 use Rattle.bl_session.proofs.AnswerLemmas.{running_waiting}
@@ -44,7 +44,7 @@ attempts-preserved g c =
     let memory =
     subst
     (λ (b : BootFacts).
-    IsMemoryInState b.machine.pool new (bytes c.attempts.memory)
+    IsMemoryAt b.machine.pool new (bytes c.attempts.memory)
     (bytes c.await_end.new.memory)) so_far.boot told.memory in
     record {
       boot = c.await_end.ensures.boot ∙ so_far.boot;

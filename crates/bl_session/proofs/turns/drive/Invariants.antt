@@ -1,6 +1,6 @@
 use Rattle.std.proofs.Common.{◌≡◌, ◌≢◌, List, ℕ, true}
 use Rattle.bl_mem.specs.Memory.{HasRoom, KeepsSizeAndRoom}
-use Rattle.bl_session.specs.Memory.{IsMemoryInState}
+use Rattle.bl_session.specs.Memory.{IsMemoryAt}
 use Rattle.bl_session.specs.Phases.{state_at, is_waiting, not_started}
 use Rattle.bl_session.specs.Run.{run_state_of}
 use Rattle.bl_session.specs.TurnsKept.{IsHeard, attempts_left}
@@ -18,8 +18,8 @@ invariant-attempts g l =
       started : l.session.phase ≢ not_started;
       heard : IsHeard facts (g.S.Store.files l.fn.store) (g.S.Store.given l.fn.store)
           (g.S.Store.given l.store) (run_state_of facts old) (run_state_of facts now);
-      memory : (first : List ℕ) → IsMemoryInState facts.machine.pool old first (bytes l.fn.memory)
-          → IsMemoryInState facts.machine.pool now first (bytes l.memory);
+      memory : (first : List ℕ) → IsMemoryAt facts.machine.pool old first (bytes l.fn.memory)
+          → IsMemoryAt facts.machine.pool now first (bytes l.memory);
       room : is_waiting l.session.phase ≡ true
           → HasRoom (g.M.PhysMem.room l.memory) facts.machine.pool.start facts.machine.pool.end;
       files : g.S.Store.files l.store ≡ g.S.Store.files l.fn.store;
