@@ -32,7 +32,7 @@
 source "$(dirname "${BASH_SOURCE[0]}")/measure.sh"
 
 # on a machine that others share a round differs from the next by a tenth and more: the best of many does less
-rounds=6
+rounds=15
 goal=1.1
 module_count=64
 module_bytes=$((4 << 20))
