@@ -14,7 +14,7 @@ use Rattle.bl_abi.specs.declared.misuse.Misuse.{Misuse}
 use Rattle.bl_abi.specs.declared.records.EntryRecord.{EntryRecord}
 use Rattle.bl_abi.specs.Checks.{entry_misuse}
 use Rattle.bl_abi.specs.Given.{GivenFacts}
-use Rattle.bl_abi.specs.Boot.{entries_misuse, facts_given, menu_fault, AreFewGiven, IsNoMenu}
+use Rattle.bl_abi.specs.Boot.{entries_misuse, facts_given, given_fault_of_menu, AreFewGiven, IsNoMenu}
 use Rattle.bl_abi.specs.Boot.{are_many, names_none, is_short}
 
 -- as many entries as are given
@@ -54,7 +54,7 @@ pub no_menu_is : {A : Type 0} (given : GivenFacts) (rows : List EntryRecord) (de
     (fallbacks : List ℕ) (typed : List (Entry A)) (fault : MenuFault)
     → map facts_of typed ≡ map (facts_given given) rows
     → HasMenuFault typed default fallbacks fault
-    → IsNoMenu given rows default fallbacks (menu_fault fault)
+    → IsNoMenu given rows default fallbacks (given_fault_of_menu fault)
 no_menu_is given rows default fallbacks typed menu_faults.TooMany is has =
     are_many (λ few. has (few_typed given rows typed is few))
 no_menu_is given rows default fallbacks typed menu_faults.BadIndex is has =

@@ -13,18 +13,18 @@ use Rattle.bl_abi.specs.declared.misuse.Misuse.TheVariants.{TooMany}
 use Rattle.bl_abi.specs.declared.given_fault.GivenFault.{GivenFault}
 use Rattle.bl_abi.specs.declared.given_fault.GivenFault.TheVariants as given_fault
 use Rattle.bl_abi.specs.Checks.{load_misuse}
-use Rattle.bl_abi.specs.Given.{GivenFacts, entry_given, files_given, file_given, value_given}
+use Rattle.bl_abi.specs.Given.{GivenFacts, entry_without_files, files_given, file_given, value_given}
 use Rattle.bl_abi.specs.Load.{IsEntrySound, IsEntryMisuse, IsEntryGivenFault, IsEntryFault}
 use Rattle.bl_abi.specs.Load.{of_given, of_prepared}
 use Rattle.bl_abi.proofs.ValueLemmas.{value_is}
 
 -- an entry's value is the one that is given
 pub given_value : {A : Type 0} (given : GivenFacts) (r : EntryRecord) (entry : Entry A)
-    (texts : List (List ℕ)) → value_of [] entry ≡ entry_given given r
+    (texts : List (List ℕ)) → value_of [] entry ≡ entry_without_files given r
     → texts ≡ map (file_given given) (files_given given r)
     → value_of texts entry ≡ value_given given r
 given_value given r entry texts is same =
-    value_is entry (entry_given given r) texts (map (file_given given) (files_given given r)) is
+    value_is entry (entry_without_files given r) texts (map (file_given given) (files_given given r)) is
     same
 
 -- as many files as are given
@@ -37,7 +37,7 @@ given_count bytes given r views is =
 
 -- an entry that has not its limits is misused
 pub too_many : {A : Type 0} (given : GivenFacts) (r : EntryRecord) (entry : Entry A)
-    → value_of [] entry ≡ entry_given given r → load_misuse given r ≡ None
+    → value_of [] entry ≡ entry_without_files given r → load_misuse given r ≡ None
     → ¬ IsWithinLimits entry → IsEntryMisuse given r TooMany
 unfolding IsWithinLimits
 too_many given r entry is names not =
@@ -45,7 +45,7 @@ too_many given r entry is names not =
 
 -- an entry within its limits has no misuse
 pub entry_sound : {A : Type 0} (given : GivenFacts) (r : EntryRecord) (entry : Entry A)
-    → value_of [] entry ≡ entry_given given r → load_misuse given r ≡ None → IsWithinLimits entry
+    → value_of [] entry ≡ entry_without_files given r → load_misuse given r ≡ None → IsWithinLimits entry
     → IsEntrySound given r
 unfolding IsWithinLimits
 entry_sound given r entry is names within =

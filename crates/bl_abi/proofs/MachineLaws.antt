@@ -19,7 +19,7 @@ use Rattle.bl_abi.specs.declared.records.MachineRecord.{MachineRecord}
 use Rattle.bl_abi.specs.declared.records.RegionRecord.{RegionRecord}
 use Rattle.bl_abi.specs.Given.{region_given}
 use Rattle.bl_abi.specs.Load.{of_given}
-use Rattle.bl_abi.specs.Machines.{IsMachineGiven, IsMachineSound, HasMachineFault, of_map}
+use Rattle.bl_abi.specs.Machines.{IsMachineGiven, IsMachineSound, HasMachineFault, given_fault_of_map}
 use Rattle.bl_abi.specs.Machines.{pool_given}
 
 -- ---- of a machine's parts
@@ -48,9 +48,9 @@ module _ (size : ℕ) (regions : List Region) (pool : Range ℕ) where
   no_part_fault map_fault.NoMemory sound has = refl
 
   -- two that are told are one misuse
-  one_part_fault : (f g : MapFault) → of_map f ≢ given_fault.NoMemory
-      → of_map g ≢ given_fault.NoMemory → HasFirstMapFault size regions pool f
-      → HasFirstMapFault size regions pool g → of_map g ≡ of_map f
+  one_part_fault : (f g : MapFault) → given_fault_of_map f ≢ given_fault.NoMemory
+      → given_fault_of_map g ≢ given_fault.NoMemory → HasFirstMapFault size regions pool f
+      → HasFirstMapFault size regions pool g → given_fault_of_map g ≡ given_fault_of_map f
   one_part_fault map_fault.NoMemory g short other a b = absurd (short refl)
   one_part_fault map_fault.BadSize map_fault.NoMemory other short a b = absurd (short refl)
   one_part_fault map_fault.BadSize map_fault.BadSize other short a b = refl
@@ -104,7 +104,7 @@ module _ (machine : MachineRecord) (regions : List RegionRecord) where
       let none =
       no_part_fault machine.size (map region_given regions) (pool_given machine) part.found
       sound.accepted part.first in
-      let e : given_fault.Misused misuse ≡ given_fault.NoMemory = part.is ∙ ap of_map none in
+      let e : given_fault.Misused misuse ≡ given_fault.NoMemory = part.is ∙ ap given_fault_of_map none in
       absurd cc
 
   -- two faults that are told are one

@@ -27,7 +27,7 @@ use Rattle.bl_abi.specs.declared.misuse.Misuse.TheVariants.{BadContents, BadMemo
 use Rattle.bl_abi.specs.declared.misuse.Misuse.TheVariants.{TooMany, BadIndex}
 use Rattle.bl_abi.specs.declared.given_fault.GivenFault.{GivenFault}
 use Rattle.bl_abi.specs.declared.given_fault.GivenFault.TheVariants.{Misused, NoMemory}
-use Rattle.bl_abi.specs.Given.{GivenFacts, range_bytes, files_given, entry_given}
+use Rattle.bl_abi.specs.Given.{GivenFacts, range_bytes, files_given, entry_without_files}
 use Rattle.bl_abi.specs.Checks.{entry_misuse, is_in_contents}
 use Rattle.bl_abi.specs.Machines.{IsMachineGiven, IsMachineSound, HasMachineFault}
 
@@ -47,7 +47,7 @@ given_files given = map (stored_given given) given.files
 
 abbrev pub facts_given : GivenFacts → EntryRecord → EntryFacts
 facts_given given entry =
-    record { files = files_given given entry; blank = entry_given given entry }
+    record { files = files_given given entry; blank = entry_without_files given entry }
 
 abbrev pub menu_given : GivenFacts → List EntryRecord → ℕ → List ℕ → MenuFacts
 menu_given given entries default fallbacks = record {
@@ -137,10 +137,10 @@ pub data IsBootMenuFault (given : GivenFacts) (entries : List EntryRecord) (defa
       → IsNoMenu given entries default fallbacks fault
       → IsBootMenuFault given entries default fallbacks fault
 
-abbrev pub menu_fault : MenuFault → GivenFault
-menu_fault menu_faults.TooMany = Misused TooMany
-menu_fault menu_faults.BadIndex = Misused BadIndex
-menu_fault menu_faults.NoMemory = NoMemory
+abbrev pub given_fault_of_menu : MenuFault → GivenFault
+given_fault_of_menu menu_faults.TooMany = Misused TooMany
+given_fault_of_menu menu_faults.BadIndex = Misused BadIndex
+given_fault_of_menu menu_faults.NoMemory = NoMemory
 
 -- the first that stands: too little room for places, the machine's first fault, a memory that does
 -- not end with the machine's, the menu's first fault. Each is told only where none before it

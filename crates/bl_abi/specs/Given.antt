@@ -77,26 +77,30 @@ abbrev pub files_given : GivenFacts → EntryRecord → List ℕ
 files_given given entry = entry.kernel ∷ files_beside given entry
 
 -- the value of an entry of protocol 1, with no files yet
-abbrev pub multiboot2_given : GivenFacts → EntryRecord → EntryValue
-multiboot2_given given entry =
+abbrev pub multiboot2_without_files : GivenFacts → EntryRecord → EntryValue
+multiboot2_without_files given entry =
     multiboot2_value [] (text_given given entry.line)
     (map (λ m. text_given given m.line) (modules_given given entry))
     (copy_given given entry.rsdp_old) (copy_given given entry.rsdp_new)
 
 -- that of an entry of another protocol: the Linux boot protocol, by its 64-bit entry if it is 3
-abbrev pub linux_given : GivenFacts → EntryRecord → EntryValue
-linux_given given entry =
+abbrev pub linux_without_files : GivenFacts → EntryRecord → EntryValue
+linux_without_files given entry =
     linux_value (of_linux (entry.protocol == 3)) [] (text_given given entry.line)
 
 -- the value of an entry with no files yet
-abbrev pub entry_given : GivenFacts → EntryRecord → EntryValue
-entry_given given entry =
-    if entry.protocol == 1 then multiboot2_given given entry else linux_given given entry
+abbrev pub entry_without_files : GivenFacts → EntryRecord → EntryValue
+entry_without_files given entry =
+    if entry.protocol == 1
+    then multiboot2_without_files given entry
+    else linux_without_files given entry
 
 -- its value with the files' bytes
 abbrev pub value_given : GivenFacts → EntryRecord → EntryValue
 value_given given entry =
-    record (entry_given given entry) { files = map (file_given given) (files_given given entry) }
+    record (entry_without_files given entry) {
+      files = map (file_given given) (files_given given entry);
+    }
 
 -- ---- regions
 

@@ -18,7 +18,7 @@ use Rattle.bl_abi.specs.declared.given_fault.GivenFault.{GivenFault}
 use Rattle.bl_abi.specs.declared.given_fault.GivenFault.TheVariants as given_fault
 use Rattle.bl_abi.specs.declared.load_fault.LoadFault.{LoadFault}
 use Rattle.bl_abi.specs.declared.load_fault.LoadFault.TheVariants.{Misused, Refused, NoMemory}
-use Rattle.bl_abi.specs.Given.{GivenFacts, entry_given, value_given}
+use Rattle.bl_abi.specs.Given.{GivenFacts, entry_without_files, value_given}
 use Rattle.bl_abi.specs.Checks.{load_misuse}
 use Rattle.bl_abi.specs.Machines.{IsMachineGiven, IsMachineSound, HasMachineFault}
 
@@ -35,14 +35,14 @@ of_given given_fault.NoMemory = NoMemory
 -- no misuse of an entry stands
 pub record IsEntrySound (given : GivenFacts) (entry : EntryRecord) : Type 0 where
   pub names : load_misuse given entry ≡ None
-  pub limits : HasLimits (entry_given given entry)
+  pub limits : HasLimits (entry_without_files given entry)
 
 -- its first misuse: of what its record names, or else of its size
 abbrev pub IsEntryMisuse : GivenFacts → EntryRecord → Misuse → Type 0
 IsEntryMisuse given entry misuse =
     (load_misuse given entry ≡ Some misuse)
     ⊎ ((misuse ≡ TooMany) × (load_misuse given entry ≡ None)
-    × (¬ HasLimits (entry_given given entry)))
+    × (¬ HasLimits (entry_without_files given entry)))
 
 -- why it is not taken
 abbrev pub IsEntryGivenFault : GivenFacts → EntryRecord → GivenFault → Type 0

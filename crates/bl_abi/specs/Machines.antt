@@ -35,24 +35,24 @@ pub record IsMachineSound (machine : MachineRecord) (regions : List RegionRecord
   pub accepted : IsAccepted machine.size (map region_given regions) (pool_given machine)
 
 -- a fault of a machine's parts as a misuse
-abbrev pub of_map : MapFault → GivenFault
-of_map map_fault.BadSize = Misused BadSize
-of_map (map_fault.BadRegion index) = Misused BadRegion
-of_map map_fault.TooManyRegions = Misused TooManyRegions
-of_map map_fault.BadPool = Misused BadPool
-of_map map_fault.NoMemory = NoMemory
+abbrev pub given_fault_of_map : MapFault → GivenFault
+given_fault_of_map map_fault.BadSize = Misused BadSize
+given_fault_of_map (map_fault.BadRegion index) = Misused BadRegion
+given_fault_of_map map_fault.TooManyRegions = Misused TooManyRegions
+given_fault_of_map map_fault.BadPool = Misused BadPool
+given_fault_of_map map_fault.NoMemory = NoMemory
 
 -- the machine that is given, whose regions are each of a kind, has this first fault of its parts
-pub record HasPartFault (machine : MachineRecord) (regions : List RegionRecord)
+pub record HasGivenMapFault (machine : MachineRecord) (regions : List RegionRecord)
     (fault : GivenFault) : Type 0 where
   pub kinds : have_kinds regions ≡ true
   pub found : MapFault
   pub first : HasFirstMapFault machine.size (map region_given regions) (pool_given machine) found
-  pub is : fault ≡ of_map found
+  pub is : fault ≡ given_fault_of_map found
 
 -- its first fault: a kind of a region that is none, or else the first of its parts; memory may run
 -- out
 abbrev pub HasMachineFault : MachineRecord → List RegionRecord → GivenFault → Type 0
 HasMachineFault machine regions fault =
     ((have_kinds regions ≡ false) × (fault ≡ Misused BadKind))
-    ⊎ (fault ≡ NoMemory) ⊎ HasPartFault machine regions fault
+    ⊎ (fault ≡ NoMemory) ⊎ HasGivenMapFault machine regions fault

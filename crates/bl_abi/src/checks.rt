@@ -2,9 +2,9 @@
 ghost use Rattle.std.specs.Prelude.{◌≡◌};
 ghost use Rattle.bl_abi.specs.Checks as spec;
 
+use crate::array_ranges::are_among;
 use crate::given_arrays::Given;
 use crate::misuse::Misuse;
-use crate::ranges::are_among;
 use crate::records::{ByteRange, EntryRecord, ModuleRecord, NO_FILE, RegionRecord};
 
 /// Whether a number is that of a kind of memory.

@@ -66,7 +66,8 @@ pub(crate) fn entry_of<A: Allocator + Copy>(
     given: &Given,
     entry: &EntryRecord,
 ) -> Result<Entry<A>, AllocError>
-    ensures value { IfOk result (λ made. value_of [] made ≡ spec.entry_given given.now entry.now) }
+    ensures value { IfOk result (λ made.
+        value_of [] made ≡ spec.entry_without_files given.now entry.now) }
     ensures facts { IfOk result (λ made. facts_of made ≡ facts_given given.now entry.now) }
     ensures count { IfOk result
         (λ made. file_count made ≡ length (spec.files_given given.now entry.now)) }
@@ -95,7 +96,8 @@ pub(crate) fn take_entry<A: Allocator + Copy>(
     given: &Given,
     row: &EntryRecord,
 ) -> Result<Entry<A>, GivenFault>
-    ensures value { IfOk result (λ entry. value_of [] entry ≡ spec.entry_given given.now row.now) }
+    ensures value { IfOk result (λ entry.
+        value_of [] entry ≡ spec.entry_without_files given.now row.now) }
     ensures count { IfOk result
         (λ entry. file_count entry ≡ length (spec.files_given given.now row.now)) }
     ensures limits { IfOk result IsWithinLimits }

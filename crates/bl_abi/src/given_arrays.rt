@@ -1,5 +1,5 @@
 //! The arrays that records are read with, and what ranges of them hold.
-use crate::ranges::{are_among, range_bytes};
+use crate::array_ranges::{are_among, range_bytes};
 use crate::records::{ByteRange, EntryRecord, ModuleRecord};
 use std::marker::Model;
 

@@ -1,6 +1,7 @@
 //! What C gives and is told, in records and arrays, and what the libraries make of it.
 #![tactic(auto)]
 
+mod array_ranges;
 mod boot_telling;
 mod booting;
 mod checks;
@@ -18,7 +19,6 @@ mod menu_files;
 mod menus;
 mod misuse;
 mod preparing;
-mod ranges;
 mod records;
 mod refusal_telling;
 mod register_telling;

@@ -39,8 +39,8 @@ fn pool_of(machine: &MachineRecord) -> Range<u64>
     machine.pool_base..machine.pool_base.saturating_add(machine.pool_length)
 }
 
-fn of_map(fault: MapFault) -> GivenFault
-    ensures { result ≡ machines.of_map fault }
+fn given_fault_of_map(fault: MapFault) -> GivenFault
+    ensures { result ≡ machines.given_fault_of_map fault }
 {
     match fault {
         MapFault::BadSize => GivenFault::Misused(Misuse::BadSize),
@@ -67,6 +67,6 @@ pub(crate) fn machine_of<A: Allocator + Copy>(
     let typed = regions_of(alloc, regions)?;
     match Machine::new(alloc, machine.size, &typed, pool_of(machine)) {
         Ok(made) => Ok(made),
-        Err(fault) => Err(of_map(fault)),
+        Err(fault) => Err(given_fault_of_map(fault)),
     }
 }

@@ -3,10 +3,10 @@ ghost use Rattle.std.specs.Prelude.{◌≡◌, None, Some, IfOk, MatchResult, ma
 ghost use Rattle.bl_session.specs.Ledger.{sliced_file};
 ghost use Rattle.bl_abi.specs.Boot as spec;
 
+use crate::array_ranges::range_bytes;
 use crate::entries::check_entries;
 use crate::given_arrays::Given;
 use crate::misuse::Misuse;
-use crate::ranges::range_bytes;
 use crate::records::{ByteRange, EntryRecord, MISSING};
 use std::alloc::{AllocError, Allocator};
 

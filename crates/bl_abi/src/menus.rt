@@ -12,8 +12,8 @@ use crate::records::EntryRecord;
 use bl_session::{Menu, MenuFault};
 use std::alloc::Allocator;
 
-fn menu_fault(fault: MenuFault) -> GivenFault
-    ensures { result ≡ spec.menu_fault fault }
+fn given_fault_of_menu(fault: MenuFault) -> GivenFault
+    ensures { result ≡ spec.given_fault_of_menu fault }
 {
     match fault {
         MenuFault::TooMany => GivenFault::Misused(Misuse::TooMany),
@@ -41,6 +41,6 @@ pub(crate) fn menu_made<A: Allocator + Copy>(
     };
     match Menu::new(alloc, typed, default, fallbacks) {
         Ok(menu) => Ok(menu),
-        Err(fault) => Err(menu_fault(fault)),
+        Err(fault) => Err(given_fault_of_menu(fault)),
     }
 }

@@ -17,10 +17,10 @@ use Rattle.bl_session.specs.Pieces.{are_whole}
 use Rattle.bl_session.proofs.EndLaws.{one_end}
 use Rattle.bl_session.proofs.OutcomeLaws.{same_handover}
 use Rattle.bl_desc.specs.Described.{Described}
-use Rattle.bl_boot.specs.Attempted.{boot_of}
-use Rattle.bl_boot.specs.DescribedMachine.{IsMachineOf}
-use Rattle.bl_boot.specs.Ends.{BootCase, HasResultAt, IsBooted, Surroundings, sizes_at}
-use Rattle.bl_boot.specs.Ends.{value_at}
+use Rattle.bl_menu.specs.Attempted.{boot_of}
+use Rattle.bl_menu.specs.DescribedMachine.{IsMachineOf}
+use Rattle.bl_menu.specs.Cases.{BootCase, HasResultAt, sizes_at, value_at}
+use Rattle.bl_boot.specs.Ends.{IsBooted, Surroundings}
 
 -- two boots
 module _ {F G : Type 0} {answers : F → List ℕ → File → Type 0} {faults : F → ℕ} {desc : List ℕ}

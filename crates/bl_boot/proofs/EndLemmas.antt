@@ -1,37 +1,33 @@
 -- How boots end.
-use Rattle.std.proofs.Common.{◌≡◌, ◌∙◌, ◌+◌, ◌≤◌, ◌++◌, ℕ, List, [], Some, Result, Ok, Err, All}
-use Rattle.std.proofs.Common.{IsSome, inl, inr, map, refl, sym, subst, arith}
-use Rattle.std.proofs.lemmas.List.{append-nil}
-use Rattle.std.proofs.lemmas.Option.{same_Some}
+use Rattle.std.proofs.Common.{◌≡◌, ◌++◌, ℕ, List, Some, Result, Ok, Err, inl, inr, map, refl}
 use Rattle.bl_map.specs.MachineFacts.{MachineFacts}
 use Rattle.bl_load.specs.Offered.{IsOffered}
 use Rattle.bl_load.specs.Handover.{Handover}
 use Rattle.bl_image.specs.Image.{spelling}
 use Rattle.bl_image.specs.Versions.{written_version}
 use Rattle.bl_session.specs.declared.outcome.RefusedEntry.{RefusedEntry}
-use Rattle.bl_session.specs.declared.fetched.Fetched.{Fetched}
 use Rattle.bl_session.specs.Boot.{BootFacts, handed_over}
-use Rattle.bl_session.specs.Outcome.{File, IsOutcome, no_fault, size_of, value_in}
+use Rattle.bl_session.specs.Outcome.{File, IsOutcome, no_fault, size_of, entry_value_in}
 use Rattle.bl_session.specs.Phases.{boot_facts}
 use Rattle.bl_desc.specs.declared.desc.Description.{Description}
-use Rattle.bl_desc.specs.Described.{Described, described, file_named}
+use Rattle.bl_desc.specs.Described.{Described, described}
 use Rattle.bl_desc.specs.declared.fault.DescFault.{DescFault}
 use Rattle.bl_desc.specs.declared.fault.DescFault.TheVariants as desc_fault
 use Rattle.bl_desc.specs.Views.{AnswersNothing, view}
-use Rattle.bl_boot.specs.declared.description_boot.boot_end.End.{End}
-use Rattle.bl_boot.specs.declared.description_boot.boot_end.End.TheVariants.{Booted, NoEntryLeft}
-use Rattle.bl_boot.specs.declared.description_boot.boot_end.EndFault.{EndFault}
-use Rattle.bl_boot.specs.declared.description_boot.boot_end.EndFault.TheVariants.{BadDescription}
-use Rattle.bl_boot.specs.declared.description_boot.boot_end.EndFault.TheVariants.{Device}
-use Rattle.bl_boot.specs.declared.description_boot.boot_end.EndFault.TheVariants.{NoMemory}
-use Rattle.bl_session.specs.Stores.{file_of, stored_files}
-use Rattle.bl_boot.specs.Found.{AreFound, AsksPrefix, names_asked}
-use Rattle.bl_boot.specs.Attempted.{names_in, menu_of, boot_of}
-use Rattle.bl_boot.specs.DescribedMachine.{IsMachineOf}
-use Rattle.bl_boot.specs.Ends.{BootCase, HasInlineFiles, names_sought, names_fetched}
+use Rattle.bl_menu.specs.declared.boot_end.End.{End}
+use Rattle.bl_menu.specs.declared.boot_end.End.TheVariants.{Booted, NoEntryLeft}
+use Rattle.bl_boot.specs.declared.description_boot.end_fault.EndFault.{EndFault}
+use Rattle.bl_boot.specs.declared.description_boot.end_fault.EndFault.TheVariants.{BadDescription}
+use Rattle.bl_boot.specs.declared.description_boot.end_fault.EndFault.TheVariants.{Device}
+use Rattle.bl_boot.specs.declared.description_boot.end_fault.EndFault.TheVariants.{NoMemory}
+use Rattle.bl_menu.specs.Found.{AreFound}
+use Rattle.bl_menu.specs.Attempted.{names_in, menu_of, boot_of}
+use Rattle.bl_menu.specs.DescribedMachine.{IsMachineFault, IsMachineOf}
+use Rattle.bl_menu.specs.Cases.{BootCase}
 use Rattle.bl_boot.specs.Ends.{Surroundings}
-use Rattle.bl_boot.specs.Kept.{end_of_desc_fault}
-use Rattle.bl_boot.specs.Kept.{IsMachineFault, IsImageWriteFault, HasFaults, HasAsked, FoundEnds, BootEnds}
+use Rattle.bl_boot.specs.Kept.{end_of_desc_fault, IsImageWriteFault, HasFaults, HasAsked}
+use Rattle.bl_boot.specs.Kept.{FoundEnds, BootEnds}
+use Rattle.bl_menu.proofs.AskedLemmas.{none_asked, all_asked}
 
 -- the sink has one fault more exactly if it had one while the image was written
 pub faults_by : (old new : ℕ) (s t image : List ℕ) (fault : EndFault)
@@ -56,26 +52,12 @@ not_handed description facts files entry earlier handover came old new s t u v N
 
 -- ---- the names that were asked for
 
--- none of them is a beginning of them, and so are all
-pub none_asked : (names before : List (List ℕ)) → AsksPrefix names before before
-none_asked names before =
-    record { first = []; left = names; names_are = refl; after_is = sym (append-nil before) }
-
-pub all_asked : (names before after : List (List ℕ)) → after ≡ before ++ names
-    → AsksPrefix names before after
-all_asked names before after is =
-    record { first = names; left = []; names_are = sym (append-nil names); after_is = is }
-
--- no name was missing, of so many
-pub none_missing : (faults names : ℕ) → (faults ≤ faults) × (faults ≤ faults + names)
-none_missing faults names = (omega arith, omega arith)
-
 -- none is, if there is no machine
-pub asked_without : (description : Described) (names before : List (List ℕ)) (fault : EndFault)
-    → IsMachineFault description fault → HasAsked names before before (Err fault)
-asked_without description names before BadDescription is = none_asked names before
-asked_without description names before Device is = absurd is
-asked_without description names before NoMemory is = none_asked names before
+pub asked_without : (description : Described) (names before : List (List ℕ)) (fault : DescFault)
+    → IsMachineFault description fault
+    → HasAsked names before before (Err (end_of_desc_fault fault))
+asked_without description names before desc_fault.BadDescription is = none_asked names before
+asked_without description names before desc_fault.NoMemory is = none_asked names before
 
 -- nothing is described, or memory ran out: the boot ends as it began
 pub undescribed : {F : Type 0} (answers : F → List ℕ → File → Type 0) (faults : F → ℕ)
@@ -99,18 +81,16 @@ asked_undescribed names before desc_fault.NoMemory = none_asked names before
 pub without_machine : {A F : Type 0} (desc : List ℕ) (d : Description A)
     → described desc ≡ Some (view d)
     → (answers : F → List ℕ → File → Type 0) (faults : F → ℕ) (around : Surroundings F)
-    (fault : EndFault) → IsMachineFault (view d) fault
-    → BootEnds answers faults desc around around (Err fault)
-without_machine desc d is answers faults around BadDescription bad =
+    (fault : DescFault) → IsMachineFault (view d) fault
+    → BootEnds answers faults desc around around (Err (end_of_desc_fault fault))
+without_machine desc d is answers faults around desc_fault.BadDescription bad =
     (inr (view d, is, bad), refl)
-without_machine desc d is answers faults around Device never = absurd never
-without_machine desc d is answers faults around NoMemory given = (refl, refl)
+without_machine desc d is answers faults around desc_fault.NoMemory given = (refl, refl)
 
-pub sound_without : (description : Described) (faults : ℕ) (fault : EndFault)
-    → IsMachineFault description fault → HasFaults faults faults (Err fault)
-sound_without description faults BadDescription bad = refl
-sound_without description faults Device never = absurd never
-sound_without description faults NoMemory given = refl
+pub sound_without : (description : Described) (faults : ℕ) (fault : DescFault)
+    → IsMachineFault description fault → HasFaults faults faults (Err (end_of_desc_fault fault))
+sound_without description faults desc_fault.BadDescription bad = refl
+sound_without description faults desc_fault.NoMemory given = refl
 
 -- all are, before the boot of what was found
 pub asked_by : (ended : Result End EndFault) (names before after : List (List ℕ))
@@ -123,76 +103,59 @@ asked_by (Err NoMemory) names before after all = all_asked names before after al
 -- the bytes describe d
 module _ {A : Type 0} (desc : List ℕ) (d : Description A) (is : described desc ≡ Some (view d))
   where
-    -- its files stand in the description
-    pub inline_in : HasInlineFiles desc
-        → All (λ name. IsSome (file_named name (view d).files)) (names_in (view d))
-    inline_in has =
-        let same : has.description ≡ view d = same_Some _ _ (sym has.is_described ∙ is) in
-        subst (λ (x : Described). All (λ name. IsSome (file_named name x.files)) (names_in x)) same
-        has.inline
-
-    pub sought : names_sought (described desc) ≡ names_in (view d)
-    sought = rw is refl
-
-    pub fetched : names_fetched (described desc) ≡ names_asked (view d).files (names_in (view d))
-    fetched = rw is refl
-
     -- its machine has these facts, these files were found, and its entries are offered
     module _ {F : Type 0} (answers : F → List ℕ → File → Type 0) (faults : F → ℕ)
         (facts : MachineFacts)
-        (machine : IsMachineOf (view d) facts) (before after : F) {B : Type 0}
-        (files : List (Fetched B))
-        (found : AreFound answers faults (view d).files (names_in (view d)) before after
-        (map file_of files))
-        (offered : (entry : ℕ) → IsOffered
-        (value_in (boot_of (view d) facts (map file_of files)) (map file_of files) entry)) where
-      abbrev this_case : BootCase answers faults desc before after
-      this_case = record {
-        description = view d;
-        facts = facts;
-        files = map file_of files;
-        is_described = is;
-        machine = machine;
-        found = found;
-      }
+        (machine : IsMachineOf (view d) facts) (before after : F) (files : List File)
+        (found : AreFound answers faults (view d).files (names_in (view d)) before after files)
+        (offered : (entry : ℕ) → IsOffered (entry_value_in (boot_of (view d) facts files) files entry))
+      where
+        abbrev this_case : BootCase answers faults desc before after
+        this_case = record {
+          description = view d;
+          facts = facts;
+          files = files;
+          is_described = is;
+          machine = machine;
+          found = found;
+        }
 
-      -- around it the sink and what is said went so
-      abbrev around : F → List ℕ → List ℕ → Surroundings F
-      around files sink said = record { files = files; sink = sink; said = said }
+        -- around it the sink and what is said went so
+        abbrev around : F → List ℕ → List ℕ → Surroundings F
+        around files sink said = record { files = files; sink = sink; said = said }
 
-      -- it ends as the boot of what was found
-      pub ends_by : (s t u v : List ℕ) (ended : Result End EndFault)
-          → FoundEnds (view d)
-          (boot_facts facts (menu_of (view d)) (map size_of (stored_files files)))
-          (stored_files files) s t u v ended
-          → BootEnds answers faults desc (around before s u) (around after t v) ended
-      ends_by s t u v (Ok Booted) (entry, earlier, handover, came, kept, image, said) = record {
-        case = this_case;
-        entry = entry;
-        earlier = earlier;
-        handover = handover;
-        outcome = came;
-        offered = offered entry;
-        kept = kept;
-        image = image;
-        said = said;
-      }
-      ends_by s t u v (Ok NoEntryLeft) (refused, came, nothing, said) =
-          record {
-            case = this_case;
-            refused = refused;
-            outcome = came;
-            nothing = nothing;
-            said = said;
-          }
-      ends_by s t u v (Err BadDescription) never = absurd never
-      ends_by s t u v (Err Device) (entry, earlier, handover, came, begun, unsaid) = record {
-        case = this_case;
-        entry = entry;
-        earlier = earlier;
-        handover = handover;
-        outcome = came;
-        begun = begun;
-        unsaid = unsaid;
-      }
-      ends_by s t u v (Err NoMemory) kept = kept
+        -- it ends as the boot of what was found
+        pub ends_by : (s t u v : List ℕ) (ended : Result End EndFault)
+            → FoundEnds (view d)
+            (boot_facts facts (menu_of (view d)) (map size_of files)) files s t u v ended
+            → BootEnds answers faults desc (around before s u) (around after t v) ended
+        ends_by s t u v (Ok Booted) (entry, earlier, handover, came, kept, image, said) = record {
+          case = this_case;
+          entry = entry;
+          earlier = earlier;
+          handover = handover;
+          outcome = came;
+          offered = offered entry;
+          kept = kept;
+          image = image;
+          said = said;
+        }
+        ends_by s t u v (Ok NoEntryLeft) (refused, came, nothing, said) =
+            record {
+              case = this_case;
+              refused = refused;
+              outcome = came;
+              nothing = nothing;
+              said = said;
+            }
+        ends_by s t u v (Err BadDescription) never = absurd never
+        ends_by s t u v (Err Device) (entry, earlier, handover, came, begun, unsaid) = record {
+          case = this_case;
+          entry = entry;
+          earlier = earlier;
+          handover = handover;
+          outcome = came;
+          begun = begun;
+          unsaid = unsaid;
+        }
+        ends_by s t u v (Err NoMemory) kept = kept

@@ -1,16 +1,5 @@
-pub mod FileLemmas
-pub mod NameLemmas
-pub mod MenuLemmas
-pub mod ValueLemmas
 pub mod EndLemmas
 pub mod EndLaws
 pub mod RunLemmas
 pub mod ShownLaws
 pub mod ConvertLaws
-pub mod ExplainLemmas
-pub mod DetailLemmas
-pub mod NoPlaceLemmas
-pub mod RefusedLemmas
-pub mod HeldLemmas
-pub mod SegmentLemmas
-pub mod ExplainEnds

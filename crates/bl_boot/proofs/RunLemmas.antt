@@ -6,12 +6,12 @@ use Rattle.std.proofs.lemmas.List.Elements.{All-cons, All-head, All-weaker}
 use Rattle.bl_map.specs.declared.region.Region.{Region}
 use Rattle.bl_map.specs.Kinds.{kind_number}
 use Rattle.bl_map.specs.NormalMap.{AreRuns, ComesBefore, region_end, kind_at}
-use Rattle.bl_map.specs.MachineFacts.{AreMachineFacts, IsPool, IsSize, MachineFacts}
+use Rattle.bl_map.specs.MachineFacts.{IsWellFormedMachine, IsPool, IsSize, MachineFacts}
 use Rattle.bl_map.proofs.EdgeLemmas.{edges_above, edges_fall, edges_fall_once, edges_most}
 use Rattle.bl_map.proofs.KindLemmas.{kind_not_held, none_before, not_held_behind, number_positive}
 use Rattle.bl_map.proofs.MapLaws.{fewer_runs, kind_in, later_runs, same_kind}
 use Rattle.bl_desc.specs.Described.{Described}
-use Rattle.bl_boot.specs.DescribedMachine.{IsMachineOf}
+use Rattle.bl_menu.specs.DescribedMachine.{IsMachineOf}
 
 later_bases : (x : Region) (xs : List Region) → AreRuns (x ∷ xs)
     → All (λ r. region_end x ≤ r.base) xs
@@ -69,7 +69,7 @@ few_runs regions (x ∷ xs) at runs same from =
     omega arith
 
 pub machine_facts : (description : Described) (facts : MachineFacts) → IsMachineOf description facts
-    → AreMachineFacts facts
+    → IsWellFormedMachine facts
 machine_facts description facts is =
     let regions = description.regions in
     let pool = is.accepted.pool_is in

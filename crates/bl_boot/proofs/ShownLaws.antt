@@ -1,6 +1,6 @@
 -- The image of an entry that was booted shows it.
 use Rattle.std.proofs.Common.{ℕ, List}
-use Rattle.bl_map.specs.MachineFacts.{AreMachineFacts}
+use Rattle.bl_map.specs.MachineFacts.{IsWellFormedMachine}
 use Rattle.bl_load.specs.Handover.{Handover}
 use Rattle.bl_load.specs.Parts.{IsHandover}
 use Rattle.bl_image.specs.Image.{spelling}
@@ -15,8 +15,9 @@ use Rattle.bl_walk.specs.State.{IsEntered}
 use Rattle.bl_walk.proofs.LegalLaws.{images_show, images_are_entered, images_are_sound}
 use Rattle.bl_session.specs.Outcome.{File, no_fault}
 use Rattle.bl_session.proofs.OutcomeLaws.{is_handover}
-use Rattle.bl_boot.specs.Attempted.{boot_of}
-use Rattle.bl_boot.specs.Ends.{IsBooted, Surroundings, value_at}
+use Rattle.bl_menu.specs.Attempted.{boot_of}
+use Rattle.bl_menu.specs.Cases.{value_at}
+use Rattle.bl_boot.specs.Ends.{IsBooted, Surroundings}
 use Rattle.bl_boot.proofs.RunLemmas.{machine_facts}
 
 module _ {F : Type 0} {answers : F → List ℕ → File → Type 0} {faults : F → ℕ} {desc : List ℕ}
@@ -27,7 +28,7 @@ module _ {F : Type 0} {answers : F → List ℕ → File → Type 0} {faults : F
           is_handover (boot_of b.case.description b.case.facts b.case.files) b.case.files no_fault
           b.entry b.earlier b.handover b.outcome
 
-      machine : AreMachineFacts b.case.facts
+      machine : IsWellFormedMachine b.case.facts
       machine = machine_facts b.case.description b.case.facts b.case.machine
 
       pub booted_image_shows : (version : Version) (image : Handover) (seen : SeenFacts)

@@ -1,6 +1,5 @@
 -- What the code keeps of how a call ends, by its result. Own.
 use Rattle.std.specs.Prelude.{◌≡◌, ℕ, ◌+◌, ◌++◌, List, Result, Ok, Err}
-use Rattle.std.specs.Str.{bytes_eq}
 use Rattle.bl_image.specs.Begun.{TookBeginning}
 use Rattle.bl_desc.specs.Described.{Described}
 use Rattle.bl_desc.specs.declared.fault.DescFault.{DescFault}
@@ -12,35 +11,23 @@ use Rattle.bl_load.specs.Handover.{Handover}
 use Rattle.bl_session.specs.declared.outcome.RefusedEntry.{RefusedEntry}
 use Rattle.bl_session.specs.Boot.{BootFacts, handed_over, none_left}
 use Rattle.bl_session.specs.Outcome.{File, IsOutcome, no_fault}
-use Rattle.bl_session.specs.Attempts.{without_repeats_by}
-use Rattle.bl_boot.specs.Attempted.{entry_of}
-use Rattle.bl_boot.specs.Found.{AsksPrefix}
+use Rattle.bl_menu.specs.Attempted.{entry_of}
+use Rattle.bl_menu.specs.Found.{AsksPrefix}
 use Rattle.bl_say.specs.Says.{booted_line, refused_lines, no_entry_line}
-use Rattle.bl_boot.specs.DescribedMachine.{IsBadMachine, IsBadDescription}
-use Rattle.bl_boot.specs.Ends.{IsBooted, IsRefused, IsCutShort}
-use Rattle.bl_boot.specs.Ends.{Surroundings}
+use Rattle.bl_menu.specs.DescribedMachine.{IsBadDescription}
+use Rattle.bl_boot.specs.Ends.{IsBooted, IsRefused, IsCutShort, Surroundings}
 use Rattle.bl_boot.specs.Mapped.{IsMapped}
-use Rattle.bl_boot.specs.declared.description_boot.boot_end.EndFault.{EndFault}
-use Rattle.bl_boot.specs.declared.description_boot.boot_end.EndFault.TheVariants.{BadDescription}
-use Rattle.bl_boot.specs.declared.description_boot.boot_end.EndFault.TheVariants.{Device}
-use Rattle.bl_boot.specs.declared.description_boot.boot_end.EndFault.TheVariants.{NoMemory}
-use Rattle.bl_boot.specs.declared.description_boot.boot_end.End.{End}
-use Rattle.bl_boot.specs.declared.description_boot.boot_end.End.TheVariants.{Booted, NoEntryLeft}
+use Rattle.bl_boot.specs.declared.description_boot.end_fault.EndFault.{EndFault}
+use Rattle.bl_boot.specs.declared.description_boot.end_fault.EndFault.TheVariants.{BadDescription}
+use Rattle.bl_boot.specs.declared.description_boot.end_fault.EndFault.TheVariants.{Device}
+use Rattle.bl_boot.specs.declared.description_boot.end_fault.EndFault.TheVariants.{NoMemory}
+use Rattle.bl_menu.specs.declared.boot_end.End.{End}
+use Rattle.bl_menu.specs.declared.boot_end.End.TheVariants.{Booted, NoEntryLeft}
 
 -- a fault of the description as one of a boot
 abbrev pub end_of_desc_fault : DescFault → EndFault
 end_of_desc_fault desc_fault.BadDescription = BadDescription
 end_of_desc_fault desc_fault.NoMemory = NoMemory
-
--- the names so far, and after them what these add: each one that is not there yet
-abbrev pub with_new_names : List (List ℕ) → List (List ℕ) → List (List ℕ)
-with_new_names earlier names = earlier ++ without_repeats_by bytes_eq earlier names
-
--- why there is no such machine: a rule is broken, or memory ran out
-abbrev pub IsMachineFault : Described → EndFault → Type 0
-IsMachineFault description BadDescription = IsBadMachine description
-IsMachineFault description Device = ⊥
-IsMachineFault description NoMemory = Unit {0}
 
 -- why an image was not handed over whole to a sink: the sink had a fault and took a beginning, or
 -- memory ran out before

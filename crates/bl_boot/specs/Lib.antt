@@ -1,16 +1,6 @@
-pub mod Files
-pub mod Found
-pub mod Attempted
-pub mod DescribedMachine
 pub mod Ends
 pub mod Mapped
 pub mod Kept
 pub mod Walked
 pub mod WalkKept
 pub mod Converted
-pub mod KernelSegments
-pub mod Details
-pub mod Told
-pub mod Blames
-pub mod Explained
-pub mod ExplainKept

@@ -3,7 +3,7 @@ use Rattle.std.specs.Prelude.{◌≡◌, ℕ, List, ◌++◌, Some}
 use Rattle.bl_map.specs.MachineFacts.{MachineFacts}
 use Rattle.bl_map.specs.NormalMap.{low_kib, high_kib}
 use Rattle.bl_desc.specs.Described.{Described, described}
-use Rattle.bl_boot.specs.DescribedMachine.{IsMachineOf}
+use Rattle.bl_menu.specs.DescribedMachine.{IsMachineOf}
 use Rattle.bl_say.specs.Says.{map_lines}
 
 -- what is said grew by the map of the machine that the bytes describe

@@ -15,11 +15,11 @@ ghost use Rattle.bl_walk.specs.State.{IsEntered};
 ghost use Rattle.bl_session.specs.AttemptResult.{AttemptResult};
 ghost use Rattle.bl_boot.specs.Converted.{Converts, Walks, WalkRefuses};
 ghost use Rattle.bl_desc.specs.Described.{Described};
-ghost use Rattle.bl_boot.specs.DescribedMachine.{IsMachineOf};
-ghost use Rattle.bl_boot.specs.Ends.{BootCase, IsBooted, Surroundings};
-ghost use Rattle.bl_boot.specs.Ends.{value_at, sizes_at, HasResultAt};
+ghost use Rattle.bl_menu.specs.DescribedMachine.{IsMachineOf};
+ghost use Rattle.bl_menu.specs.Cases.{BootCase, value_at, sizes_at, HasResultAt};
+ghost use Rattle.bl_boot.specs.Ends.{IsBooted, Surroundings};
 
-use crate::files::Files;
+use bl_menu::Files;
 
 /// Two boots are two calls of `boot` with no more in common than this: their machines have equal
 /// facts (size, map and pool), and the entries that they hand over have equal values (protocol,

@@ -2,17 +2,14 @@
 #![tactic(auto)]
 
 mod description_boot;
-mod explanation;
-mod files;
 mod image_conversion;
 mod image_walk;
 mod laws;
 mod machine_map;
 
+pub use bl_menu::{AskedNames, Files, MemFiles};
 pub use bl_session::{FILE_LIMIT, Fetched};
 pub use description_boot::boot;
-pub use explanation::explain_to;
-pub use files::{AskedNames, Files, MemFiles};
 pub use image_conversion::convert;
 pub use image_walk::walk_to;
 pub use laws::{booted_images_show_their_entries, converted_images_are_walked_alike, two_boots};

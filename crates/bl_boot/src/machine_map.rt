@@ -1,11 +1,12 @@
 //! The map of a description's machine, as it is said.
 ghost use Rattle.std.specs.Prelude.{◌≡◌, ◌⊎◌};
-ghost use Rattle.bl_boot.specs.DescribedMachine.{IsBadDescription};
+ghost use Rattle.bl_menu.specs.DescribedMachine.{IsBadDescription};
 ghost use Rattle.bl_boot.specs.Mapped.{IsMapped};
 ghost use Rattle.bl_boot.specs.Kept.{MapEnds};
 
-use crate::description_boot::{EndFault, machine_of};
+use crate::description_boot::EndFault;
 use bl_desc::read_description;
+use bl_menu::machine_of;
 use bl_say::say_map;
 use std::alloc::{Allocator, Global};
 

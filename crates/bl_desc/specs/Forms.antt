@@ -4,9 +4,9 @@ use Rattle.bl_desc.specs.Entries.{Module, Form, bare_form}
 use Rattle.bl_plan.specs.Limits.{max_copy}
 use Rattle.bl_plan.specs.Protocols.{of_linux}
 use Rattle.bl_plan.specs.declared.protocol.Protocol.TheVariants as protocol
-use Rattle.bl_desc.specs.declared.form.EntryForm.{EntryForm}
-use Rattle.bl_desc.specs.declared.form.EntryForm.TheVariants.{Multiboot2, Linux}
-use Rattle.bl_desc.specs.declared.form.ModuleRow.{ModuleRow}
+use Rattle.bl_desc.specs.declared.entry_form.EntryForm.{EntryForm}
+use Rattle.bl_desc.specs.declared.entry_form.EntryForm.TheVariants.{Multiboot2, Linux}
+use Rattle.bl_desc.specs.declared.entry_form.ModuleRow.{ModuleRow}
 
 abbrev pub module_view : {A : Type 0} → ModuleRow A → Module
 module_view m = record { file = m.file; line = m.line }

@@ -1,5 +1,6 @@
 pub mod Values
 pub mod Entries
+pub mod EntryNames
 pub mod Described
 pub mod Forms
 pub mod Views

@@ -7,9 +7,9 @@ ghost use Rattle.bl_plan.specs.Limits.{max_entries};
 ghost use Rattle.bl_desc.specs.Forms.{HasCopyLength};
 ghost use Rattle.bl_desc.specs.Views.{AnswersAs, entry_view, form_view};
 
+use crate::entry_form::EntryForm;
 use crate::entry_row::EntryRow;
 use crate::fault::DescFault;
-use crate::form::EntryForm;
 use crate::keys::{at_key, text_at, text_or_empty};
 use crate::owned_text::Text;
 use crate::protocols::{form_in, has_keys, protocol_in};

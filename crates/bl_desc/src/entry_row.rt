@@ -3,7 +3,7 @@ ghost use Rattle.std.specs.Prelude.{IfSome};
 ghost use Rattle.std.proofs.Props.{props};
 ghost use Rattle.bl_desc.specs.Forms.{form_view, HasCopyLength};
 
-use crate::form::EntryForm;
+use crate::entry_form::EntryForm;
 use crate::owned_text::Text;
 use std::alloc::Allocator;
 

@@ -5,8 +5,8 @@ ghost use Rattle.bl_desc.specs.Values as values;
 ghost use Rattle.bl_desc.specs.Entries as spec;
 ghost use Rattle.bl_desc.specs.Views.{AnswersAs, module_view};
 
+use crate::entry_form::{ModuleRow, Modules};
 use crate::fault::DescFault;
-use crate::form::{ModuleRow, Modules};
 use crate::keys::{at_key, has_only, text_at, text_or_empty};
 use crate::owned_text::Text;
 use bl_plan::MAX_MODULES;

@@ -9,8 +9,8 @@ ghost use Rattle.bl_desc.specs.Forms.{HasCopyLength};
 ghost use Rattle.bl_desc.specs.Views.{AnswersAs, form_view};
 
 use crate::copies::copy_if;
+use crate::entry_form::EntryForm;
 use crate::fault::DescFault;
-use crate::form::EntryForm;
 use crate::keys::{has_only, text_at, text_if};
 use crate::modules::modules_at;
 use crate::owned_text::Text;

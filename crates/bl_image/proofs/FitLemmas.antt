@@ -6,7 +6,7 @@ use Rattle.std.proofs.lemmas.List.Elements.{All-map, All-cons, All-nil}
 use Rattle.bl_plan.specs.declared.part.Place.{Place}
 use Rattle.bl_plan.specs.declared.protocol.Protocol.{Protocol}
 use Rattle.bl_load.specs.declared.registers.Registers.{Registers}
-use Rattle.bl_load.specs.HandoffFacts.{AreHandoffFacts}
+use Rattle.bl_load.specs.HandoffFacts.{IsWellFormedHandoff}
 use Rattle.bl_load.specs.Protocols.{is_wide}
 use Rattle.bl_load.specs.Registers.{are_wide}
 use Rattle.bl_load.specs.PlanFacts.{part_in, handover_in}
@@ -19,7 +19,7 @@ use Rattle.bl_image.proofs.Spelled.{EndsIn, length-place_bytes}
 -- places that a handoff keeps fit
 pub records_fit : (protocol : Protocol) (r : Registers) (ps : List Place)
     → AreFit r → All (λ (p : Place). p.index < 2 ^ 32) ps
-    → AreHandoffFacts (record { protocol = protocol; registers = r; places = ps })
+    → IsWellFormedHandoff (record { protocol = protocol; registers = r; places = ps })
     → AreSpellable r ps
 records_fit protocol r ps registers indices kept =
     record {
@@ -58,7 +58,7 @@ handover_fits bytes protocol r ps inside width fit =
 -- and are what an image keeps
 pub handover_kept : (bytes : List ℕ) (protocol : Protocol) (r : Registers) (ps : List Place)
     → All (EndsIn bytes) ps → AreSpellable r ps
-    → AreHandoffFacts (record { protocol = protocol; registers = r; places = ps })
+    → IsWellFormedHandoff (record { protocol = protocol; registers = r; places = ps })
     → IsKeptByImages (handover_in bytes protocol r ps)
 handover_kept bytes protocol r ps inside fit kept = record {
   handoff = memory_kept bytes protocol r ps inside kept;

@@ -13,7 +13,7 @@ use Rattle.bl_plan.specs.declared.protocol.Protocol.{Protocol}
 use Rattle.bl_plan.proofs.OrderLemmas.{AreRelated}
 use Rattle.bl_load.specs.declared.registers.Registers.{Registers}
 use Rattle.bl_load.specs.Handover.{Part, Handover}
-use Rattle.bl_load.specs.HandoffFacts.{Ascends, AreHandoffFacts}
+use Rattle.bl_load.specs.HandoffFacts.{Ascends, IsWellFormedHandoff}
 use Rattle.bl_load.specs.PlanFacts.{part_in, handover_in}
 use Rattle.bl_image.specs.declared.fault.ImageFault.{ImageFault}
 use Rattle.bl_image.specs.declared.fault.ImageFault.TheVariants.{WrongLength}
@@ -116,18 +116,18 @@ parts_fit parts h k d within =
 -- parts at the places of a handoff are what a handoff keeps
 pub parts_kept : (protocol : Protocol) (registers : Registers) (ps : List Place)
     (parts : List Part) → map part_place parts ≡ ps
-    → AreHandoffFacts (record { protocol = protocol; registers = registers; places = ps })
-    → AreHandoffFacts
+    → IsWellFormedHandoff (record { protocol = protocol; registers = registers; places = ps })
+    → IsWellFormedHandoff
     (handoff_of (record { protocol = protocol; registers = registers; parts = parts }))
 parts_kept protocol registers ps parts are kept =
     subst
     (λ (l : List Place).
-    AreHandoffFacts (record { protocol = protocol; registers = registers; places = l })) (sym are)
+    IsWellFormedHandoff (record { protocol = protocol; registers = registers; places = l })) (sym are)
     kept
 
 pub image_kept : (protocol : Protocol) (registers : Registers) (ps : List Place)
     (parts : List Part) → map part_place parts ≡ ps
-    → AreHandoffFacts (record { protocol = protocol; registers = registers; places = ps })
+    → IsWellFormedHandoff (record { protocol = protocol; registers = registers; places = ps })
     → All PlaceFits ps
     → AreFit registers
     → IsKeptByImages (record { protocol = protocol; registers = registers; parts = parts })
@@ -158,8 +158,8 @@ places_in bytes (p ∷ ps) h =
 
 pub memory_kept : (bytes : List ℕ) (protocol : Protocol) (r : Registers) (ps : List Place)
     → All (EndsIn bytes) ps
-    → AreHandoffFacts (record { protocol = protocol; registers = r; places = ps })
-    → AreHandoffFacts (handoff_of (handover_in bytes protocol r ps))
+    → IsWellFormedHandoff (record { protocol = protocol; registers = r; places = ps })
+    → IsWellFormedHandoff (handoff_of (handover_in bytes protocol r ps))
 memory_kept bytes protocol r ps inside kept =
     parts_kept protocol r ps (map (part_in bytes) ps) (places_in bytes ps inside) kept
 
@@ -204,7 +204,7 @@ value_in version h =
 
 -- what an image says is what images keep, where its places fit
 pub value_kept : (h : Handover) → AreSpellable h.registers (map part_place h.parts)
-    → AreHandoffFacts (handoff_of h) → IsKeptByImages h
+    → IsWellFormedHandoff (handoff_of h) → IsKeptByImages h
 value_kept h fit kept =
     image_kept h.protocol h.registers (map part_place h.parts) h.parts refl kept fit.places
     fit.registers

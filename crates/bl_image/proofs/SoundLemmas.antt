@@ -11,7 +11,7 @@ use Rattle.bl_plan.specs.declared.part.Place.{Place}
 use Rattle.bl_plan.proofs.OrderLemmas.{AreRelated, pairs_related, related_pairs}
 use Rattle.bl_plan.specs.declared.protocol.Protocol.{Protocol}
 use Rattle.bl_load.specs.declared.registers.Registers.{Registers}
-use Rattle.bl_load.specs.HandoffFacts.{Ascends, AreHandoffFacts, MayStand}
+use Rattle.bl_load.specs.HandoffFacts.{Ascends, IsWellFormedHandoff, MayStand}
 use Rattle.bl_load.specs.Protocols.{is_wide}
 use Rattle.bl_load.specs.Registers.{are_wide}
 use Rattle.bl_image.specs.Layouts.{max_role}
@@ -120,7 +120,7 @@ pub sound_kept : (protocol : Protocol) (registers : Registers) (ps : List Place)
     → are_wide registers ≡ is_wide protocol
     → All (λ (p : Place). MayStand (is_wide protocol) p.role) ps
     → length ps ≤ 256 → AreSound ps end
-    → AreHandoffFacts (record { protocol = protocol; registers = registers; places = ps })
+    → IsWellFormedHandoff (record { protocol = protocol; registers = registers; places = ps })
 sound_kept protocol registers ps end width roles few sound = record {
   width = width;
   roles = roles;

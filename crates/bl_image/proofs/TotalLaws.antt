@@ -12,7 +12,7 @@ use Rattle.std.proofs.lemmas.List.Concat.{flat_map-cons}
 use Rattle.bl_plan.specs.declared.part.Place.{Place}
 use Rattle.bl_plan.proofs.OrderLemmas.{AreRelated, related_pairs}
 use Rattle.bl_load.specs.Handover.{Part, Handover}
-use Rattle.bl_load.specs.HandoffFacts.{Ascends, AreHandoffFacts, MayStand}
+use Rattle.bl_load.specs.HandoffFacts.{Ascends, IsWellFormedHandoff, MayStand}
 use Rattle.bl_load.specs.Protocols.{is_wide}
 use Rattle.bl_image.specs.Layouts.{max_role}
 use Rattle.bl_image.specs.declared.fault.ImageFault.TheVariants.{WrongLength}
@@ -136,7 +136,7 @@ image_found bytes small none =
     ∙ ap image_fault h.is ∙ none in
     let f = places_found wide h.count none_before h.rest h.small left in
     let parts = split_tail f.places f.tail (let long = f.long in omega arith) in
-    let kept : AreHandoffFacts
+    let kept : IsWellFormedHandoff
     (record { protocol = h.protocol; registers = h.registers; places = f.places }) =
     record {
       width = h.fit.0;

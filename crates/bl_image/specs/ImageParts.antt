@@ -1,7 +1,7 @@
 -- What an image keeps, and which bytes are one. Own.
 use Rattle.std.specs.Prelude.{◌≡◌, ℕ, ◌≤◌, List, length, map}
 use Rattle.bl_plan.specs.declared.part.Place.{Place}
-use Rattle.bl_load.specs.HandoffFacts.{HandoffFacts, AreHandoffFacts}
+use Rattle.bl_load.specs.HandoffFacts.{HandoffFacts, IsWellFormedHandoff}
 use Rattle.bl_load.specs.Handover.{Part, Handover, end_of}
 use Rattle.bl_image.specs.declared.version.Version.{Version}
 use Rattle.bl_image.specs.Image.{spelling}
@@ -28,7 +28,7 @@ PartAscends p q = end_of p ≤ q.address
 
 -- what an image keeps: what a handoff does, and that its numbers fit
 pub record IsKeptByImages (handover : Handover) : Type 0 where
-  pub handoff : AreHandoffFacts (handoff_of handover)
+  pub handoff : IsWellFormedHandoff (handoff_of handover)
   pub spellable : IsSpellable handover
 
 -- these bytes are the image of this handover in this version, which has its protocol

@@ -2,7 +2,7 @@
 ghost use Rattle.std.specs.Prelude.{◌≡◌, ◌+◌, ◌*◌, ◌<◌, ◌≤◌, ◌^◌, ◌++◌, length, take, OnOk};
 ghost use Rattle.std.specs.Prelude.{OnErr};
 ghost use Rattle.std.specs.List.{flat_map};
-ghost use Rattle.bl_load.specs.HandoffFacts.{AreHandoffFacts};
+ghost use Rattle.bl_load.specs.HandoffFacts.{IsWellFormedHandoff};
 ghost use Rattle.bl_image.specs.Begun.{TookBeginning};
 ghost use Rattle.bl_image.specs.Image.{head};
 ghost use Rattle.bl_image.specs.RecordsKept.{place_record, AreSpellable};
@@ -93,7 +93,7 @@ fn put_front<P: Places>(
     places: &P,
 ) -> usize
     requires room { MAX_FRONT ≤ length buffer.old }
-    requires kept { AreHandoffFacts (record {
+    requires kept { IsWellFormedHandoff (record {
       protocol = protocol;
       registers = registers.now;
       places = P.places places.now;
@@ -124,7 +124,7 @@ pub(crate) fn write_front<S: Sink, P: Places>(
     buffer: &mut [u8],
 ) -> Result<(), DeviceFault>
     requires room { MAX_FRONT ≤ length buffer.old }
-    requires kept { AreHandoffFacts (record {
+    requires kept { IsWellFormedHandoff (record {
       protocol = protocol;
       registers = registers.now;
       places = P.places places.now;

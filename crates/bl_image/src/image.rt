@@ -83,7 +83,7 @@ pub struct Image<A: Allocator> {
 
 impl<A: Allocator> Model for Image<A> {
     ghost use Rattle.bl_load.specs.Handover.{Handover};
-    ghost use Rattle.bl_load.specs.HandoffFacts.{AreHandoffFacts};
+    ghost use Rattle.bl_load.specs.HandoffFacts.{IsWellFormedHandoff};
     ghost use Rattle.bl_image.specs.ImageParts.{handoff_of};
 
     ghost Value = { Handover };
@@ -94,7 +94,7 @@ impl<A: Allocator> Model for Image<A> {
       parts = i.parts.items;
     } };
 
-    ghost invariant = { λ i. AreHandoffFacts (handoff_of (record {
+    ghost invariant = { λ i. IsWellFormedHandoff (handoff_of (record {
       protocol = i.protocol;
       registers = i.registers;
       parts = i.parts.items;
@@ -103,7 +103,7 @@ impl<A: Allocator> Model for Image<A> {
 
 impl<A: Allocator> Image<A> {
     ghost use Rattle.std.specs.Prelude.{◌≡◌, ◌<◌, length, slice_get, Some, AllPairs};
-    ghost use Rattle.bl_load.specs.HandoffFacts.{AreHandoffFacts};
+    ghost use Rattle.bl_load.specs.HandoffFacts.{IsWellFormedHandoff};
     ghost use Rattle.bl_image.specs.ImageParts.{handoff_of, PartAscends};
 
     /// An image with these parts.
@@ -112,7 +112,7 @@ impl<A: Allocator> Image<A> {
         registers: Registers,
         parts: Vec<ImagePart<A>, A>,
     ) -> Image<A>
-        requires { AreHandoffFacts (handoff_of (record {
+        requires { IsWellFormedHandoff (handoff_of (record {
           protocol = protocol;
           registers = registers;
           parts = parts.items;
@@ -147,7 +147,7 @@ impl<A: Allocator> Image<A> {
     /// How many parts there are, at most 256.
     pub fn len(&self) -> usize
         ensures len { result ≡ length self.now.parts }
-        ensures kept { AreHandoffFacts (handoff_of self.now) }
+        ensures kept { IsWellFormedHandoff (handoff_of self.now) }
     {
         self.parts.len()
     }
@@ -164,7 +164,7 @@ impl<A: Allocator> Image<A> {
     pub fn parts(&self) -> &[ImagePart<A>]
         ensures parts { result.now ≡ self.now.parts }
         ensures ascending { AllPairs PartAscends result.now }
-        ensures kept { AreHandoffFacts (handoff_of self.now) }
+        ensures kept { IsWellFormedHandoff (handoff_of self.now) }
     {
         self.parts.as_slice()
     }

@@ -12,7 +12,7 @@ use Rattle.bl_mem.specs.declared.segment.Segment.{Segment}
 use Rattle.bl_mem.specs.Contents.{holds, holds_at}
 use Rattle.bl_elf.specs.Elf.{ElfFacts, IsElf}
 use Rattle.bl_elf.proofs.ElfLaws.{elf_few, elf_loadable, elf_apart}
-use Rattle.bl_mb2head.specs.Header.{FitsFile, IsHeader}
+use Rattle.bl_mb2head.specs.Header.{SegmentFitsFile, IsHeader}
 use Rattle.bl_mb2head.specs.declared.header.Header.{Header}
 use Rattle.bl_load.specs.declared.refusal.Refusal.TheVariants as refusal
 use Rattle.bl_load.specs.Blocks.{high_of}
@@ -58,7 +58,7 @@ one_filled s (Some a) h =
     held_within s a (sym (or-false (holds s a)) ∙ entry_held (s ∷ []) a h) in
     omega (arith, w.0, w.1)
 
-one_loadable : (file : List ℕ) (s : Segment) (entry : Option ℕ) → FitsFile file s
+one_loadable : (file : List ℕ) (s : Segment) (entry : Option ℕ) → SegmentFitsFile file s
     → entry_fault (s ∷ []) entry ≡ None → length file < 2 ^ 64 → AreLoadable file (s ∷ [])
 one_loadable file s entry fits sound short =
     let size = fits.size in
@@ -97,7 +97,7 @@ elf_as_loadable file facts entry elf sound =
 
 -- the segments of a kernel with no fault can be loaded
 pub kernel_loadable : (file : List ℕ) (segment : Option Segment) (facts : ElfFacts)
-    (entry : Option ℕ) → IfSome segment (FitsFile file) → IsLoadedBy file segment facts
+    (entry : Option ℕ) → IfSome segment (SegmentFitsFile file) → IsLoadedBy file segment facts
     → entry_fault facts.segments entry ≡ None → length file < 2 ^ 64
     → AreLoadable file facts.segments
 kernel_loadable file (Some s) facts entry fits loaded sound short =

@@ -11,7 +11,7 @@ use Rattle.bl_plan.specs.declared.protocol.Protocol.{Protocol}
 use Rattle.bl_plan.proofs.PlaceLaws.{all_usable, all_apart}
 use Rattle.bl_plan.specs.Order.{place_key, in_order}
 use Rattle.bl_load.specs.declared.registers.Registers.{Registers}
-use Rattle.bl_load.specs.HandoffFacts.{Ascends, AreHandoffFacts, MayStand, max_parts}
+use Rattle.bl_load.specs.HandoffFacts.{Ascends, IsWellFormedHandoff, MayStand, max_parts}
 use Rattle.bl_load.specs.Protocols.{is_wide}
 use Rattle.bl_load.specs.Registers.{are_wide}
 use Rattle.bl_plan.proofs.OrderLemmas.{in_order_all, in_order_pairs, in_order_sorted}
@@ -82,7 +82,7 @@ pub handoff_kept : (facts : MachineFacts) (protocol : Protocol) (registers : Reg
     (rows : List Row) (places : List Place) → All IsRow rows → length places ≤ max_parts
     → ArePlaced facts [] rows places → are_wide registers ≡ is_wide protocol
     → All (λ (p : Place). MayStand (is_wide protocol) p.role) places
-    → AreHandoffFacts
+    → IsWellFormedHandoff
     (record { protocol = protocol; registers = registers; places = in_order places })
 handoff_kept facts protocol registers rows places are few placed width roles =
     let filled = are_filled facts [] rows places placed are in

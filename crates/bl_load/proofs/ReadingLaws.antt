@@ -21,7 +21,7 @@ use Rattle.bl_plan.specs.declared.part.Role.TheVariants.{CommandLine, Gdt, Initr
 use Rattle.bl_plan.specs.declared.protocol.Protocol.{Protocol}
 use Rattle.bl_plan.specs.declared.protocol.Protocol.TheVariants as protocols
 use Rattle.bl_load.specs.Addresses.{address_of}
-use Rattle.bl_load.specs.HandoffFacts.{AreHandoffFacts, MayStand, max_parts}
+use Rattle.bl_load.specs.HandoffFacts.{IsWellFormedHandoff, MayStand, max_parts}
 use Rattle.bl_load.specs.Kernel.{KernelFacts}
 use Rattle.bl_load.specs.LinuxRows.{fixed_row, moved_row, linux_kernel_row, told_of}
 use Rattle.bl_load.specs.Parts.{content_of, payload_of, registers_of}
@@ -122,7 +122,7 @@ width_of protocols.Linux64 reading places = refl
 pub reading_kept : (facts : MachineFacts) (value : EntryValue) (reading : Reading)
     (places : List Place) → IsRead facts value reading → length value.module_lines ≤ 64
     → ArePlaced facts [] (rows_of facts value reading) places
-    → AreHandoffFacts (record {
+    → IsWellFormedHandoff (record {
       protocol = value.protocol;
       registers = registers_of value.protocol reading places;
       places = in_order places;

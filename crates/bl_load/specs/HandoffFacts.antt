@@ -30,7 +30,7 @@ MayStand wide role = Unit {0}
 -- what a handoff keeps, and the handover of an image too: its registers are those of 64 bits under
 -- such a protocol and no other; its places are few, none is empty, each ends at most at 4 GiB, and
 -- they ascend
-pub record AreHandoffFacts (handoff : HandoffFacts) : Type 0 where
+pub record IsWellFormedHandoff (handoff : HandoffFacts) : Type 0 where
   pub width : are_wide handoff.registers ≡ is_wide handoff.protocol
   pub roles : All (λ place. MayStand (is_wide handoff.protocol) place.role) handoff.places
   pub few : length handoff.places ≤ max_parts

@@ -9,7 +9,7 @@ use Rattle.bl_load.specs.declared.plan.Content.TheVariants.{Own, File, Block}
 use Rattle.bl_load.specs.declared.plan.PlannedPart.{PlannedPart}
 use Rattle.bl_load.specs.declared.plan.Plan.{Plan}
 use Rattle.bl_load.specs.Blocks.{span_of}
-use Rattle.bl_load.specs.HandoffFacts.{AreHandoffFacts}
+use Rattle.bl_load.specs.HandoffFacts.{IsWellFormedHandoff}
 use Rattle.bl_load.specs.PlanFacts.{places_of, handoff_by}
 
 -- the lengths of files
@@ -78,4 +78,4 @@ IsLean parts = All (λ part. IsLeanContent part.place.role part.content) parts
 pub record IsLoadable {A : Type 0} (lengths : List ℕ) (size : ℕ) (plan : Plan A) : Type 0 where
   pub backed : All (IsBacked lengths) plan.parts.items
   pub inside : All (λ place. place.address + place.length ≤ size) (places_of plan)
-  pub kept : AreHandoffFacts (handoff_by plan)
+  pub kept : IsWellFormedHandoff (handoff_by plan)

@@ -21,7 +21,7 @@ impl<A: Allocator> Model for Handoff<A> {
     ghost use Rattle.std.specs.Prelude.{◌≡◌, map};
     ghost use Rattle.bl_plan.specs.Placed.{place_range};
     ghost use Rattle.bl_load.specs.Place.{planned_place};
-    ghost use Rattle.bl_load.specs.HandoffFacts.{HandoffFacts, AreHandoffFacts};
+    ghost use Rattle.bl_load.specs.HandoffFacts.{HandoffFacts, IsWellFormedHandoff};
 
     ghost Value = { HandoffFacts };
 
@@ -31,7 +31,7 @@ impl<A: Allocator> Model for Handoff<A> {
       places = map planned_place h.parts.items;
     } };
 
-    ghost invariant = { λ h. AreHandoffFacts (record {
+    ghost invariant = { λ h. IsWellFormedHandoff (record {
       protocol = h.protocol;
       registers = h.registers;
       places = map planned_place h.parts.items;
@@ -41,7 +41,7 @@ impl<A: Allocator> Model for Handoff<A> {
 impl<A: Allocator> Handoff<A> {
     ghost use Rattle.std.specs.Prelude.{◌≡◌, ◌<◌, length, map, slice_index_or};
     ghost use Rattle.bl_plan.specs.Placed.{place_range};
-    ghost use Rattle.bl_load.specs.HandoffFacts.{AreHandoffFacts};
+    ghost use Rattle.bl_load.specs.HandoffFacts.{IsWellFormedHandoff};
     ghost use Rattle.bl_load.specs.Place.{planned_place};
 
     /// How the kernel is entered.
@@ -61,7 +61,7 @@ impl<A: Allocator> Handoff<A> {
     /// How many parts there are, at most 256.
     pub fn len(&self) -> usize
         ensures len { result ≡ length self.now.places }
-        ensures kept { AreHandoffFacts self.now }
+        ensures kept { IsWellFormedHandoff self.now }
     {
         self.parts.len()
     }

@@ -41,7 +41,7 @@ pub record IsPool (regions : List Region) (size : ℕ) (pool : Range ℕ) : Type
   pub usable : (a : ℕ) → pool.start ≤ a → a < pool.end → IsUsableAmong regions size a
 
 -- what holds of each machine's facts
-pub record AreMachineFacts (facts : MachineFacts) : Type 0 where
+pub record IsWellFormedMachine (facts : MachineFacts) : Type 0 where
   pub size : IsSize facts.size
   pub runs : AreRuns facts.runs
   pub few : length facts.runs ≤ max_runs

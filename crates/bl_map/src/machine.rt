@@ -41,14 +41,14 @@ pub struct Machine<A: Allocator> {
 }
 
 impl<A: Allocator> Model for Machine<A> {
-    ghost use Rattle.bl_map.specs.MachineFacts.{MachineFacts, AreMachineFacts};
+    ghost use Rattle.bl_map.specs.MachineFacts.{MachineFacts, IsWellFormedMachine};
 
     ghost Value = { MachineFacts };
 
     ghost view = { λ m. record { size = m.size; runs = m.runs.items; pool = m.pool } };
 
     ghost invariant = { λ m.
-        AreMachineFacts record { size = m.size; runs = m.runs.items; pool = m.pool } };
+        IsWellFormedMachine record { size = m.size; runs = m.runs.items; pool = m.pool } };
 }
 
 impl<A: Allocator> Machine<A> {
@@ -56,7 +56,7 @@ impl<A: Allocator> Machine<A> {
     ghost use Rattle.bl_map.specs.Kinds.{number_or_zero};
     ghost use Rattle.bl_map.specs.NormalMap.{IsNormalMap};
     ghost use Rattle.bl_map.specs.NormalMap as normal_map;
-    ghost use Rattle.bl_map.specs.MachineFacts.{AllUsable, AreMachineFacts};
+    ghost use Rattle.bl_map.specs.MachineFacts.{AllUsable, IsWellFormedMachine};
     ghost use Rattle.bl_map.specs.Faults.{HasFirstMapFault, IsAccepted};
 
     /// The machine of these regions, in any order, overlapping, adjoining or empty. `size` is in
@@ -89,7 +89,7 @@ impl<A: Allocator> Machine<A> {
     /// How many bytes of memory there are.
     pub fn size(&self) -> u64
         ensures size { result ≡ self.now.size }
-        ensures facts { AreMachineFacts self.now }
+        ensures facts { IsWellFormedMachine self.now }
     {
         self.size
     }
@@ -97,7 +97,7 @@ impl<A: Allocator> Machine<A> {
     /// The normal map: the longest runs of one kind, ascending.
     pub fn normal(&self) -> &[Region]
         ensures runs { result.now ≡ self.now.runs }
-        ensures facts { AreMachineFacts self.now }
+        ensures facts { IsWellFormedMachine self.now }
     {
         self.runs.as_slice()
     }
@@ -105,7 +105,7 @@ impl<A: Allocator> Machine<A> {
     /// The frames that files are staged in.
     pub fn pool(&self) -> Range<u64>
         ensures pool { result ≡ self.now.pool }
-        ensures facts { AreMachineFacts self.now }
+        ensures facts { IsWellFormedMachine self.now }
     {
         self.pool.start..self.pool.end
     }
@@ -113,7 +113,7 @@ impl<A: Allocator> Machine<A> {
     /// What an address is for.
     pub fn kind_at(&self, a: u64) -> Option<Kind>
         ensures kind { number_or_zero result ≡ normal_map.kind_at self.now.runs a }
-        ensures facts { AreMachineFacts self.now }
+        ensures facts { IsWellFormedMachine self.now }
     {
         greatest_kind(self.runs.as_slice(), a)
     }
@@ -125,7 +125,7 @@ impl<A: Allocator> Machine<A> {
         ensures usable { MatchBool result
             (AllUsable self.now range.start range.end)
             (¬ AllUsable self.now range.start range.end) }
-        ensures facts { AreMachineFacts self.now }
+        ensures facts { IsWellFormedMachine self.now }
     {
         is_usable_among(self.runs.as_slice(), self.size, range.start, range.end)
     }
@@ -135,7 +135,7 @@ impl<A: Allocator> Machine<A> {
     pub fn low_kib(&self) -> u64
         ensures low_kib { result ≡ normal_map.low_kib self.now.runs }
         ensures most { result ≤ MAX_LOW_KIB }
-        ensures facts { AreMachineFacts self.now }
+        ensures facts { IsWellFormedMachine self.now }
     {
         (usable_end(self.runs.as_slice(), 0) / KIB).min(MAX_LOW_KIB)
     }
@@ -145,7 +145,7 @@ impl<A: Allocator> Machine<A> {
     pub fn high_kib(&self) -> u64
         ensures high_kib { result ≡ normal_map.high_kib self.now.runs }
         ensures most { result < 2 ^ 32 }
-        ensures facts { AreMachineFacts self.now }
+        ensures facts { IsWellFormedMachine self.now }
     {
         let end = usable_end(self.runs.as_slice(), HIGH_START);
         (end.saturating_sub(HIGH_START) / KIB).min(MAX_HIGH_KIB)

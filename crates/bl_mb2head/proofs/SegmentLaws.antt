@@ -13,14 +13,14 @@ use Rattle.bl_mb2head.specs.declared.header.Header.{Header}
 use Rattle.bl_mb2head.specs.declared.tag.Tag.{Tag}
 use Rattle.bl_mb2head.specs.Address.{address_tag_at, segment_by_tag, is_bad_address, address_fault}
 use Rattle.bl_mb2head.specs.Address.{address_segment}
-use Rattle.bl_mb2head.specs.Header.{FitsFile, IsHeader, entry_address_of}
+use Rattle.bl_mb2head.specs.Header.{SegmentFitsFile, IsHeader, entry_address_of}
 use Rattle.bl_mb2head.specs.Tags.{last_of}
 
 -- what an address tag with no fault gives
 segment_fits : (bytes : List ℕ) (h : ℕ) (tag : AddressTag) → h ≤ length bytes
     → tag.header_addr < 2 ^ 32 → tag.load_addr < 2 ^ 32 → tag.bss_end_addr < 2 ^ 32
     → is_bad_address (length bytes) h tag ≡ false
-    → FitsFile bytes (segment_by_tag (length bytes) h tag)
+    → SegmentFitsFile bytes (segment_by_tag (length bytes) h tag)
 unfolding is_bad_address
 segment_fits bytes h tag inside header load bss sound = record {
   filled = grind (arith, nat_tests);
@@ -36,7 +36,7 @@ no_fault false fault sound = refl
 
 address_fits : (bytes : List ℕ) (h : ℕ) (tag : Option Tag) → ((k : ℕ) → slice_index bytes k < 256)
     → h ≤ length bytes → address_fault bytes h tag ≡ None
-    → IfSome (address_segment bytes h tag) (FitsFile bytes)
+    → IfSome (address_segment bytes h tag) (SegmentFitsFile bytes)
 address_fits bytes h None small inside sound = tt
 address_fits bytes h (Some t) small inside sound =
     let tag = address_tag_at bytes t.place in
@@ -45,10 +45,10 @@ address_fits bytes h (Some t) small inside sound =
     (no_fault (is_bad_address (length bytes) h tag) (BadTag t.place) sound)
 
 pub header_segment_fits : (bytes : List ℕ) (header : Header) → ((k : ℕ) → slice_index bytes k < 256)
-    → IsHeader bytes header → IfSome header.segment (FitsFile bytes)
+    → IsHeader bytes header → IfSome header.segment (SegmentFitsFile bytes)
 header_segment_fits bytes header small is =
     let here = is.begins.place.holds.in_file in
-    subst (λ (s : Option Segment). IfSome s (FitsFile bytes)) (sym is.segment)
+    subst (λ (s : Option Segment). IfSome s (SegmentFitsFile bytes)) (sym is.segment)
     (address_fits bytes header.place (last_of 2 is.tags) small (omega arith) is.sound)
 
 entry_fits : (bytes : List ℕ) (tag : Option Tag) → ((k : ℕ) → slice_index bytes k < 256)

@@ -97,7 +97,7 @@ HasFirstHeadFault bytes NoConsole =
     (h : ℕ) × BeginsAt bytes h × IsFirstTagFault bytes (tags_end bytes h) (h + 16) NoConsole
 
 -- a segment that the file can fill, with sums that stay small
-pub record FitsFile (bytes : List ℕ) (segment : Segment) : Type 0 where
+pub record SegmentFitsFile (bytes : List ℕ) (segment : Segment) : Type 0 where
   pub filled : segment.filesz ≤ segment.memsz
   pub in_file : segment.offset + segment.filesz ≤ length bytes
   pub address : segment.address < 2 ^ 32

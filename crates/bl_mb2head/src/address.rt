@@ -4,7 +4,7 @@ ghost use Rattle.std.specs.Prelude.{◌≡◌, ◌≤◌, ◌<◌, ◌+◌, ◌^
 ghost use Rattle.std.specs.Prelude.{MatchResult, MatchOption, IfOk, IfSome};
 ghost use Rattle.bl_mb2head.specs.Address as tags;
 ghost use Rattle.bl_mb2head.specs.Address.{address_tag_at, address_fault, address_segment};
-ghost use Rattle.bl_mb2head.specs.Header.{FitsFile};
+ghost use Rattle.bl_mb2head.specs.Header.{SegmentFitsFile};
 
 use crate::fault::HeadFault;
 use crate::fields::{
@@ -148,7 +148,7 @@ pub fn address_segment<V: ByteView>(
         (λ segment. (address_fault (V.bytes view.now) place tag ≡ None)
         × (segment ≡ address_segment (V.bytes view.now) place tag))
         (λ fault. address_fault (V.bytes view.now) place tag ≡ Some fault) }
-    ensures fits { IfOk result (λ segment. IfSome segment (FitsFile (V.bytes view.now))) }
+    ensures fits { IfOk result (λ segment. IfSome segment (SegmentFitsFile (V.bytes view.now))) }
 {
     let Some(tag) = tag else {
         return Ok(None);

@@ -2,7 +2,8 @@
 
 ghost use Rattle.std.specs.Prelude.{◌≡◌, ◌+◌, ◌≤◌, ◌<◌, ◌^◌, length, IfOk, IfErr, IfSome};
 ghost use Rattle.bl_mb2head.specs.Header as header;
-ghost use Rattle.bl_mb2head.specs.Header.{IsHeader, BeginsAt, HasFirstHeadFault, FitsFile, is_cut};
+ghost use Rattle.bl_mb2head.specs.Header.{IsHeader, BeginsAt, HasFirstHeadFault, is_cut};
+ghost use Rattle.bl_mb2head.specs.Header.{SegmentFitsFile};
 
 use crate::address::address_segment;
 use crate::fault::HeadFault;
@@ -90,7 +91,8 @@ fn relocation_of<V: ByteView>(view: &V, tag: Option<Tag>) -> Option<Relocation>
 pub fn find_header<V: ByteView>(view: &V) -> Result<Header, HeadFault>
     ensures found { IfOk result (λ header. IsHeader (V.bytes view.now) header) }
     ensures first_fault { IfErr result (λ fault. HasFirstHeadFault (V.bytes view.now) fault) }
-    ensures segment { IfOk result (λ header. IfSome header.segment (FitsFile (V.bytes view.now))) }
+    ensures segment { IfOk result (λ header.
+        IfSome header.segment (SegmentFitsFile (V.bytes view.now))) }
     ensures entry { IfOk result (λ header. IfSome header.entry (λ entry. entry < 2 ^ 32)) }
 {
     let place = checked_place(view)?;

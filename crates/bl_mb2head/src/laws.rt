@@ -4,7 +4,7 @@ ghost use Rattle.std.specs.Prelude.{◌≡◌, ◌<◌, ◌^◌, ◌⊎◌, ℕ,
 ghost use Rattle.bl_mb2head.specs.declared.fault.HeadFault.{HeadFault};
 ghost use Rattle.bl_mb2head.specs.declared.header.Header.{Header};
 ghost use Rattle.bl_mb2head.specs.declared.tag.Tag.{Tag};
-ghost use Rattle.bl_mb2head.specs.Header.{IsHeader, HasFirstHeadFault, FitsFile};
+ghost use Rattle.bl_mb2head.specs.Header.{IsHeader, HasFirstHeadFault, SegmentFitsFile};
 ghost use Rattle.bl_mb2head.specs.Tags.{AreAllTags, IsFirstTagFault};
 
 /// Exactly one of these holds of a place: the tags from it on are one list, or one first fault
@@ -36,7 +36,7 @@ pub fn headers_are_determined()
 /// The numbers of a header stay small, where the bytes of its file are bytes.
 pub fn headers_fit()
     ensures segment { (bytes : List ℕ) (header : Header) → ((k : ℕ) → slice_index bytes k < 256)
-        → IsHeader bytes header → IfSome header.segment (FitsFile bytes) }
+        → IsHeader bytes header → IfSome header.segment (SegmentFitsFile bytes) }
     ensures entry { (bytes : List ℕ) (header : Header) → ((k : ℕ) → slice_index bytes k < 256)
         → IsHeader bytes header → IfSome header.entry (λ entry. entry < 2 ^ 32) }
 {}

@@ -6,8 +6,8 @@ use Rattle.std.proofs.lemmas.Bool.{cases_lt}
 use Rattle.std.proofs.lemmas.Bool.Decides.{nat_tests}
 use Rattle.bl_mem.specs.LittleEndian.{u32_at, u64_at}
 use Rattle.bl_bzimage.specs.Setup.{header_end}
-use Rattle.bl_params.specs.Form.{breaks_at, breaks_header, breaks_entry, is_nonzero_at, e820_entry_count}
-use Rattle.bl_params.specs.Form.{e820_entry_offset}
+use Rattle.bl_params.specs.BootParamsForm.{breaks_at, breaks_header, breaks_entry, is_nonzero_at, e820_entry_count}
+use Rattle.bl_params.specs.BootParamsForm.{e820_entry_offset}
 use Rattle.bl_params.specs.Kept.{HasFormBelow, IsQuiet}
 
 pub lt_yes : (k n : ℕ) → k < n → nat_lt k n ≡ true

@@ -5,7 +5,7 @@ use Rattle.std.proofs.lemmas.Bool.{ltb-false}
 use Rattle.std.proofs.lemmas.List.Elements.{All-nil, All-cons}
 use Rattle.bl_map.specs.declared.region.Region.{Region}
 use Rattle.bl_map.specs.NormalMap.{region_end}
-use Rattle.bl_params.specs.Form.{breaks_at, e820_entry_count, e820_entry_offset}
+use Rattle.bl_params.specs.BootParamsForm.{breaks_at, e820_entry_count, e820_entry_offset}
 use Rattle.bl_params.specs.ParamsFacts.{ParamsFacts}
 use Rattle.bl_params.specs.Reading.{IsEntry, AreEntries, IsParams}
 use Rattle.bl_params.proofs.FormLemmas.{entry_is}

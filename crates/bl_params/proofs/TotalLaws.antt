@@ -13,7 +13,7 @@ use Rattle.bl_map.specs.declared.region.Region.{Region}
 use Rattle.bl_map.specs.Kinds.{kind_number}
 use Rattle.bl_params.specs.declared.fault.ParamFault.{ParamFault}
 use Rattle.bl_params.specs.declared.fault.ParamFault.TheVariants.{WrongLength, BadParams, NoMemory}
-use Rattle.bl_params.specs.Form.{breaks_at, e820_entry_count, e820_entry_offset}
+use Rattle.bl_params.specs.BootParamsForm.{breaks_at, e820_entry_count, e820_entry_offset}
 use Rattle.bl_params.specs.ParamsFacts.{ParamsFacts}
 use Rattle.bl_params.specs.Reading.{IsEntry, AreEntries, IsParams, HasFirstParamFault}
 use Rattle.bl_params.proofs.FormLemmas.{count_is, kind_is}

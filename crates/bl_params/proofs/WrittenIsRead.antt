@@ -10,7 +10,7 @@ use Rattle.bl_bzimage.proofs.SetupLaws.{IsSoundFile, setup_sound, fields_are, he
 use Rattle.bl_bzimage.proofs.SetupLaws.{header_high, header_same}
 use Rattle.bl_params.specs.BootParamsFacts.{BootParamsFacts, AreE820Runs}
 use Rattle.bl_params.specs.BootParams.{boot_params}
-use Rattle.bl_params.specs.Form.{breaks_at, breaks_header, is_nonzero_at, e820_entry_count}
+use Rattle.bl_params.specs.BootParamsForm.{breaks_at, breaks_header, is_nonzero_at, e820_entry_count}
 use Rattle.bl_params.specs.Reading.{IsParams}
 use Rattle.bl_params.specs.Told.{params_of, FitFields}
 use Rattle.bl_params.proofs.Lengths.{length-boot_params}

@@ -1,6 +1,6 @@
 -- What the reader keeps as it goes.
 use Rattle.std.specs.Prelude.{◌≡◌, ℕ, ◌<◌, ◌≤◌, List, false}
-use Rattle.bl_params.specs.Form.{breaks_at}
+use Rattle.bl_params.specs.BootParamsForm.{breaks_at}
 
 -- nothing below this offset breaks the form
 pub record HasFormBelow (bytes : List ℕ) (end : ℕ) : Type 0 where

@@ -6,7 +6,7 @@ pub mod BootParams
 pub mod Gdt
 pub mod Paging
 pub mod Translation
-pub mod Form
+pub mod BootParamsForm
 pub mod Reading
 pub mod Kept
 pub mod Numbers

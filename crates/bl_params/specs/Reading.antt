@@ -6,7 +6,7 @@ use Rattle.bl_map.specs.declared.region.Region.{Region}
 use Rattle.bl_map.specs.Kinds.{kind_number}
 use Rattle.bl_params.specs.declared.fault.ParamFault.{ParamFault}
 use Rattle.bl_params.specs.declared.fault.ParamFault.TheVariants.{WrongLength, BadParams, NoMemory}
-use Rattle.bl_params.specs.Form.{breaks_at, e820_entry_count}
+use Rattle.bl_params.specs.BootParamsForm.{breaks_at, e820_entry_count}
 use Rattle.bl_params.specs.ParamsFacts.{ParamsFacts}
 use Rattle.bl_params.specs.Numbers.{params_size, e820_table_at, e820_entry_size, e820_size_at}
 use Rattle.bl_params.specs.Numbers.{e820_type_at}

@@ -2,7 +2,7 @@
 ghost use Rattle.std.specs.Prelude.{◌≡◌, ◌≤◌, ◌<◌, ◌+◌, ◌==◌, ℕ, not, true, false, length};
 ghost use Rattle.std.specs.Prelude.{slice_index, MatchResult};
 ghost use Rattle.bl_bzimage.specs.Setup.{header_end};
-ghost use Rattle.bl_params.specs.Form.{breaks_at, is_nonzero_at, e820_entry_count};
+ghost use Rattle.bl_params.specs.BootParamsForm.{breaks_at, is_nonzero_at, e820_entry_count};
 ghost use Rattle.bl_params.specs.Reading.{HasFirstParamFault};
 ghost use Rattle.bl_params.specs.BootParamsFacts.{max_e820_entries};
 ghost use Rattle.bl_params.specs.Kept.{HasFormBelow, IsQuiet};

@@ -3,7 +3,7 @@ ghost use Rattle.std.specs.Prelude.{◌≡◌, ◌≤◌, ◌<◌, ◌+◌, ◌*
 ghost use Rattle.std.specs.Prelude.{length, MatchResult};
 ghost use Rattle.bl_map.specs.Kinds.{kind_number};
 ghost use Rattle.bl_bzimage.specs.Setup.{header_end};
-ghost use Rattle.bl_params.specs.Form.{e820_entry_count, e820_entry_offset};
+ghost use Rattle.bl_params.specs.BootParamsForm.{e820_entry_count, e820_entry_offset};
 ghost use Rattle.bl_params.specs.Reading.{HasFirstParamFault, AreEntries, IsEntry};
 ghost use Rattle.bl_params.specs.BootParamsFacts.{max_e820_entries};
 ghost use Rattle.bl_params.specs.Kept.{HasFormBelow};

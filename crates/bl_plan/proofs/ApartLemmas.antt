@@ -5,7 +5,7 @@ use Rattle.std.specs.List.Sorted.{IsNonDecreasingBy}
 use Rattle.std.specs.List.{AllWithin}
 use Rattle.std.specs.declared.ops.Range.{Range}
 use Rattle.bl_mem.specs.Memory.{IsIn}
-use Rattle.bl_plan.specs.Kept.{IsBlocked}
+use Rattle.bl_plan.specs.Kept.{IsBlockedBy}
 use Rattle.bl_plan.specs.Permitted.{AllOpen}
 use Rattle.bl_plan.specs.PlannerFacts.{AreApartRanges}
 
@@ -47,7 +47,7 @@ open_where ranges n start end apart before behind a above below k d within here 
 pub taken_blocks : (ranges : List (Range ℕ)) (n start end : ℕ) (d : Range ℕ) → AreApartRanges ranges
     → n < length ranges
     → (get_or ranges n d).start < end → start < (get_or ranges n d).end
-    → IsBlocked (λ a. All (λ range. ¬ IsIn range a) ranges) start end
+    → IsBlockedBy (λ a. All (λ range. ¬ IsIn range a) ranges) start end
     (record { start = (get_or ranges n d).start; end = (get_or ranges n d).end })
 taken_blocks ranges n start end d apart within meets_end meets_start =
     record {

@@ -3,12 +3,12 @@ use Rattle.std.proofs.Common.{◌<◌, ◌≤◌, ◌+◌, ℕ, List, arith, inl
 use Rattle.std.proofs.lemmas.Bool.{cases_lt}
 use Rattle.std.specs.declared.ops.Range.{Range}
 use Rattle.bl_map.specs.MachineFacts.{MachineFacts}
-use Rattle.bl_plan.specs.Kept.{IsBlocked, IsFree}
+use Rattle.bl_plan.specs.Kept.{IsBlockedBy, IsFree}
 use Rattle.bl_plan.specs.Permitted.{IsPermitted}
 
 -- a blocked stretch is blocked for what asks more
 pub blocked_for : (P Q : ℕ → Type 0) (start end : ℕ) (stretch : Range ℕ) → ((a : ℕ) → Q a → P a)
-    → IsBlocked P start end stretch → IsBlocked Q start end stretch
+    → IsBlockedBy P start end stretch → IsBlockedBy Q start end stretch
 blocked_for P Q start end stretch weaker h =
     record {
       forward = h.forward;
@@ -19,7 +19,7 @@ blocked_for P Q start end stretch weaker h =
 
 -- bytes that a blocked stretch meets do not all have the property
 pub not_all : (P : ℕ → Type 0) (start end : ℕ) (stretch : Range ℕ) → start < end
-    → IsBlocked P start end stretch → ((a : ℕ) → start ≤ a → a < end → P a) → ⊥
+    → IsBlockedBy P start end stretch → ((a : ℕ) → start ≤ a → a < end → P a) → ⊥
 not_all P start end stretch some h all =
     elim (cases_lt stretch.start start) [
       | inl less ↦ h.without start (omega arith) h.meets_start (all start (omega arith) some)
@@ -30,7 +30,7 @@ not_all P start end stretch some h all =
 -- no address from at up to the stretch's end is permitted
 pub none_up_to_end : (facts : MachineFacts) (taken : List (Range ℕ))
     (length align low high at a : ℕ) (stretch : Range ℕ) → 1 ≤ length
-    → IsBlocked (IsFree facts taken) at (at + length) stretch → at ≤ a → a < stretch.end
+    → IsBlockedBy (IsFree facts taken) at (at + length) stretch → at ≤ a → a < stretch.end
     → IsPermitted facts taken length align low high a → ⊥
 none_up_to_end facts taken length align low high at a stretch some h above below p =
     elim (cases_lt a stretch.start) [
@@ -47,7 +47,7 @@ none_up_to_end facts taken length align low high at a stretch some h above below
 -- no address up to at from which the bytes reach into the stretch is permitted
 pub none_down_to_start : (facts : MachineFacts) (taken : List (Range ℕ))
     (length align low high at a : ℕ) (stretch : Range ℕ) → 1 ≤ length
-    → IsBlocked (IsFree facts taken) at (at + length) stretch → a ≤ at → stretch.start < a + length
+    → IsBlockedBy (IsFree facts taken) at (at + length) stretch → a ≤ at → stretch.start < a + length
     → IsPermitted facts taken length align low high a → ⊥
 none_down_to_start facts taken length align low high at a stretch some h below above p =
     let e = h.meets_start in let f = h.forward in

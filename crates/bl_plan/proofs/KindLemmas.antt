@@ -11,7 +11,7 @@ use Rattle.bl_map.specs.Kinds.{kind_number}
 use Rattle.bl_map.specs.NormalMap.{kind_at, region_holds, region_end, AreRuns}
 use Rattle.bl_map.proofs.KindLemmas.{kind_not_held, not_held_behind}
 use Rattle.bl_map.proofs.MapLaws.{fewer_runs, kind_in, same_kind}
-use Rattle.bl_plan.specs.Kept.{IsBlocked}
+use Rattle.bl_plan.specs.Kept.{IsBlockedBy}
 
 -- a run of kind usable that holds an address
 abbrev pub IsUsableRun : ℕ → Region → Type 0
@@ -73,7 +73,7 @@ pub gap_blocks : (runs : List Region) (k from start end : ℕ) (d : Region) → 
     → ((j : ℕ) (e : Region) → j < k → (get_or runs j e).kind ≡ Usable
     → region_end (get_or runs j e) ≤ from)
     → start < end → from < (get_or runs k d).base → start < (get_or runs k d).base → from < end
-    → IsBlocked (λ a. kind_at runs a ≡ 1) start end
+    → IsBlockedBy (λ a. kind_at runs a ≡ 1) start end
     (record { start = from; end = (get_or runs k d).base })
 gap_blocks runs k from start end d are within before forward gap meets_start meets_end =
     record {
@@ -104,7 +104,7 @@ pub last_blocks : (runs : List Region) (k from start end limit : ℕ) → length
     → ((j : ℕ) (e : Region) → j < k → (get_or runs j e).kind ≡ Usable
     → region_end (get_or runs j e) ≤ from)
     → start < end → from < end → end ≤ limit
-    → IsBlocked (λ a. kind_at runs a ≡ 1) start end (record { start = from; end = limit })
+    → IsBlockedBy (λ a. kind_at runs a ≡ 1) start end (record { start = from; end = limit })
 last_blocks runs k from start end limit all before forward gap below =
     record {
       forward = omega arith;

@@ -17,7 +17,7 @@ IsPermittedIn facts taken length window a =
 
 -- from start up to end some byte lacks the property, and so does each byte of this stretch, which
 -- has that byte
-pub record IsBlocked (P : ℕ → Type 0) (start end : ℕ) (stretch : Range ℕ) : Type 0 where
+pub record IsBlockedBy (P : ℕ → Type 0) (start end : ℕ) (stretch : Range ℕ) : Type 0 where
   pub forward : stretch.start < stretch.end
   pub meets_end : stretch.start < end
   pub meets_start : start < stretch.end

@@ -4,7 +4,7 @@ ghost use Rattle.std.specs.List.{AllWithin};
 ghost use Rattle.bl_mem.specs.Memory.{IsIn};
 ghost use Rattle.bl_map.specs.NormalMap.{kind_at, AreRuns};
 ghost use Rattle.bl_map.specs.MachineFacts.{AllUsable};
-ghost use Rattle.bl_plan.specs.Kept.{IsBlocked, IsFree};
+ghost use Rattle.bl_plan.specs.Kept.{IsBlockedBy, IsFree};
 ghost use Rattle.bl_plan.specs.Permitted.{AllOpen};
 ghost use Rattle.bl_plan.specs.PlannerFacts.{AreApartRanges};
 
@@ -18,7 +18,7 @@ fn unusable_stretch(runs: &[Region], start: u64, end: u64) -> Option<Range<u64>>
     requires forward { start < end }
     ensures { MatchOption result
         ((a : ℕ) → start ≤ a → a < end → kind_at runs.now a ≡ 1)
-        (λ stretch. IsBlocked (λ a. kind_at runs.now a ≡ 1) start end stretch) }
+        (λ stretch. IsBlockedBy (λ a. kind_at runs.now a ≡ 1) start end stretch) }
 {
     let mut from = 0;
     for run in runs {
@@ -51,7 +51,7 @@ pub fn taken_stretch(taken: &[Range<u64>], start: u64, end: u64) -> Option<Range
     requires apart { AreApartRanges taken.now }
     ensures { MatchOption result
         (AllOpen taken.now start end)
-        (λ stretch. IsBlocked (λ a. All (λ range. ¬ IsIn range a) taken.now) start end stretch) }
+        (λ stretch. IsBlockedBy (λ a. All (λ range. ¬ IsIn range a) taken.now) start end stretch) }
 {
     let next = ended_by(taken, start);
     if next < taken.len() {
@@ -77,7 +77,7 @@ pub fn blocked_stretch<A: Allocator>(
     requires below { end ≤ USABLE_LIMIT }
     ensures { MatchOption result
         (AllUsable machine.now start end × AllOpen taken.now start end)
-        (λ stretch. IsBlocked (IsFree machine.now taken.now) start end stretch) }
+        (λ stretch. IsBlockedBy (IsFree machine.now taken.now) start end stretch) }
 {
     if let Some(stretch) = unusable_stretch(machine.normal(), start, end) {
         return Some(stretch);

@@ -4,7 +4,8 @@ ghost use Rattle.std.specs.Prelude.{◌≡◌};
 use crate::beside::{Beside, read_beside};
 use crate::boot::say_status;
 use crate::long_files::LongFiles;
-use bl_boot::{Files, explain_to};
+use bl_boot::Files;
+use bl_explain::explain_to;
 use bl_rows::row::Row;
 
 /// Tells the boot over the heap.

@@ -7,7 +7,7 @@ use Rattle.bl_load.specs.declared.plan.Content.TheVariants.{File}
 use Rattle.bl_load.specs.declared.plan.PlannedPart.{PlannedPart}
 use Rattle.bl_load.specs.declared.plan.Plan.{Plan}
 use Rattle.bl_load.specs.declared.registers.Registers.{Registers}
-use Rattle.bl_load.specs.HandoffFacts.{Ascends, AreHandoffFacts, MayStand}
+use Rattle.bl_load.specs.HandoffFacts.{Ascends, IsWellFormedHandoff, MayStand}
 use Rattle.bl_load.specs.Protocols.{is_wide}
 use Rattle.bl_load.specs.Registers.{are_wide}
 use Rattle.bl_load.specs.Loadable.{IsBacked, IsLoadable}
@@ -38,7 +38,7 @@ two_kept : (protocol : Protocol) (registers : Registers) (p q : Place)
     → are_wide registers ≡ is_wide protocol → MayStand (is_wide protocol) p.role
     → MayStand (is_wide protocol) q.role
     → 1 ≤ p.length → 1 ≤ q.length → Ascends p q → q.address + q.length ≤ 2 ^ 32
-    → AreHandoffFacts (record { protocol = protocol; registers = registers; places = p ∷ q ∷ [] })
+    → IsWellFormedHandoff (record { protocol = protocol; registers = registers; places = p ∷ q ∷ [] })
 two_kept protocol registers p q width mp mq hp hq up top =
     record {
       width = width;

@@ -3,7 +3,7 @@ use Rattle.std.specs.Prelude.{ℕ, List, [], ◌++◌, codes, decimal, Option, S
 use Rattle.bl_map.specs.MachineFacts.{MachineFacts}
 use Rattle.bl_desc.specs.Entries.{Entry}
 use Rattle.bl_say.specs.DetailLines.{detail_lines}
-use Rattle.bl_say.specs.EntryNames.{file_names}
+use Rattle.bl_desc.specs.EntryNames.{file_names}
 use Rattle.bl_say.specs.RefusalWords.{refusal_line}
 use Rattle.bl_say.specs.Sought.{SoughtFacts, sought_lines}
 use Rattle.bl_say.specs.declared.told.refusal_detail.ToldRefusal.{ToldRefusal}

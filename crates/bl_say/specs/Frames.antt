@@ -4,7 +4,7 @@ use Rattle.std.specs.Prelude.{Option, Some, None}
 use Rattle.std.specs.declared.ops.Range.{Range}
 use Rattle.bl_map.specs.Room.{frames_in, frames_of, open_frames}
 use Rattle.bl_desc.specs.Entries.{Entry}
-use Rattle.bl_say.specs.EntryNames.{file_names}
+use Rattle.bl_desc.specs.EntryNames.{file_names}
 use Rattle.bl_say.specs.Sought.{SoughtFacts, size_found}
 
 -- the names of the files of an entry, by its index in a menu

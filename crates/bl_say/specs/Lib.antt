@@ -1,6 +1,5 @@
 pub mod Says
 pub mod WalkLines
-pub mod EntryNames
 pub mod Sought
 pub mod Segments
 pub mod Frames

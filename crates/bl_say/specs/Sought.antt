@@ -4,7 +4,7 @@ use Rattle.std.specs.Prelude.{Option, Some, None}
 use Rattle.bl_map.specs.Room.{frames_of}
 use Rattle.bl_session.specs.Outcome.{File, missing, size_of, file_bytes}
 use Rattle.bl_blame.specs.ShownNames.{shown_name}
-use Rattle.bl_say.specs.EntryNames.{index_of}
+use Rattle.bl_desc.specs.EntryNames.{index_of}
 
 -- the names that were looked for, and what was found for each of them
 pub record SoughtFacts : Type 0 where

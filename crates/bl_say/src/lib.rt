@@ -8,4 +8,4 @@ pub use lines::{
     say_attempt, say_bad_image, say_booted, say_handoff, say_hints, say_map, say_no_entry_left,
     say_refusals, say_refused_attempts, say_room, say_walk,
 };
-pub use told::{KernelSegments, RefusalDetail, Sought, ToldRefusal, index_of};
+pub use told::{KernelSegments, RefusalDetail, Sought, ToldRefusal};

@@ -1,11 +1,9 @@
 //! What lines are said of.
 
 mod kernel_segments;
-mod name_index;
 mod refusal_detail;
 mod sought;
 
 pub use kernel_segments::KernelSegments;
-pub use name_index::index_of;
 pub use refusal_detail::{RefusalDetail, ToldRefusal};
 pub use sought::Sought;

@@ -11,7 +11,7 @@ use Rattle.bl_session.specs.Boot.{BootFacts, EventFacts, piece, fault, State, un
 use Rattle.bl_session.specs.Boot.{handed_over, none_left, out_of_memory, sizes_of, fresh}
 use Rattle.bl_session.specs.Boot.{TextsHaveResult, AfterAttempt, BeginsUnless, Begins, is_wanted}
 use Rattle.bl_session.specs.Boot.{Takes, Steps, LeadsTo}
-use Rattle.bl_session.specs.Outcome.{File, size_of, texts_of, value_in, faulty_file, IsTrueOf}
+use Rattle.bl_session.specs.Outcome.{File, size_of, texts_of, entry_value_in, faulty_file, IsTrueOf}
 use Rattle.bl_session.specs.Outcome.{IsGenuineAt, IsGenuine, EntryHasResult, IsFirst, IsOutcome}
 use Rattle.bl_session.specs.Outcome.{HasEnded}
 use Rattle.bl_session.proofs.GatherLemmas.{FitAll, fits_piece, whole_files}
@@ -81,10 +81,10 @@ module _ (facts : BootFacts) (files : List File) (faults : ℕ → Option ℕ)
       (e, ends, goes) =
       let texts : map came_bytes piece_states ≡ texts_of facts files entry =
       whole_files piece_states (texts_of facts files entry) fit is in
-      let of_value : HasResult facts.machine (value_in facts files entry) e =
+      let of_value : HasResult facts.machine (entry_value_in facts files entry) e =
       subst (λ (x : List (List ℕ)). TextsHaveResult facts entry x e) texts ends in
       follows_end entry rest earlier e new more
-      (ends_whole facts.machine (sizes_of facts entry) _ (value_in facts files entry) e sized
+      (ends_whole facts.machine (sizes_of facts entry) _ (entry_value_in facts files entry) e sized
       (told refl) of_value) goes
 
   no_pieces : (entry : ℕ) (faulty : Option ℕ) → are_whole (fresh facts entry) ≡ true
@@ -99,7 +99,7 @@ module _ (facts : BootFacts) (files : List File) (faults : ℕ → Option ℕ)
       → Follows (entry ∷ rest) earlier new
   follows_unless entry rest earlier (Some r) new more sized goes =
       follows_end entry rest earlier (refused r) new more
-      (ends_by_size facts.machine (sizes_of facts entry) _ (value_in facts files entry) r sized)
+      (ends_by_size facts.machine (sizes_of facts entry) _ (entry_value_in facts files entry) r sized)
       goes
   follows_unless entry rest earlier None new more sized goes =
       follows_pieces entry rest earlier (fresh facts entry) (are_whole (fresh facts entry)) new more
@@ -141,7 +141,7 @@ module _ (facts : BootFacts) (files : List File) (faults : ℕ → Option ℕ)
       (λ e. some) (λ e. has_none entry (faults (length earlier)) some (last e)) refl goes
   keeps_taken entry rest earlier piece_states (fault ticket) new (sized, some, fit) told goes =
       follows_end entry rest earlier (refused (FileFault ticket.file)) new (follows_begins rest)
-      (ends_by_fault facts.machine (sizes_of facts entry) _ (value_in facts files entry) ticket.file
+      (ends_by_fault facts.machine (sizes_of facts entry) _ (entry_value_in facts files entry) ticket.file
       sized (has_fault entry (faults (length earlier)) ticket.file some told)) goes
 
   keeps_choice : (entry : ℕ) (rest : List ℕ) (earlier : List RefusedEntry)

@@ -11,7 +11,7 @@ use Rattle.bl_load.specs.declared.entry.Module.{Module}
 use Rattle.bl_load.specs.Value.{IsWithinLimits, file_count, lines_of}
 use Rattle.bl_session.specs.Menu.{EntryFacts, value_with, files_of, facts_of, entry_at, no_entry}
 use Rattle.bl_session.specs.Boot.{BootFacts}
-use Rattle.bl_session.specs.Outcome.{File, value_in}
+use Rattle.bl_session.specs.Outcome.{File, entry_value_in}
 
 -- ---- entries as contracts see them
 
@@ -77,7 +77,7 @@ with_files entry texts offered = record {
 
 pub offered_values : (facts : BootFacts) (files : List File) (entry : ℕ)
     → All (λ (e : EntryFacts). IsOffered e.blank) facts.menu.entries
-    → IsOffered (value_in facts files entry)
+    → IsOffered (entry_value_in facts files entry)
 offered_values facts files entry all =
     with_files (entry_at facts.menu entry) _
     (at_each (λ (e : EntryFacts). IsOffered e.blank) facts.menu.entries entry no_entry all nothing)

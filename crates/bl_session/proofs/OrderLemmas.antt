@@ -6,7 +6,7 @@ use Rattle.std.proofs.lemmas.Bool.{cases_lt}
 use Rattle.std.proofs.lemmas.List.{get_or_past}
 use Rattle.bl_stage.specs.PieceStates.{PieceState}
 use Rattle.bl_session.specs.declared.ticket.Ticket.{Ticket}
-use Rattle.bl_session.specs.History.{Item, submitted, came, failed, is_same, file_after}
+use Rattle.bl_session.specs.History.{Item, submitted, came, failed, is_same, last_submitted_file}
 use Rattle.bl_session.specs.Asked.{ticket_of, piece_orders, orders_of_files}
 use Rattle.bl_session.proofs.TicketLemmas.{same_fields, is_same_self, other_ticket, IsUntouched}
 use Rattle.bl_session.proofs.TicketLemmas.{IsAskedOnce, untouched_both, once_first, once_last}
@@ -119,7 +119,7 @@ once_files attempt place (index ∷ indices) (piece_states ∷ files) (suc i) t 
 pub found_files : (found : Option ℕ) (attempt : ℕ) (indices : List ℕ)
     (files : List (List PieceState))
     (place piece : ℕ) → length files ≡ length indices → piece < length (get_or files place [])
-    → file_after found (orders_of_files attempt 0 indices files) (ticket_of attempt place piece)
+    → last_submitted_file found (orders_of_files attempt 0 indices files) (ticket_of attempt place piece)
     ≡ Some (get_or indices place 0)
 found_files found attempt indices files place piece same h =
     elim (cases_lt place (length files)) [

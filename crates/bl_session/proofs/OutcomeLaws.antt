@@ -12,7 +12,7 @@ use Rattle.bl_session.specs.declared.outcome.RefusedEntry.{RefusedEntry}
 use Rattle.bl_session.specs.AttemptResult.{AttemptResult, handed, refused, HasResult}
 use Rattle.bl_session.specs.AttemptResult.{AttemptHasResult, UnlessRefused, size_refusal}
 use Rattle.bl_session.specs.Boot.{BootFacts, State, handed_over, sizes_of}
-use Rattle.bl_session.specs.Outcome.{File, value_in, faulty_file, IsFirst, IsOutcome}
+use Rattle.bl_session.specs.Outcome.{File, entry_value_in, faulty_file, IsFirst, IsOutcome}
 use Rattle.bl_session.proofs.EndLaws.{one_end}
 use Rattle.bl_session.proofs.BootLaws.{one_goes}
 
@@ -34,14 +34,14 @@ handed_value facts sizes faulty value h is =
 first_handed : (facts : BootFacts) (files : List File) (faults : ℕ → Option ℕ) (attempts : List ℕ)
     (before earlier : List RefusedEntry) (entry : ℕ) (h : Handover)
     → IsFirst facts files faults attempts before (handed_over entry earlier h)
-    → IsHandover facts.machine (value_in facts files entry) h
+    → IsHandover facts.machine (entry_value_in facts files entry) h
 first_handed facts files faults [] before earlier entry h is = absurd cc
 first_handed facts files faults (e ∷ rest) before earlier entry h (handed k, ends, goes) =
     let same : entry ≡ e = cc in
     let handover : h ≡ k = cc in
-    subst (λ (x : ℕ). IsHandover facts.machine (value_in facts files x) h) (sym same)
-    (subst (λ (x : Handover). IsHandover facts.machine (value_in facts files e) x) (sym handover)
-    (handed_value facts.machine (sizes_of facts e) _ (value_in facts files e) k ends))
+    subst (λ (x : ℕ). IsHandover facts.machine (entry_value_in facts files x) h) (sym same)
+    (subst (λ (x : Handover). IsHandover facts.machine (entry_value_in facts files e) x) (sym handover)
+    (handed_value facts.machine (sizes_of facts e) _ (entry_value_in facts files e) k ends))
 first_handed facts files faults (e ∷ rest) before earlier entry h (refused r, ends, goes) =
     first_handed facts files faults rest (before ++ record { entry = e; refusal = r } ∷ []) earlier
     entry h goes
@@ -49,7 +49,7 @@ first_handed facts files faults (e ∷ rest) before earlier entry h (refused r, 
 pub is_handover : (facts : BootFacts) (files : List File) (faults : ℕ → Option ℕ) (entry : ℕ)
     (earlier : List RefusedEntry) (h : Handover)
     → IsOutcome facts files faults (handed_over entry earlier h)
-    → IsHandover facts.machine (value_in facts files entry) h
+    → IsHandover facts.machine (entry_value_in facts files entry) h
 is_handover facts files faults entry earlier h is =
     first_handed facts files faults facts.menu.attempts [] earlier entry h is
 
@@ -57,16 +57,16 @@ is_handover facts files faults entry earlier h is =
 pub same_handover : (facts other : BootFacts) (files those : List File)
     (faults fails : ℕ → Option ℕ) (entry index : ℕ) (earlier before : List RefusedEntry)
     (h k : Handover)
-    → facts.machine ≡ other.machine → value_in facts files entry ≡ value_in other those index
+    → facts.machine ≡ other.machine → entry_value_in facts files entry ≡ entry_value_in other those index
     → IsOutcome facts files faults (handed_over entry earlier h)
     → IsOutcome other those fails (handed_over index before k) → h ≡ k
 same_handover facts other files those faults fails entry index earlier before h k machine value a
     b =
-    let mine : IsHandover facts.machine (value_in facts files entry) h =
+    let mine : IsHandover facts.machine (entry_value_in facts files entry) h =
     is_handover facts files faults entry earlier h a in
-    let moved : IsHandover other.machine (value_in facts files entry) h =
-    subst (λ (m : MachineFacts). IsHandover m (value_in facts files entry) h) machine mine in
-    one_handover other.machine (value_in other those index) h k
+    let moved : IsHandover other.machine (entry_value_in facts files entry) h =
+    subst (λ (m : MachineFacts). IsHandover m (entry_value_in facts files entry) h) machine mine in
+    one_handover other.machine (entry_value_in other those index) h k
     (subst (λ (v : EntryValue). IsHandover other.machine v h) value moved)
     (is_handover other those fails index before k b)
 
@@ -80,7 +80,7 @@ one_first facts files faults [] earlier a b p q = p ∙ sym q
 one_first facts files faults (entry ∷ rest) earlier a b (e, p, x) (f, q, y) =
     one_goes (IsFirst facts files faults rest) entry earlier e f (one_first facts files faults rest)
     (one_end facts.machine (sizes_of facts entry) (faulty_file facts entry (faults (length earlier)))
-    (value_in facts files entry) e f p q) a b x y
+    (entry_value_in facts files entry) e f p q) a b x y
 
 pub one_outcome : (facts : BootFacts) (files : List File) (faults : ℕ → Option ℕ) (a b : State)
     → IsOutcome facts files faults a → IsOutcome facts files faults b → a ≡ b

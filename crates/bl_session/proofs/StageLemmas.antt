@@ -15,7 +15,7 @@ use Rattle.bl_mem.specs.Memory.{IsIn}
 use Rattle.bl_stage.specs.Ranges.{meets}
 use Rattle.bl_stage.specs.Staged.{Staging, AreStaged, HasPool, IsStagedOn, staged_file, table_of}
 use Rattle.bl_stage.specs.Staged.{first_of, staged_texts, with_frames}
-use Rattle.bl_stage.specs.TextLaws.{same_firsts}
+use Rattle.bl_stage.specs.StagedFileLaws.{same_firsts}
 use Rattle.bl_stage.proofs.FileLemmas.{file_within, read_part}
 use Rattle.bl_stage.proofs.FrameLemmas.{staged_length}
 

@@ -3,7 +3,7 @@ use Rattle.std.proofs.Common.{◌≡◌, ℕ, ◌+◌, ◌==◌, ◌&&◌, Bool,
 use Rattle.std.proofs.Common.{◌∷◌, ◌++◌, Option, Some, refl, ap, ◌∙◌, arith}
 use Rattle.std.proofs.lemmas.Bool.Decides.{nat_tests}
 use Rattle.bl_session.specs.declared.ticket.Ticket.{Ticket}
-use Rattle.bl_session.specs.History.{Item, submitted, came, failed, nothing, is_same, file_after}
+use Rattle.bl_session.specs.History.{Item, submitted, came, failed, nothing, is_same, last_submitted_file}
 use Rattle.bl_session.specs.Asked.{ticket_of}
 use Rattle.bl_session.specs.Faithful.{asked, answered}
 
@@ -50,12 +50,12 @@ other_ticket s t differs = decided (is_same s t) differs
 abbrev pub IsUntouched : List Item → Ticket → Type 0
 IsUntouched items t =
     (asked items t ≡ 0) × (answered items t ≡ 0)
-    × ((found : Option ℕ) → file_after found items t ≡ found)
+    × ((found : Option ℕ) → last_submitted_file found items t ≡ found)
 
 abbrev pub IsAskedOnce : ℕ → List Item → Ticket → Type 0
 IsAskedOnce file items t =
     (asked items t ≡ 1) × (answered items t ≡ 0)
-    × ((found : Option ℕ) → file_after found items t ≡ Some file)
+    × ((found : Option ℕ) → last_submitted_file found items t ≡ Some file)
 
 pub asked_both : (xs ys : List Item) (t : Ticket) → asked (xs ++ ys) t ≡ asked xs t + asked ys t
 asked_both [] ys t = omega arith
@@ -73,7 +73,7 @@ answered_both (failed s ∷ xs) ys t = let more = answered_both xs ys t in omega
 answered_both (nothing ∷ xs) ys t = answered_both xs ys t
 
 pub file_both : (found : Option ℕ) (xs ys : List Item) (t : Ticket)
-    → file_after found (xs ++ ys) t ≡ file_after (file_after found xs t) ys t
+    → last_submitted_file found (xs ++ ys) t ≡ last_submitted_file (last_submitted_file found xs t) ys t
 file_both found [] ys t = refl
 file_both found (submitted file s ∷ xs) ys t =
     file_both (if is_same s t then Some file else found) xs ys t
@@ -86,7 +86,7 @@ pub untouched_both : (xs ys : List Item) (t : Ticket) → IsUntouched xs t → I
 untouched_both xs ys t (a, b, f) (c, d, g) = (
   (let e = asked_both xs ys t in omega arith),
   (let e = answered_both xs ys t in omega arith),
-  λ found. file_both found xs ys t ∙ ap (λ (x : Option ℕ). file_after x ys t) (f found) ∙ g found,
+  λ found. file_both found xs ys t ∙ ap (λ (x : Option ℕ). last_submitted_file x ys t) (f found) ∙ g found,
 )
 
 pub once_first : (file : ℕ) (xs ys : List Item) (t : Ticket) → IsAskedOnce file xs t
@@ -94,7 +94,7 @@ pub once_first : (file : ℕ) (xs ys : List Item) (t : Ticket) → IsAskedOnce f
 once_first file xs ys t (a, b, f) (c, d, g) = (
   (let e = asked_both xs ys t in omega arith),
   (let e = answered_both xs ys t in omega arith),
-  λ found. file_both found xs ys t ∙ g (file_after found xs t) ∙ f found,
+  λ found. file_both found xs ys t ∙ g (last_submitted_file found xs t) ∙ f found,
 )
 
 pub once_last : (file : ℕ) (xs ys : List Item) (t : Ticket) → IsUntouched xs t
@@ -102,5 +102,5 @@ pub once_last : (file : ℕ) (xs ys : List Item) (t : Ticket) → IsUntouched xs
 once_last file xs ys t (a, b, f) (c, d, g) = (
   (let e = asked_both xs ys t in omega arith),
   (let e = answered_both xs ys t in omega arith),
-  λ found. file_both found xs ys t ∙ g (file_after found xs t),
+  λ found. file_both found xs ys t ∙ g (last_submitted_file found xs t),
 )

@@ -19,16 +19,17 @@ abbrev pub is_same : Ticket → Ticket → Bool
 is_same s t = (s.attempt == t.attempt) && ((s.file == t.file) && (s.piece == t.piece))
 
 -- the file that was last asked for under a ticket, after one that was found before
-abbrev pub file_after : Option ℕ → List Item → Ticket → Option ℕ
-file_after found [] ticket = found
-file_after found (submitted file t ∷ items) ticket =
-    file_after (if is_same t ticket then Some file else found) items ticket
-file_after found (came t count genuine ∷ items) ticket = file_after found items ticket
-file_after found (failed t ∷ items) ticket = file_after found items ticket
-file_after found (nothing ∷ items) ticket = file_after found items ticket
+abbrev pub last_submitted_file : Option ℕ → List Item → Ticket → Option ℕ
+last_submitted_file found [] ticket = found
+last_submitted_file found (submitted file t ∷ items) ticket =
+    last_submitted_file (if is_same t ticket then Some file else found) items ticket
+last_submitted_file found (came t count genuine ∷ items) ticket =
+    last_submitted_file found items ticket
+last_submitted_file found (failed t ∷ items) ticket = last_submitted_file found items ticket
+last_submitted_file found (nothing ∷ items) ticket = last_submitted_file found items ticket
 
 abbrev pub file_under : List Item → Ticket → Option ℕ
-file_under given ticket = file_after None given ticket
+file_under given ticket = last_submitted_file None given ticket
 
 -- the bytes are those of a file at the place of a piece
 abbrev pub IsPieceOf : List File → Option ℕ → ℕ → List ℕ → Type 0

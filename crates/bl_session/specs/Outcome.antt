@@ -35,8 +35,9 @@ texts_of facts files entry =
     map (λ file. file_bytes (slice_index_or files file missing)) (entry_at facts.menu entry).files
 
 -- an entry's value
-abbrev pub value_in : BootFacts → List File → ℕ → EntryValue
-value_in facts files entry = value_with (entry_at facts.menu entry) (texts_of facts files entry)
+abbrev pub entry_value_in : BootFacts → List File → ℕ → EntryValue
+entry_value_in facts files entry =
+    value_with (entry_at facts.menu entry) (texts_of facts files entry)
 
 -- ---- schedules
 
@@ -92,7 +93,7 @@ faulty_file facts entry faulty = if are_whole (fresh facts entry) then None else
 abbrev pub EntryHasResult : BootFacts → List File → Option ℕ → ℕ → AttemptResult → Type 0
 EntryHasResult facts files faulty entry =
     AttemptHasResult facts.machine (sizes_of facts entry) (faulty_file facts entry faulty)
-    (value_in facts files entry)
+    (entry_value_in facts files entry)
 
 -- the first of these entries that is not refused is handed over, with the refusals before it; or
 -- none is left

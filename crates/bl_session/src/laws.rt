@@ -6,7 +6,7 @@ ghost use Rattle.bl_load.specs.Value.{EntryValue};
 ghost use Rattle.bl_session.specs.AttemptResult.{AttemptResult, AttemptHasResult, HasResult};
 ghost use Rattle.bl_session.specs.Boot.{BootFacts, EventFacts, State, Starts, Steps};
 ghost use Rattle.bl_session.specs.Boot.{Begins, LeadsTo, handed_over};
-ghost use Rattle.bl_session.specs.Outcome.{File, size_of, value_in, IsGenuine, IsOutcome};
+ghost use Rattle.bl_session.specs.Outcome.{File, size_of, entry_value_in, IsGenuine, IsOutcome};
 ghost use Rattle.bl_session.specs.Outcome.{HasEnded};
 ghost use Rattle.bl_session.specs.declared.outcome.RefusedEntry.{RefusedEntry};
 ghost use Rattle.bl_load.specs.Handover.{Handover};
@@ -70,11 +70,11 @@ pub fn two_outcomes()
     ensures handover { (facts : BootFacts) (files : List File) (faults : ℕ → Option ℕ)
         (entry : ℕ) (earlier : List RefusedEntry) (h : Handover)
         → IsOutcome facts files faults (handed_over entry earlier h)
-        → IsHandover facts.machine (value_in facts files entry) h }
+        → IsHandover facts.machine (entry_value_in facts files entry) h }
     ensures same { (facts other : BootFacts) (files those : List File) (faults fails : ℕ → Option ℕ)
         (entry index : ℕ) (earlier before : List RefusedEntry) (h k : Handover)
         → facts.machine ≡ other.machine
-        → value_in facts files entry ≡ value_in other those index
+        → entry_value_in facts files entry ≡ entry_value_in other those index
         → IsOutcome facts files faults (handed_over entry earlier h)
         → IsOutcome other those fails (handed_over index before k) → h ≡ k }
 {}
@@ -85,5 +85,5 @@ pub fn two_outcomes()
 pub fn values_are_offered()
     ensures { (facts : BootFacts) (files : List File) (entry : ℕ)
         → All (λ e. IsOffered e.blank) facts.menu.entries
-        → IsOffered (value_in facts files entry) }
+        → IsOffered (entry_value_in facts files entry) }
 {}

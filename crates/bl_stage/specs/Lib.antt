@@ -5,4 +5,4 @@ pub mod Ranges
 pub mod Cells
 pub mod CellGroups
 pub mod Kept
-pub mod TextLaws
+pub mod StagedFileLaws

@@ -4,7 +4,7 @@ use Rattle.std.proofs.Common.{Some, None, refl, arith, All, AllPairs}
 use Rattle.std.specs.Prelude.{is_some, codes}
 use Rattle.std.specs.List.{list_any}
 use Rattle.std.proofs.lemmas.List.Elements.{All-head, All-tail}
-use Rattle.bl_map.specs.MachineFacts.{MachineFacts, AreMachineFacts}
+use Rattle.bl_map.specs.MachineFacts.{MachineFacts, IsWellFormedMachine}
 use Rattle.bl_mbi.specs.InformationFacts.{InformationFacts, AreBytes, FitsFields}
 use Rattle.bl_mbi.specs.Spelling.{info_spelling}
 use Rattle.bl_mbi.proofs.Sizes.{length-spelling}
@@ -57,7 +57,7 @@ module _ (facts : MachineFacts) (value : EntryValue) (kernel : KernelFacts)
   text = info_spelling (codes "bootcore") told
 
 module _ (facts : MachineFacts) (value : EntryValue) (kernel : KernelFacts) (places : List Place)
-    (machine : AreMachineFacts facts) (offered : IsOffered value)
+    (machine : IsWellFormedMachine facts) (offered : IsOffered value)
     (lines : lines_fault (lines_of value) ≡ None)
     (is_kernel : IsKernel (kernel_file value) kernel)
     (placed : ArePlaced facts [] (rows_of facts value (multiboot2 kernel)) places)

@@ -3,7 +3,7 @@ use Rattle.std.proofs.Common.{◌≡◌, zero-add, ◌≤◌, ◌++◌, List, []
 use Rattle.std.proofs.Common.{ℕ, refl, sym, ap, ◌∙◌, inl, arith, subst, AllPairs}
 use Rattle.std.specs.Prelude.{codes}
 use Rattle.std.proofs.Math.Seq.{take-length}
-use Rattle.bl_map.specs.MachineFacts.{MachineFacts, AreMachineFacts}
+use Rattle.bl_map.specs.MachineFacts.{MachineFacts, IsWellFormedMachine}
 use Rattle.bl_plan.specs.Order.{in_order}
 use Rattle.bl_plan.specs.Placed.{ArePlaced}
 use Rattle.bl_plan.specs.declared.part.Place.{Place}
@@ -40,7 +40,7 @@ use Rattle.bl_walk.proofs.InformationHeld.{content, parts, told, last, held, inf
 use Rattle.bl_walk.proofs.InformationHeld.{module_held, fits, size_is, handover, text, long}
 
 module _ (facts : MachineFacts) (value : EntryValue) (kernel : KernelFacts) (places : List Place)
-    (machine : AreMachineFacts facts) (offered : IsOffered value)
+    (machine : IsWellFormedMachine facts) (offered : IsOffered value)
     (lines : lines_fault (lines_of value) ≡ None)
     (is_kernel : IsKernel (kernel_file value) kernel)
     (placed : ArePlaced facts [] (rows_of facts value (multiboot2 kernel)) places)

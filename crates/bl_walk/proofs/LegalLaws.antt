@@ -1,6 +1,6 @@
 -- The image of an entry's handover shows the entry, and no fault stands in it.
 use Rattle.std.proofs.Common.{◌≤◌, ◌≡◌, List, [], None, sym, subst, AllPairs}
-use Rattle.bl_map.specs.MachineFacts.{MachineFacts, AreMachineFacts}
+use Rattle.bl_map.specs.MachineFacts.{MachineFacts, IsWellFormedMachine}
 use Rattle.bl_plan.specs.Placed.{ArePlaced}
 use Rattle.bl_plan.specs.declared.part.Place.{Place}
 use Rattle.bl_load.specs.Handover.{Part, Handover, end_of}
@@ -33,7 +33,7 @@ record Shows (facts : MachineFacts) (value : EntryValue) (h : Handover) : Type 0
 
 -- by what is read of the kernel
 by_reading : (facts : MachineFacts) (value : EntryValue) (places : List Place) (reading : Reading)
-    → AreMachineFacts facts → IsOffered value → lines_fault (lines_of value) ≡ None
+    → IsWellFormedMachine facts → IsOffered value → lines_fault (lines_of value) ≡ None
     → IsRead facts value reading
     → ArePlaced facts [] (rows_of facts value reading) places
     → AllPairs (λ p q. end_of p ≤ q.address) (handover_of facts value reading places).parts
@@ -66,7 +66,7 @@ by_reading facts value places (linux setup) machine offered lines read placed ap
       placed apart;
 }
 
-shows : (facts : MachineFacts) (value : EntryValue) (h : Handover) → AreMachineFacts facts
+shows : (facts : MachineFacts) (value : EntryValue) (h : Handover) → IsWellFormedMachine facts
     → IsOffered value → IsHandover facts value h → Shows facts value h
 shows facts value h machine offered is =
     let apart =
@@ -77,19 +77,19 @@ shows facts value h machine offered is =
     apart)
 
 pub handovers_are_seen : (facts : MachineFacts) (value : EntryValue) (h : Handover)
-    → AreMachineFacts facts → IsOffered value → IsHandover facts value h
+    → IsWellFormedMachine facts → IsOffered value → IsHandover facts value h
     → (seen : SeenFacts) × IsSeen h seen × ShowsEntry facts value seen
 handovers_are_seen facts value h machine offered is =
     let all = shows facts value h machine offered is in
     (all.seen, all.is_seen, all.entry)
 
 pub handovers_are_entered : (facts : MachineFacts) (value : EntryValue) (h : Handover)
-    → AreMachineFacts facts → IsOffered value → IsHandover facts value h → IsEntered h
+    → IsWellFormedMachine facts → IsOffered value → IsHandover facts value h → IsEntered h
 handovers_are_entered facts value h machine offered is =
     (shows facts value h machine offered is).entered
 
 pub handovers_are_sound : (facts : MachineFacts) (value : EntryValue) (h : Handover)
-    → AreMachineFacts facts → IsOffered value → IsHandover facts value h → IsSound h
+    → IsWellFormedMachine facts → IsOffered value → IsHandover facts value h → IsSound h
 handovers_are_sound facts value h machine offered is =
     let all = shows facts value h machine offered is in
     seen_is_sound h all.seen all.entered all.is_seen
@@ -103,7 +103,7 @@ same_handover version other h image kept is =
     (image_is_read_again version other h image kept.spellable is.kept.spellable is.is).1
 
 pub images_show : (facts : MachineFacts) (value : EntryValue) (version other : Version)
-    (h image : Handover) (seen : SeenFacts) → AreMachineFacts facts → IsOffered value
+    (h image : Handover) (seen : SeenFacts) → IsWellFormedMachine facts → IsOffered value
     → IsHandover facts value h → IsKeptByImages h → IsImage other (spelling version h) image
     → IsSeen image seen → ShowsEntry facts value seen
 images_show facts value version other h image seen machine offered is kept spelled sees =
@@ -114,14 +114,14 @@ images_show facts value version other h image seen machine offered is kept spell
     subst (ShowsEntry facts value) (seen_is_determined h all.seen seen all.is_seen own) all.entry
 
 pub images_are_sound : (facts : MachineFacts) (value : EntryValue) (version other : Version)
-    (h image : Handover) → AreMachineFacts facts → IsOffered value → IsHandover facts value h
+    (h image : Handover) → IsWellFormedMachine facts → IsOffered value → IsHandover facts value h
     → IsKeptByImages h → IsImage other (spelling version h) image → IsSound image
 images_are_sound facts value version other h image machine offered is kept spelled =
     subst IsSound (same_handover version other h image kept spelled)
     (handovers_are_sound facts value h machine offered is)
 
 pub images_are_entered : (facts : MachineFacts) (value : EntryValue) (version other : Version)
-    (h image : Handover) → AreMachineFacts facts → IsOffered value → IsHandover facts value h
+    (h image : Handover) → IsWellFormedMachine facts → IsOffered value → IsHandover facts value h
     → IsKeptByImages h → IsImage other (spelling version h) image → IsEntered image
 images_are_entered facts value version other h image machine offered is kept spelled =
     subst IsEntered (same_handover version other h image kept spelled)

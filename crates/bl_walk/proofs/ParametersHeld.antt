@@ -6,7 +6,7 @@ use Rattle.std.specs.List.{list_any}
 use Rattle.std.proofs.lemmas.Bool.{eqb-true}
 use Rattle.std.proofs.lemmas.List.Elements.{All-head}
 use Rattle.std.proofs.Math.Seq.{take-length}
-use Rattle.bl_map.specs.MachineFacts.{MachineFacts, AreMachineFacts}
+use Rattle.bl_map.specs.MachineFacts.{MachineFacts, IsWellFormedMachine}
 use Rattle.bl_mbi.specs.InformationFacts.{AreBytes}
 use Rattle.bl_bzimage.specs.declared.setup.Setup.{Setup}
 use Rattle.bl_params.specs.BootParams.{boot_params}
@@ -67,7 +67,7 @@ module _ (facts : MachineFacts) (value : EntryValue) (setup : Setup) (places : L
   params = params_of setup told
 
 module _ (facts : MachineFacts) (value : EntryValue) (setup : Setup) (places : List Place)
-    (machine : AreMachineFacts facts) (offered : IsOffered value)
+    (machine : IsWellFormedMachine facts) (offered : IsOffered value)
     (lines : lines_fault (lines_of value) ≡ None) (handed : has_params value.protocol ≡ true)
     (is_kernel : IsLinuxKernel value.protocol facts.runs value.line (kernel_file value) setup)
     (placed : ArePlaced facts [] (rows_of facts value (linux setup)) places)

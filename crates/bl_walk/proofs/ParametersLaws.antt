@@ -2,7 +2,7 @@
 use Rattle.std.proofs.Common.{◌≡◌, ◌≤◌, ◌+◌, ◌∷◌, ℕ, List, [], map, Some, None, refl, sym, ap, ◌∙◌, inr}
 use Rattle.std.proofs.Common.{arith, length, take, true, AllPairs}
 use Rattle.std.proofs.Math.Seq.{take-length}
-use Rattle.bl_map.specs.MachineFacts.{MachineFacts, AreMachineFacts}
+use Rattle.bl_map.specs.MachineFacts.{MachineFacts, IsWellFormedMachine}
 use Rattle.bl_bzimage.specs.declared.setup.Setup.{Setup}
 use Rattle.bl_params.specs.Paging.{paging}
 use Rattle.bl_params.proofs.PagingLaws.{below}
@@ -40,7 +40,7 @@ use Rattle.bl_walk.proofs.ParametersHeld.{initrd, content, handover, params, hel
 use Rattle.bl_walk.proofs.ParametersHeld.{placed_row, say, line_seen, ramdisk}
 
 module _ (facts : MachineFacts) (value : EntryValue) (setup : Setup) (places : List Place)
-    (machine : AreMachineFacts facts) (offered : IsOffered value)
+    (machine : IsWellFormedMachine facts) (offered : IsOffered value)
     (lines : lines_fault (lines_of value) ≡ None) (handed : has_params value.protocol ≡ true)
     (is_kernel : IsLinuxKernel value.protocol facts.runs value.line (kernel_file value) setup)
     (placed : ArePlaced facts [] (rows_of facts value (linux setup)) places)

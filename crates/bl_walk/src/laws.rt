@@ -1,7 +1,7 @@
 //! Laws of the definitions: what is seen in an image is the entry.
 ghost use Rattle.std.specs.Prelude.{◌≡◌, ◌+◌, ◌<◌, ◌≤◌, ℕ, List, length, AllPairs, Some};
 ghost use Rattle.std.specs.Prelude.{slice_index_or};
-ghost use Rattle.bl_map.specs.MachineFacts.{MachineFacts, AreMachineFacts};
+ghost use Rattle.bl_map.specs.MachineFacts.{MachineFacts, IsWellFormedMachine};
 ghost use Rattle.bl_load.specs.Handover.{Handover, Part, end_of};
 ghost use Rattle.bl_load.specs.Offered.{IsOffered};
 ghost use Rattle.bl_load.specs.Parts.{IsHandover};
@@ -40,12 +40,12 @@ pub fn ranges_lie_in_one_part()
 /// the machine's runs; the kernel is entered as its protocol says; and no fault stands in it.
 pub fn handovers_are_seen()
     ensures seen { (facts : MachineFacts) (value : EntryValue) (h : Handover)
-        → AreMachineFacts facts → IsOffered value → IsHandover facts value h
+        → IsWellFormedMachine facts → IsOffered value → IsHandover facts value h
         → (seen : SeenFacts) × IsSeen h seen × ShowsEntry facts value seen }
     ensures entered { (facts : MachineFacts) (value : EntryValue) (h : Handover)
-        → AreMachineFacts facts → IsOffered value → IsHandover facts value h → IsEntered h }
+        → IsWellFormedMachine facts → IsOffered value → IsHandover facts value h → IsEntered h }
     ensures sound { (facts : MachineFacts) (value : EntryValue) (h : Handover)
-        → AreMachineFacts facts → IsOffered value → IsHandover facts value h → IsSound h }
+        → IsWellFormedMachine facts → IsOffered value → IsHandover facts value h → IsSound h }
 {}
 
 /// Whatever is read from the image of what an entry hands over shows that entry and nothing else;
@@ -54,14 +54,16 @@ pub fn handovers_are_seen()
 /// is `write_image.kept`.
 pub fn images_show_their_entries()
     ensures seen { (facts : MachineFacts) (value : EntryValue) (version other : Version)
-        (h image : Handover) (seen : SeenFacts) → AreMachineFacts facts → IsOffered value
+        (h image : Handover) (seen : SeenFacts) → IsWellFormedMachine facts → IsOffered value
         → IsHandover facts value h → IsKeptByImages h → IsImage other (spelling version h) image
         → IsSeen image seen → ShowsEntry facts value seen }
     ensures entered { (facts : MachineFacts) (value : EntryValue) (version other : Version)
-        (h image : Handover) → AreMachineFacts facts → IsOffered value → IsHandover facts value h
+        (h image : Handover) → IsWellFormedMachine facts → IsOffered value
+        → IsHandover facts value h
         → IsKeptByImages h → IsImage other (spelling version h) image → IsEntered image }
     ensures sound { (facts : MachineFacts) (value : EntryValue) (version other : Version)
-        (h image : Handover) → AreMachineFacts facts → IsOffered value → IsHandover facts value h
+        (h image : Handover) → IsWellFormedMachine facts → IsOffered value
+        → IsHandover facts value h
         → IsKeptByImages h → IsImage other (spelling version h) image → IsSound image }
 {}
 

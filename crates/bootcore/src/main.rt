@@ -9,9 +9,8 @@ mod image_jobs;
 mod path_files;
 mod program;
 
-pub use bl_boot::{
-    AskedNames, FILE_LIMIT, Fetched, Files, MemFiles, boot, explain_to, map_to, walk_to,
-};
+pub use bl_boot::{AskedNames, FILE_LIMIT, Fetched, Files, MemFiles, boot, map_to, walk_to};
+pub use bl_explain::explain_to;
 pub use bl_line::{Job, LineFault, Order, read_line};
 pub use image_file::ImageFile;
 pub use path_files::{PathFiles, read_file};

@@ -1,6 +1,6 @@
 //! Files of the operating system.
 ghost use Rattle.std.specs.Prelude.{IfOk};
-ghost use Rattle.bl_boot.specs.Files.{IsReadWhole};
+ghost use Rattle.bl_menu.specs.Files.{IsReadWhole};
 
 use bl_boot::{AskedNames, FILE_LIMIT, Fetched, Files};
 use bl_mem::Bytes;

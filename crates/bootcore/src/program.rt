@@ -5,7 +5,8 @@ ghost use Rattle.bootcore.specs.Statuses as statuses;
 use crate::image_file::ImageFile;
 use crate::image_jobs::{convert_path, walk_path};
 use crate::path_files::{PathFiles, read_file, tell_fault};
-use bl_boot::{Fetched, boot, explain_to, map_to};
+use bl_boot::{Fetched, boot, map_to};
+use bl_explain::explain_to;
 use bl_line::{Job, LineFault, Order, read_line};
 use bl_mem::Bytes;
 use std::alloc::Global;
@@ -29,8 +30,8 @@ pub fn tell(rt: &HostRuntime, text: &[u8]) {
 }
 
 /// What is said on standard error as the program ends with a status.
-fn status_words(status: u8) -> Option<&'static str>
-    ensures { option_map (λ word. word.now) result ≡ statuses.status_words status }
+fn status_message(status: u8) -> Option<&'static str>
+    ensures { option_map (λ word. word.now) result ≡ statuses.status_message status }
 {
     match status {
         2 => Some("bad description"),
@@ -45,7 +46,7 @@ fn status_words(status: u8) -> Option<&'static str>
 pub fn tell_status(rt: &HostRuntime, status: u8) -> u8
     ensures { result ≡ status }
 {
-    if let Some(word) = status_words(status) {
+    if let Some(word) = status_message(status) {
         let _ = rt.eprintln(word);
     }
     status

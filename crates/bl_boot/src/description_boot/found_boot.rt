@@ -2,28 +2,16 @@
 ghost use Rattle.std.specs.Prelude.{◌≡◌, [], ◌<◌, ◌^◌, length, map};
 ghost use Rattle.bl_session.specs.Outcome.{size_of};
 ghost use Rattle.bl_session.specs.Phases.{boot_facts};
-ghost use Rattle.bl_boot.specs.Attempted.{entry_of};
 ghost use Rattle.bl_boot.specs.Kept.{FoundEnds, HasFaults};
 ghost use Rattle.bl_desc.specs.Views.{view};
 
-use crate::description_boot::boot_end::{End, EndFault};
-use crate::description_boot::described_boot::DescribedBoot;
+use crate::description_boot::end_fault::EndFault;
 use crate::description_boot::handover::{say_none_left, write_handover};
-use bl_desc::Description;
 use bl_image::Sink;
 use bl_mem::PhysMem;
+use bl_menu::{DescribedBoot, End, title_of};
 use bl_session::{BootFault, FileStore, run};
 use std::alloc::Allocator;
-
-/// The title of an entry, by its index; none if there is no such entry.
-pub fn title_of<A: Allocator>(description: &Description<A>, entry: u32) -> &str
-    ensures { result.now ≡ (entry_of (view description.now) entry).title }
-{
-    match description.entries.get(entry as usize) {
-        Some(row) => row.title.as_str(),
-        None => "",
-    }
-}
 
 /// Boots what is described by a store, writes the image of what is handed over, and says what
 /// the boot came to.

@@ -7,7 +7,7 @@ ghost use Rattle.bl_session.specs.Phases.{handover_held};
 ghost use Rattle.bl_boot.specs.Kept.{IsImageWriteFault};
 ghost use Rattle.bl_say.specs.Says.{booted_line, refused_lines, no_entry_line};
 
-use crate::description_boot::boot_end::EndFault;
+use crate::description_boot::end_fault::EndFault;
 use bl_image::{Sink, write_image};
 use bl_mem::PhysMem;
 use bl_say::{say_booted, say_no_entry_left, say_refusals};

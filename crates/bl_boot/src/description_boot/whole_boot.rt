@@ -1,38 +1,21 @@
 //! One boot.
 ghost use Rattle.std.specs.Prelude.{◌≡◌, ◌≢◌, ℕ, List, ◌+◌, ◌<◌, ◌≤◌, ◌^◌, ◌++◌, length};
-ghost use Rattle.bl_boot.specs.Ends.{HasInlineFiles, names_sought, names_fetched};
-ghost use Rattle.bl_boot.specs.Ends.{IsBooted, IsRefused};
-ghost use Rattle.bl_boot.specs.DescribedMachine.{IsBadDescription};
-ghost use Rattle.bl_boot.specs.Ends.{IsCutShort};
-ghost use Rattle.bl_boot.specs.Found.{AsksPrefix};
+ghost use Rattle.bl_menu.specs.Cases.{HasInlineFiles, names_sought, names_fetched};
+ghost use Rattle.bl_boot.specs.Ends.{IsBooted, IsCutShort, IsRefused};
+ghost use Rattle.bl_menu.specs.DescribedMachine.{IsBadDescription};
+ghost use Rattle.bl_menu.specs.Found.{AsksPrefix};
 ghost use Rattle.bl_boot.specs.Kept.{BootEnds, HasFaults, HasAsked};
-ghost use Rattle.bl_boot.specs.Attempted.{max_names};
+ghost use Rattle.bl_menu.specs.Attempted.{max_names};
 ghost use Rattle.bl_session.specs.Outcome.{File};
 ghost use Rattle.bl_desc.specs.Described.{described};
 
-use crate::description_boot::boot_end::{End, EndFault};
-use crate::description_boot::described_boot::DescribedBoot;
+use crate::description_boot::end_fault::EndFault;
 use crate::description_boot::found_boot::boot_found;
-use crate::description_boot::found_files::find_files;
-use crate::description_boot::machine::machine_of;
-use crate::description_boot::menu::menu_of;
-use crate::description_boot::names::names_in;
-use crate::files::Files;
 use bl_desc::read_description;
 use bl_image::Sink;
 use bl_line::Order;
-use bl_mem::Sparse;
-use bl_session as session;
-use bl_session::FileStore;
+use bl_menu::{DescribedBoot, End, Files, ReadyBoot, machine_of, order_of, ready_boot};
 use std::alloc::{Allocator, Global};
-
-/// The order of pieces that is named on the command line, as a store takes it.
-pub fn order_of(order: Order) -> session::Order {
-    match order {
-        Order::Forward => session::Order::Forward,
-        Order::Reverse => session::Order::Reverse,
-    }
-}
 
 /// The same as `boot`, with its end in place of the status.
 fn run_boot<A: Allocator + Copy, F: Files, S: Sink, B: Allocator>(
@@ -61,12 +44,14 @@ fn run_boot<A: Allocator + Copy, F: Files, S: Sink, B: Allocator>(
 {
     let description = read_description(alloc, global, desc)?;
     let machine = machine_of(alloc, &description)?;
-    let names = names_in(alloc, &description)?;
-    let menu = menu_of(alloc, &names, &description)?;
-    let mut memory = Sparse::new(alloc, machine.size(), description.fill)?;
-    let found = find_files(alloc, &description, &names, files)?;
+    let ready = ready_boot(alloc, &description, machine.size(), files, order_of(order))?;
+    let ReadyBoot {
+        names,
+        menu,
+        mut memory,
+        store,
+    } = ready;
     drop(names);
-    let store = FileStore::new(alloc, found, order_of(order));
     let boot = DescribedBoot {
         description: &description,
         machine: &machine,
@@ -85,7 +70,7 @@ fn run_boot<A: Allocator + Copy, F: Files, S: Sink, B: Allocator>(
 /// description is bad, 3 if the sink had a fault, and 4 if memory ran out; with 2, 3 and 4 nothing
 /// is said. An entry is refused for want of a file only if `files` counted a fault more. `global`
 /// is what the TOML reader takes its memory from.
-#[tactic(auto, using(crate::proofs::EndLemmas::all_asked))]
+#[tactic(auto, using(bl_menu::proofs::AskedLemmas::all_asked))]
 pub fn boot<A: Allocator + Copy, F: Files, S: Sink, B: Allocator>(
     alloc: A,
     global: Global,

@@ -5,7 +5,7 @@ ghost use Rattle.bl_mem.specs.Frames.{IsHeld, AreOpen, SameBytes};
 
 use super::{Frames, WIDTH};
 use crate::frame::Frame;
-use crate::opening::give_room;
+use crate::frame_room::give_room;
 use std::alloc::{AllocError, Allocator};
 
 /// The bytes of as many frames as a slot's number can tell apart, which are 2^32.

@@ -8,7 +8,7 @@ ghost use Rattle.bl_mem.specs.Kept.{slot_of, owes, IsKeptIn, IsPutAt};
 
 use super::{Frames, WIDTH};
 use crate::frame::{FRAME_SIZE, Frame};
-use crate::opening::frame_around;
+use crate::frame_room::frame_around;
 use crate::put::{put_at, put_bytes};
 use std::alloc::Allocator;
 

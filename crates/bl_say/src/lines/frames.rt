@@ -2,7 +2,7 @@
 ghost use Rattle.std.specs.Prelude.{◌≡◌, ◌*◌, ◌≤◌, ◌^◌, ◌++◌, OnOk, length, map};
 ghost use Rattle.bl_map.specs.Room as room;
 ghost use Rattle.bl_plan.specs.Placed.{place_range};
-ghost use Rattle.bl_say.specs.EntryNames.{file_names, names_beside};
+ghost use Rattle.bl_desc.specs.EntryNames.{file_names, names_beside};
 ghost use Rattle.bl_say.specs.Frames.{number_between, frames_line, frames_wanted, length_found};
 ghost use Rattle.bl_say.specs.Frames.{names_at, room_line};
 ghost use Rattle.bl_desc.specs.Views.{entry_view, form_view, module_view};

@@ -1,6 +1,6 @@
 //! The files of an entry that is attempted, line by line.
 ghost use Rattle.std.specs.Prelude.{◌≡◌, ◌+◌, ◌<◌, ◌^◌, ◌++◌, OnOk, Option, length, map};
-ghost use Rattle.bl_say.specs.EntryNames.{file_names};
+ghost use Rattle.bl_desc.specs.EntryNames.{file_names};
 ghost use Rattle.bl_say.specs.Sought as sought_files;
 ghost use Rattle.bl_say.specs.Sought.{sought_line, sought_lines};
 ghost use Rattle.bl_desc.specs.Views.{entry_view, module_view};

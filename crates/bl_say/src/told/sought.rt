@@ -1,6 +1,6 @@
 //! What was found for the names that are looked for.
 
-use crate::told::index_of;
+use bl_desc::index_of;
 use bl_session::Fetched;
 use std::alloc::Allocator;
 use std::marker::Model;

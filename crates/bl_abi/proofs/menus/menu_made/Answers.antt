@@ -22,6 +22,6 @@ pub returns-in-Err-clause-fault : goal.returns-in-Err-clause-fault
 returns-in-Err-clause-fault g c =
     let given = c.args.given.now in
     let rows = c.args.entries.now in
-    subst (IsNoMenu given rows c.args.default c.args.fallbacks.now) (sym c.menu_fault.ensures)
+    subst (IsNoMenu given rows c.args.default c.args.fallbacks.now) (sym c.given_fault_of_menu.ensures)
     (no_menu_is given rows c.args.default c.args.fallbacks.now c.in-Ok.typed.items
     c.in-Err.fault c.in-Ok.ensures c.in-Err.ensures.first_fault)

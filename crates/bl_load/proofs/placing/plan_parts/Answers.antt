@@ -9,7 +9,7 @@ use Rattle.bl_plan.specs.Placed.{ArePlaced, IsRow, IsPlacingFault, place_range}
 use Rattle.bl_plan.specs.Order.{in_order, place_key}
 use Rattle.bl_plan.proofs.OrderLemmas.{in_order_all}
 use Rattle.bl_load.specs.Place.{planned_place}
-use Rattle.bl_load.specs.HandoffFacts.{AreHandoffFacts}
+use Rattle.bl_load.specs.HandoffFacts.{IsWellFormedHandoff}
 use Rattle.bl_load.specs.Parts.{registers_of}
 use Rattle.bl_load.specs.declared.registers.Registers.{Registers}
 use Rattle.bl_load.specs.declared.plan.PlannedPart.{PlannedPart}
@@ -170,7 +170,7 @@ returns-clause-loadable g c =
     c.registers-registers.ensures
     ∙ ap (registers_of value.protocol reading) c.as_slice-2.ensures.value in
     let kept =
-    subst (λ (r : Registers). AreHandoffFacts (record {
+    subst (λ (r : Registers). IsWellFormedHandoff (record {
       protocol = value.protocol;
       registers = r;
       places = in_order c.in-Ok.places.items;
@@ -188,7 +188,7 @@ returns-clause-loadable g c =
           subst (λ (ps : List Place). All (λ p. p.address + p.length ≤ facts.size) ps)
           (sym places) inside;
       kept =
-          subst (λ (ps : List Place). AreHandoffFacts (record {
+          subst (λ (ps : List Place). IsWellFormedHandoff (record {
             protocol = c.args.entry.now.protocol;
             registers = c.registers-registers.result;
             places = ps;

@@ -1,5 +1,5 @@
 use Rattle.std.proofs.Common.{◌≡◌, length}
-use Rattle.bl_params.specs.Form.{e820_entry_offset}
+use Rattle.bl_params.specs.BootParamsForm.{e820_entry_offset}
 use Rattle.bl_params.specs.Reading.{AreEntries}
 use Rattle.bl_params.specs.Kept.{HasFormBelow}
 use Rattle.bl_params.proofs.map_reader.entries.Given as goal

@@ -1,49 +1,31 @@
-use Rattle.std.proofs.Common.{◌≡◌, ◌∙◌, All, length, map, refl, ap, arith, subst}
+use Rattle.std.proofs.Common.{◌≡◌, ◌∙◌, All, length, refl, ap, subst}
 use Rattle.std.proofs.lemmas.List.{length-replicate}
 use Rattle.std.proofs.lemmas.Result.{err_from_is_err_and}
 use Rattle.bl_load.specs.Offered.{IsOffered}
 use Rattle.bl_session.specs.Menu.{MenuFacts}
-use Rattle.bl_desc.specs.Described.{described}
-use Rattle.bl_boot.specs.Ends.{names_fetched, names_sought}
-use Rattle.bl_session.specs.Stores.{file_of}
-use Rattle.bl_desc.specs.Views.{view}
 use Rattle.bl_session.proofs.MenuLemmas.{offered_values}
-use Rattle.bl_boot.specs.Attempted.{boot_of, max_names, names_in}
-use Rattle.bl_boot.proofs.EndLemmas.{inline_in, sought, fetched, ends_by, asked_by, asked_without}
-use Rattle.bl_boot.proofs.EndLemmas.{none_asked, none_missing}
-use Rattle.bl_boot.proofs.NameLemmas.{as_many}
-use Rattle.bl_boot.proofs.EndLemmas.{asked_undescribed, sound_undescribed, sound_without}
-use Rattle.bl_boot.proofs.EndLemmas.{undescribed, without_machine}
-use Rattle.bl_boot.proofs.NameLemmas.{few_missing, few_seen}
+use Rattle.bl_desc.specs.Described.{described}
+use Rattle.bl_desc.specs.Views.{view}
+use Rattle.bl_menu.specs.Attempted.{boot_of, max_names}
+use Rattle.bl_menu.specs.Cases.{names_fetched, names_sought}
+use Rattle.bl_menu.proofs.AskedLemmas.{fetched, inline_in, none_missing, sought}
+use Rattle.bl_boot.proofs.EndLemmas.{asked_by, asked_undescribed, asked_without, ends_by}
+use Rattle.bl_boot.proofs.EndLemmas.{sound_undescribed, sound_without, undescribed, without_machine}
 use Rattle.bl_boot.proofs.description_boot.whole_boot.run_boot.Goals as goal
 
-pub names_in-requires : goal.names_in-requires
-names_in-requires g c = c.in_ok-description.ensures.menu
+pub ready_boot-requires-clause-menu : goal.ready_boot-requires-clause-menu
+ready_boot-requires-clause-menu g c = c.in_ok-description.ensures.menu
 
-pub menu_of-requires-clause-menu : goal.menu_of-requires-clause-menu
-menu_of-requires-clause-menu g c = c.in_ok-description.ensures.menu
+pub ready_boot-requires-clause-faults : goal.ready_boot-requires-clause-faults
+ready_boot-requires-clause-faults g c = c.requires.files
 
-pub menu_of-requires-clause-names : goal.menu_of-requires-clause-names
-menu_of-requires-clause-names g c = rw c.deref.ensures.value c.in_ok-names.ensures.names
-
-pub menu_of-requires-clause-few : goal.menu_of-requires-clause-few
-menu_of-requires-clause-few g c =
-    few_seen c.in_ok-names.names.items c.deref.result.now c.deref.ensures.value
-    c.in_ok-names.ensures.few
-
-pub find_files-requires : goal.find_files-requires
-find_files-requires g c =
-    few_missing (g.F.Files.faults c.args.files.now) c.in_ok-names.names.items
-    c.deref-2.result.now c.deref-2.ensures.value c.in_ok-names.ensures.few c.requires.files
-
-pub returns-in_err-found-clause-same_files : goal.returns-in_err-found-clause-same_files
-returns-in_err-found-clause-same_files g c = c.in_err-found.ensures.same
-
-pub returns-clause-same_files : goal.returns-clause-same_files
-returns-clause-same_files g c = c.in_ok-found.ensures.same
+pub boot_found-requires-clause-size : goal.boot_found-requires-clause-size
+boot_found-requires-clause-size g c =
+    ap length c.in_ok-ready.ensures.memory
+    ∙ length-replicate c.size.result c.in_ok-description.description.fill ∙ c.size.ensures.size
 
 pub boot_found-requires-clause-store : goal.boot_found-requires-clause-store
-boot_found-requires-clause-store g c = rw c.new-store.ensures refl
+boot_found-requires-clause-store g c = c.in_ok-ready.ensures.given
 
 pub boot_found-requires-clause-sink : goal.boot_found-requires-clause-sink
 boot_found-requires-clause-sink g c = c.requires.sink
@@ -89,165 +71,60 @@ returns-in_err-machine g c =
       few = (none_missing (g.F.Files.faults c.args.files.now) max_names).1;
     })
 
-pub returns-in_err-found-clause-ends : goal.returns-in_err-found-clause-ends
-returns-in_err-found-clause-ends g c =
+pub returns-in_err-ready : goal.returns-in_err-ready
+returns-in_err-ready g c =
     let p =
-    err_from_is_err_and c.from_residual-in_err-found.result c.from_residual-in_err-found.ensures.1
+    err_from_is_err_and c.from_residual-in_err-ready.result c.from_residual-in_err-ready.ensures.1
     in
-    rw (p.1, p.2) (refl, refl)
-
-pub returns-in_err-found-clause-faults : goal.returns-in_err-found-clause-faults
-returns-in_err-found-clause-faults g c =
-    let p =
-    err_from_is_err_and c.from_residual-in_err-found.result c.from_residual-in_err-found.ensures.1
-    in
-    rw (p.1, p.2) refl
+    let d = c.in_ok-description.description in
+    let is = c.in_ok-description.ensures.given in
+    rw (p.1, p.2)
+    (record {
+      ends = (refl, refl);
+      faults = refl;
+      asked = rw (fetched c.args.desc.now d is) c.in_err-ready.ensures.asked_first;
+      inline =
+          λ has. c.in_err-ready.ensures.inline (inline_in c.args.desc.now d is has);
+      same_files = c.in_err-ready.ensures.same;
+      missing = rw (sought c.args.desc.now d is) c.in_err-ready.ensures.missing;
+      few = c.in_err-ready.ensures.few;
+    })
 
 pub returns-clause-faults : goal.returns-clause-faults
 returns-clause-faults g c = c.boot_found.ensures.faults
-
-pub returns-in_err-found-clause-inline : goal.returns-in_err-found-clause-inline
-returns-in_err-found-clause-inline g c = λ has. c.in_err-found.ensures.inline
-    (rw (c.deref-2.ensures.value, c.in_ok-names.ensures.names)
-    (inline_in c.args.desc.now c.in_ok-description.description c.in_ok-description.ensures.given
-    has))
-
-pub returns-in_err-found-clause-missing : goal.returns-in_err-found-clause-missing
-returns-in_err-found-clause-missing g c =
-    let missing = c.in_err-found.ensures.missing in
-    let count : length c.deref-2.result.now
-    ≡ length (names_in (view c.in_ok-description.description)) =
-    ap length c.deref-2.ensures.value
-    ∙ as_many c.in_ok-names.names.items _ c.in_ok-names.ensures.names in (
-      missing.0,
-      rw (sought c.args.desc.now c.in_ok-description.description
-          c.in_ok-description.ensures.given) (omega (arith, missing.1, count)),
-    )
-
-pub returns-clause-ends : goal.returns-clause-ends
-returns-clause-ends g c =
-    ends_by c.args.desc.now c.in_ok-description.description c.in_ok-description.ensures.given
-    g.F.Files.answers g.F.Files.faults
-    c.in_ok-machine.machine c.in_ok-machine.ensures.machine _ _ c.in_ok-found.found.items
-    (rw (c.deref-2.ensures.value, c.in_ok-names.ensures.names) at c.in_ok-found.ensures.found)
-    (λ entry. offered_values
-    (boot_of (view c.in_ok-description.description) c.in_ok-machine.machine
-    (map file_of c.in_ok-found.found.items))
-    (map file_of c.in_ok-found.found.items) entry
-    (subst (λ (m : MenuFacts). All (λ e. IsOffered e.blank) m.entries)
-    c.in_ok-menu.ensures.menu c.in_ok-menu.ensures.offered))
-    _ _ _ _ c.boot_found.result
-    (rw (c.new-store.ensures, c.in_ok-menu.ensures.menu) at c.boot_found.ensures.ends)
-
-pub returns-clause-inline : goal.returns-clause-inline
-returns-clause-inline g c = λ has. c.in_ok-found.ensures.inline
-    (rw (c.deref-2.ensures.value, c.in_ok-names.ensures.names)
-    (inline_in c.args.desc.now c.in_ok-description.description c.in_ok-description.ensures.given
-    has))
-
-pub returns-clause-missing : goal.returns-clause-missing
-returns-clause-missing g c =
-    let missing = c.in_ok-found.ensures.missing in
-    let count : length c.deref-2.result.now
-    ≡ length (names_in (view c.in_ok-description.description)) =
-    ap length c.deref-2.ensures.value
-    ∙ as_many c.in_ok-names.names.items _ c.in_ok-names.ensures.names in (
-      missing.0,
-      rw (sought c.args.desc.now c.in_ok-description.description
-          c.in_ok-description.ensures.given) (omega (arith, missing.1, count)),
-    )
-
-pub returns-in_err-found-clause-few : goal.returns-in_err-found-clause-few
-returns-in_err-found-clause-few g c =
-    let missing = c.in_err-found.ensures.missing in
-    let count : length c.deref-2.result.now ≡ length c.in_ok-names.names.items =
-    ap length c.deref-2.ensures.value in
-    omega (arith, missing.1, count, c.in_ok-names.ensures.few)
-
-pub returns-clause-few : goal.returns-clause-few
-returns-clause-few g c =
-    let missing = c.in_ok-found.ensures.missing in
-    let count : length c.deref-2.result.now ≡ length c.in_ok-names.names.items =
-    ap length c.deref-2.ensures.value in
-    omega (arith, missing.1, count, c.in_ok-names.ensures.few)
-
-pub returns-in_err-names : goal.returns-in_err-names
-returns-in_err-names g c =
-    let p =
-    err_from_is_err_and c.from_residual-in_err-names.result
-    c.from_residual-in_err-names.ensures.1 in
-    rw (p.1, p.2)
-    (record {
-      ends = (refl, refl);
-      faults = refl;
-      asked = none_asked (names_fetched (described c.args.desc.now))
-          (g.F.Files.asked c.args.files.now);
-      inline = λ _. refl;
-      same_files = λ file answer told. told;
-      missing = none_missing (g.F.Files.faults c.args.files.now)
-          (length (names_sought (described c.args.desc.now)));
-      few = (none_missing (g.F.Files.faults c.args.files.now) max_names).1;
-    })
-
-pub returns-in_err-menu : goal.returns-in_err-menu
-returns-in_err-menu g c =
-    let p =
-    err_from_is_err_and c.from_residual-in_err-menu.result
-    c.from_residual-in_err-menu.ensures.1 in
-    rw (p.1, p.2)
-    (record {
-      ends = (refl, refl);
-      faults = refl;
-      asked = none_asked (names_fetched (described c.args.desc.now))
-          (g.F.Files.asked c.args.files.now);
-      inline = λ _. refl;
-      same_files = λ file answer told. told;
-      missing = none_missing (g.F.Files.faults c.args.files.now)
-          (length (names_sought (described c.args.desc.now)));
-      few = (none_missing (g.F.Files.faults c.args.files.now) max_names).1;
-    })
-
-pub returns-in_err-memory : goal.returns-in_err-memory
-returns-in_err-memory g c =
-    let p =
-    err_from_is_err_and c.from_residual-in_err-memory.result
-    c.from_residual-in_err-memory.ensures.1 in
-    rw (p.1, p.2)
-    (record {
-      ends = (refl, refl);
-      faults = refl;
-      asked = none_asked (names_fetched (described c.args.desc.now))
-          (g.F.Files.asked c.args.files.now);
-      inline = λ _. refl;
-      same_files = λ file answer told. told;
-      missing = none_missing (g.F.Files.faults c.args.files.now)
-          (length (names_sought (described c.args.desc.now)));
-      few = (none_missing (g.F.Files.faults c.args.files.now) max_names).1;
-    })
-
-pub returns-in_err-found-clause-asked : goal.returns-in_err-found-clause-asked
-returns-in_err-found-clause-asked g c =
-    let p =
-    err_from_is_err_and c.from_residual-in_err-found.result c.from_residual-in_err-found.ensures.1
-    in
-    rw (
-      p.1,
-      p.2,
-      fetched c.args.desc.now c.in_ok-description.description
-          c.in_ok-description.ensures.given,
-    )
-    (rw (c.deref-2.ensures.value, c.in_ok-names.ensures.names)
-    at c.in_err-found.ensures.asked_first)
 
 pub returns-clause-asked : goal.returns-clause-asked
 returns-clause-asked g c =
     asked_by c.boot_found.result (names_fetched (described c.args.desc.now))
     (g.F.Files.asked c.args.files.now) _
     (rw (fetched c.args.desc.now c.in_ok-description.description
-    c.in_ok-description.ensures.given)
-    (rw (c.deref-2.ensures.value, c.in_ok-names.ensures.names) at c.in_ok-found.ensures.asked))
+    c.in_ok-description.ensures.given) c.in_ok-ready.ensures.asked)
 
-pub boot_found-requires-clause-size : goal.boot_found-requires-clause-size
-boot_found-requires-clause-size g c =
-    ap length c.in_ok-memory.ensures.exact
-    ∙ length-replicate c.size.result c.in_ok-description.description.fill ∙ c.size.ensures.size
+pub returns-clause-inline : goal.returns-clause-inline
+returns-clause-inline g c = λ has. c.in_ok-ready.ensures.inline
+    (inline_in c.args.desc.now c.in_ok-description.description c.in_ok-description.ensures.given
+    has)
+
+pub returns-clause-same_files : goal.returns-clause-same_files
+returns-clause-same_files g c = c.in_ok-ready.ensures.same
+
+pub returns-clause-missing : goal.returns-clause-missing
+returns-clause-missing g c =
+    rw (sought c.args.desc.now c.in_ok-description.description
+    c.in_ok-description.ensures.given) c.in_ok-ready.ensures.missing
+
+pub returns-clause-few : goal.returns-clause-few
+returns-clause-few g c = c.in_ok-ready.ensures.few
+
+pub returns-clause-ends : goal.returns-clause-ends
+returns-clause-ends g c =
+    let files = c.in_ok-ready.ready.store.files in
+    ends_by c.args.desc.now c.in_ok-description.description c.in_ok-description.ensures.given
+    g.F.Files.answers g.F.Files.faults
+    c.in_ok-machine.machine c.in_ok-machine.ensures.machine _ _ files c.in_ok-ready.ensures.found
+    (λ entry. offered_values
+    (boot_of (view c.in_ok-description.description) c.in_ok-machine.machine files) files entry
+    (subst (λ (m : MenuFacts). All (λ e. IsOffered e.blank) m.entries)
+    c.in_ok-ready.ensures.menu c.in_ok-ready.ensures.offered))
+    _ _ _ _ c.boot_found.result
+    (rw c.in_ok-ready.ensures.menu at c.boot_found.ensures.ends)

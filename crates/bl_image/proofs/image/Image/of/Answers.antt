@@ -1,7 +1,7 @@
 use Rattle.std.proofs.Common.{◌≡◌, ◌≤◌, List, length, take, map, sym, ap, ◌∙◌, arith, subst}
 use Rattle.std.proofs.lemmas.List.{take_all}
 use Rattle.bl_load.specs.Handover.{Part}
-use Rattle.bl_load.specs.HandoffFacts.{AreHandoffFacts}
+use Rattle.bl_load.specs.HandoffFacts.{IsWellFormedHandoff}
 use Rattle.bl_load.specs.PlanFacts.{part_in}
 use Rattle.bl_image.specs.ImageParts.{handoff_of}
 use Rattle.bl_image.proofs.PartLemmas.{memory_kept}
@@ -16,7 +16,7 @@ new-requires g c =
     rw (c.protocol.ensures, c.registers.ensures)
     (subst
     (λ (parts : List Part).
-    AreHandoffFacts
+    IsWellFormedHandoff
     (handoff_of (record { protocol = h.protocol; registers = h.registers; parts = parts })))
     (sym (c.loop-i.invariant ∙ ap (map (part_in bytes)) whole))
     (memory_kept bytes h.protocol h.registers h.places c.requires c.len-i-end.ensures.kept))

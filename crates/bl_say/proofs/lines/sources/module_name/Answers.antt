@@ -1,7 +1,7 @@
 use Rattle.std.proofs.Common.{◌≡◌, ◌<◌, ◌∙◌, List, [], ℕ, length, map, get_or, arith, ap, rules, sym}
 use Rattle.std.proofs.Common.{subst, slice_index_or}
 use Rattle.std.proofs.lemmas.List.{get_or-map, length-map}
-use Rattle.bl_desc.specs.declared.form.ModuleRow.{ModuleRow}
+use Rattle.bl_desc.specs.declared.entry_form.ModuleRow.{ModuleRow}
 use Rattle.bl_desc.specs.Entries.{Module}
 use Rattle.bl_desc.specs.Views.{form_view, module_view}
 use Rattle.bl_say.specs.Sources.{module_name}

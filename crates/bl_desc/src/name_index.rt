@@ -1,0 +1,20 @@
+//! The place of a name among others.
+ghost use Rattle.std.specs.Prelude.{◌≡◌, ◌≤◌, length, map};
+ghost use Rattle.bl_desc.specs.EntryNames as names_of;
+
+/// The place of a name among these, or how many they are if it is not there.
+pub fn index_of(names: &[&str], name: &str) -> usize
+    ensures index { result ≡ names_of.index_of (map (λ n. n.now) names.now) name.now }
+    ensures few { result ≤ length names.now }
+{
+    match names {
+        [] => 0,
+        [first, rest @ ..] => {
+            if *first == name {
+                0
+            } else {
+                1 + index_of(rest, name)
+            }
+        }
+    }
+}

@@ -1,0 +1,7 @@
+pub mod ExplainLemmas
+pub mod DetailLemmas
+pub mod NoPlaceLemmas
+pub mod RefusedLemmas
+pub mod HeldLemmas
+pub mod SegmentLemmas
+pub mod ExplainEnds

@@ -1,0 +1,55 @@
+-- How the explanation of a boot ends. Own.
+use Rattle.std.specs.Prelude.{◌≡◌, ℕ, List, ◌++◌}
+use Rattle.bl_load.specs.Handover.{Handover}
+use Rattle.bl_session.specs.declared.outcome.RefusedEntry.{RefusedEntry}
+use Rattle.bl_session.specs.Boot.{State, handed_over, none_left}
+use Rattle.bl_session.specs.Outcome.{File}
+use Rattle.bl_desc.specs.Described.{described}
+use Rattle.bl_blame.specs.declared.told.blame.Blame.{Blame}
+use Rattle.bl_explain.specs.BlameConditions.{HasBlame}
+use Rattle.bl_blame.specs.BlameHints.{blame_lines}
+use Rattle.bl_menu.specs.DescribedMachine.{IsBadDescription}
+use Rattle.bl_menu.specs.Cases.{BootCase, ComesTo}
+use Rattle.bl_explain.specs.Details.{AreToldRefusals}
+use Rattle.bl_explain.specs.KernelSegments.{AreToldSegments}
+use Rattle.bl_say.specs.Segments.{KernelSegmentsFacts}
+use Rattle.bl_explain.specs.Told.{refused_in, sought_in, told_lines}
+use Rattle.bl_say.specs.declared.told.refusal_detail.ToldRefusal.{ToldRefusal}
+
+-- with files of a type F: what they may answer for a name, and how many faults they had
+module _ {F : Type 0} (answers : F → List ℕ → File → Type 0) (faults : F → ℕ) where
+  -- the boot that is described comes to this, and what is said tells it, with what is told beside
+  -- each refusal, and the segments of the kernel that is handed over
+  pub record IsExplained (desc : List ℕ) (before after : F) (old new : List ℕ)
+      (state : State) : Type 0 where
+    pub case : BootCase answers faults desc before after
+    pub outcome : ComesTo answers faults case state
+    pub told : List ToldRefusal
+    pub are_told : AreToldRefusals case.facts case.description.entries
+        (sought_in case.description case.files) (refused_in state) told
+    pub kernel : KernelSegmentsFacts
+    pub are_segments : AreToldSegments case.description.entries
+        (sought_in case.description case.files) state kernel
+    pub said : new
+        ≡ old ++ told_lines case.description case.facts
+        (sought_in case.description case.files) told kernel state
+
+  -- an entry would be handed over
+  pub record ExplainsBoot (desc : List ℕ) (before after : F) (old new : List ℕ) : Type 0 where
+    pub entry : ℕ
+    pub earlier : List RefusedEntry
+    pub handover : Handover
+    pub explained : IsExplained desc before after old new (handed_over entry earlier handover)
+
+  -- each entry that is attempted is refused
+  pub record ExplainsRefusals (desc : List ℕ) (before after : F) (old new : List ℕ)
+      : Type 0 where
+    pub refused : List RefusedEntry
+    pub explained : IsExplained desc before after old new (none_left refused)
+
+-- the description is a bad one, for what is said
+pub record ExplainsBlame (desc old new : List ℕ) : Type 0 where
+  pub bad : IsBadDescription desc
+  pub blame : Blame
+  pub stands : HasBlame desc blame
+  pub said : new ≡ old ++ blame_lines blame (described desc)

@@ -1,0 +1,5 @@
+pub mod FileLemmas
+pub mod NameLemmas
+pub mod MenuLemmas
+pub mod ValueLemmas
+pub mod AskedLemmas

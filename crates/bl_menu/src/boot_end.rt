@@ -1,0 +1,11 @@
+//! How a boot ends.
+
+/// How a boot ends that nothing stopped.
+#[derive(Clone, Copy, Debug, PartialEq, Eq)]
+pub enum End {
+    /// An entry was handed over.
+    Booted,
+
+    /// Each entry was refused.
+    NoEntryLeft,
+}

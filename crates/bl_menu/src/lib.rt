@@ -1,0 +1,23 @@
+//! What is booted of a description: its machine, its menu, and the files of the entries that are
+//! attempted.
+#![tactic(auto)]
+
+mod boot_end;
+mod described_boot;
+mod files;
+mod found_files;
+mod machine;
+mod menu;
+mod names;
+mod order;
+mod ready;
+
+pub use boot_end::End;
+pub use described_boot::DescribedBoot;
+pub use files::{AskedNames, Files, MemFiles};
+pub use found_files::find_files;
+pub use machine::machine_of;
+pub use menu::{entry_of, menu_of, title_of};
+pub use names::names_in;
+pub use order::order_of;
+pub use ready::{ReadyBoot, ready_boot};
