@@ -1,4 +1,4 @@
-use Rattle.std.proofs.Common.{◌≡◌, ◌∙◌, length, refl, ap}
+use Rattle.std.proofs.Common.{◌∙◌, length, refl, ap}
 use Rattle.std.proofs.lemmas.List.{length-replicate}
 use Rattle.std.proofs.lemmas.Result.{err_from_is_err_and}
 use Rattle.bl_desc.specs.Described.{described}
