@@ -16,7 +16,7 @@ use Rattle.toml.specs.View.{members_view}
 use Rattle.toml.specs.declared.value.Value.{Value}
 use Rattle.bl_desc.specs.Values.{has_only}
 use Rattle.bl_desc.specs.Allowed.{KeyRule, key_rules, keys_of_set, with_items}
-use Rattle.bl_desc.specs.BadKeys.{BreaksSomeRule, BreaksRule, IsItemFault, IsKeyFault}
+use Rattle.bl_desc.specs.BadKeys.{BreaksAnyOf, BreaksRule, IsItemFault, IsKeyFault}
 use Rattle.bl_desc.specs.declared.bad_key.Allowed.{Allowed}
 use Rattle.bl_desc.specs.declared.bad_key.KeyFault.{KeyFault}
 use Rattle.bl_desc.specs.declared.bad_key.KeyFault.TheVariants.{NoTable, Unknown, Missing, BadValue}
@@ -34,20 +34,20 @@ both a b p q = rw (p, q) refl
 
 -- no rule of a key is broken by an unknown key, or by a value that is no table
 pub no_rule-Unknown : (rules : List KeyRule) (ms : Members) (key : Bor (List ℕ)) (set : KeySet)
-    → BreaksSomeRule rules ms (Unknown key set) → ⊥
+    → BreaksAnyOf rules ms (Unknown key set) → ⊥
 no_rule-Unknown [] ms key set h = h
 no_rule-Unknown (r ∷ rules) ms key set (inl h) = h
 no_rule-Unknown (r ∷ rules) ms key set (inr h) = no_rule-Unknown rules ms key set h
 
 pub no_rule-NoTable : (rules : List KeyRule) (ms : Members) (value : Bor Value)
-    → BreaksSomeRule rules ms (NoTable value) → ⊥
+    → BreaksAnyOf rules ms (NoTable value) → ⊥
 no_rule-NoTable [] ms value h = h
 no_rule-NoTable (r ∷ rules) ms value (inl h) = h
 no_rule-NoTable (r ∷ rules) ms value (inr h) = no_rule-NoTable rules ms value h
 
 -- a broken rule is a fault of the table
 pub rule_fault : (count : ℕ) (set : KeySet) (ms : Members) (fault : KeyFault)
-    → BreaksSomeRule (key_rules count set) ms fault → IsKeyFault count set ms fault
+    → BreaksAnyOf (key_rules count set) ms fault → IsKeyFault count set ms fault
 rule_fault count set ms (NoTable value) h = h
 rule_fault count set ms (Unknown key known) h =
     absurd (no_rule-Unknown (key_rules count set) ms key known h)

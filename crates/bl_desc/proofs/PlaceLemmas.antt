@@ -9,7 +9,7 @@ use Rattle.toml.specs.Data.{Members, get_member, get_item, at, as_array}
 use Rattle.toml.specs.Data.{as_table}
 use Rattle.bl_desc.specs.Values.{◌>>=◌}
 use Rattle.bl_desc.specs.Allowed.{KeyRule, item_count, key_rules, may, must}
-use Rattle.bl_desc.specs.BadKeys.{BreaksSomeRule, IsBadKey, IsFaultAt, IsItemFault}
+use Rattle.bl_desc.specs.BadKeys.{BreaksAnyOf, IsBadKey, IsFaultAt, IsItemFault}
 use Rattle.bl_desc.specs.BadKeys.{IsKeyFault, count_at, count_or_none, item_at, set_of_protocol}
 use Rattle.bl_desc.specs.BadKeysKept.{IsListedBad, IsBadItemFault, array_items}
 use Rattle.bl_desc.specs.DescriptionKept.{IsEntryBad, IsEntryFaultAt, IsEntryItemFaultAt}
@@ -58,13 +58,13 @@ count_of (Some (table ms)) = refl
 -- what each lemma here says: one of the rules is broken, so one of the keys' rules is
 abbrev AreAmong : List KeyRule → KeySet → Type 0
 AreAmong rules set =
-    (ms : Members) (fault : KeyFault) → BreaksSomeRule rules ms fault → IsKeyFault 0 set ms fault
+    (ms : Members) (fault : KeyFault) → BreaksAnyOf rules ms fault → IsKeyFault 0 set ms fault
 
 pub front-Multiboot2 : AreAmong common_rules keys.Multiboot2Entry
 front-Multiboot2 ms fault h = rule_fault 0 keys.Multiboot2Entry ms fault (among h)
   where
-    among : BreaksSomeRule common_rules ms fault
-        → BreaksSomeRule (key_rules 0 keys.Multiboot2Entry) ms fault
+    among : BreaksAnyOf common_rules ms fault
+        → BreaksAnyOf (key_rules 0 keys.Multiboot2Entry) ms fault
     among (inl title) = inl title
     among (inr (inl kernel)) = inr (inr (inl kernel))
     among (inr (inr (inl line))) = inr (inr (inr (inl line)))
@@ -73,7 +73,7 @@ front-Multiboot2 ms fault h = rule_fault 0 keys.Multiboot2Entry ms fault (among 
 pub front-Linux : AreAmong common_rules keys.LinuxEntry
 front-Linux ms fault h = rule_fault 0 keys.LinuxEntry ms fault (among h)
   where
-    among : BreaksSomeRule common_rules ms fault → BreaksSomeRule (key_rules 0 keys.LinuxEntry) ms fault
+    among : BreaksAnyOf common_rules ms fault → BreaksAnyOf (key_rules 0 keys.LinuxEntry) ms fault
     among (inl title) = inl title
     among (inr (inl kernel)) = inr (inr (inl kernel))
     among (inr (inr (inl line))) = inr (inr (inr (inl line)))
@@ -82,15 +82,15 @@ front-Linux ms fault h = rule_fault 0 keys.LinuxEntry ms fault (among h)
 pub module-Multiboot2 : AreAmong module_rules keys.Multiboot2Entry
 module-Multiboot2 ms fault h = rule_fault 0 keys.Multiboot2Entry ms fault (among h)
   where
-    among : BreaksSomeRule module_rules ms fault
-        → BreaksSomeRule (key_rules 0 keys.Multiboot2Entry) ms fault
+    among : BreaksAnyOf module_rules ms fault
+        → BreaksAnyOf (key_rules 0 keys.Multiboot2Entry) ms fault
     among (inl modules) = inr (inr (inr (inr (inl modules))))
     among (inr none) = absurd none
 
 pub copies-Multiboot2 : AreAmong copy_rules keys.Multiboot2Entry
 copies-Multiboot2 ms fault h = rule_fault 0 keys.Multiboot2Entry ms fault (among h)
   where
-    among : BreaksSomeRule copy_rules ms fault → BreaksSomeRule (key_rules 0 keys.Multiboot2Entry) ms fault
+    among : BreaksAnyOf copy_rules ms fault → BreaksAnyOf (key_rules 0 keys.Multiboot2Entry) ms fault
     among (inl old) = inr (inr (inr (inr (inr (inl old)))))
     among (inr (inl new)) = inr (inr (inr (inr (inr (inr (inl new))))))
     among (inr (inr none)) = absurd none
@@ -98,14 +98,14 @@ copies-Multiboot2 ms fault h = rule_fault 0 keys.Multiboot2Entry ms fault (among
 pub initrd-Linux : AreAmong initrd_rules keys.LinuxEntry
 initrd-Linux ms fault h = rule_fault 0 keys.LinuxEntry ms fault (among h)
   where
-    among : BreaksSomeRule initrd_rules ms fault → BreaksSomeRule (key_rules 0 keys.LinuxEntry) ms fault
+    among : BreaksAnyOf initrd_rules ms fault → BreaksAnyOf (key_rules 0 keys.LinuxEntry) ms fault
     among (inl initrd) = inr (inr (inr (inr (inl initrd))))
     among (inr none) = absurd none
 
 pub protocol-Entry : AreAmong protocol_rules keys.Entry
 protocol-Entry ms fault h = rule_fault 0 keys.Entry ms fault (among h)
   where
-    among : BreaksSomeRule protocol_rules ms fault → BreaksSomeRule (key_rules 0 keys.Entry) ms fault
+    among : BreaksAnyOf protocol_rules ms fault → BreaksAnyOf (key_rules 0 keys.Entry) ms fault
     among (inl protocol) = inr (inl protocol)
     among (inr none) = absurd none
 
@@ -123,7 +123,7 @@ pub at_entry : (set : KeySet) (i : ℕ) (ms : Members) (place : TablePlace) (fau
 at_entry set i ms place fault is h = rw is (refl, h)
 
 pub at_modules_key : (i : ℕ) (ms : Members) (place : TablePlace) (fault : KeyFault)
-    → place ≡ places.Entry i → BreaksSomeRule module_rules ms fault
+    → place ≡ places.Entry i → BreaksAnyOf module_rules ms fault
     → IsModulesFaultAt i ms place fault
 at_modules_key i ms place fault is h = rw is (refl, h)
 
@@ -169,15 +169,15 @@ is_table (table other) ms is = let same : other ≡ ms = cc is in ap table same
 -- a key of the whole breaks its rule
 abbrev AreAmongWhole : ℕ → List KeyRule → Type 0
 AreAmongWhole count rules =
-    (ms : Members) (fault : KeyFault) → BreaksSomeRule rules ms fault
+    (ms : Members) (fault : KeyFault) → BreaksAnyOf rules ms fault
     → IsKeyFault count keys.Description ms fault
 
 pub front_whole : (count : ℕ)
     → AreAmongWhole count machine_rules
 front_whole count ms fault h = rule_fault count keys.Description ms fault (among h)
   where
-    among : BreaksSomeRule machine_rules ms fault
-        → BreaksSomeRule (key_rules count keys.Description) ms fault
+    among : BreaksAnyOf machine_rules ms fault
+        → BreaksAnyOf (key_rules count keys.Description) ms fault
     among (inl size) = inl size
     among (inr (inl pool)) =
         inr (inl (with_items-broken (must (codes "pool") TwoNumbers) Number ms fault refl pool))
@@ -186,8 +186,8 @@ front_whole count ms fault h = rule_fault count keys.Description ms fault (among
 pub fill_whole : (count : ℕ) → AreAmongWhole count fill_rules
 fill_whole count ms fault h = rule_fault count keys.Description ms fault (among h)
   where
-    among : BreaksSomeRule fill_rules ms fault
-        → BreaksSomeRule (key_rules count keys.Description) ms fault
+    among : BreaksAnyOf fill_rules ms fault
+        → BreaksAnyOf (key_rules count keys.Description) ms fault
     among (inl fill) = inr (inr (inl fill))
     among (inr none) = absurd none
 
@@ -196,9 +196,9 @@ pub indices_whole : (count : ℕ)
     (index_rules count)
 indices_whole count ms fault h = rule_fault count keys.Description ms fault (among h)
   where
-    among : BreaksSomeRule
+    among : BreaksAnyOf
         (index_rules count) ms fault
-        → BreaksSomeRule (key_rules count keys.Description) ms fault
+        → BreaksAnyOf (key_rules count keys.Description) ms fault
     among (inl default) = inr (inr (inr (inl default)))
     among (inr (inl fallback)) =
         inr (inr (inr (inr (inl (with_items-broken (may (codes "fallback") Indices)
@@ -208,24 +208,24 @@ indices_whole count ms fault h = rule_fault count keys.Description ms fault (amo
 pub region_whole : (count : ℕ) → AreAmongWhole count region_rules
 region_whole count ms fault h = rule_fault count keys.Description ms fault (among h)
   where
-    among : BreaksSomeRule region_rules ms fault
-        → BreaksSomeRule (key_rules count keys.Description) ms fault
+    among : BreaksAnyOf region_rules ms fault
+        → BreaksAnyOf (key_rules count keys.Description) ms fault
     among (inl region) = inr (inr (inr (inr (inr (inl region)))))
     among (inr none) = absurd none
 
 pub file_whole : (count : ℕ) → AreAmongWhole count file_rules
 file_whole count ms fault h = rule_fault count keys.Description ms fault (among h)
   where
-    among : BreaksSomeRule file_rules ms fault
-        → BreaksSomeRule (key_rules count keys.Description) ms fault
+    among : BreaksAnyOf file_rules ms fault
+        → BreaksAnyOf (key_rules count keys.Description) ms fault
     among (inl file) = inr (inr (inr (inr (inr (inr (inl file))))))
     among (inr none) = absurd none
 
 pub entry_whole : (count : ℕ) → AreAmongWhole count entry_rules
 entry_whole count ms fault h = rule_fault count keys.Description ms fault (among h)
   where
-    among : BreaksSomeRule entry_rules ms fault
-        → BreaksSomeRule (key_rules count keys.Description) ms fault
+    among : BreaksAnyOf entry_rules ms fault
+        → BreaksAnyOf (key_rules count keys.Description) ms fault
     among (inl entry) = inr (inr (inr (inr (inr (inr (inr (inl entry)))))))
     among (inr none) = absurd none
 

@@ -40,16 +40,16 @@ BreaksRule rule ms (BadItem key index value allowed) =
 BreaksRule rule ms _ = ⊥
 
 -- one of these rules is broken
-abbrev pub BreaksSomeRule : List KeyRule → Members → KeyFault → Type 0
-BreaksSomeRule [] ms fault = ⊥
-BreaksSomeRule (rule ∷ rules) ms fault = BreaksRule rule ms fault ⊎ BreaksSomeRule rules ms fault
+abbrev pub BreaksAnyOf : List KeyRule → Members → KeyFault → Type 0
+BreaksAnyOf [] ms fault = ⊥
+BreaksAnyOf (rule ∷ rules) ms fault = BreaksRule rule ms fault ⊎ BreaksAnyOf rules ms fault
 
 -- a table of these keys, where there are so many entries, has this fault
 abbrev pub IsKeyFault : ℕ → KeySet → Members → KeyFault → Type 0
 IsKeyFault count set ms (Unknown key known) =
     (known ≡ set) × IsSome (get_member key.now ms)
     × (list_any (λ k. bytes_eq k key.now) (keys_of_set set) ≡ false)
-IsKeyFault count set ms fault = BreaksSomeRule (key_rules count set) ms fault
+IsKeyFault count set ms fault = BreaksAnyOf (key_rules count set) ms fault
 
 -- the same of a value: it is no table, or it is one that has this fault
 abbrev pub IsItemFault : KeySet → Data → KeyFault → Type 0

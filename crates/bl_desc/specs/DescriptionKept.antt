@@ -11,8 +11,7 @@ use Rattle.bl_desc.specs.Values.{◌>>=◌, has_only}
 use Rattle.bl_desc.specs.Described.{InlineFile, has_file, names_differ}
 use Rattle.bl_desc.specs.Entries.{toml_protocol}
 use Rattle.bl_desc.specs.Allowed.{allows, item_count, KeyRule, keys_of_set, may, must}
-use Rattle.bl_desc.specs.BadKeys.{BreaksSomeRule, entry_set, IsItemFault, IsKeyFault}
-use Rattle.bl_desc.specs.BadKeys.{set_of_protocol}
+use Rattle.bl_desc.specs.BadKeys.{BreaksAnyOf, entry_set, IsItemFault, IsKeyFault, set_of_protocol}
 use Rattle.bl_desc.specs.BadKeysKept.{all_items, all_pass, array_items, item_passes}
 use Rattle.bl_desc.specs.declared.bad_key.Allowed.TheVariants.{AnyText, Title, ProtocolName}
 use Rattle.bl_desc.specs.declared.bad_key.Allowed.TheVariants.{CopyText, ModuleTables, Number}
@@ -54,7 +53,7 @@ front_passes set ms = has_only (keys_of_set set) ms && all_pass common_rules ms
 
 -- the table has a fault, or one of those rules is broken
 abbrev pub IsFrontFault : KeySet → Members → KeyFault → Type 0
-IsFrontFault set ms fault = IsKeyFault 0 set ms fault ⊎ BreaksSomeRule common_rules ms fault
+IsFrontFault set ms fault = IsKeyFault 0 set ms fault ⊎ BreaksAnyOf common_rules ms fault
 
 abbrev pub modules_pass : Members → Bool
 modules_pass ms =
@@ -90,7 +89,7 @@ IsModuleFault ms j fault =
 
 -- its modules, or its key for them
 abbrev pub IsModulesFaultAt : ℕ → Members → TablePlace → KeyFault → Type 0
-IsModulesFaultAt i ms (places.Entry k) fault = (k ≡ i) × BreaksSomeRule module_rules ms fault
+IsModulesFaultAt i ms (places.Entry k) fault = (k ≡ i) × BreaksAnyOf module_rules ms fault
 IsModulesFaultAt i ms (places.Module k j) fault = (k ≡ i) × IsModuleFault ms j fault
 IsModulesFaultAt i ms _ fault = ⊥
 

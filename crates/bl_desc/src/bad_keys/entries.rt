@@ -1,7 +1,7 @@
 //! The entries of a menu, with their modules.
 ghost use Rattle.std.specs.Prelude.{◌≡◌, true, MatchOption};
 ghost use Rattle.toml.specs.View.{view, table_view, items_view};
-ghost use Rattle.bl_desc.specs.BadKeys.{BreaksSomeRule};
+ghost use Rattle.bl_desc.specs.BadKeys.{BreaksAnyOf};
 ghost use Rattle.bl_desc.specs.BadKeysKept as tests;
 ghost use Rattle.bl_desc.specs.DescriptionKept as kept;
 
@@ -30,7 +30,7 @@ fn bad_texts<'a>(table: &'a Table, place: TablePlace) -> Option<BadKey<'a>>
     ensures { MatchOption result
         (tests.all_pass kept.common_rules (table_view table.now) ≡ true)
         (λ bad. (bad.table ≡ place)
-        × BreaksSomeRule kept.common_rules (table_view table.now) bad.fault) }
+        × BreaksAnyOf kept.common_rules (table_view table.now) bad.fault) }
 {
     let title = must("title", Allowed::Title);
     let kernel = must("kernel", Allowed::AnyText);
@@ -55,7 +55,7 @@ fn bad_module_key<'a>(table: &'a Table, i: usize) -> Option<BadKey<'a>>
     ensures { MatchOption result
         (tests.all_pass kept.module_rules (table_view table.now) ≡ true)
         (λ bad. (bad.table ≡ TablePlace.Entry i)
-        × BreaksSomeRule kept.module_rules (table_view table.now) bad.fault) }
+        × BreaksAnyOf kept.module_rules (table_view table.now) bad.fault) }
 {
     broken_rules(
         table,
@@ -80,7 +80,7 @@ fn bad_copies<'a>(table: &'a Table, i: usize) -> Option<BadKey<'a>>
     ensures { MatchOption result
         (tests.all_pass kept.copy_rules (table_view table.now) ≡ true)
         (λ bad. (bad.table ≡ TablePlace.Entry i)
-        × BreaksSomeRule kept.copy_rules (table_view table.now) bad.fault) }
+        × BreaksAnyOf kept.copy_rules (table_view table.now) bad.fault) }
 {
     let old = may("rsdp_old", Allowed::CopyText);
     let new = may("rsdp_new", Allowed::CopyText);
@@ -106,7 +106,7 @@ fn bad_initrd<'a>(table: &'a Table, i: usize) -> Option<BadKey<'a>>
     ensures { MatchOption result
         (tests.all_pass kept.initrd_rules (table_view table.now) ≡ true)
         (λ bad. (bad.table ≡ TablePlace.Entry i)
-        × BreaksSomeRule kept.initrd_rules (table_view table.now) bad.fault) }
+        × BreaksAnyOf kept.initrd_rules (table_view table.now) bad.fault) }
 {
     broken_rules(
         table,
@@ -132,7 +132,7 @@ fn bad_protocol<'a>(table: &'a Table, i: usize) -> Option<BadKey<'a>>
     ensures { MatchOption result
         (tests.all_pass kept.protocol_rules (table_view table.now) ≡ true)
         (λ bad. (bad.table ≡ TablePlace.Entry i)
-        × BreaksSomeRule kept.protocol_rules (table_view table.now) bad.fault) }
+        × BreaksAnyOf kept.protocol_rules (table_view table.now) bad.fault) }
 {
     let protocol = must("protocol", Allowed::ProtocolName);
     broken_rules(table, TablePlace::Entry(i), &[protocol])

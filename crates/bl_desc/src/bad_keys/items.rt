@@ -3,7 +3,7 @@ ghost use Rattle.std.specs.Prelude.{◌≡◌, true, codes, MatchOption};
 ghost use Rattle.toml.specs.Data.{get_member};
 ghost use Rattle.toml.specs.View.{view, table_view, items_view};
 ghost use Rattle.bl_desc.specs.Allowed.{allows as allowed_of, key_rules};
-ghost use Rattle.bl_desc.specs.BadKeys.{BreaksSomeRule, IsItemFault, IsKeyFault};
+ghost use Rattle.bl_desc.specs.BadKeys.{BreaksAnyOf, IsItemFault, IsKeyFault};
 ghost use Rattle.bl_desc.specs.BadKeysKept as kept;
 
 use crate::bad_key::{Allowed, BadKey, KeyFault, KeySet, TablePlace};
@@ -59,7 +59,7 @@ fn broken_in<'a>(table: &'a Table, place: TablePlace, listed: Listed) -> Option<
     ensures { MatchOption result
         (kept.all_pass (key_rules 0 (kept.set_in listed)) (table_view table.now) ≡ true)
         (λ bad. (bad.table ≡ place)
-        × BreaksSomeRule (key_rules 0 (kept.set_in listed)) (table_view table.now) bad.fault) }
+        × BreaksAnyOf (key_rules 0 (kept.set_in listed)) (table_view table.now) bad.fault) }
 {
     match listed {
         Listed::Regions => {

@@ -5,7 +5,7 @@ ghost use Rattle.std.specs.Str.{bytes_eq};
 ghost use Rattle.toml.specs.View.{table_view};
 ghost use Rattle.bl_desc.specs.Values.{has_only};
 ghost use Rattle.bl_desc.specs.Allowed.{keys_of_set};
-ghost use Rattle.bl_desc.specs.BadKeys.{BreaksSomeRule, BreaksRule, IsKeyFault};
+ghost use Rattle.bl_desc.specs.BadKeys.{BreaksAnyOf, BreaksRule, IsKeyFault};
 ghost use Rattle.bl_desc.specs.BadKeysKept.{all_pass, passes, rule_view};
 
 use crate::bad_key::{Allowed, BadKey, KeyFault, KeySet, TablePlace};
@@ -122,7 +122,7 @@ pub fn broken_rules<'a>(table: &'a Table, place: TablePlace, rules: &[Rule]) -> 
     ensures { MatchOption result
         (all_pass (map rule_view rules.now) (table_view table.now) ≡ true)
         (λ bad. (bad.table ≡ place)
-        × BreaksSomeRule (map rule_view rules.now) (table_view table.now) bad.fault) }
+        × BreaksAnyOf (map rule_view rules.now) (table_view table.now) bad.fault) }
 {
     match rules {
         [] => None,

@@ -3,7 +3,7 @@ ghost use Rattle.std.specs.Prelude.{◌≡◌, true, codes, IfOk, IsSome, MatchO
 ghost use Rattle.toml.specs.View.{view, table_view, items_view};
 ghost use Rattle.toml.specs.Data.{get_member};
 ghost use Rattle.bl_desc.specs.Described.{described_in};
-ghost use Rattle.bl_desc.specs.BadKeys.{BreaksSomeRule, IsBadKey};
+ghost use Rattle.bl_desc.specs.BadKeys.{BreaksAnyOf, IsBadKey};
 ghost use Rattle.bl_desc.specs.BadKeysKept as tests;
 ghost use Rattle.bl_desc.specs.DescriptionKept as kept;
 
@@ -20,7 +20,7 @@ fn bad_size<'a>(table: &'a Table) -> Option<BadKey<'a>>
     ensures { MatchOption result
         (tests.all_pass kept.machine_rules (table_view table.now) ≡ true)
         (λ bad. (bad.table ≡ TablePlace.Description)
-        × BreaksSomeRule kept.machine_rules (table_view table.now) bad.fault) }
+        × BreaksAnyOf kept.machine_rules (table_view table.now) bad.fault) }
 {
     let size = must("size", Allowed::Number);
     let pool = must("pool", Allowed::TwoNumbers);
@@ -31,7 +31,7 @@ fn bad_fill<'a>(table: &'a Table) -> Option<BadKey<'a>>
     ensures { MatchOption result
         (tests.all_pass kept.fill_rules (table_view table.now) ≡ true)
         (λ bad. (bad.table ≡ TablePlace.Description)
-        × BreaksSomeRule kept.fill_rules (table_view table.now) bad.fault) }
+        × BreaksAnyOf kept.fill_rules (table_view table.now) bad.fault) }
 {
     let rule = may("fill", Allowed::Byte);
     broken_rules(table, TablePlace::Description, &[rule])
@@ -41,7 +41,7 @@ fn bad_region_key<'a>(table: &'a Table) -> Option<BadKey<'a>>
     ensures { MatchOption result
         (tests.all_pass kept.region_rules (table_view table.now) ≡ true)
         (λ bad. (bad.table ≡ TablePlace.Description)
-        × BreaksSomeRule kept.region_rules (table_view table.now) bad.fault) }
+        × BreaksAnyOf kept.region_rules (table_view table.now) bad.fault) }
 {
     let rule = may("region", Allowed::Tables);
     broken_rules(table, TablePlace::Description, &[rule])
@@ -51,7 +51,7 @@ fn bad_file_key<'a>(table: &'a Table) -> Option<BadKey<'a>>
     ensures { MatchOption result
         (tests.all_pass kept.file_rules (table_view table.now) ≡ true)
         (λ bad. (bad.table ≡ TablePlace.Description)
-        × BreaksSomeRule kept.file_rules (table_view table.now) bad.fault) }
+        × BreaksAnyOf kept.file_rules (table_view table.now) bad.fault) }
 {
     let rule = may("file", Allowed::Tables);
     broken_rules(table, TablePlace::Description, &[rule])
@@ -61,7 +61,7 @@ fn bad_entry_key<'a>(table: &'a Table) -> Option<BadKey<'a>>
     ensures { MatchOption result
         (tests.all_pass kept.entry_rules (table_view table.now) ≡ true)
         (λ bad. (bad.table ≡ TablePlace.Description)
-        × BreaksSomeRule kept.entry_rules (table_view table.now) bad.fault) }
+        × BreaksAnyOf kept.entry_rules (table_view table.now) bad.fault) }
 {
     let rule = must("entry", Allowed::EntryTables);
     broken_rules(table, TablePlace::Description, &[rule])
@@ -72,7 +72,7 @@ fn bad_index_keys<'a>(table: &'a Table, count: u64) -> Option<BadKey<'a>>
     ensures { MatchOption result
         (tests.all_pass (kept.index_rules count) (table_view table.now) ≡ true)
         (λ bad. (bad.table ≡ TablePlace.Description)
-        × BreaksSomeRule (kept.index_rules count) (table_view table.now) bad.fault) }
+        × BreaksAnyOf (kept.index_rules count) (table_view table.now) bad.fault) }
 {
     let default = may("default", Allowed::IndexBelow(count));
     let fallback = may("fallback", Allowed::Indices);
