@@ -62,7 +62,7 @@ pub fn find_files<A: Allocator + Copy, F: Files>(
         AreFound F.answers F.faults (view description.now).files (map (λ n. n.now) names.now)
         files.old files.new (map file_of found.items)) }
 
-    // The names that no file of the description has are asked for, each once, in order.
+    // The names that no file of the description has are asked for, in order.
     ensures asked { OnOk result (F.asked files.new ≡ F.asked files.old
         ++ names_asked (view description.now).files (map (λ n. n.now) names.now)) }
     ensures asked_first { AsksPrefix (names_asked (view description.now).files

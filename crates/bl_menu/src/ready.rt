@@ -32,6 +32,8 @@ pub struct ReadyBoot<'a, A: Allocator + Copy> {
 /// What a boot of a description runs on, with memory of `size` bytes, and a store that answers in
 /// this order. Each file of the entries that are attempted that is not in the description is asked
 /// of `files` once.
+///
+/// An error is want of memory; the first of these files, perhaps none, were asked for then.
 pub fn ready_boot<'a, A: Allocator + Copy, F: Files>(
     alloc: A,
     description: &'a Description<A>,
