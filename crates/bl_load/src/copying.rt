@@ -5,7 +5,8 @@ ghost use Rattle.bl_mem.specs.Memory.{overwrite, HasRoom, KeepsSizeAndRoom};
 
 use bl_mem::{FileSet, PhysMem};
 
-/// Copies from `offset` of the file to `at` as many bytes as the buffer has.
+/// Copies from `offset` of the file to `at` as many bytes as the buffer has: within memory where
+/// they lie there together, else through the buffer.
 fn copy_piece<M: PhysMem, F: FileSet>(
     memory: &mut M,
     at: u64,
@@ -14,6 +15,7 @@ fn copy_piece<M: PhysMem, F: FileSet>(
     offset: u64,
     buffer: &mut [u8],
 )
+    requires few { length buffer.old ≤ 4096 }
     requires held { AreBelow (F.holds files.now) (length (M.bytes memory.old)) }
     requires file { file < length (F.texts files.now (M.bytes memory.old)) }
     requires source { offset + length buffer.old
@@ -28,12 +30,17 @@ fn copy_piece<M: PhysMem, F: FileSet>(
         ≡ F.texts files.now (M.bytes memory.old) }
     ensures kept { KeepsSizeAndRoom M.lender M.bytes M.room memory.old memory.new }
 {
-    files.read(memory, file, offset, buffer);
-    memory.write(at, buffer);
+    match files.address(memory, file, offset, buffer.len()) {
+        Some(from) => memory.copy(from, at, buffer.len()),
+        None => {
+            files.read(memory, file, offset, buffer);
+            memory.write(at, buffer);
+        }
+    }
 }
 
-/// Copies `count` bytes of the file, from `offset` on, to `at`, through one buffer, which stays in
-/// the processor's cache.
+/// Copies `count` bytes of the file, from `offset` on, to `at`, piece by piece. The one buffer stays
+/// in the processor's cache.
 fn copy_by_pieces<M: PhysMem, F: FileSet>(
     memory: &mut M,
     at: u64,

@@ -1,15 +1,16 @@
 -- The byte at an address after a frame got other bytes, or was given room.
-use Rattle.std.proofs.Common.{◌≡◌, ℕ, ◌+◌, ◌*◌, ◌/◌, ◌%◌, ◌<◌, ◌≤◌, List, length, get_or, set}
-use Rattle.std.proofs.Common.{Some, arith, rules, refl, sym, ap, ◌∙◌, inl, inr, true}
+use Rattle.std.proofs.Common.{◌≡◌, ℕ, ◌+◌, ◌-◌, ◌*◌, ◌/◌, ◌%◌, ◌<◌, ◌≤◌, List, length, get_or, set}
+use Rattle.std.proofs.Common.{None, Some, arith, rules, refl, sym, ap, ◌∙◌, inl, inr, true}
 use Rattle.std.proofs.Common.{◌∷◌, [], zero, suc, replicate, slice_range, take}
 use Rattle.std.proofs.lemmas.Bool.{cases_eq, cases_lt}
 use Rattle.std.proofs.lemmas.List.{places, get_or-replicate, length-replicate, get_or-set_same, get_or-set_other}
 use Rattle.bl_mem.specs.declared.frame.Frame.{Frame}
-use Rattle.bl_mem.specs.declared.frame.Frame.TheVariants.{Bare, Plain, Kept, Wiped}
+use Rattle.bl_mem.specs.declared.frame.Frame.TheVariants.{Bare, Plain, Kept, Wiped, Lent, Borrowed}
 use Rattle.bl_mem.specs.Memory.{overwrite}
-use Rattle.bl_mem.specs.Frame.{has_room, byte_in, cleared}
+use Rattle.bl_mem.specs.Frame.{has_room, byte_in, cleared, slot_read}
 use Rattle.bl_mem.specs.Frames.{FramesFacts, frame_numbered, frame_byte, IsWritten, IsStored, IsLent}
-use Rattle.bl_mem.specs.Kept.{slot_of, owes, IsKeptIn, IsPutAt, AreTogether}
+use Rattle.bl_mem.specs.Frames.{AreBytesAt}
+use Rattle.bl_mem.specs.Kept.{slot_of, owes, partner, IsKeptIn, IsPutAt, AreTogether}
 use Rattle.bl_mem.proofs.Overwrites.{get_or-overwrite_below, get_or-overwrite_above, get_or-overwrite_in}
 
 -- a byte after `at` in the same frame
@@ -28,15 +29,34 @@ in_table [] i h = cc
 in_table (x ∷ xs) zero h = omega arith
 in_table (x ∷ xs) (suc i) h = let e = in_table xs i h in omega arith
 
+same_slot : (a b : ℕ) → Some a ≡ Some b → a ≡ b
+same_slot a b h = cc
+
 -- what a frame reads as whose slot's bytes stay
 pub byte_in_same : (fill : ℕ) (kept changed : List ℕ) (frame : Frame) (place : ℕ)
-    → ((s : ℕ) → slot_of frame ≡ Some s
+    → ((s : ℕ) → slot_read frame ≡ Some s
     → get_or changed (4096 * s + place) 0 ≡ get_or kept (4096 * s + place) 0)
     → byte_in fill changed frame place ≡ byte_in fill kept frame place
 byte_in_same fill kept changed Bare place same = refl
 byte_in_same fill kept changed (Plain value) place same = refl
 byte_in_same fill kept changed (Kept slot) place same = same slot refl
 byte_in_same fill kept changed (Wiped slot) place same = refl
+byte_in_same fill kept changed (Lent slot to) place same = same slot refl
+byte_in_same fill kept changed (Borrowed slot from) place same = same slot refl
+
+-- what a frame reads as that reads a slot
+pub byte_read : (fill : ℕ) (kept : List ℕ) (frame : Frame) (s place : ℕ)
+    → slot_read frame ≡ Some s
+    → byte_in fill kept frame place ≡ get_or kept (4096 * s + place) 0
+byte_read fill kept Bare s place h = cc
+byte_read fill kept (Plain value) s place h = cc
+byte_read fill kept (Kept slot) s place h =
+    ap (λ n. get_or kept (4096 * n + place) 0) (same_slot slot s h)
+byte_read fill kept (Wiped slot) s place h = cc
+byte_read fill kept (Lent slot to) s place h =
+    ap (λ n. get_or kept (4096 * n + place) 0) (same_slot slot s h)
+byte_read fill kept (Borrowed slot from) s place h =
+    ap (λ n. get_or kept (4096 * n + place) 0) (same_slot slot s h)
 
 -- the frame that has a slot has room
 pub slot_room : (frame : Frame) (s : ℕ) → slot_of frame ≡ Some s → has_room frame ≡ true
@@ -44,18 +64,24 @@ slot_room Bare s h = cc
 slot_room (Plain value) s h = cc
 slot_room (Kept slot) s h = refl
 slot_room (Wiped slot) s h = refl
+slot_room (Lent slot to) s h = refl
+slot_room (Borrowed slot from) s h = refl
 
 pub slot_owes : (frame : Frame) (s : ℕ) → slot_of frame ≡ Some s → owes frame ≡ 0
 slot_owes Bare s h = refl
 slot_owes (Plain value) s h = cc
 slot_owes (Kept slot) s h = refl
 slot_owes (Wiped slot) s h = refl
+slot_owes (Lent slot to) s h = refl
+slot_owes (Borrowed slot from) s h = cc
 
 pub owes_room : (frame : Frame) → owes frame ≡ 1 → has_room frame ≡ true
 owes_room Bare h = absurd (omega (arith, h))
 owes_room (Plain value) h = refl
 owes_room (Kept slot) h = refl
 owes_room (Wiped slot) h = refl
+owes_room (Lent slot to) h = refl
+owes_room (Borrowed slot from) h = refl
 
 -- room stays if a frame that is set has it
 pub set_room : (table : List Frame) (i : ℕ) (frame : Frame) (j : ℕ) → i < length table
@@ -70,7 +96,7 @@ set_room table i frame j within room had =
 -- a frame is kept, where the slots of the others stay
 pub kept_set : (fill : ℕ) (table : List Frame) (kept changed : List ℕ) (i slot : ℕ)
     → i < length table
-    → ((j s place : ℕ) → (j ≡ i → ⊥) → place < 4096 → slot_of (get_or table j Bare) ≡ Some s
+    → ((j s place : ℕ) → (j ≡ i → ⊥) → place < 4096 → slot_read (get_or table j Bare) ≡ Some s
     → get_or changed (4096 * s + place) 0 ≡ get_or kept (4096 * s + place) 0)
     → IsKeptIn (record { fill = fill; table = table; kept = kept })
     (record { fill = fill; table = set table i (Kept slot); kept = changed }) i slot
@@ -151,36 +177,35 @@ written old new at slot part was is put fits one =
       room = is.room;
     }
 
--- a part of a frame that read as one value is written
-pub around : (old new : FramesFacts) (at value : ℕ) (part whole : List ℕ)
-    → whole ≡ overwrite (replicate 4096 value) (at % 4096) part
-    → ((a : ℕ) → a / 4096 ≡ at / 4096 → frame_byte old a ≡ value)
-    → IsStored old new (at / 4096) whole → at % 4096 + length part ≤ 4096
-    → IsWritten old new at part
-around old new at value part whole made plain is one =
-    let len : length (replicate {A = ℕ} 4096 value) ≡ 4096 = length-replicate 4096 value in
+-- a part of a frame is written over what it read as
+pub over : (old new : FramesFacts) (at from : ℕ) (part was whole : List ℕ)
+    → from ≡ at - at % 4096 → length was ≡ 4096 → AreBytesAt (frame_byte old) from was
+    → whole ≡ overwrite was (at % 4096) part → IsStored old new (at / 4096) whole
+    → at % 4096 + length part ≤ 4096 → IsWritten old new at part
+over old new at from part was whole start len read made is one =
+    let other : (a : ℕ) → a / 4096 ≡ at / 4096 → get_or was (a % 4096) 0 ≡ frame_byte old a =
+    λ a here.
+    sym (read (a % 4096) (omega arith)) ∙ ap (frame_byte old) (omega (arith, start, here)) in
     record {
       inside = λ a low high.
           let here : a / 4096 ≡ at / 4096 = omega arith in
           is.here a here ∙ ap (λ xs. get_or xs (a % 4096) 0) made
-          ∙ get_or-overwrite_in (replicate 4096 value) (at % 4096) part (a % 4096) 0 (omega arith)
-          (omega arith) (omega arith)
+          ∙ get_or-overwrite_in was (at % 4096) part (a % 4096) 0 (omega arith) (omega arith)
+          (omega arith)
           ∙ ap (λ n. get_or part n 0) (omega arith);
       below = λ a low. elim (cases_eq (a / 4096) (at / 4096)) [
         | inl here ↦
             is.here a here ∙ ap (λ xs. get_or xs (a % 4096) 0) made
-            ∙ get_or-overwrite_below (replicate 4096 value) (at % 4096) part (a % 4096) 0
-            (omega arith) (omega arith)
-            ∙ get_or-replicate 4096 (a % 4096) value 0 (omega arith) ∙ sym (plain a here)
-        | inr other ↦ is.beside a other
+            ∙ get_or-overwrite_below was (at % 4096) part (a % 4096) 0 (omega arith) (omega arith)
+            ∙ other a here
+        | inr third ↦ is.beside a third
       ];
       above = λ a high. elim (cases_eq (a / 4096) (at / 4096)) [
         | inl here ↦
             is.here a here ∙ ap (λ xs. get_or xs (a % 4096) 0) made
-            ∙ get_or-overwrite_above (replicate 4096 value) (at % 4096) part (a % 4096) 0
-            (omega arith) (omega arith)
-            ∙ get_or-replicate 4096 (a % 4096) value 0 (omega arith) ∙ sym (plain a here)
-        | inr other ↦ is.beside a other
+            ∙ get_or-overwrite_above was (at % 4096) part (a % 4096) 0 (omega arith) (omega arith)
+            ∙ other a here
+        | inr third ↦ is.beside a third
       ];
       room = is.room;
     }
@@ -208,24 +233,40 @@ cleared_byte fill kept Bare place h = cc
 cleared_byte fill kept (Plain value) place h = refl
 cleared_byte fill kept (Kept slot) place h = refl
 cleared_byte fill kept (Wiped slot) place h = refl
+cleared_byte fill kept (Lent slot to) place h = refl
+cleared_byte fill kept (Borrowed slot from) place h = refl
 
 pub cleared_room : (frame : Frame) → has_room (cleared frame) ≡ has_room frame
 cleared_room Bare = refl
 cleared_room (Plain value) = refl
 cleared_room (Kept slot) = refl
 cleared_room (Wiped slot) = refl
+cleared_room (Lent slot to) = refl
+cleared_room (Borrowed slot from) = refl
 
 pub cleared_owes : (frame : Frame) → owes (cleared frame) ≡ owes frame
 cleared_owes Bare = refl
 cleared_owes (Plain value) = refl
 cleared_owes (Kept slot) = refl
 cleared_owes (Wiped slot) = refl
+cleared_owes (Lent slot to) = refl
+cleared_owes (Borrowed slot from) = refl
 
 pub cleared_slot : (frame : Frame) → slot_of (cleared frame) ≡ slot_of frame
 cleared_slot Bare = refl
 cleared_slot (Plain value) = refl
 cleared_slot (Kept slot) = refl
 cleared_slot (Wiped slot) = refl
+cleared_slot (Lent slot to) = refl
+cleared_slot (Borrowed slot from) = refl
+
+pub cleared_alone : (frame : Frame) → partner (cleared frame) ≡ None
+cleared_alone Bare = refl
+cleared_alone (Plain value) = refl
+cleared_alone (Kept slot) = refl
+cleared_alone (Wiped slot) = refl
+cleared_alone (Lent slot to) = refl
+cleared_alone (Borrowed slot from) = refl
 
 -- a frame is cleared
 pub cleared_stored : (fill : ℕ) (table : List Frame) (kept : List ℕ) (i : ℕ)
@@ -263,5 +304,8 @@ lent facts at slot count start are from within =
           let place : 4096 * (slot + n) + (at + k) % 4096 ≡ start + k = omega arith in
           let read : get_or (slice_range facts.kept start (start + count)) k 0
           ≡ get_or facts.kept (start + k) 0 = grind (arith, places) in
-          rw (number, are n (omega arith), place) (sym read);
+          rw number
+          (byte_read facts.fill facts.kept (frame_numbered facts (at / 4096 + n)) (slot + n)
+          ((at + k) % 4096) (are n (omega arith))
+          ∙ ap (λ m. get_or facts.kept m 0) place ∙ sym read);
     }

@@ -5,5 +5,6 @@ pub mod LeastLaws
 pub mod SparseLemmas
 pub mod ValueLemmas
 pub mod FrameLemmas
+pub mod PairLemmas
 pub mod SoundLemmas
 pub mod BaseLemmas

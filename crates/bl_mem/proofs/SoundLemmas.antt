@@ -7,9 +7,10 @@ use Rattle.std.proofs.lemmas.Bool.{cases_eq, cases_lt}
 use Rattle.std.proofs.lemmas.List.{get_or-set_same, get_or-set_other, length-set}
 use Rattle.std.proofs.lemmas.List.Sums.{sum_by-set, get_or-le-sum_by}
 use Rattle.bl_mem.specs.declared.frame.Frame.{Frame}
-use Rattle.bl_mem.specs.declared.frame.Frame.TheVariants.{Bare, Plain, Kept, Wiped}
+use Rattle.bl_mem.specs.declared.frame.Frame.TheVariants.{Bare, Plain, Kept, Wiped, Lent, Borrowed}
 use Rattle.bl_mem.specs.Frame.{has_room}
-use Rattle.bl_mem.specs.Kept.{slot_of, owes, AreSoundSlots, AreOpened}
+use Rattle.bl_mem.specs.Kept.{slot_of, owes, partner, ArePaired, AreSoundSlots, AreOpened}
+use Rattle.bl_mem.proofs.PairLemmas.{pairs_set}
 use Rattle.bl_mem.proofs.FrameLemmas.{set_room}
 
 none_some : (s : ℕ) → None ≡ Some s → ⊥
@@ -22,9 +23,10 @@ some_same a b e = cc
 pub sound_set : (table : List Frame) (len owed capacity more i : ℕ) (frame : Frame)
     → AreSoundSlots table len owed capacity → i < length table → capacity ≤ more
     → owes frame ≡ owes (get_or table i Bare)
+    → partner (get_or table i Bare) ≡ None → partner frame ≡ None
     → ((s : ℕ) → slot_of frame ≡ Some s → slot_of (get_or table i Bare) ≡ Some s)
     → AreSoundSlots (set table i frame) len owed more
-sound_set table len owed capacity more i frame sound within fits same back =
+sound_set table len owed capacity more i frame sound within fits same was_alone alone back =
     let was : (j s : ℕ) → slot_of (get_or (set table i frame) j Bare) ≡ Some s
     → slot_of (get_or table j Bare) ≡ Some s =
     λ j s is. elim (cases_eq j i) [
@@ -44,14 +46,15 @@ sound_set table len owed capacity more i frame sound within fits same back =
       few = sound.few;
       inside = λ j s is. sound.inside j s (was j s is);
       own = λ j k s a b. sound.own j k s (was j s a) (was k s b);
+      paired = pairs_set table i frame sound.paired within was_alone alone;
     }
 
 -- a frame that owed a slot gets the next one
 pub sound_appended : (table : List Frame) (len owed capacity more i slot : ℕ)
     → AreSoundSlots table len owed capacity → i < length table → capacity ≤ more
-    → owes (get_or table i Bare) ≡ 1 → slot ≡ len / 4096
+    → owes (get_or table i Bare) ≡ 1 → partner (get_or table i Bare) ≡ None → slot ≡ len / 4096
     → AreSoundSlots (set table i (Kept slot)) (len + 4096) (owed - 1) more
-sound_appended table len owed capacity more i slot sound within fits owing next =
+sound_appended table len owed capacity more i slot sound within fits owing alone next =
     let whole : len % 4096 ≡ 0 = sound.whole in
     let sum = sum_by-set owes table i (Kept slot) Bare within in
     let one = get_or-le-sum_by owes table i Bare within in
@@ -91,6 +94,7 @@ sound_appended table len owed capacity more i slot sound within fits owing next 
           | inr also ↦ sound.own j k s (other j s not a) (other k s also b)
         ]
       ];
+      paired = pairs_set table i (Kept slot) sound.paired within alone refl;
     }
 
 -- frames got room, after there was memory for them
@@ -105,6 +109,17 @@ sound_opened table new len owed capacity more first end fill opened sound is fit
   few = few;
   inside = λ j s a. sound.inside j s (is.slots j s a);
   own = λ j k s a b. sound.own j k s (is.slots j s a) (is.slots k s b);
+  paired = record {
+    lends = λ i j s a.
+        let was : get_or table i Bare ≡ Lent s j = sym (is.partners i j (ap partner a)) ∙ a in
+        let pair = sound.paired.lends i j s was in
+        is.stays j i (ap partner pair) ∙ pair;
+    borrows = λ i j s a.
+        let was : get_or table i Bare ≡ Borrowed s j =
+        sym (is.partners i j (ap partner a)) ∙ a in
+        let pair = sound.paired.borrows i j s was in
+        is.stays j i (ap partner pair) ∙ pair;
+  };
 }
 
 -- no frame had room, for none
@@ -116,6 +131,8 @@ opened_none table first fill = record {
   made = λ i a b. absurd (omega arith);
   room = λ i a. a;
   slots = λ i s a. a;
+  partners = λ i j a. refl;
+  stays = λ i j a. refl;
   bytes = λ kept i place. refl;
 }
 
@@ -129,6 +146,8 @@ opened_had table at fill had = record {
   made = λ i a b. let e : i ≡ at = omega arith in rw e had;
   room = λ i a. a;
   slots = λ i s a. a;
+  partners = λ i j a. refl;
+  stays = λ i j a. refl;
   bytes = λ kept i place. refl;
 }
 
@@ -137,6 +156,8 @@ bare_of Bare h = refl
 bare_of (Plain value) h = cc
 bare_of (Kept slot) h = cc
 bare_of (Wiped slot) h = cc
+bare_of (Lent slot to) h = cc
+bare_of (Borrowed slot from) h = cc
 
 -- one that had none
 pub opened_one : (table : List Frame) (at fill : ℕ) → at < length table
@@ -162,6 +183,21 @@ opened_one table at fill within bare =
             ∙ subst (λ n. slot_of (get_or (set table at (Plain fill)) n Bare) ≡ Some s) same has))
         | inr other ↦ ap slot_of (sym (get_or-set_other table at i (Plain fill) Bare other)) ∙ has
       ];
+      partners = λ i j has. elim (cases_eq i at) [
+        | inl same ↦
+            absurd
+            (none_some j
+            (sym (ap partner now)
+            ∙ subst (λ n. partner (get_or (set table at (Plain fill)) n Bare) ≡ Some j) same has))
+        | inr other ↦ get_or-set_other table at i (Plain fill) Bare other
+      ];
+      stays = λ i j has. elim (cases_eq i at) [
+        | inl same ↦
+            absurd
+            (none_some j
+            (sym (ap partner is) ∙ subst (λ n. partner (get_or table n Bare) ≡ Some j) same has))
+        | inr other ↦ get_or-set_other table at i (Plain fill) Bare other
+      ];
       bytes = λ kept i place. elim (cases_eq i at) [
         | inl same ↦ rw (same, now, is) refl
         | inr other ↦ rw (get_or-set_other table at i (Plain fill) Bare other) refl
@@ -182,6 +218,12 @@ opened_more old mid new first at fill n k from some more = record {
   ];
   room = λ i had. more.room i (some.room i had);
   slots = λ i s has. some.slots i s (more.slots i s has);
+  partners = λ i j has.
+      let step = more.partners i j has in
+      step ∙ some.partners i j (sym (ap partner step) ∙ has);
+  stays = λ i j has.
+      let step = some.stays i j has in
+      more.stays i j (ap partner step ∙ has) ∙ step;
   bytes = λ kept i place. more.bytes kept i place ∙ some.bytes kept i place;
 }
 
@@ -219,4 +261,10 @@ sound_grown table len owed capacity n sound = record {
   own = λ j k s a b.
       sound.own j k s (ap slot_of (sym (get_or_bare table n j)) ∙ a)
       (ap slot_of (sym (get_or_bare table n k)) ∙ b);
+  paired = record {
+    lends = λ i j s a. get_or_bare table n j
+        ∙ sound.paired.lends i j s (sym (get_or_bare table n i) ∙ a);
+    borrows = λ i j s a. get_or_bare table n j
+        ∙ sound.paired.borrows i j s (sym (get_or_bare table n i) ∙ a);
+  };
 }

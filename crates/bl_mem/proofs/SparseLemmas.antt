@@ -1,12 +1,12 @@
 -- A read and a write that go on where they stopped.
-use Rattle.std.proofs.Common.{◌≡◌, ℕ, ◌+◌, ◌≤◌, List, ◌++◌, length}
+use Rattle.std.proofs.Common.{◌≡◌, ℕ, ◌+◌, ◌-◌, ◌*◌, ◌/◌, ◌%◌, ◌<◌, ◌≤◌, List, ◌++◌, length, get_or, sym}
 use Rattle.std.proofs.Common.{take, slice_range, arith, rules, ap, ◌∙◌}
 use Rattle.std.proofs.Common.{Option, Some, None, IfSome}
 use Rattle.std.proofs.lemmas.List.{places, same_lists}
 use Rattle.bl_mem.specs.Memory.{overwrite}
-use Rattle.bl_mem.specs.Frames.{FramesFacts, frame_byte, IsLent}
+use Rattle.bl_mem.specs.Frames.{FramesFacts, frame_byte, IsLent, IsShared}
 use Rattle.bl_mem.specs.Sparse.{bytes_of}
-use Rattle.bl_mem.proofs.ValueLemmas.{values_range, bytes_of_length}
+use Rattle.bl_mem.proofs.ValueLemmas.{values_range, values_overwritten, get_or-values, bytes_of_length}
 use Rattle.bl_mem.proofs.Overwrites.{overwrite_more, range_more}
 
 -- a read that goes on where it stopped
@@ -44,3 +44,24 @@ lent_on frames size at count (Some piece) now inside is =
     let whole = bytes_of_length frames size in
     values_range (frame_byte frames) size at (now piece) (omega arith) is.bytes
     ∙ ap (λ n. slice_range (bytes_of frames size) at (at + n)) len
+
+-- a frame that reads as another one is as one that the other's bytes were written over
+pub shared_bytes : (old new : FramesFacts) (size from to : ℕ) → from + 4096 ≤ size
+    → to + 4096 ≤ size → from % 4096 ≡ 0 → to % 4096 ≡ 0
+    → IsShared old new (from / 4096) (to / 4096)
+    → bytes_of new size
+    ≡ overwrite (bytes_of old size) to (slice_range (bytes_of old size) from (from + 4096))
+shared_bytes old new size from to source inside whole_from whole_to is =
+    let all = bytes_of_length old size in
+    let part = slice_range (bytes_of old size) from (from + 4096) in
+    let len : length part ≡ 4096 = search (rules, places) in
+    values_overwritten (frame_byte old) (frame_byte new) size to part (omega arith)
+    (λ a low high.
+    let small : a - to < 4096 = omega (arith, len) in
+    let read : get_or part (a - to) 0 ≡ get_or (bytes_of old size) (from + (a - to)) 0 =
+    grind (arith, places) in
+    ap (frame_byte new) (omega arith) ∙ is.here (a % 4096) (omega arith)
+    ∙ ap (frame_byte old) (omega arith)
+    ∙ sym (get_or-values (frame_byte old) size (from + (a - to)) (omega arith)) ∙ sym read)
+    (λ a low. is.beside a (λ e. omega (arith, e)))
+    (λ a high. is.beside a (λ e. omega (arith, e, len)))

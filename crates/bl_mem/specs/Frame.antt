@@ -1,13 +1,25 @@
 -- What a frame of memory reads as, and where it is kept. Own.
-use Rattle.std.specs.Prelude.{ℕ, ◌+◌, ◌*◌, Bool, true, false, List, slice_index_or}
+use Rattle.std.specs.Prelude.{ℕ, ◌+◌, ◌*◌, Bool, true, false, List, Option, Some, None}
+use Rattle.std.specs.Prelude.{slice_index_or}
 use Rattle.bl_mem.specs.declared.frame.Frame.{Frame}
-use Rattle.bl_mem.specs.declared.frame.Frame.TheVariants.{Bare, Plain, Kept, Wiped}
+use Rattle.bl_mem.specs.declared.frame.Frame.TheVariants.{Bare, Plain, Kept, Wiped, Lent, Borrowed}
 
 abbrev pub has_room : Frame → Bool
 has_room Bare = false
 has_room (Plain value) = true
 has_room (Kept slot) = true
 has_room (Wiped slot) = true
+has_room (Lent slot to) = true
+has_room (Borrowed slot from) = true
+
+-- the slot that a frame reads
+abbrev pub slot_read : Frame → Option ℕ
+slot_read Bare = None
+slot_read (Plain value) = None
+slot_read (Kept slot) = Some slot
+slot_read (Wiped slot) = None
+slot_read (Lent slot to) = Some slot
+slot_read (Borrowed slot from) = Some slot
 
 -- the byte at a place of a frame: `fill` if it has no room, and that of its slot if it is kept
 abbrev pub byte_in : ℕ → List ℕ → Frame → ℕ → ℕ
@@ -15,6 +27,8 @@ byte_in fill kept Bare place = fill
 byte_in fill kept (Plain value) place = value
 byte_in fill kept (Kept slot) place = slice_index_or kept (4096 * slot + place) 0
 byte_in fill kept (Wiped slot) place = 0
+byte_in fill kept (Lent slot to) place = slice_index_or kept (4096 * slot + place) 0
+byte_in fill kept (Borrowed slot from) place = slice_index_or kept (4096 * slot + place) 0
 
 -- a frame after it was cleared
 abbrev pub cleared : Frame → Frame
@@ -22,3 +36,5 @@ cleared Bare = Bare
 cleared (Plain value) = Plain 0
 cleared (Kept slot) = Wiped slot
 cleared (Wiped slot) = Wiped slot
+cleared (Lent slot to) = Wiped slot
+cleared (Borrowed slot from) = Plain 0

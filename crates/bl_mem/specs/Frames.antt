@@ -1,5 +1,5 @@
 -- What memory reads as, of which only some frames of 4096 bytes are kept. Own.
-use Rattle.std.specs.Prelude.{◌≡◌, ℕ, ◌+◌, ◌-◌, ◌/◌, ◌%◌, ◌<◌, ◌≤◌, true, List, length}
+use Rattle.std.specs.Prelude.{◌≡◌, ℕ, ◌+◌, ◌-◌, ◌*◌, ◌/◌, ◌%◌, ◌<◌, ◌≤◌, true, List, length}
 use Rattle.std.specs.Prelude.{slice_index_or}
 use Rattle.bl_mem.specs.declared.frame.Frame.{Frame}
 use Rattle.bl_mem.specs.declared.frame.Frame.TheVariants.{Bare}
@@ -47,6 +47,13 @@ pub record IsWritten (old : FramesFacts) (new : FramesFacts) (at : ℕ) (part : 
       → frame_byte new a ≡ slice_index_or part (a - at) 0
   pub below : (a : ℕ) → a < at → frame_byte new a ≡ frame_byte old a
   pub above : (a : ℕ) → at + length part ≤ a → frame_byte new a ≡ frame_byte old a
+  pub room : KeepsRoom (IsHeld old) (IsHeld new)
+
+-- a frame's bytes are those of another frame, and nothing else changed
+pub record IsShared (old : FramesFacts) (new : FramesFacts) (from : ℕ) (to : ℕ) : Type 0 where
+  pub here : (place : ℕ) → place < 4096
+      → frame_byte new (4096 * to + place) ≡ frame_byte old (4096 * from + place)
+  pub beside : (a : ℕ) → ¬ (a / 4096 ≡ to) → frame_byte new a ≡ frame_byte old a
   pub room : KeepsRoom (IsHeld old) (IsHeld new)
 
 -- a frame's bytes are a part's, and nothing else changed

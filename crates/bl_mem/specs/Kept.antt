@@ -1,11 +1,11 @@
 -- What only the code of frames keeps: whose each slot is, and that there is room for more. Own.
-use Rattle.std.specs.Prelude.{◌≡◌, ℕ, ◌+◌, ◌-◌, ◌*◌, ◌/◌, ◌%◌, ◌<◌, ◌≤◌, true, List, length}
+use Rattle.std.specs.Prelude.{◌≡◌, ◌⊎◌, ℕ, ◌+◌, ◌-◌, ◌*◌, ◌/◌, ◌%◌, ◌<◌, ◌≤◌, true, List, length}
 use Rattle.std.specs.Prelude.{Option, Some, None, slice_index_or}
 use Rattle.std.specs.List.{sum_by}
 use Rattle.bl_mem.specs.declared.frame.Frame.{Frame}
-use Rattle.bl_mem.specs.declared.frame.Frame.TheVariants.{Bare, Plain, Kept, Wiped}
+use Rattle.bl_mem.specs.declared.frame.Frame.TheVariants.{Bare, Plain, Kept, Wiped, Lent, Borrowed}
 use Rattle.bl_mem.specs.Memory.{KeepsRoom}
-use Rattle.bl_mem.specs.Frame.{has_room, byte_in}
+use Rattle.bl_mem.specs.Frame.{has_room, byte_in, slot_read}
 use Rattle.bl_mem.specs.Frames.{FramesFacts, frame_numbered, frame_byte, IsHeld}
 
 -- the slot that is a frame's own
@@ -14,6 +14,8 @@ slot_of Bare = None
 slot_of (Plain value) = None
 slot_of (Kept slot) = Some slot
 slot_of (Wiped slot) = Some slot
+slot_of (Lent slot to) = Some slot
+slot_of (Borrowed slot from) = None
 
 -- 1 if a frame has room and no slot
 abbrev pub owes : Frame → ℕ
@@ -21,6 +23,24 @@ owes Bare = 0
 owes (Plain value) = 1
 owes (Kept slot) = 0
 owes (Wiped slot) = 0
+owes (Lent slot to) = 0
+owes (Borrowed slot from) = 1
+
+-- the frame with which a frame shares a slot
+abbrev pub partner : Frame → Option ℕ
+partner Bare = None
+partner (Plain value) = None
+partner (Kept slot) = None
+partner (Wiped slot) = None
+partner (Lent slot to) = Some to
+partner (Borrowed slot from) = Some from
+
+-- who lends lends to one that borrows from it, and the other way round
+pub record ArePaired (table : List Frame) : Type 0 where
+  pub lends : (i j s : ℕ) → slice_index_or table i Bare ≡ Lent s j
+      → slice_index_or table j Bare ≡ Borrowed s i
+  pub borrows : (i j s : ℕ) → slice_index_or table i Bare ≡ Borrowed s j
+      → slice_index_or table j Bare ≡ Lent s i
 
 -- each frame's slot is one of those kept, and its own alone; each frame that has room and no slot
 -- is counted, and there is room for so many
@@ -32,10 +52,23 @@ pub record AreSoundSlots (table : List Frame) (len : ℕ) (owed : ℕ) (capacity
   pub inside : (i s : ℕ) → slot_of (slice_index_or table i Bare) ≡ Some s → 4096 * s + 4096 ≤ len
   pub own : (i j s : ℕ) → slot_of (slice_index_or table i Bare) ≡ Some s
       → slot_of (slice_index_or table j Bare) ≡ Some s → i ≡ j
+  pub paired : ArePaired table
 
 -- a frame is kept in a slot, and the bytes of all other frames stay
 pub record IsKeptIn (old : FramesFacts) (new : FramesFacts) (number : ℕ) (slot : ℕ) : Type 0 where
   pub here : frame_numbered new number ≡ Kept slot
+  pub beside : (a : ℕ) → ¬ (a / 4096 ≡ number) → frame_byte new a ≡ frame_byte old a
+  pub room : KeepsRoom (IsHeld old) (IsHeld new)
+
+-- these two frames share a slot
+abbrev pub ArePair : FramesFacts → ℕ → ℕ → ℕ → Type 0
+ArePair facts i j slot =
+    ((frame_numbered facts i ≡ Lent slot j) × (frame_numbered facts j ≡ Borrowed slot i))
+    ⊎ ((frame_numbered facts i ≡ Borrowed slot j) × (frame_numbered facts j ≡ Lent slot i))
+
+-- a frame shares no slot, the bytes of all other frames stay, and it has room if it had
+pub record IsReleased (old : FramesFacts) (new : FramesFacts) (number : ℕ) : Type 0 where
+  pub alone : partner (frame_numbered new number) ≡ None
   pub beside : (a : ℕ) → ¬ (a / 4096 ≡ number) → frame_byte new a ≡ frame_byte old a
   pub room : KeepsRoom (IsHeld old) (IsHeld new)
 
@@ -47,7 +80,7 @@ IsPutAt kept slot part =
 -- the slots of frames follow one another, for `count` bytes
 abbrev pub AreTogether : FramesFacts → ℕ → ℕ → ℕ → Type 0
 AreTogether facts number slot count =
-    (k : ℕ) → 4096 * k < count → frame_numbered facts (number + k) ≡ Kept (slot + k)
+    (k : ℕ) → 4096 * k < count → slot_read (frame_numbered facts (number + k)) ≡ Some (slot + k)
 
 -- frames have room, and those that had none are counted; each reads as before
 pub record AreOpened (old : List Frame) (new : List Frame) (first : ℕ) (end : ℕ) (fill : ℕ)
@@ -60,6 +93,10 @@ pub record AreOpened (old : List Frame) (new : List Frame) (first : ℕ) (end : 
       → has_room (slice_index_or new i Bare) ≡ true
   pub slots : (i s : ℕ) → slot_of (slice_index_or new i Bare) ≡ Some s
       → slot_of (slice_index_or old i Bare) ≡ Some s
+  pub partners : (i j : ℕ) → partner (slice_index_or new i Bare) ≡ Some j
+      → slice_index_or new i Bare ≡ slice_index_or old i Bare
+  pub stays : (i j : ℕ) → partner (slice_index_or old i Bare) ≡ Some j
+      → slice_index_or new i Bare ≡ slice_index_or old i Bare
   pub bytes : (kept : List ℕ) (i place : ℕ)
       → byte_in fill kept (slice_index_or new i Bare) place
       ≡ byte_in fill kept (slice_index_or old i Bare) place

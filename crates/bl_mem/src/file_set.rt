@@ -43,6 +43,24 @@ pub trait FileSet {
         None
     }
 
+    /// The address from which on the `count` bytes of a file from offset `at` on lie in memory, so
+    /// that memory can copy them by itself. Files that don't lie in memory answer none, and so may
+    /// others; `read` gives the bytes always.
+    fn address<M: PhysMem>(&self, memory: &M, file: usize, at: u64, count: usize) -> Option<u64>
+        requires held { AreBelow (holds self.now) (length (M.bytes memory.now)) }
+        requires file { file < length (texts self.now (M.bytes memory.now)) }
+        requires inside { at + count
+            ≤ length (nth_file (texts self.now (M.bytes memory.now)) file) }
+        ensures within { IfSome result
+            (λ address. address + count ≤ length (M.bytes memory.now)) }
+        ensures same { IfSome result (λ address.
+            slice_range (M.bytes memory.now) address (address + count)
+            ≡ slice_range (nth_file (texts self.now (M.bytes memory.now)) file) at
+            (at + count)) }
+    {
+        None
+    }
+
     /// A write beside the files' addresses changes none of them.
     ghost same: { (files : Self) (old new : List ℕ) → Agree (holds files) old new
         → texts files new ≡ texts files old };

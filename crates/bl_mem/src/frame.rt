@@ -1,6 +1,6 @@
 //! What one frame of memory is.
 ghost use Rattle.std.specs.Prelude.{◌≡◌};
-ghost use Rattle.bl_mem.specs.Frame.{has_room, cleared};
+ghost use Rattle.bl_mem.specs.Frame.{has_room, cleared, slot_read};
 
 /// How many bytes a frame has.
 pub const FRAME_SIZE: u64 = 4096;
@@ -16,6 +16,10 @@ pub enum Frame {
     Kept(u32),
     /// It was cleared after it was written, so each of its bytes is 0. The slot is still its own.
     Wiped(u32),
+    /// Its bytes are kept in a slot of its own, which one other frame reads too.
+    Lent { slot: u32, to: u32 },
+    /// It has room, and reads as the frame that lends it its slot.
+    Borrowed { slot: u32, from: u32 },
 }
 
 impl Frame {
@@ -25,7 +29,23 @@ impl Frame {
     {
         match self {
             Frame::Bare => false,
-            Frame::Plain(_) | Frame::Kept(_) | Frame::Wiped(_) => true,
+            Frame::Plain(_)
+            | Frame::Kept(_)
+            | Frame::Wiped(_)
+            | Frame::Lent { .. }
+            | Frame::Borrowed { .. } => true,
+        }
+    }
+
+    /// The slot that it reads, if it does.
+    pub fn slot_read(self) -> Option<u32>
+        ensures { result ≡ slot_read self }
+    {
+        match self {
+            Frame::Bare | Frame::Plain(_) | Frame::Wiped(_) => None,
+            Frame::Kept(slot) | Frame::Lent { slot, .. } | Frame::Borrowed { slot, .. } => {
+                Some(slot)
+            }
         }
     }
 
@@ -35,8 +55,10 @@ impl Frame {
     {
         match self {
             Frame::Bare => Frame::Bare,
-            Frame::Plain(_) => Frame::Plain(0),
-            Frame::Kept(slot) | Frame::Wiped(slot) => Frame::Wiped(slot),
+            Frame::Plain(_) | Frame::Borrowed { .. } => Frame::Plain(0),
+            Frame::Kept(slot) | Frame::Wiped(slot) | Frame::Lent { slot, .. } => {
+                Frame::Wiped(slot)
+            }
         }
     }
 }

@@ -1,5 +1,5 @@
 //! Room for frames.
-ghost use Rattle.std.specs.Prelude.{◌≡◌, ◌≤◌, ◌<◌, ◌+◌, length, replicate, vec_len};
+ghost use Rattle.std.specs.Prelude.{◌≡◌, ◌≤◌, ◌<◌, ◌+◌, length, vec_len};
 ghost use Rattle.bl_mem.specs.Memory.{overwrite};
 ghost use Rattle.bl_mem.specs.Kept.{AreOpened};
 
@@ -38,12 +38,12 @@ pub fn give_room<A: Allocator>(
     opened
 }
 
-/// A frame whose bytes all are `value` but for those of a part.
-pub fn frame_around(value: u8, place: usize, part: &[u8]) -> [u8; 4096]
+/// The bytes of a frame, of which a part is put over those from a place on.
+pub fn frame_over(frame: [u8; 4096], place: usize, part: &[u8]) -> [u8; 4096]
     requires { place + length part.now ≤ 4096 }
-    ensures { result ≡ overwrite (replicate 4096 value) place part.now }
+    ensures { result ≡ overwrite frame place part.now }
 {
-    let mut whole = [value; 4096];
+    let mut whole = frame;
     whole[place..place + part.len()].copy_from_slice(part);
     whole
 }

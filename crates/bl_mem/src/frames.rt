@@ -1,7 +1,8 @@
 //! Frames of memory, of which those are kept that were written to.
 ghost use Rattle.std.specs.Prelude.{◌≡◌, ◌+◌, ◌*◌, ◌%◌, ◌/◌, ◌<◌, ◌≤◌, ◌^◌, [], length, true};
 ghost use Rattle.std.specs.Prelude.{IfSome};
-ghost use Rattle.bl_mem.specs.declared.frame.Frame.TheVariants.{Kept};
+ghost use Rattle.std.specs.Prelude.{Some};
+ghost use Rattle.bl_mem.specs.Frame.{slot_read};
 ghost use Rattle.bl_mem.specs.Frames.{frame_numbered, frame_byte, AreBytesAt, IsLent};
 ghost use Rattle.bl_mem.specs.Kept.{AreTogether};
 
@@ -10,6 +11,7 @@ use std::alloc::Allocator;
 use std::marker::Model;
 
 mod room;
+mod sharing;
 mod writing;
 
 /// The bytes of a frame.
@@ -19,7 +21,8 @@ const WIDTH: usize = 4096;
 ///
 /// A frame gets its slot by the first write to it, so that the slots lie in the order of these
 /// writes, and no byte is put down before it is written. Room is asked for as one request for all
-/// frames of a gap, and nothing is written into it then.
+/// frames of a gap, and nothing is written into it then. A frame that is a copy of another shares
+/// its slot until one of the two is written or cleared.
 #[derive(Drop)]
 pub struct Frames<A: Allocator> {
     fill: u8,
@@ -72,7 +75,7 @@ impl<A: Allocator + Copy> Frames<A> {
 
     /// Where the byte of an address stands whose frame is kept.
     fn start(&self, at: u64, slot: u32) -> usize
-        requires { frame_numbered self.now (at / 4096) ≡ Kept slot }
+        requires { slot_read (frame_numbered self.now (at / 4096)) ≡ Some slot }
         ensures exact { result ≡ 4096 * slot + at % 4096 }
         ensures inside { 4096 * slot + 4096 ≤ length self.now.kept }
         ensures few { length self.now.kept ≤ 2 ^ 44 }
@@ -89,11 +92,11 @@ impl<A: Allocator + Copy> Frames<A> {
         match self.frame(at / FRAME_SIZE) {
             Frame::Bare => out.fill(self.fill),
             Frame::Plain(value) => out.fill(value),
-            Frame::Kept(slot) => {
+            Frame::Wiped(_) => out.fill(0),
+            Frame::Kept(slot) | Frame::Lent { slot, .. } | Frame::Borrowed { slot, .. } => {
                 let start = self.start(at, slot);
                 out.copy_from_slice(&self.kept[start..start + out.len()]);
             }
-            Frame::Wiped(_) => out.fill(0),
         }
     }
 
@@ -106,13 +109,13 @@ impl<A: Allocator + Copy> Frames<A> {
     {
         let mut index = 0;
         while FRAME_SIZE * index < count as u64 {
-            match self.frame(number + index) {
-                Frame::Kept(next) => {
+            match self.frame(number + index).slot_read() {
+                Some(next) => {
                     if next as u64 != slot as u64 + index {
                         return false;
                     }
                 }
-                Frame::Bare | Frame::Plain(_) | Frame::Wiped(_) => return false,
+                None => return false,
             }
             index += 1;
         }
@@ -125,7 +128,7 @@ impl<A: Allocator + Copy> Frames<A> {
         ensures { IfSome result (λ part. IsLent self.now at count part.now) }
     {
         let place = (at % FRAME_SIZE) as usize;
-        if let Frame::Kept(slot) = self.frame(at / FRAME_SIZE) {
+        if let Some(slot) = self.frame(at / FRAME_SIZE).slot_read() {
             let start = self.start(at, slot);
             if count <= self.kept.len() - start
                 && self.are_together(at / FRAME_SIZE, slot, place + count)

@@ -57,6 +57,22 @@ pub trait PhysMem {
         ensures after { bytes self.new ≡ overwrite (bytes self.old) at part.now }
         ensures kept { KeepsSizeAndRoom lender bytes room self.old self.new };
 
+    /// Copies the `count` bytes from address `from` on, at most 4096, to the addresses from `to` on.
+    /// All other bytes stay.
+    fn copy(&mut self, from: u64, to: u64, count: usize)
+        requires few { count ≤ 4096 }
+        requires source { from + count ≤ length (bytes self.old) }
+        requires inside { to + count ≤ length (bytes self.old) }
+        requires room { HasRoom (room self.old) to (to + count) }
+        ensures after { bytes self.new
+            ≡ overwrite (bytes self.old) to (slice_range (bytes self.old) from (from + count)) }
+        ensures kept { KeepsSizeAndRoom lender bytes room self.old self.new }
+    {
+        let mut buffer = [0; 4096];
+        self.read(from, &mut buffer[..count]);
+        self.write(to, &buffer[..count]);
+    }
+
     /// Clears the addresses of the range to 0. All other bytes stay.
     fn zero(&mut self, range: Range<u64>)
         requires forward { range.start ≤ range.end }

@@ -1,5 +1,6 @@
 //! Memory of which only those frames are kept that were written to.
 ghost use Rattle.std.specs.Prelude.{◌≡◌, ℕ, ◌+◌, ◌%◌, ◌≤◌, length, replicate, slice_range};
+ghost use Rattle.std.specs.Prelude.{true, false};
 ghost use Rattle.std.specs.Prelude.{IfOk, OnOk, IsOk, IfSome};
 ghost use Rattle.bl_mem.specs.Memory.{overwrite, HasRoom, KeepsRoom};
 ghost use Rattle.bl_mem.specs.Frames.{IsHeld};
@@ -14,7 +15,8 @@ use std::ops::Range;
 
 /// A machine's memory that keeps only those frames of 4096 bytes which were written to. An address
 /// of a frame without room reads as `fill`, so that a machine of 4 GiB costs what is written of it
-/// and, once a frame has room, eight bytes for each frame up to the highest one that has it.
+/// and, once a frame has room, twelve bytes for each frame up to the highest one that has it. A
+/// frame that is a copy of another shares its bytes until one of the two is written or cleared.
 ///
 /// `reserve` gives room to each frame that a range meets, and its bytes read as before. After a
 /// refused growth the frames that got room until then keep it. No more than 2^32 frames have room:
@@ -88,6 +90,22 @@ impl<A: Allocator + Copy> Sparse<A> {
         self.frames.write(at, part);
     }
 
+    /// Has a frame read as another one does, if no copy is needed for it. The answer is whether it
+    /// does; if not, nothing changed.
+    fn share_frame(&mut self, from: u64, to: u64) -> bool
+        requires source { from + 4096 ≤ self.old.size }
+        requires inside { to + 4096 ≤ self.old.size }
+        requires frames { (from % 4096 ≡ 0) × (to % 4096 ≡ 0) }
+        ensures shared { result ≡ true → bytes_of self.new.frames self.new.size
+            ≡ overwrite (bytes_of self.old.frames self.old.size) to
+            (slice_range (bytes_of self.old.frames self.old.size) from (from + 4096)) }
+        ensures same { result ≡ false → self.new ≡ self.old }
+        ensures kept { KeepsRoom (IsHeld self.old.frames) (IsHeld self.new.frames) }
+        ensures size { self.new.size ≡ self.old.size }
+    {
+        self.frames.share(from / FRAME_SIZE, to / FRAME_SIZE)
+    }
+
     /// Clears `count` bytes of one frame.
     fn zero_frame(&mut self, at: u64, count: usize)
         requires inside { at + count ≤ self.old.size }
@@ -146,6 +164,17 @@ impl<A: Allocator + Copy> PhysMem for Sparse<A> {
             self.write_frame(here, &part[done..done + next]);
             done += next;
         }
+    }
+
+    fn copy(&mut self, from: u64, to: u64, count: usize) {
+        let _size = self.size;
+        let are_frames = from % FRAME_SIZE == 0 && to % FRAME_SIZE == 0 && count == 4096;
+        if are_frames && self.share_frame(from, to) {
+            return;
+        }
+        let mut buffer = [0; 4096];
+        self.read(from, &mut buffer[..count]);
+        self.write(to, &buffer[..count]);
     }
 
     fn zero(&mut self, range: Range<u64>) {

@@ -20,5 +20,10 @@ impl<A: Allocator> FileSet for Stage<A> {
         self.lies_in(memory, file).read(at, out);
     }
 
+    fn address<M: PhysMem>(&self, memory: &M, file: usize, at: u64, count: usize) -> Option<u64> {
+        self.are_staged();
+        self.lies_in(memory, file).address(at, count)
+    }
+
     ghost same = { λ stage old new agree. same_texts stage old new agree };
 }

@@ -35,13 +35,7 @@ fn next_spare<A: Allocator>(cells: &Cells<A>, start: usize) -> usize
 }
 
 /// Copies a frame of the pool, by its place in it, over another one.
-fn copy_frame<M: PhysMem>(
-    memory: &mut M,
-    base: u64,
-    from: usize,
-    to: usize,
-    buffer: &mut [u8; 4096],
-)
+fn copy_frame<M: PhysMem>(memory: &mut M, base: u64, from: usize, to: usize)
     requires from { AreFramesInMemory (M.bytes memory.old) base (from + 1) }
     requires to { AreFramesInMemory (M.bytes memory.old) base (to + 1) }
     requires room { HasRoom (M.room memory.old) (4096 * (base + to)) (4096 * (base + to) + 4096) }
@@ -51,8 +45,8 @@ fn copy_frame<M: PhysMem>(
     ensures kept { KeepsSizeAndRoom M.lender M.bytes M.room memory.old memory.new }
 {
     let _size = memory.size();
-    memory.read(FRAME_SIZE * (base + from as u64), buffer);
-    memory.write(FRAME_SIZE * (base + to as u64), buffer);
+    let source = FRAME_SIZE * (base + from as u64);
+    memory.copy(source, FRAME_SIZE * (base + to as u64), 4096);
 }
 
 /// Tells the tables that the frame of a slot stands in the cell `to`, and no more in `from`.
@@ -93,7 +87,6 @@ fn move_out<A: Allocator, M: PhysMem>(
     base: u64,
     frames: &mut [u64],
     cells: &mut Cells<A>,
-    buffer: &mut [u8; 4096],
 )
     requires held { AreHeld base frames.old cells.old }
     requires enough { length frames.old ≤ count_by is_open_cell cells.old }
@@ -110,7 +103,7 @@ fn move_out<A: Allocator, M: PhysMem>(
         if cell.shut {
             if let Some(slot) = cell.holder {
                 to = next_spare(cells, to);
-                copy_frame(memory, base, from, to, buffer);
+                copy_frame(memory, base, from, to);
                 move_slot(base, frames, cells, from, to, slot);
                 to += 1;
             }
@@ -145,7 +138,6 @@ pub fn make_way<A: Allocator, M: PhysMem>(
     if count_open(cells) < frames.len() {
         return false;
     }
-    let mut buffer = [0; 4096];
-    move_out(memory, base, frames, cells, &mut buffer);
+    move_out(memory, base, frames, cells);
     true
 }

@@ -118,8 +118,9 @@ impl<A: Allocator> Stage<A> {
     pub(crate) fn lies_in<'a, M: PhysMem>(&'a self, memory: &'a M, file: usize) -> FrameView<'a, M>
         requires file { file < length self.now.sizes }
         requires inside { AreInside (table_of self.now file) (length (M.bytes memory.now)) }
-        ensures { staged (M.bytes result.memory.now) result.frames.now result.size
+        ensures bytes { staged (M.bytes result.memory.now) result.frames.now result.size
             ≡ staged_file (M.bytes memory.now) self.now file }
+        ensures memory { M.bytes result.memory.now ≡ M.bytes memory.now }
     {
         let size = self.sizes[file];
         let first = self.starts[file];

@@ -1,6 +1,6 @@
 //! A file in scattered frames, to be read by offset.
 ghost use Rattle.std.specs.Prelude.{◌≡◌, ℕ, ◌+◌, ◌-◌, ◌*◌, ◌%◌, ◌/◌, ◌<◌, ◌≤◌, length};
-ghost use Rattle.std.specs.Prelude.{slice_range, slice_index, IsTrue, ◌↔◌};
+ghost use Rattle.std.specs.Prelude.{slice_range, slice_index, IfSome, IsTrue, ◌↔◌};
 ghost use Rattle.bl_stage.specs.Staged.{staged, AreInside};
 
 use bl_map::FRAME_SIZE;
@@ -46,6 +46,24 @@ fn adjoining(frames: &[u64], first: usize, most: usize) -> usize
 }
 
 impl<M: PhysMem> FrameView<'_, M> {
+    /// The address from which on `count` bytes of the file lie in memory, if they lie in one frame.
+    pub fn address(&self, at: u64, count: usize) -> Option<u64>
+        requires { at + count ≤ self.now.size }
+        ensures within { IfSome result
+            (λ address. address + count ≤ length (M.bytes self.now.memory.now)) }
+        ensures same { IfSome result (λ address.
+            slice_range (M.bytes self.now.memory.now) address (address + count)
+            ≡ slice_range (staged (M.bytes self.now.memory.now) self.now.frames.now self.now.size)
+            at (at + count)) }
+    {
+        let _size = self.memory.size();
+        if count == 0 || at % FRAME_SIZE + count as u64 > FRAME_SIZE {
+            return None;
+        }
+        let first = self.frames[(at / FRAME_SIZE) as usize];
+        Some(FRAME_SIZE * first + at % FRAME_SIZE)
+    }
+
     /// Reads bytes of one stretch of frames side by side.
     fn read_stretch(&self, at: u64, out: &mut [u8])
         requires inside { at + length out.old ≤ self.now.size }

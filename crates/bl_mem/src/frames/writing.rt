@@ -1,14 +1,14 @@
 //! Frames are written and cleared.
-ghost use Rattle.std.specs.Prelude.{◌≡◌, ℕ, ◌+◌, ◌*◌, ◌%◌, ◌/◌, ◌≤◌, length, true, Some};
+ghost use Rattle.std.specs.Prelude.{◌≡◌, ℕ, ◌+◌, ◌*◌, ◌%◌, ◌/◌, ◌≤◌, length, true, None, Some};
 ghost use Rattle.std.specs.Prelude.{replicate};
 ghost use Rattle.bl_mem.specs.Memory.{overwrite};
-ghost use Rattle.bl_mem.specs.Frame.{has_room};
+ghost use Rattle.bl_mem.specs.Frame.{has_room, slot_read};
 ghost use Rattle.bl_mem.specs.Frames.{frame_numbered, IsHeld, frame_byte, IsWritten, IsStored};
-ghost use Rattle.bl_mem.specs.Kept.{slot_of, owes, IsKeptIn, IsPutAt};
+ghost use Rattle.bl_mem.specs.Kept.{slot_of, owes, partner, IsKeptIn, IsPutAt};
 
 use super::{Frames, WIDTH};
 use crate::frame::{FRAME_SIZE, Frame};
-use crate::frame_room::frame_around;
+use crate::frame_room::frame_over;
 use crate::put::{put_at, put_bytes};
 use std::alloc::Allocator;
 
@@ -16,6 +16,7 @@ impl<A: Allocator + Copy> Frames<A> {
     /// Puts bytes into the slot that a frame has, which is kept from then on.
     fn rewrite(&mut self, number: u64, slot: u32, place: usize, part: &[u8])
         requires own { slot_of (frame_numbered self.old number) ≡ Some slot }
+        requires alone { partner (frame_numbered self.old number) ≡ None }
         requires inside { place + length part.now ≤ 4096 }
         ensures after { IsKeptIn self.old self.new number slot }
         ensures bytes { self.new.kept
@@ -29,6 +30,7 @@ impl<A: Allocator + Copy> Frames<A> {
     /// Gives a frame its slot.
     fn append(&mut self, number: u64, part: &[u8])
         requires plain { owes (frame_numbered self.old number) ≡ 1 }
+        requires alone { partner (frame_numbered self.old number) ≡ None }
         requires whole { length part.now ≡ 4096 }
         ensures after { IsKeptIn self.old self.new number (length self.old.kept / 4096) }
         ensures bytes { IsPutAt self.new.kept (length self.old.kept / 4096) part.now }
@@ -39,29 +41,41 @@ impl<A: Allocator + Copy> Frames<A> {
         self.table[number as usize] = Frame::Kept(slot);
     }
 
-    /// Keeps a whole frame.
-    fn store(&mut self, number: u64, part: &[u8])
+    /// Keeps a whole frame that shares no slot.
+    fn store_alone(&mut self, number: u64, part: &[u8])
         requires held { has_room (frame_numbered self.old number) ≡ true }
+        requires alone { partner (frame_numbered self.old number) ≡ None }
         requires whole { length part.now ≡ 4096 }
         ensures { IsStored self.old self.new number part.now }
     {
         match self.frame(number) {
-            Frame::Bare => {}
+            Frame::Bare | Frame::Lent { .. } | Frame::Borrowed { .. } => {}
             Frame::Plain(_) => self.append(number, part),
             Frame::Kept(slot) => self.rewrite(number, slot, 0, part),
             Frame::Wiped(slot) => self.rewrite(number, slot, 0, part),
         }
     }
 
-    /// Keeps a frame whose bytes all are `value` but for those of a part.
-    fn store_around(&mut self, at: u64, value: u8, part: &[u8])
+    /// Keeps a whole frame.
+    fn store(&mut self, number: u64, part: &[u8])
+        requires held { has_room (frame_numbered self.old number) ≡ true }
+        requires whole { length part.now ≡ 4096 }
+        ensures { IsStored self.old self.new number part.now }
+    {
+        self.release(number);
+        self.store_alone(number, part);
+    }
+
+    /// Keeps a frame whose bytes stay but for those of a part.
+    fn store_over(&mut self, at: u64, part: &[u8])
         requires one { at % 4096 + length part.now ≤ 4096 }
         requires held { IsHeld self.old at }
-        requires plain { (a : ℕ) → a / 4096 ≡ at / 4096 → frame_byte self.old a ≡ value }
         ensures { IsWritten self.old self.new at part.now }
     {
-        let whole = frame_around(value, (at % FRAME_SIZE) as usize, part);
-        self.store(at / FRAME_SIZE, &whole);
+        let place = at % FRAME_SIZE;
+        let mut frame = [0; WIDTH];
+        self.read(at - place, &mut frame);
+        self.store(at / FRAME_SIZE, &frame_over(frame, place as usize, part));
     }
 
     /// Writes bytes of one frame.
@@ -76,15 +90,25 @@ impl<A: Allocator + Copy> Frames<A> {
         }
         match self.frame(at / FRAME_SIZE) {
             Frame::Bare => {}
-            Frame::Plain(value) => self.store_around(at, value, part),
             Frame::Kept(slot) => self.rewrite(
                 at / FRAME_SIZE,
                 slot,
                 (at % FRAME_SIZE) as usize,
                 part,
             ),
-            Frame::Wiped(_) => self.store_around(at, 0, part),
+            Frame::Plain(_) | Frame::Wiped(_) | Frame::Lent { .. } | Frame::Borrowed { .. } =>
+                self.store_over(at, part),
         }
+    }
+
+    /// Clears a whole frame that shares no slot to 0.
+    fn clear_alone(&mut self, number: u64)
+        requires held { has_room (frame_numbered self.old number) ≡ true }
+        requires alone { partner (frame_numbered self.old number) ≡ None }
+        ensures { IsStored self.old self.new number (replicate 4096 0) }
+    {
+        let cleared = self.frame(number).cleared();
+        self.table[number as usize] = cleared;
     }
 
     /// Clears a whole frame to 0.
@@ -92,8 +116,8 @@ impl<A: Allocator + Copy> Frames<A> {
         requires held { has_room (frame_numbered self.old number) ≡ true }
         ensures { IsStored self.old self.new number (replicate 4096 0) }
     {
-        let cleared = self.frame(number).cleared();
-        self.table[number as usize] = cleared;
+        self.release(number);
+        self.clear_alone(number);
     }
 
     /// Clears `count` bytes of one frame to 0.

@@ -1,5 +1,5 @@
-use Rattle.std.proofs.Common.{◌≡◌, ◌-◌, ◌+◌, ◌*◌, ◌<◌, ℕ}
-use Rattle.bl_mem.specs.declared.frame.Frame.TheVariants.{Kept}
+use Rattle.std.proofs.Common.{◌≡◌, ◌-◌, ◌+◌, ◌*◌, ◌<◌, ℕ, Some}
+use Rattle.bl_mem.specs.Frame.{slot_read}
 use Rattle.bl_mem.specs.Frames.{frame_numbered}
 use Rattle.bl_mem.proofs.frames.Frames.are_together.Given as goal
 
@@ -8,7 +8,8 @@ abbrev pub invariant-loop-index : goal.invariant-loop-index
 invariant-loop-index g l =
     record {
       within : 4096 * l.index < l.count + 4096;
-      made : (k : ℕ) → k < l.index → frame_numbered l.self (l.number + k) ≡ Kept (l.slot + k);
+      made : (k : ℕ) → k < l.index
+          → slot_read (frame_numbered l.self (l.number + k)) ≡ Some (l.slot + k);
     }
 
 abbrev pub decreases-loop-index : goal.decreases-loop-index

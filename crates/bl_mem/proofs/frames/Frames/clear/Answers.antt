@@ -1,36 +1,12 @@
-use Rattle.std.proofs.Common.{◌≡◌, ap, sym, subst, true, get_or, ◌∙◌, arith}
-use Rattle.bl_mem.specs.declared.frame.Frame.TheVariants.{Bare}
-use Rattle.bl_mem.specs.Frame.{has_room, cleared}
-use Rattle.bl_mem.specs.Frames.{FramesFacts, frame_numbered}
-use Rattle.bl_mem.proofs.FrameLemmas.{in_table, cleared_stored, cleared_owes, cleared_slot}
-use Rattle.bl_mem.proofs.SoundLemmas.{sound_set}
+use Rattle.std.proofs.Common.{◌≡◌, ◌*◌, ◌/◌, subst, sym, true, arith}
+use Rattle.bl_mem.specs.Frame.{has_room}
+use Rattle.bl_mem.specs.Frames.{frame_numbered}
 use Rattle.bl_mem.proofs.frames.Frames.clear.Goals as goal
 
-pub invariant_of-self : goal.invariant_of-self
-invariant_of-self g c =
-    let table = c.self.inside.table.items in
-    let number = c.args.number in
-    let had : has_room (get_or table number Bare) ≡ true =
-    subst (λ (facts : FramesFacts). has_room (frame_numbered facts number) ≡ true) (sym c.self.view_is)
-    c.requires.held in
-    let now : c.cleared-cleared.result ≡ cleared (get_or table number Bare) =
-    c.cleared-cleared.ensures ∙ ap cleared c.frame.ensures
-    ∙ ap (λ (facts : FramesFacts). cleared (frame_numbered facts number)) (sym c.self.view_is) in
-    rw now
-    (sound_set table _ c.self.inside.owed _ _ number (cleared (get_or table number Bare))
-    c.self.invariant (in_table table number had) (omega arith)
-    (cleared_owes (get_or table number Bare))
-    (λ s is. sym (cleared_slot (get_or table number Bare)) ∙ is))
-
-pub returns : goal.returns
-returns g c =
-    let table = c.self.inside.table.items in
-    let number = c.args.number in
-    let had : has_room (get_or table number Bare) ≡ true =
-    subst (λ (facts : FramesFacts). has_room (frame_numbered facts number) ≡ true) (sym c.self.view_is)
-    c.requires.held in
-    let now : c.cleared-cleared.result ≡ cleared (get_or table number Bare) =
-    c.cleared-cleared.ensures ∙ ap cleared c.frame.ensures
-    ∙ ap (λ (facts : FramesFacts). cleared (frame_numbered facts number)) (sym c.self.view_is) in
-    rw (← c.self.view_is, now)
-    (cleared_stored c.self.inside.fill table c.self.inside.kept.items number had)
+pub clear_alone-requires-clause-held : goal.clear_alone-requires-clause-held
+clear_alone-requires-clause-held g c =
+    let number : (4096 * c.args.number) / 4096 ≡ c.args.number = omega arith in
+    subst (λ n. has_room (frame_numbered c.release.new.self n) ≡ true) number
+    (c.release.ensures.room (4096 * c.args.number)
+    (subst (λ n. has_room (frame_numbered c.args.self.now n) ≡ true) (sym number)
+    c.requires.held))

@@ -8,5 +8,5 @@ returns-then-are_together g c =
     let within : c.start-start.result + c.args.count ≤ length c.args.self.now.kept =
     let len = c.start-start.ensures.inside in search rules in
     rw kept
-    (lent c.args.self.now c.args.at c.in-Kept.slot c.args.count c.start-start.result
+    (lent c.args.self.now c.args.at c.in-Some.slot c.args.count c.start-start.result
     (c.if-are_together.ensures refl) c.start-start.ensures.exact within)

@@ -1,9 +1,10 @@
 use Rattle.std.proofs.Common.{◌≡◌, arith, sym, subst, get_or}
-use Rattle.std.proofs.Common.{Some, ◌∙◌}
+use Rattle.std.proofs.Common.{None, Some, refl, ◌∙◌}
 use Rattle.bl_mem.specs.declared.frame.Frame.TheVariants.{Bare, Kept}
 use Rattle.bl_mem.specs.Frames.{FramesFacts, frame_numbered}
-use Rattle.bl_mem.specs.Kept.{slot_of, AreSoundSlots}
+use Rattle.bl_mem.specs.Kept.{slot_of, partner, AreSoundSlots}
 use Rattle.bl_mem.proofs.FrameLemmas.{kept_set, beside_slot, in_table, slot_room, slot_owes}
+use Rattle.bl_mem.proofs.PairLemmas.{reads_other}
 use Rattle.bl_mem.proofs.SoundLemmas.{sound_set}
 use Rattle.bl_mem.proofs.frames.Frames.rewrite.Goals as goal
 
@@ -15,10 +16,14 @@ invariant_of-self g c =
     let own : slot_of (get_or table number Bare) ≡ Some slot =
     subst (λ (facts : FramesFacts). slot_of (frame_numbered facts number) ≡ Some slot)
     (sym c.self.view_is) c.requires.own in
+    let alone : partner (get_or table number Bare) ≡ None =
+    subst (λ (facts : FramesFacts). partner (frame_numbered facts number) ≡ None)
+    (sym c.self.view_is) c.requires.alone in
     sound_set table _ c.self.inside.owed _ _ number (Kept slot)
     (subst (λ n. AreSoundSlots table n c.self.inside.owed c.self.inside.kept.cap) (sym c.put_at.ensures.len) c.self.invariant)
     (in_table table number (slot_room _ slot own))
-    (omega (arith, c.put_at.ensures.capacity)) (sym (slot_owes _ slot own)) (λ s is. own ∙ is)
+    (omega (arith, c.put_at.ensures.capacity)) (sym (slot_owes _ slot own)) alone refl
+    (λ s is. own ∙ is)
 
 pub returns-clause-after : goal.returns-clause-after
 returns-clause-after g c =
@@ -31,6 +36,9 @@ returns-clause-after g c =
     let own : slot_of (get_or table number Bare) ≡ Some slot =
     subst (λ (facts : FramesFacts). slot_of (frame_numbered facts number) ≡ Some slot)
     (sym c.self.view_is) c.requires.own in
+    let alone : partner (get_or table number Bare) ≡ None =
+    subst (λ (facts : FramesFacts). partner (frame_numbered facts number) ≡ None)
+    (sym c.self.view_is) c.requires.alone in
     let fits = sound.inside number slot own in
     rw (← c.self.view_is)
     (kept_set c.self.inside.fill table kept c.put_at.new.out.items number slot
@@ -38,4 +46,4 @@ returns-clause-after g c =
     (λ j s place other small is.
     rw c.put_at.ensures.items
     (beside_slot kept part slot c.args.place s place c.requires.inside (omega (arith, fits))
-    (λ same. other (sound.own j number s is (rw same own))) small)))
+    (reads_other table _ _ _ number j slot s sound other alone own is) small)))

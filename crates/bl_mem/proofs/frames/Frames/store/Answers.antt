@@ -1,25 +1,12 @@
-use Rattle.bl_mem.proofs.FrameLemmas.{stored, put_whole}
+use Rattle.std.proofs.Common.{◌≡◌, ◌*◌, ◌/◌, subst, sym, true, arith}
+use Rattle.bl_mem.specs.Frame.{has_room}
+use Rattle.bl_mem.specs.Frames.{frame_numbered}
 use Rattle.bl_mem.proofs.frames.Frames.store.Goals as goal
 
-pub returns-in-Plain : goal.returns-in-Plain
-returns-in-Plain g c =
-    stored c.args.self.now c.append.new.self c.args.number _ c.args.part.now c.append.ensures.after
-    c.append.ensures.bytes
-
-pub returns-in-Kept : goal.returns-in-Kept
-returns-in-Kept g c =
-    let part = c.args.part.now in
-    stored c.args.self.now c.rewrite.new.self c.args.number c.in-Kept.slot part
-    c.rewrite.ensures.after
-    (rw c.rewrite.ensures.bytes
-    (put_whole c.args.self.now.kept part c.in-Kept.slot c.requires.whole
-    c.rewrite.ensures.within))
-
-pub returns-in-Wiped : goal.returns-in-Wiped
-returns-in-Wiped g c =
-    let part = c.args.part.now in
-    stored c.args.self.now c.rewrite-in-Wiped.new.self c.args.number c.in-Wiped.slot part
-    c.rewrite-in-Wiped.ensures.after
-    (rw c.rewrite-in-Wiped.ensures.bytes
-    (put_whole c.args.self.now.kept part c.in-Wiped.slot c.requires.whole
-    c.rewrite-in-Wiped.ensures.within))
+pub store_alone-requires-clause-held : goal.store_alone-requires-clause-held
+store_alone-requires-clause-held g c =
+    let number : (4096 * c.args.number) / 4096 ≡ c.args.number = omega arith in
+    subst (λ n. has_room (frame_numbered c.release.new.self n) ≡ true) number
+    (c.release.ensures.room (4096 * c.args.number)
+    (subst (λ n. has_room (frame_numbered c.args.self.now n) ≡ true) (sym number)
+    c.requires.held))

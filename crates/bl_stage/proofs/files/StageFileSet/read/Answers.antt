@@ -19,7 +19,7 @@ read-requires g c =
     let file =
     staged_text c.args.self.now (g.M.PhysMem.bytes c.args.memory.now) c.args.file
     c.requires.file in
-    rw (c.lies_in.ensures, ← file.1) c.requires.inside
+    rw (c.lies_in.ensures.bytes, ← file.1) c.requires.inside
 
 pub returns : goal.returns
 returns g c =
@@ -28,4 +28,4 @@ returns g c =
     c.requires.file in
     c.read.ensures
     ∙ ap (λ t. slice_range t c.args.at (c.args.at + length c.args.out.now))
-    (c.lies_in.ensures ∙ sym file.1)
+    (c.lies_in.ensures.bytes ∙ sym file.1)
