@@ -93,6 +93,24 @@ fn zero<M: PhysMem>(row: &mut Row<'_>, memory: &mut M) {
     }
 }
 
+fn copy<M: PhysMem>(row: &mut Row<'_>, memory: &mut M) {
+    let from = row.number();
+    let to = row.number();
+    let count = row.number();
+    let Some(end) = to.checked_add(count) else {
+        return row.refuse();
+    };
+    if !give_room(row, memory, &(to..end)) {
+        return;
+    }
+    let size = memory.size();
+    if count > 4096 || size < from || size - from < count {
+        return row.refuse();
+    }
+    memory.copy(from, to, count as usize);
+    row.say("ok");
+}
+
 fn reserve<M: PhysMem>(row: &mut Row<'_>, memory: &mut M) {
     let ranges = row.rest_ranges();
     if !are_inside(memory.size(), ranges.as_slice()) {
@@ -116,6 +134,7 @@ pub fn step<M: PhysMem>(row: &mut Row<'_>, memory: &mut M, name: &str) {
         }
         "lend" => lend(row, memory),
         "write" => write(row, memory),
+        "copy" => copy(row, memory),
         "zero" => zero(row, memory),
         "reserve" => reserve(row, memory),
         _ => row.refuse(),
