@@ -5,16 +5,17 @@ use Rattle.std.specs.Option.{option_or}
 use Rattle.std.proofs.lemmas.List.{length-map, get_or-map, drop_more}
 use Rattle.std.proofs.lemmas.List.Elements.{All-map}
 use Rattle.bl_load.specs.declared.entry.Entry.{Entry}
-use Rattle.bl_load.specs.Value.{HasLimits, IsWithinLimits}
-use Rattle.bl_session.specs.Attempts.{AreWithinLimits, NameEntries, HasMenuFault}
+use Rattle.bl_load.specs.EntryValue.{HasLimits, IsWithinLimits}
+use Rattle.bl_session.specs.Attempts.{AreWithinLimits, AreEntryIndices, HasMenuFault}
 use Rattle.bl_session.specs.Menu.{EntryFacts, facts_of}
 use Rattle.bl_session.specs.declared.menu.fault.MenuFault.{MenuFault}
 use Rattle.bl_session.specs.declared.menu.fault.MenuFault.TheVariants as menu_faults
 use Rattle.bl_abi.specs.declared.misuse.Misuse.{Misuse}
-use Rattle.bl_abi.specs.declared.records.EntryRecord.{EntryRecord}
-use Rattle.bl_abi.specs.Checks.{entry_misuse}
+use Rattle.bl_abi.specs.declared.given_records.EntryRecord.{EntryRecord}
+use Rattle.bl_abi.specs.GivenChecks.{entry_misuse}
 use Rattle.bl_abi.specs.Given.{GivenFacts}
-use Rattle.bl_abi.specs.Boot.{entries_misuse, facts_given, given_fault_of_menu, AreFewGiven, IsNoMenu}
+use Rattle.bl_abi.specs.Boot.{entries_misuse, facts_given, given_fault_of_menu, AreFewGiven}
+use Rattle.bl_abi.specs.Boot.{IsNoMenu}
 use Rattle.bl_abi.specs.Boot.{are_many, names_none, is_short}
 
 -- as many entries as are given
@@ -25,7 +26,8 @@ entry_count given rows typed is =
     sym (length-map typed facts_of) ∙ ap length is ∙ length-map rows (facts_given given)
 
 few_typed : {A : Type 0} (given : GivenFacts) (rows : List EntryRecord) (typed : List (Entry A))
-    → map facts_of typed ≡ map (facts_given given) rows → AreFewGiven given rows → AreWithinLimits typed
+    → map facts_of typed ≡ map (facts_given given) rows → AreFewGiven given rows
+    → AreWithinLimits typed
 unfolding IsWithinLimits
 few_typed given rows typed is few =
     let count = entry_count given rows typed is in
@@ -40,7 +42,8 @@ few_typed given rows typed is few =
 
 -- the other way round
 pub few_given : {A : Type 0} (given : GivenFacts) (rows : List EntryRecord)
-    (typed : List (Entry A)) → map facts_of typed ≡ map (facts_given given) rows → AreWithinLimits typed
+    (typed : List (Entry A)) → map facts_of typed ≡ map (facts_given given) rows
+    → AreWithinLimits typed
     → AreFewGiven given rows
 unfolding IsWithinLimits
 few_given given rows typed is small =
@@ -59,7 +62,7 @@ no_menu_is given rows default fallbacks typed menu_faults.TooMany is has =
     are_many (λ few. has (few_typed given rows typed is few))
 no_menu_is given rows default fallbacks typed menu_faults.BadIndex is has =
     names_none (few_given given rows typed is has.0)
-    (λ named. has.1 (subst (λ n. NameEntries n default fallbacks)
+    (λ named. has.1 (subst (λ n. AreEntryIndices n default fallbacks)
     (sym (entry_count given rows typed is)) named))
 no_menu_is given rows default fallbacks typed menu_faults.NoMemory is has = is_short
 

@@ -9,9 +9,9 @@ use Rattle.bl_abi.specs.declared.load_fault.LoadFault.{LoadFault}
 use Rattle.bl_abi.specs.declared.load_fault.LoadFault.TheVariants.{Misused, Refused, NoMemory}
 use Rattle.bl_abi.specs.declared.misuse.Misuse.{Misuse}
 use Rattle.bl_abi.specs.declared.given_fault.GivenFault.TheVariants as given_fault
-use Rattle.bl_abi.specs.declared.records.EntryRecord.{EntryRecord}
-use Rattle.bl_abi.specs.declared.records.MachineRecord.{MachineRecord}
-use Rattle.bl_abi.specs.declared.records.RegionRecord.{RegionRecord}
+use Rattle.bl_abi.specs.declared.given_records.EntryRecord.{EntryRecord}
+use Rattle.bl_abi.specs.declared.given_records.MachineRecord.{MachineRecord}
+use Rattle.bl_abi.specs.declared.given_records.RegionRecord.{RegionRecord}
 use Rattle.bl_abi.specs.Given.{GivenFacts, value_given}
 use Rattle.bl_abi.specs.Load.{IsEntryMisuse, IsEntrySound, HasEntryFault, IsNotLoaded}
 use Rattle.bl_abi.specs.Load.{few_places, bad_machine, bad_memory, bad_entry}

@@ -7,13 +7,14 @@ use Rattle.bl_load.specs.declared.entry.Entry.{Entry}
 use Rattle.bl_load.specs.declared.refusal.PrepFault.{PrepFault}
 use Rattle.bl_load.specs.declared.refusal.PrepFault.TheVariants as prep_fault
 use Rattle.bl_load.specs.Parts.{IsPrepFault, IsRefusal}
-use Rattle.bl_load.specs.Value.{EntryValue, HasLimits, IsWithinLimits, value_of}
-use Rattle.bl_abi.specs.declared.records.EntryRecord.{EntryRecord}
+use Rattle.bl_load.specs.EntryValue.{EntryValue, HasLimits, IsWithinLimits, value_of}
+use Rattle.bl_abi.specs.declared.given_records.EntryRecord.{EntryRecord}
 use Rattle.bl_abi.specs.declared.misuse.Misuse.TheVariants.{TooMany}
 use Rattle.bl_abi.specs.declared.given_fault.GivenFault.{GivenFault}
 use Rattle.bl_abi.specs.declared.given_fault.GivenFault.TheVariants as given_fault
-use Rattle.bl_abi.specs.Checks.{load_misuse}
-use Rattle.bl_abi.specs.Given.{GivenFacts, entry_without_files, files_given, file_given, value_given}
+use Rattle.bl_abi.specs.GivenChecks.{load_misuse}
+use Rattle.bl_abi.specs.Given.{GivenFacts, entry_without_files, files_given, file_given}
+use Rattle.bl_abi.specs.Given.{value_given}
 use Rattle.bl_abi.specs.Load.{IsEntrySound, IsEntryMisuse, IsEntryGivenFault, IsEntryFault}
 use Rattle.bl_abi.specs.Load.{of_given, of_prepared}
 use Rattle.bl_abi.proofs.ValueLemmas.{value_is}
@@ -24,7 +25,8 @@ pub given_value : {A : Type 0} (given : GivenFacts) (r : EntryRecord) (entry : E
     → texts ≡ map (file_given given) (files_given given r)
     → value_of texts entry ≡ value_given given r
 given_value given r entry texts is same =
-    value_is entry (entry_without_files given r) texts (map (file_given given) (files_given given r)) is
+    value_is entry (entry_without_files given r) texts
+    (map (file_given given) (files_given given r)) is
     same
 
 -- as many files as are given
@@ -45,7 +47,8 @@ too_many given r entry is names not =
 
 -- an entry within its limits has no misuse
 pub entry_sound : {A : Type 0} (given : GivenFacts) (r : EntryRecord) (entry : Entry A)
-    → value_of [] entry ≡ entry_without_files given r → load_misuse given r ≡ None → IsWithinLimits entry
+    → value_of [] entry ≡ entry_without_files given r → load_misuse given r ≡ None
+    → IsWithinLimits entry
     → IsEntrySound given r
 unfolding IsWithinLimits
 entry_sound given r entry is names within =

@@ -15,11 +15,12 @@ use Rattle.bl_abi.specs.declared.load_fault.LoadFault.TheVariants.{NoMemory}
 use Rattle.bl_abi.specs.declared.misuse.Misuse.{Misuse}
 use Rattle.bl_abi.specs.declared.given_fault.GivenFault.{GivenFault}
 use Rattle.bl_abi.specs.declared.given_fault.GivenFault.TheVariants as given_fault
-use Rattle.bl_abi.specs.declared.records.MachineRecord.{MachineRecord}
-use Rattle.bl_abi.specs.declared.records.RegionRecord.{RegionRecord}
+use Rattle.bl_abi.specs.declared.given_records.MachineRecord.{MachineRecord}
+use Rattle.bl_abi.specs.declared.given_records.RegionRecord.{RegionRecord}
 use Rattle.bl_abi.specs.Given.{region_given}
 use Rattle.bl_abi.specs.Load.{of_given}
-use Rattle.bl_abi.specs.Machines.{IsMachineGiven, IsMachineSound, HasMachineFault, given_fault_of_map}
+use Rattle.bl_abi.specs.Machines.{IsMachineGiven, IsMachineSound, HasMachineFault}
+use Rattle.bl_abi.specs.Machines.{given_fault_of_map}
 use Rattle.bl_abi.specs.Machines.{pool_given}
 
 -- ---- of a machine's parts
@@ -104,7 +105,8 @@ module _ (machine : MachineRecord) (regions : List RegionRecord) where
       let none =
       no_part_fault machine.size (map region_given regions) (pool_given machine) part.found
       sound.accepted part.first in
-      let e : given_fault.Misused misuse ≡ given_fault.NoMemory = part.is ∙ ap given_fault_of_map none in
+      let e : given_fault.Misused misuse ≡ given_fault.NoMemory =
+      part.is ∙ ap given_fault_of_map none in
       absurd cc
 
   -- two faults that are told are one

@@ -1,12 +1,13 @@
 -- The sizes of a session's files, and of a boot's.
-use Rattle.std.proofs.Common.{◌≡◌, ◌+◌, ℕ, Bool, true, false, ◌&&◌, ◌||◌, List, [], ◌∷◌, length, map}
+use Rattle.std.proofs.Common.{◌≡◌, ◌+◌, ℕ, Bool, true, false, ◌&&◌, ◌||◌, List, [], ◌∷◌, length}
+use Rattle.std.proofs.Common.{map}
 use Rattle.std.proofs.Common.{None, Some, if◌then◌else◌, slice_range, refl, ap, sym, subst}
 use Rattle.std.proofs.Common.{◌∙◌, arith, leb-true}
 use Rattle.std.proofs.lemmas.List.{length-take, length-drop}
 use Rattle.bl_session.specs.Outcome.{missing, whole, size_of}
-use Rattle.bl_abi.specs.declared.records.ByteRange.{ByteRange}
+use Rattle.bl_abi.specs.declared.given_records.ByteRange.{ByteRange}
 use Rattle.bl_abi.specs.Given.{GivenFacts, are_among, range_bytes}
-use Rattle.bl_abi.specs.Checks.{is_in_contents}
+use Rattle.bl_abi.specs.GivenChecks.{is_in_contents}
 use Rattle.bl_abi.specs.Boot.{is_unread, is_missing_or_within, are_missing_or_within, stored_given}
 use Rattle.bl_abi.specs.Sessions.{size_given}
 
@@ -40,7 +41,8 @@ rest_of : (a b : Bool) → (a && b) ≡ true → b ≡ true
 rest_of true b is = is
 rest_of false b is = cc
 
-pub sizes_as_stored : (given : GivenFacts) (files : List ByteRange) → are_missing_or_within given files ≡ true
+pub sizes_as_stored : (given : GivenFacts) (files : List ByteRange)
+    → are_missing_or_within given files ≡ true
     → map size_given files ≡ map size_of (map (stored_given given) files)
 sizes_as_stored given [] stored = refl
 sizes_as_stored given (file ∷ files) stored =

@@ -2,7 +2,7 @@
 use Rattle.std.proofs.Common.{◌≡◌, ℕ, List, [], refl, ap, ◌∙◌}
 use Rattle.bl_load.specs.declared.entry.Entry.{Entry}
 use Rattle.bl_load.specs.declared.entry.Entry.TheVariants.{Multiboot2, Linux}
-use Rattle.bl_load.specs.Value.{EntryValue, value_of}
+use Rattle.bl_load.specs.EntryValue.{EntryValue, value_of}
 
 value_filled : {A : Type 0} (entry : Entry A) (texts : List (List ℕ))
     → value_of texts entry ≡ record (value_of [] entry) { files = texts }

@@ -6,9 +6,9 @@ use Rattle.std.specs.List.{list_all}
 use Rattle.std.specs.Option.{option_or}
 use Rattle.bl_map.specs.MachineFacts.{MachineFacts}
 use Rattle.bl_load.specs.HandoffFacts.{max_parts}
-use Rattle.bl_load.specs.Value.{HasLimits}
-use Rattle.bl_plan.specs.Limits.{max_entries}
-use Rattle.bl_session.specs.Attempts.{attempt_order, NameEntries}
+use Rattle.bl_load.specs.EntryValue.{HasLimits}
+use Rattle.bl_plan.specs.MenuLimits.{max_entries}
+use Rattle.bl_session.specs.Attempts.{attempt_order, AreEntryIndices}
 use Rattle.bl_session.specs.Memory.{IsMemoryAt}
 use Rattle.bl_session.specs.Menu.{EntryFacts, MenuFacts}
 use Rattle.bl_session.specs.Outcome.{File, missing, whole, size_of, IsOutcome, HasEnded}
@@ -18,17 +18,17 @@ use Rattle.bl_session.specs.declared.menu.fault.MenuFault.{MenuFault}
 use Rattle.bl_session.specs.declared.menu.fault.MenuFault.TheVariants as menu_faults
 use Rattle.bl_session.specs.declared.outcome.BootFault.{BootFault}
 use Rattle.bl_session.specs.declared.outcome.Outcome.{Outcome}
-use Rattle.bl_abi.specs.declared.records.ByteRange.{ByteRange}
-use Rattle.bl_abi.specs.declared.records.RegionRecord.{RegionRecord}
-use Rattle.bl_abi.specs.declared.records.MachineRecord.{MachineRecord}
-use Rattle.bl_abi.specs.declared.records.EntryRecord.{EntryRecord}
+use Rattle.bl_abi.specs.declared.given_records.ByteRange.{ByteRange}
+use Rattle.bl_abi.specs.declared.given_records.RegionRecord.{RegionRecord}
+use Rattle.bl_abi.specs.declared.given_records.MachineRecord.{MachineRecord}
+use Rattle.bl_abi.specs.declared.given_records.EntryRecord.{EntryRecord}
 use Rattle.bl_abi.specs.declared.misuse.Misuse.{Misuse}
 use Rattle.bl_abi.specs.declared.misuse.Misuse.TheVariants.{BadContents, BadMemory, FewPlaces}
 use Rattle.bl_abi.specs.declared.misuse.Misuse.TheVariants.{TooMany, BadIndex}
 use Rattle.bl_abi.specs.declared.given_fault.GivenFault.{GivenFault}
 use Rattle.bl_abi.specs.declared.given_fault.GivenFault.TheVariants.{Misused, NoMemory}
 use Rattle.bl_abi.specs.Given.{GivenFacts, range_bytes, files_given, entry_without_files}
-use Rattle.bl_abi.specs.Checks.{entry_misuse, is_in_contents}
+use Rattle.bl_abi.specs.GivenChecks.{entry_misuse, is_in_contents}
 use Rattle.bl_abi.specs.Machines.{IsMachineGiven, IsMachineSound, HasMachineFault}
 
 -- ---- the menu and its files
@@ -91,14 +91,14 @@ pub record IsMenuAllowed (given : GivenFacts) (entries : List EntryRecord) (defa
     (fallbacks : List ℕ) : Type 0 where
   pub sound : entries_misuse given entries ≡ None
   pub few : AreFewGiven given entries
-  pub named : NameEntries (length entries) default fallbacks
+  pub named : AreEntryIndices (length entries) default fallbacks
 
 -- entries without a misuse make no menu: the first of these; memory may run out
 pub data IsNoMenu (given : GivenFacts) (entries : List EntryRecord) (default : ℕ)
     (fallbacks : List ℕ) : GivenFault → Type 0 where
   are_many : ¬ AreFewGiven given entries
       → IsNoMenu given entries default fallbacks (Misused TooMany)
-  names_none : AreFewGiven given entries → ¬ NameEntries (length entries) default fallbacks
+  names_none : AreFewGiven given entries → ¬ AreEntryIndices (length entries) default fallbacks
       → IsNoMenu given entries default fallbacks (Misused BadIndex)
   is_short : IsNoMenu given entries default fallbacks NoMemory
 
@@ -114,7 +114,8 @@ pub record HasBootEnded (facts : MachineFacts) (menu : MenuFacts) (files : List 
 
 -- a boot on the machine that is given ended so, where no misuse stands: there is room for the
 -- places, memory ends with the machine's, and the machine, the menu and its files have none
-pub record IsBooted (machine : MachineRecord) (regions : List RegionRecord) (given : GivenFacts)
+pub record HasGivenBootEnded (machine : MachineRecord) (regions : List RegionRecord)
+    (given : GivenFacts)
     (entries : List EntryRecord) (default : ℕ) (fallbacks : List ℕ) (room : ℕ) (old new : List ℕ)
     (end : PhaseFacts) : Type 0 where
   pub has_room : max_parts ≤ room
@@ -165,7 +166,7 @@ pub data IsBootGivenFault (machine : MachineRecord) (regions : List RegionRecord
 abbrev pub IsBootEnd : MachineRecord → List RegionRecord → GivenFacts → List EntryRecord → ℕ
     → List ℕ → ℕ → (old new : List ℕ) → Result PhaseFacts GivenFault → Type 0
 IsBootEnd machine regions given entries default fallbacks room old new (Ok end) =
-    IsBooted machine regions given entries default fallbacks room old new end
+    HasGivenBootEnded machine regions given entries default fallbacks room old new end
 IsBootEnd machine regions given entries default fallbacks room old new (Err fault) =
     IsBootGivenFault machine regions given entries default fallbacks room (length old) fault
     × (new ≡ old)

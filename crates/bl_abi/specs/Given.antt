@@ -8,11 +8,11 @@ use Rattle.bl_map.specs.declared.region.Region.{Region}
 use Rattle.bl_map.specs.declared.kind.Kind.TheVariants.{Reserved}
 use Rattle.bl_map.specs.Kinds.{kind_of}
 use Rattle.bl_plan.specs.Protocols.{of_linux}
-use Rattle.bl_load.specs.Value.{EntryValue, multiboot2_value, linux_value}
-use Rattle.bl_abi.specs.declared.records.ByteRange.{ByteRange}
-use Rattle.bl_abi.specs.declared.records.RegionRecord.{RegionRecord}
-use Rattle.bl_abi.specs.declared.records.ModuleRecord.{ModuleRecord}
-use Rattle.bl_abi.specs.declared.records.EntryRecord.{EntryRecord}
+use Rattle.bl_load.specs.EntryValue.{EntryValue, multiboot2_value, linux_value}
+use Rattle.bl_abi.specs.declared.given_records.ByteRange.{ByteRange}
+use Rattle.bl_abi.specs.declared.given_records.RegionRecord.{RegionRecord}
+use Rattle.bl_abi.specs.declared.given_records.ModuleRecord.{ModuleRecord}
+use Rattle.bl_abi.specs.declared.given_records.EntryRecord.{EntryRecord}
 
 -- the arrays beside the records
 pub record GivenFacts : Type 0 where

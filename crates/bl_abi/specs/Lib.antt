@@ -1,5 +1,5 @@
 pub mod Given
-pub mod Checks
+pub mod GivenChecks
 pub mod Machines
 pub mod Load
 pub mod Prepare

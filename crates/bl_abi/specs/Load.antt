@@ -8,10 +8,10 @@ use Rattle.bl_load.specs.HandoffFacts.{HandoffFacts, max_parts}
 use Rattle.bl_load.specs.Handover.{written}
 use Rattle.bl_load.specs.Parts.{IsHandover, IsRefusal}
 use Rattle.bl_load.specs.PlanFacts.{handover_in}
-use Rattle.bl_load.specs.Value.{HasLimits}
-use Rattle.bl_abi.specs.declared.records.RegionRecord.{RegionRecord}
-use Rattle.bl_abi.specs.declared.records.MachineRecord.{MachineRecord}
-use Rattle.bl_abi.specs.declared.records.EntryRecord.{EntryRecord}
+use Rattle.bl_load.specs.EntryValue.{HasLimits}
+use Rattle.bl_abi.specs.declared.given_records.RegionRecord.{RegionRecord}
+use Rattle.bl_abi.specs.declared.given_records.MachineRecord.{MachineRecord}
+use Rattle.bl_abi.specs.declared.given_records.EntryRecord.{EntryRecord}
 use Rattle.bl_abi.specs.declared.misuse.Misuse.{Misuse}
 use Rattle.bl_abi.specs.declared.misuse.Misuse.TheVariants.{BadMemory, FewPlaces, TooMany}
 use Rattle.bl_abi.specs.declared.given_fault.GivenFault.{GivenFault}
@@ -19,7 +19,7 @@ use Rattle.bl_abi.specs.declared.given_fault.GivenFault.TheVariants as given_fau
 use Rattle.bl_abi.specs.declared.load_fault.LoadFault.{LoadFault}
 use Rattle.bl_abi.specs.declared.load_fault.LoadFault.TheVariants.{Misused, Refused, NoMemory}
 use Rattle.bl_abi.specs.Given.{GivenFacts, entry_without_files, value_given}
-use Rattle.bl_abi.specs.Checks.{load_misuse}
+use Rattle.bl_abi.specs.GivenChecks.{load_misuse}
 use Rattle.bl_abi.specs.Machines.{IsMachineGiven, IsMachineSound, HasMachineFault}
 
 abbrev pub of_prepared : PrepFault → LoadFault

@@ -6,14 +6,14 @@ use Rattle.bl_map.specs.declared.fault.MapFault.TheVariants as map_fault
 use Rattle.bl_map.specs.Faults.{HasFirstMapFault, IsAccepted}
 use Rattle.bl_map.specs.NormalMap.{IsNormalMap}
 use Rattle.bl_map.specs.MachineFacts.{MachineFacts}
-use Rattle.bl_abi.specs.declared.records.RegionRecord.{RegionRecord}
-use Rattle.bl_abi.specs.declared.records.MachineRecord.{MachineRecord}
+use Rattle.bl_abi.specs.declared.given_records.RegionRecord.{RegionRecord}
+use Rattle.bl_abi.specs.declared.given_records.MachineRecord.{MachineRecord}
 use Rattle.bl_abi.specs.declared.misuse.Misuse.TheVariants.{BadKind, BadSize, TooManyRegions}
 use Rattle.bl_abi.specs.declared.misuse.Misuse.TheVariants.{BadRegion, BadPool}
 use Rattle.bl_abi.specs.declared.given_fault.GivenFault.{GivenFault}
 use Rattle.bl_abi.specs.declared.given_fault.GivenFault.TheVariants.{Misused, NoMemory}
 use Rattle.bl_abi.specs.Given.{region_given}
-use Rattle.bl_abi.specs.Checks.{have_kinds}
+use Rattle.bl_abi.specs.GivenChecks.{have_kinds}
 
 -- the addresses of the pool; one that ends at 2^64 or above ends at 2^64 - 1, which is no frame's
 abbrev pub pool_given : MachineRecord → Range ℕ

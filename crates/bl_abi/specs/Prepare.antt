@@ -6,9 +6,9 @@ use Rattle.bl_load.specs.HandoffFacts.{HandoffFacts, max_parts}
 use Rattle.bl_load.specs.Handover.{Handover}
 use Rattle.bl_load.specs.Parts.{IsHandover}
 use Rattle.bl_image.specs.ImageParts.{handoff_of}
-use Rattle.bl_abi.specs.declared.records.RegionRecord.{RegionRecord}
-use Rattle.bl_abi.specs.declared.records.MachineRecord.{MachineRecord}
-use Rattle.bl_abi.specs.declared.records.EntryRecord.{EntryRecord}
+use Rattle.bl_abi.specs.declared.given_records.RegionRecord.{RegionRecord}
+use Rattle.bl_abi.specs.declared.given_records.MachineRecord.{MachineRecord}
+use Rattle.bl_abi.specs.declared.given_records.EntryRecord.{EntryRecord}
 use Rattle.bl_abi.specs.declared.load_fault.LoadFault.{LoadFault}
 use Rattle.bl_abi.specs.Given.{GivenFacts, value_given}
 use Rattle.bl_abi.specs.Load.{IsEntrySound, IsNotLoaded}

@@ -7,8 +7,8 @@ use Rattle.bl_map.specs.Kinds.{kind_number}
 use Rattle.bl_plan.specs.Protocols.{protocol_number}
 use Rattle.bl_walk.specs.SeenFacts.{SeenFacts, SeenFileFacts, SeenModuleFacts}
 use Rattle.bl_walk.specs.declared.seen.SeenPart.{SeenPart}
-use Rattle.bl_abi.specs.declared.records.ByteRange.{ByteRange}
-use Rattle.bl_abi.specs.declared.records.RegionRecord.{RegionRecord}
+use Rattle.bl_abi.specs.declared.given_records.ByteRange.{ByteRange}
+use Rattle.bl_abi.specs.declared.given_records.RegionRecord.{RegionRecord}
 use Rattle.bl_abi.specs.declared.seen_records.SeenModuleRecord.{SeenModuleRecord}
 use Rattle.bl_abi.specs.declared.seen_records.SeenPartRecord.{SeenPartRecord}
 use Rattle.bl_abi.specs.declared.seen_records.SeenRecord.{SeenRecord}

@@ -4,10 +4,10 @@ use Rattle.std.specs.Prelude.{Result, Ok, Err, if◌then◌else◌}
 use Rattle.bl_map.specs.MachineFacts.{MachineFacts}
 use Rattle.bl_load.specs.HandoffFacts.{max_parts}
 use Rattle.bl_session.specs.Phases.{PhaseFacts, SessionFacts, boot_facts, end_facts, not_started}
-use Rattle.bl_abi.specs.declared.records.ByteRange.{ByteRange}
-use Rattle.bl_abi.specs.declared.records.RegionRecord.{RegionRecord}
-use Rattle.bl_abi.specs.declared.records.MachineRecord.{MachineRecord}
-use Rattle.bl_abi.specs.declared.records.EntryRecord.{EntryRecord}
+use Rattle.bl_abi.specs.declared.given_records.ByteRange.{ByteRange}
+use Rattle.bl_abi.specs.declared.given_records.RegionRecord.{RegionRecord}
+use Rattle.bl_abi.specs.declared.given_records.MachineRecord.{MachineRecord}
+use Rattle.bl_abi.specs.declared.given_records.EntryRecord.{EntryRecord}
 use Rattle.bl_abi.specs.declared.misuse.Misuse.{Misuse}
 use Rattle.bl_abi.specs.declared.misuse.Misuse.TheVariants.{FewPlaces}
 use Rattle.bl_abi.specs.declared.given_fault.GivenFault.{GivenFault}

@@ -9,7 +9,7 @@ use Rattle.bl_walk.specs.declared.fault.WalkFault.TheVariants as walk_faults
 use Rattle.bl_abi.specs.SeenTold.{WalkRecordsFacts}
 use Rattle.bl_abi.specs.Status.{done, misuse_status}
 use Rattle.bl_abi.specs.declared.misuse.Misuse.TheVariants.{FewPlaces}
-use Rattle.bl_abi.specs.declared.records.RegionRecord.{RegionRecord}
+use Rattle.bl_abi.specs.declared.given_records.RegionRecord.{RegionRecord}
 use Rattle.bl_abi.specs.declared.end_records.RefusalRecord.{RefusalRecord}
 use Rattle.bl_abi.specs.declared.seen_records.SeenModuleRecord.{SeenModuleRecord}
 use Rattle.bl_abi.specs.declared.seen_records.SeenPartRecord.{SeenPartRecord}

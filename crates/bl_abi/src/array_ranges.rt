@@ -2,7 +2,7 @@
 ghost use Rattle.std.specs.Prelude.{◌≡◌, length};
 ghost use Rattle.bl_abi.specs.Given as spec;
 
-use crate::records::ByteRange;
+use crate::given_records::ByteRange;
 
 /// Whether so many elements from a first one on are among so many.
 pub(crate) fn are_among(first: u64, count: u64, all: u64) -> bool

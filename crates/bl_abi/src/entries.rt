@@ -1,17 +1,17 @@
 //! Entries as the libraries take them.
 ghost use Rattle.std.specs.Prelude.{◌≡◌, [], None, Some, IfOk, IfErr, OnOk, MatchResult};
 ghost use Rattle.std.specs.Prelude.{length, map, option_to_list};
-ghost use Rattle.bl_load.specs.Value.{file_count, value_of, IsWithinLimits};
+ghost use Rattle.bl_load.specs.EntryValue.{file_count, value_of, IsWithinLimits};
 ghost use Rattle.bl_session.specs.Menu.{facts_of};
 ghost use Rattle.bl_abi.specs.Boot.{facts_given, entries_misuse};
-ghost use Rattle.bl_abi.specs.Checks.{load_misuse};
+ghost use Rattle.bl_abi.specs.GivenChecks.{load_misuse};
 ghost use Rattle.bl_abi.specs.Given as spec;
 ghost use Rattle.bl_abi.specs.Load.{IsEntryGivenFault};
 
 use crate::given_arrays::Given;
 use crate::given_fault::GivenFault;
+use crate::given_records::{ByteRange, EntryRecord, NO_FILE};
 use crate::misuse::Misuse;
-use crate::records::{ByteRange, EntryRecord, NO_FILE};
 use bl_load::{Entry, Module};
 use bl_mem::Bytes;
 use std::alloc::{AllocError, Allocator};

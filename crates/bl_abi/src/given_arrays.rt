@@ -1,6 +1,6 @@
 //! The arrays that records are read with, and what ranges of them hold.
 use crate::array_ranges::{are_among, range_bytes};
-use crate::records::{ByteRange, EntryRecord, ModuleRecord};
+use crate::given_records::{ByteRange, EntryRecord, ModuleRecord};
 use std::marker::Model;
 
 /// The arrays that C gives beside the records: modules, the text of all lines and copies, and files

@@ -1,6 +1,6 @@
 //! The sizes of the records: those that `include/bootcore.h` asserts.
 use crate::end_records::{HandoffRecord, PlaceRecord, RefusalRecord, RegistersRecord};
-use crate::records::{ByteRange, EntryRecord, MachineRecord, ModuleRecord, RegionRecord};
+use crate::given_records::{ByteRange, EntryRecord, MachineRecord, ModuleRecord, RegionRecord};
 use crate::seen_records::{SeenModuleRecord, SeenPartRecord, SeenRecord};
 
 const _: () = prove!(size_of::<ByteRange>() == 16);

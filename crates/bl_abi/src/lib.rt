@@ -4,11 +4,12 @@
 mod array_ranges;
 mod boot_telling;
 mod booting;
-mod checks;
 mod end_records;
 mod entries;
 mod given_arrays;
+mod given_checks;
 mod given_fault;
+mod given_records;
 mod layouts;
 mod load_fault;
 mod load_laws;
@@ -19,7 +20,6 @@ mod menu_files;
 mod menus;
 mod misuse;
 mod preparing;
-mod records;
 mod refusal_telling;
 mod register_telling;
 mod seen_records;
@@ -38,14 +38,14 @@ pub use booting::boot_told;
 pub use end_records::{HandoffRecord, PlaceRecord, RefusalRecord, RegistersRecord};
 pub use given_arrays::Given;
 pub use given_fault::GivenFault;
+pub use given_records::{
+    ByteRange, EntryRecord, MISSING, MachineRecord, ModuleRecord, NO_FILE, RegionRecord,
+};
 pub use load_fault::LoadFault;
 pub use load_laws::loads_end_as_prepared;
 pub use loading::load_told;
 pub use misuse::Misuse;
 pub use preparing::prepare_told;
-pub use records::{
-    ByteRange, EntryRecord, MISSING, MachineRecord, ModuleRecord, NO_FILE, RegionRecord,
-};
 pub use seen_records::{SeenModuleRecord, SeenPartRecord, SeenRecord, WalkStop};
 pub use session_laws::sessions_have_the_sizes_of_boots;
 pub use sessions::{outcome_told, session_given};

@@ -3,10 +3,10 @@ ghost use Rattle.std.specs.Prelude.{◌≡◌, ◌+◌, ◌-◌, IfOk, IfErr, On
 ghost use Rattle.bl_abi.specs.Given as spec;
 ghost use Rattle.bl_abi.specs.Machines as machines;
 
-use crate::checks::have_kinds;
+use crate::given_checks::have_kinds;
 use crate::given_fault::GivenFault;
+use crate::given_records::{MachineRecord, RegionRecord};
 use crate::misuse::Misuse;
-use crate::records::{MachineRecord, RegionRecord};
 use bl_map::{Kind, Machine, MapFault, Region};
 use std::alloc::{AllocError, Allocator};
 use std::ops::Range;

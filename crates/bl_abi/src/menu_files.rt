@@ -6,8 +6,8 @@ ghost use Rattle.bl_abi.specs.Boot as spec;
 use crate::array_ranges::range_bytes;
 use crate::entries::check_entries;
 use crate::given_arrays::Given;
+use crate::given_records::{ByteRange, EntryRecord, MISSING};
 use crate::misuse::Misuse;
-use crate::records::{ByteRange, EntryRecord, MISSING};
 use std::alloc::{AllocError, Allocator};
 
 /// A file; none if it can't be read.

@@ -1,14 +1,14 @@
 //! A menu as the libraries take it.
 ghost use Rattle.std.specs.Prelude.{◌≡◌, IfOk, IfErr, OnOk, length};
-ghost use Rattle.bl_session.specs.Attempts.{NameEntries};
+ghost use Rattle.bl_session.specs.Attempts.{AreEntryIndices};
 ghost use Rattle.bl_abi.specs.Boot.{AreFewGiven, IsNoMenu, menu_given};
 ghost use Rattle.bl_abi.specs.Boot as spec;
 
 use crate::entries::entries_of;
 use crate::given_arrays::Given;
 use crate::given_fault::GivenFault;
+use crate::given_records::EntryRecord;
 use crate::misuse::Misuse;
-use crate::records::EntryRecord;
 use bl_session::{Menu, MenuFault};
 use std::alloc::Allocator;
 
@@ -33,7 +33,7 @@ pub(crate) fn menu_made<A: Allocator + Copy>(
     ensures menu { IfOk result (λ menu.
         menu ≡ menu_given given.now entries.now default fallbacks.now) }
     ensures few { OnOk result (AreFewGiven given.now entries.now) }
-    ensures named { OnOk result (NameEntries (length entries.now) default fallbacks.now) }
+    ensures named { OnOk result (AreEntryIndices (length entries.now) default fallbacks.now) }
     ensures fault { IfErr result (IsNoMenu given.now entries.now default fallbacks.now) }
 {
     let Ok(typed) = entries_of(alloc, given, entries) else {

@@ -1,5 +1,5 @@
 //! What C is told of a walk.
-use crate::records::ByteRange;
+use crate::given_records::ByteRange;
 use bl_image::ImageFault;
 use bl_walk::WalkFault;
 

@@ -3,7 +3,7 @@ ghost use Rattle.std.specs.Prelude.{◌≡◌, ◌∷◌, ◌++◌, [], length, 
 ghost use Rattle.std.specs.List.{flat_map};
 ghost use Rattle.bl_abi.specs.SeenTold as spec;
 
-use crate::records::{ByteRange, MISSING, RegionRecord};
+use crate::given_records::{ByteRange, MISSING, RegionRecord};
 use crate::seen_records::{SeenModuleRecord, SeenPartRecord, SeenRecord};
 use crate::seen_vectors::SeenVectors;
 use bl_map::Region;

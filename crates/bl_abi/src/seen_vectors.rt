@@ -1,5 +1,5 @@
 //! All that C is told of what a kernel sees.
-use crate::records::RegionRecord;
+use crate::given_records::RegionRecord;
 use crate::seen_records::{SeenModuleRecord, SeenPartRecord, SeenRecord};
 use std::alloc::Allocator;
 use std::marker::Model;

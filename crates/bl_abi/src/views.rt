@@ -3,7 +3,7 @@ ghost use Rattle.std.specs.Prelude.{◌≡◌, ◌++◌, IfOk, OnOk, map};
 ghost use Rattle.bl_abi.specs.Given as spec;
 
 use crate::given_arrays::Given;
-use crate::records::{EntryRecord, ModuleRecord, NO_FILE};
+use crate::given_records::{EntryRecord, ModuleRecord, NO_FILE};
 use bl_mem::SliceView;
 use std::alloc::{AllocError, Allocator};
 

@@ -3,8 +3,8 @@ ghost use Rattle.std.specs.Prelude.{◌≡◌, ◌≤◌, ◌++◌, length, drop
 ghost use Rattle.bl_abi.specs.WalkTold as spec;
 
 use crate::end_records::RefusalRecord;
+use crate::given_records::RegionRecord;
 use crate::misuse::Misuse;
-use crate::records::RegionRecord;
 use crate::seen_records::{SeenModuleRecord, SeenPartRecord, SeenRecord, WalkStop};
 use crate::seen_vectors::SeenVectors;
 use crate::walk_stops::{stop_status, stop_told};

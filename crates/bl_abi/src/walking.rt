@@ -10,7 +10,7 @@ ghost use Rattle.bl_abi.specs.WalkTold as spec;
 ghost use Rattle.bl_abi.specs.declared.seen_records.WalkStop.{WalkStop};
 
 use crate::end_records::RefusalRecord;
-use crate::records::RegionRecord;
+use crate::given_records::RegionRecord;
 use crate::seen_records::{SeenModuleRecord, SeenPartRecord, SeenRecord, WalkStop};
 use crate::seen_telling::records_of;
 use crate::seen_vectors::SeenVectors;

@@ -1,52 +1,31 @@
--- The line that tells why a description is a bad one. Own.
-use Rattle.std.specs.Prelude.{ℕ, List, [], ◌++◌, codes, decimal}
-use Rattle.bl_map.specs.Faults.{map_fault_number}
+-- The lines that tell why a description is a bad one. Own.
+use Rattle.std.specs.Prelude.{ℕ, List, [], ◌++◌, Option, Some, None}
 use Rattle.bl_map.specs.declared.fault.MapFault.{MapFault}
-use Rattle.bl_map.specs.declared.fault.MapFault.TheVariants.{BadSize, BadRegion, TooManyRegions}
-use Rattle.bl_map.specs.declared.fault.MapFault.TheVariants.{BadPool, NoMemory}
-use Rattle.bl_blame.specs.declared.told.blame.TextPlace.{TextPlace}
+use Rattle.bl_map.specs.declared.fault.MapFault.TheVariants.{BadSize, BadPool}
+use Rattle.bl_desc.specs.Described.{Described}
 use Rattle.bl_blame.specs.declared.told.blame.Blame.{Blame}
 use Rattle.bl_blame.specs.declared.told.blame.Blame.TheVariants as blames
-use Rattle.bl_blame.specs.declared.told.blame.Blame.TheVariants.{NotUtf8, NotToml, BadMachine}
-use Rattle.bl_blame.specs.KeyWords.{bad_key_words}
-use Rattle.bl_blame.specs.ToldNumbers.{number_told}
+use Rattle.bl_blame.specs.BlameLine.{blame_line}
+use Rattle.bl_blame.specs.RadixHints.{pool_hints, size_hint}
+use Rattle.bl_blame.specs.PoolLines.{pool_lines}
+use Rattle.bl_blame.specs.WordHints.{key_hint}
 
-abbrev pub map_fault_name : MapFault → List ℕ
-map_fault_name BadSize = codes "BadSize"
-map_fault_name (BadRegion i) = codes "BadRegion"
-map_fault_name TooManyRegions = codes "TooManyRegions"
-map_fault_name BadPool = codes "BadPool"
-map_fault_name NoMemory = codes "NoMemory"
+-- what is told of a machine that is described, behind its fault
+abbrev pub machine_lines : MapFault → Described → List ℕ
+machine_lines BadSize description = size_hint description.size
+machine_lines BadPool description =
+    pool_lines description ++ pool_hints description.size description.pool
+machine_lines _ description = []
 
-abbrev pub map_fault_meaning : MapFault → List ℕ
-map_fault_meaning BadSize = codes "a bad size: not 1 MiB to 4 GiB in whole frames"
-map_fault_meaning (BadRegion i) = codes "the region with this index ends above 2^52"
-map_fault_meaning TooManyRegions = codes "more than 128 regions"
-map_fault_meaning BadPool =
-    codes "a bad pool: not whole frames, or with a byte that is not usable"
-map_fault_meaning NoMemory = codes "out of memory while a machine was made"
+abbrev pub machine_lines_if : MapFault → Option Described → List ℕ
+machine_lines_if fault None = []
+machine_lines_if fault (Some description) = machine_lines fault description
 
--- the index of a region, in brackets
-abbrev pub map_fault_told : MapFault → List ℕ
-map_fault_told (BadRegion i) = number_told i
-map_fault_told _ = []
+-- what is told behind a blame, by what is described
+abbrev pub lines_behind : Blame → Option Described → List ℕ
+lines_behind (blames.BadKey bad) description = key_hint bad.fault
+lines_behind (blames.BadMachine fault) description = machine_lines_if fault description
+lines_behind _ description = []
 
--- a machine's fault: its number, its name with what it tells, its meaning
-abbrev pub map_fault_words : MapFault → List ℕ
-map_fault_words fault =
-    decimal (map_fault_number fault) ++ codes " " ++ map_fault_name fault ++ map_fault_told fault
-    ++ codes ": " ++ map_fault_meaning fault
-
-abbrev pub not_toml_words : TextPlace → List ℕ
-not_toml_words place =
-    codes "it is not TOML, at line " ++ decimal place.line ++ codes ", column "
-    ++ decimal place.column
-
-abbrev pub blame_words : Blame → List ℕ
-blame_words NotUtf8 = codes "it is not UTF-8"
-blame_words (NotToml place) = not_toml_words place
-blame_words (blames.BadKey bad) = bad_key_words bad
-blame_words (BadMachine fault) = codes "machine " ++ map_fault_words fault
-
-abbrev pub blame_line : Blame → List ℕ
-blame_line blame = codes "bad description: " ++ blame_words blame ++ codes "\n"
+abbrev pub blame_lines : Blame → Option Described → List ℕ
+blame_lines blame description = blame_line blame ++ lines_behind blame description

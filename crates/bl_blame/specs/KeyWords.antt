@@ -47,13 +47,13 @@ path_words at key = table_words at ++ dot_words at ++ shown_name key
 -- ---- what is held
 
 -- a text of at most 64 bytes is told itself, a longer one by its length
-unfoldable pub text_words : List ℕ → List ℕ
-text_words s =
+unfoldable pub held_text_words : List ℕ → List ℕ
+held_text_words s =
     if nat_le (length s) 64 then codes "\"" ++ shown_name s ++ codes "\""
     else codes "a text of " ++ decimal (length s) ++ codes " bytes"
 
 abbrev pub held_words : Data → List ℕ
-held_words (string s) = text_words s
+held_words (string s) = held_text_words s
 held_words (integer n) = signed_decimal n
 held_words (float x) = codes "a float"
 held_words (boolean true) = codes "true"

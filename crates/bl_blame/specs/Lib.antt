@@ -4,9 +4,9 @@ pub mod Addresses
 pub mod RegionHints
 pub mod UnusableWords
 pub mod KeyWords
-pub mod BlameLines
-pub mod Near
+pub mod BlameLine
+pub mod EditDistance
 pub mod WordHints
 pub mod PoolLines
 pub mod RadixHints
-pub mod BlameHints
+pub mod BlameLines

@@ -11,7 +11,7 @@ use Rattle.bl_desc.specs.declared.bad_key.Allowed.{Allowed}
 use Rattle.bl_desc.specs.declared.bad_key.Allowed.TheVariants.{KindName, ProtocolName}
 use Rattle.bl_desc.specs.declared.bad_key.KeyFault.{KeyFault}
 use Rattle.bl_desc.specs.declared.bad_key.KeyFault.TheVariants.{Unknown, BadValue}
-use Rattle.bl_blame.specs.Near.{is_near}
+use Rattle.bl_blame.specs.EditDistance.{is_one_edit_away}
 
 abbrev pub meant_line : List ℕ → List ℕ
 meant_line word = codes "hint: is " ++ word ++ codes " meant?\n"
@@ -20,7 +20,7 @@ meant_line word = codes "hint: is " ++ word ++ codes " meant?\n"
 unfoldable pub near_hint : List (List ℕ) → List ℕ → List ℕ
 near_hint [] held = []
 near_hint (word ∷ words) held =
-    if is_near held word then meant_line word else near_hint words held
+    if is_one_edit_away held word then meant_line word else near_hint words held
 
 abbrev pub kind_words : List (List ℕ)
 kind_words =

@@ -2,8 +2,8 @@
 
 mod bad_key;
 mod blame;
+mod edit_distance;
 mod key_values;
-mod near;
 mod pieces;
 mod pool_lines;
 mod radix_hints;

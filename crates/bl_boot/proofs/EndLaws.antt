@@ -7,10 +7,10 @@ use Rattle.bl_map.specs.NormalMap.{kind_at}
 use Rattle.bl_map.specs.declared.region.Region.{Region}
 use Rattle.bl_map.proofs.MapLaws.{one_normal_map}
 use Rattle.bl_load.specs.Handover.{Handover}
-use Rattle.bl_load.specs.Value.{EntryValue}
+use Rattle.bl_load.specs.EntryValue.{EntryValue}
 use Rattle.bl_image.specs.Image.{spelling}
 use Rattle.bl_image.specs.Versions.{written_version}
-use Rattle.bl_session.specs.Boot.{fresh}
+use Rattle.bl_session.specs.BootSteps.{fresh}
 use Rattle.bl_session.specs.AttemptResult.{AttemptResult, AttemptHasResult}
 use Rattle.bl_session.specs.Outcome.{File, no_fault, faulty_file}
 use Rattle.bl_session.specs.Pieces.{are_whole}
@@ -67,7 +67,8 @@ module _ {F G : Type 0} {answers : F → List ℕ → File → Type 0} {faults :
     one_end_at a b machine entry index sizes value e f x y =
         let f_a = boot_of a.description a.facts a.files in
         let f_b = boot_of b.description b.facts b.files in
-        ends_alike a.facts b.facts (sizes_at a entry) (sizes_at b index) (faulty_file f_a entry None)
+        ends_alike a.facts b.facts (sizes_at a entry) (sizes_at b index)
+        (faulty_file f_a entry None)
         (faulty_file f_b index None)
         (value_at a entry) (value_at b index) e f machine sizes
         (none_if (are_whole (fresh f_a entry)) ∙ sym (none_if (are_whole (fresh f_b index)))) value

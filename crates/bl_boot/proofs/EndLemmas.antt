@@ -6,7 +6,7 @@ use Rattle.bl_load.specs.Handover.{Handover}
 use Rattle.bl_image.specs.Image.{spelling}
 use Rattle.bl_image.specs.Versions.{written_version}
 use Rattle.bl_session.specs.declared.outcome.RefusedEntry.{RefusedEntry}
-use Rattle.bl_session.specs.Boot.{BootFacts, handed_over}
+use Rattle.bl_session.specs.BootSteps.{BootFacts, handed_over}
 use Rattle.bl_session.specs.Outcome.{File, IsOutcome, no_fault, size_of, entry_value_in}
 use Rattle.bl_session.specs.Phases.{boot_facts}
 use Rattle.bl_desc.specs.declared.desc.Description.{Description}
@@ -108,7 +108,8 @@ module _ {A : Type 0} (desc : List ℕ) (d : Description A) (is : described desc
         (facts : MachineFacts)
         (machine : IsMachineOf (view d) facts) (before after : F) (files : List File)
         (found : AreFound answers faults (view d).files (names_in (view d)) before after files)
-        (offered : (entry : ℕ) → IsOffered (entry_value_in (boot_of (view d) facts files) files entry))
+        (offered : (entry : ℕ)
+        → IsOffered (entry_value_in (boot_of (view d) facts files) files entry))
       where
         abbrev this_case : BootCase answers faults desc before after
         this_case = record {

@@ -7,10 +7,10 @@ use Rattle.bl_image.specs.Image.{spelling}
 use Rattle.bl_image.specs.ImageParts.{IsKeptByImages}
 use Rattle.bl_image.specs.Versions.{written_version}
 use Rattle.bl_session.specs.declared.outcome.RefusedEntry.{RefusedEntry}
-use Rattle.bl_session.specs.Boot.{handed_over, none_left}
+use Rattle.bl_session.specs.BootSteps.{handed_over, none_left}
 use Rattle.bl_session.specs.Outcome.{File, entry_value_in}
 use Rattle.bl_menu.specs.Attempted.{entry_of, boot_of}
-use Rattle.bl_menu.specs.Cases.{BootCase, ComesTo}
+use Rattle.bl_menu.specs.Cases.{BootCase, HasOutcome}
 use Rattle.bl_say.specs.Says.{booted_line, refused_lines, no_entry_line}
 
 -- what a boot starts from, or what it leaves: the files, what the sink took, and what is said
@@ -29,7 +29,7 @@ module _ {F : Type 0} (answers : F → List ℕ → File → Type 0) (faults : F
     pub entry : ℕ
     pub earlier : List RefusedEntry
     pub handover : Handover
-    pub outcome : ComesTo answers faults case (handed_over entry earlier handover)
+    pub outcome : HasOutcome answers faults case (handed_over entry earlier handover)
     pub offered : IsOffered (entry_value_in (boot_of case.description case.facts case.files)
         case.files entry)
     pub kept : IsKeptByImages handover
@@ -41,7 +41,7 @@ module _ {F : Type 0} (answers : F → List ℕ → File → Type 0) (faults : F
   pub record IsRefused (desc : List ℕ) (before after : Surroundings F) : Type 0 where
     pub case : BootCase answers faults desc before.files after.files
     pub refused : List RefusedEntry
-    pub outcome : ComesTo answers faults case (none_left refused)
+    pub outcome : HasOutcome answers faults case (none_left refused)
     pub nothing : after.sink ≡ before.sink
     pub said : after.said ≡ before.said ++ (refused_lines refused ++ no_entry_line)
 
@@ -51,6 +51,6 @@ module _ {F : Type 0} (answers : F → List ℕ → File → Type 0) (faults : F
     pub entry : ℕ
     pub earlier : List RefusedEntry
     pub handover : Handover
-    pub outcome : ComesTo answers faults case (handed_over entry earlier handover)
+    pub outcome : HasOutcome answers faults case (handed_over entry earlier handover)
     pub begun : TookBeginning before.sink after.sink (spelling written_version handover)
     pub unsaid : after.said ≡ before.said

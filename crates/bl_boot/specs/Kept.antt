@@ -9,7 +9,7 @@ use Rattle.bl_image.specs.ImageParts.{IsKeptByImages}
 use Rattle.bl_image.specs.Versions.{written_version}
 use Rattle.bl_load.specs.Handover.{Handover}
 use Rattle.bl_session.specs.declared.outcome.RefusedEntry.{RefusedEntry}
-use Rattle.bl_session.specs.Boot.{BootFacts, handed_over, none_left}
+use Rattle.bl_session.specs.BootSteps.{BootFacts, handed_over, none_left}
 use Rattle.bl_session.specs.Outcome.{File, IsOutcome, no_fault}
 use Rattle.bl_menu.specs.Attempted.{entry_of}
 use Rattle.bl_menu.specs.Found.{AsksPrefix}

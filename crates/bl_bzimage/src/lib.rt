@@ -6,9 +6,9 @@ mod fault;
 pub mod fields;
 mod laws;
 mod setup;
-mod setup_header;
+mod setup_header_bytes;
 
 pub use fault::SetupFault;
 pub use laws::setup_is_determined;
 pub use setup::{Setup, read_setup};
-pub use setup_header::SetupHeader;
+pub use setup_header_bytes::SetupHeaderBytes;

@@ -11,7 +11,7 @@ use crate::fields::{
     CMDLINE_SIZE, INIT_SIZE, INITRD_ADDR_MAX, KERNEL_ALIGNMENT, LOADFLAGS, MIN_VERSION,
     PREF_ADDRESS, RELOCATABLE_KERNEL, SETUP_SECTS, VERSION, XLOADFLAGS,
 };
-use crate::setup_header::{SetupHeader, header_upto};
+use crate::setup_header_bytes::{SetupHeaderBytes, header_upto};
 use bl_mem::{ByteView, u8_at, u16_at, u32_at, u64_at};
 
 /// The fields of a setup header that loading needs, by the boot protocol's names (Linux/x86 Boot
@@ -41,7 +41,7 @@ pub struct Setup {
     pub cmdline_size: u32,
     pub pref_address: u64,
     pub init_size: u32,
-    pub header: SetupHeader,
+    pub header: SetupHeaderBytes,
     pub payload_offset: u64,
     pub payload_size: u64,
 }

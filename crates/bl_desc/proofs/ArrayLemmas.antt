@@ -11,13 +11,15 @@ use Rattle.toml.specs.Data.{no_items, item, Members, get_member}
 use Rattle.toml.specs.View.{view, items_view}
 use Rattle.toml.specs.declared.value.Value.{Value}
 use Rattle.bl_map.specs.declared.region.Region.{Region}
-use Rattle.bl_plan.specs.Limits.{max_modules}
+use Rattle.bl_plan.specs.MenuLimits.{max_modules}
 use Rattle.bl_desc.specs.Values.{required, optional, toml_number, toml_text, toml_bytes}
-use Rattle.bl_desc.specs.Values.{toml_range, toml_index, toml_indices, each_item, in_table, has_only}
+use Rattle.bl_desc.specs.Values.{toml_range, toml_index, toml_indices, each_item, in_table}
+use Rattle.bl_desc.specs.Values.{has_only}
 use Rattle.bl_desc.specs.Described.{InlineFile, file_in, has_file, names_differ}
 use Rattle.bl_desc.specs.Described.{region_in, toml_files, toml_regions}
 use Rattle.bl_desc.specs.Entries.{Module, module_in, toml_modules}
-use Rattle.bl_desc.specs.Allowed.{allows, count_within, item_count, key_rules, keys_of_set, must}
+use Rattle.bl_desc.specs.Allowed.{allows, count_within, item_count, key_rules, keys_of_set}
+use Rattle.bl_desc.specs.Allowed.{required_key}
 use Rattle.bl_desc.specs.BadKeysKept.{all_items, array_items, item_passes, passes_at, table_passes}
 use Rattle.bl_desc.specs.DescriptionKept.{name_value, named_file, text_or_none, value_or}
 use Rattle.bl_desc.specs.declared.bad_key.Allowed.TheVariants.{Number, IndexBelow, TwoNumbers}
@@ -55,8 +57,9 @@ table_file_reads : (ms : Members) → table_passes keys.File ms ≡ true
 table_file_reads ms h =
     let t = table_parts keys.File ms h in
     let name =
-    rule_passes (key_rules 0 keys.File) ms 0 (must (codes "name") AnyText) t.1 refl in
-    let hex = rule_passes (key_rules 0 keys.File) ms 1 (must (codes "hex") HexText) t.1 refl in
+    rule_passes (key_rules 0 keys.File) ms 0 (required_key (codes "name") AnyText) t.1 refl in
+    let hex =
+    rule_passes (key_rules 0 keys.File) ms 1 (required_key (codes "hex") HexText) t.1 refl in
     let n = name_reads (get_member (codes "name") ms) (table ms) name in
     let b =
     required_reads HexText toml_bytes (get_member (codes "hex") ms) (λ d can. can) hex in

@@ -9,7 +9,8 @@ use Rattle.bl_desc.specs.Values.{◌>>=◌, required, optional, if_given, toml_n
 use Rattle.bl_desc.specs.Values.{each_item, has_only}
 use Rattle.bl_desc.specs.Described.{region_in}
 use Rattle.bl_desc.specs.Entries.{module_in}
-use Rattle.bl_desc.specs.Allowed.{KeyRule, allows, item_count, key_rules, keys_of_set, may, must}
+use Rattle.bl_desc.specs.Allowed.{KeyRule, allows, item_count, key_rules, keys_of_set, optional_key}
+use Rattle.bl_desc.specs.Allowed.{required_key}
 use Rattle.bl_desc.specs.BadKeysKept.{all_items, all_pass, passes, passes_at, table_passes}
 use Rattle.bl_desc.specs.declared.bad_key.Allowed.{Allowed}
 use Rattle.bl_desc.specs.declared.bad_key.Allowed.TheVariants.{Number, KindName, AnyText}
@@ -88,11 +89,11 @@ region_reads ms h =
     let t = table_parts keys.Region ms h in
     let all = t.1 in
     let base =
-    rule_passes (key_rules 0 keys.Region) ms 0 (must (codes "base") Number) all refl in
+    rule_passes (key_rules 0 keys.Region) ms 0 (required_key (codes "base") Number) all refl in
     let len =
-    rule_passes (key_rules 0 keys.Region) ms 1 (must (codes "length") Number) all refl in
+    rule_passes (key_rules 0 keys.Region) ms 1 (required_key (codes "length") Number) all refl in
     let kind =
-    rule_passes (key_rules 0 keys.Region) ms 2 (must (codes "kind") KindName) all refl in
+    rule_passes (key_rules 0 keys.Region) ms 2 (required_key (codes "kind") KindName) all refl in
     let b =
     required_reads Number toml_number (get_member (codes "base") ms) (λ d can. can) base in
     let l =
@@ -107,9 +108,9 @@ unfolding module_in
 module_reads ms h =
     let t = table_parts keys.Module ms h in
     let file =
-    rule_passes (key_rules 0 keys.Module) ms 0 (must (codes "file") AnyText) t.1 refl in
+    rule_passes (key_rules 0 keys.Module) ms 0 (required_key (codes "file") AnyText) t.1 refl in
     let line =
-    rule_passes (key_rules 0 keys.Module) ms 1 (may (codes "line") AnyText) t.1 refl in
+    rule_passes (key_rules 0 keys.Module) ms 1 (optional_key (codes "line") AnyText) t.1 refl in
     let f =
     required_reads AnyText toml_text (get_member (codes "file") ms) (λ d can. can) file in
     let l =

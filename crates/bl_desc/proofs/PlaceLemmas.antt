@@ -8,15 +8,17 @@ use Rattle.toml.specs.Data.{Data, string, integer, float, boolean, datetime, arr
 use Rattle.toml.specs.Data.{Members, get_member, get_item, at, as_array}
 use Rattle.toml.specs.Data.{as_table}
 use Rattle.bl_desc.specs.Values.{◌>>=◌}
-use Rattle.bl_desc.specs.Allowed.{KeyRule, item_count, key_rules, may, must}
+use Rattle.bl_desc.specs.Allowed.{KeyRule, item_count, key_rules, optional_key, required_key}
 use Rattle.bl_desc.specs.BadKeys.{BreaksAnyOf, IsBadKey, IsFaultAt, IsItemFault}
-use Rattle.bl_desc.specs.BadKeys.{IsKeyFault, count_at, count_or_none, item_at, set_of_protocol}
+use Rattle.bl_desc.specs.BadKeys.{IsKeyFault, count_at, item_count_or_zero, item_at}
+use Rattle.bl_desc.specs.BadKeys.{set_of_protocol}
 use Rattle.bl_desc.specs.BadKeysKept.{IsListedBad, IsBadItemFault, array_items}
-use Rattle.bl_desc.specs.DescriptionKept.{IsEntryBad, IsEntryFaultAt, IsEntryItemFaultAt}
-use Rattle.bl_desc.specs.DescriptionKept.{IsFrontFault, IsMenuBad, IsModulesBad, IsModulesFaultAt}
-use Rattle.bl_desc.specs.DescriptionKept.{copy_rules, entry_set_in, common_rules, initrd_rules}
-use Rattle.bl_desc.specs.DescriptionKept.{entry_passes, passes_by, protocol_in}
-use Rattle.bl_desc.specs.DescriptionKept.{module_rules, protocol_rules, machine_rules, fill_rules}
+use Rattle.bl_desc.specs.EntriesKept.{IsEntryBad, IsEntryFaultAt, IsEntryItemFaultAt}
+use Rattle.bl_desc.specs.EntriesKept.{IsFrontFault, IsMenuBad, IsModulesBad, IsModulesFaultAt}
+use Rattle.bl_desc.specs.EntriesKept.{copy_rules, entry_set_in, common_rules, initrd_rules}
+use Rattle.bl_desc.specs.EntriesKept.{entry_passes, passes_by, protocol_in}
+use Rattle.bl_desc.specs.EntriesKept.{module_rules, protocol_rules}
+use Rattle.bl_desc.specs.DescriptionKept.{machine_rules, fill_rules}
 use Rattle.bl_desc.specs.DescriptionKept.{region_rules, file_rules, entry_rules, index_rules}
 use Rattle.bl_desc.specs.declared.bad_key.Allowed.TheVariants.{Number, IndexBelow}
 use Rattle.bl_desc.specs.declared.bad_key.Allowed.TheVariants.{TwoNumbers, Indices}
@@ -43,7 +45,7 @@ item_of (Some (datetime dt)) i = refl
 item_of (Some (array ds)) i = refl
 item_of (Some (table ms)) i = refl
 
-pub count_of : (o : Option Data) → item_count (array_items o) ≡ count_or_none (o >>= as_array)
+pub count_of : (o : Option Data) → item_count (array_items o) ≡ item_count_or_zero (o >>= as_array)
 count_of None = refl
 count_of (Some (string s)) = refl
 count_of (Some (integer z)) = refl
@@ -90,7 +92,8 @@ module-Multiboot2 ms fault h = rule_fault 0 keys.Multiboot2Entry ms fault (among
 pub copies-Multiboot2 : AreAmong copy_rules keys.Multiboot2Entry
 copies-Multiboot2 ms fault h = rule_fault 0 keys.Multiboot2Entry ms fault (among h)
   where
-    among : BreaksAnyOf copy_rules ms fault → BreaksAnyOf (key_rules 0 keys.Multiboot2Entry) ms fault
+    among : BreaksAnyOf copy_rules ms fault
+        → BreaksAnyOf (key_rules 0 keys.Multiboot2Entry) ms fault
     among (inl old) = inr (inr (inr (inr (inr (inl old)))))
     among (inr (inl new)) = inr (inr (inr (inr (inr (inr (inl new))))))
     among (inr (inr none)) = absurd none
@@ -180,7 +183,8 @@ front_whole count ms fault h = rule_fault count keys.Description ms fault (among
         → BreaksAnyOf (key_rules count keys.Description) ms fault
     among (inl size) = inl size
     among (inr (inl pool)) =
-        inr (inl (with_items-broken (must (codes "pool") TwoNumbers) Number ms fault refl pool))
+        inr (inl (with_items-broken (required_key (codes "pool") TwoNumbers) Number ms fault refl
+        pool))
     among (inr (inr none)) = absurd none
 
 pub fill_whole : (count : ℕ) → AreAmongWhole count fill_rules
@@ -201,7 +205,7 @@ indices_whole count ms fault h = rule_fault count keys.Description ms fault (amo
         → BreaksAnyOf (key_rules count keys.Description) ms fault
     among (inl default) = inr (inr (inr (inl default)))
     among (inr (inl fallback)) =
-        inr (inr (inr (inr (inl (with_items-broken (may (codes "fallback") Indices)
+        inr (inr (inr (inr (inl (with_items-broken (optional_key (codes "fallback") Indices)
         (IndexBelow count) ms fault refl fallback)))))
     among (inr (inr none)) = absurd none
 
@@ -239,7 +243,13 @@ pool_item ms (Missing key allowed) h = absurd h
 pool_item ms (BadValue key value allowed) h = absurd h
 pool_item ms (SameName value) h = absurd h
 pool_item ms (BadItem key index value told) h =
-    inr (inl (h.0, ap Some (sym h.1), sym (item_of (get_member (codes "pool") ms) index) ∙ h.2, rw h.1 h.3))
+    inr (inl (
+      h.0,
+      ap Some (sym h.1),
+      sym (item_of (get_member (codes "pool") ms) index)
+          ∙ h.2,
+      rw h.1 h.3,
+    ))
 
 pub fallback_item : (count : ℕ) (ms : Members) (fault : KeyFault)
     → IsBadItemFault (codes "fallback") (IndexBelow count)

@@ -14,13 +14,14 @@ use Rattle.toml.specs.declared.value.Value.{Value}
 use Rattle.bl_desc.specs.Described.{has_file}
 use Rattle.bl_desc.specs.BadKeys.{file_name_at, item_at}
 use Rattle.bl_desc.specs.BadKeysKept.{all_items, all_pass, array_items, item_passes, passes_at}
-use Rattle.bl_desc.specs.DescriptionKept.{IsSameName, file_rules, files_pass, name_value, named_file}
+use Rattle.bl_desc.specs.DescriptionKept.{IsSameName, file_rules, files_pass, name_value}
+use Rattle.bl_desc.specs.DescriptionKept.{named_file}
 use Rattle.bl_desc.specs.DescriptionKept.{text_or_none, value_or}
 use Rattle.bl_desc.specs.declared.bad_key.Allowed.TheVariants.{AnyText}
 use Rattle.bl_desc.specs.declared.bad_key.KeySet.TheVariants as keys
 use Rattle.bl_desc.proofs.DescribesLemmas.{rule_passes, table_parts}
 use Rattle.bl_desc.proofs.PlaceLemmas.{item_of}
-use Rattle.bl_desc.specs.Allowed.{key_rules, must}
+use Rattle.bl_desc.specs.Allowed.{key_rules, required_key}
 use Rattle.std.proofs.lemmas.Option.{slice_get_read}
 
 -- the first values, and one more
@@ -82,7 +83,7 @@ pub has_name : (d : Data) → item_passes keys.File d ≡ true
 has_name (table ms) h =
     let t = table_parts keys.File ms h in
     let name =
-    rule_passes (key_rules 0 keys.File) ms 0 (must (codes "name") AnyText) t.1 refl in
+    rule_passes (key_rules 0 keys.File) ms 0 (required_key (codes "name") AnyText) t.1 refl in
     text_of (get_member (codes "name") ms) (table ms) name
 has_name (string s) h = absurd (cc h)
 has_name (integer z) h = absurd (cc h)

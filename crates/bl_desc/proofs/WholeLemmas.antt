@@ -7,7 +7,7 @@ use Rattle.std.proofs.lemmas.Bool.{and_parts}
 use Rattle.toml.specs.Data.{Data, string, integer, float, boolean, datetime, array, table, Items}
 use Rattle.toml.specs.Data.{Members, get_member}
 use Rattle.bl_map.specs.declared.region.Region.{Region}
-use Rattle.bl_plan.specs.Limits.{max_entries}
+use Rattle.bl_plan.specs.MenuLimits.{max_entries}
 use Rattle.bl_plan.specs.declared.protocol.Protocol.{Protocol}
 use Rattle.bl_plan.specs.declared.protocol.Protocol.TheVariants.{Multiboot2, Linux, Linux64}
 use Rattle.bl_desc.specs.Values.{◌>>=◌, required, optional, if_given, toml_number, toml_byte}
@@ -16,14 +16,22 @@ use Rattle.bl_desc.specs.Values.{has_only, in_table}
 use Rattle.bl_desc.specs.Described.{InlineFile, described_in, toml_files, toml_regions}
 use Rattle.bl_desc.specs.Entries.{Entry, Module, entry_by, menu_entry_in, toml_copy, toml_entries}
 use Rattle.bl_desc.specs.Entries.{toml_modules, toml_protocol, toml_title}
-use Rattle.bl_desc.specs.Allowed.{allows, count_within, item_count, keys_of_set, may, must}
+use Rattle.bl_desc.specs.Allowed.{allows, count_within, item_count, keys_of_set, optional_key}
+use Rattle.bl_desc.specs.Allowed.{required_key}
 use Rattle.bl_desc.specs.BadKeysKept.{all_items, all_pass, array_items, item_passes, passes_at}
-use Rattle.bl_desc.specs.DescriptionKept.{IsEachFileNamed, copy_rules, entry_item_passes, entry_rules}
-use Rattle.bl_desc.specs.DescriptionKept.{file_rules, files_pass, fill_rules, front_passes, common_rules}
-use Rattle.bl_desc.specs.DescriptionKept.{index_rules, indices_pass, initrd_rules, linux_passes}
-use Rattle.bl_desc.specs.DescriptionKept.{machine_passes, machine_rules, menu_passes, module_rules}
-use Rattle.bl_desc.specs.DescriptionKept.{modules_pass, multiboot2_passes, passes_by, protocol_in}
-use Rattle.bl_desc.specs.DescriptionKept.{protocol_rules, region_rules, regions_pass}
+use Rattle.bl_desc.specs.EntriesKept.{copy_rules, entry_item_passes}
+use Rattle.bl_desc.specs.DescriptionKept.{IsEachFileNamed}
+use Rattle.bl_desc.specs.DescriptionKept.{entry_rules}
+use Rattle.bl_desc.specs.EntriesKept.{front_passes}
+use Rattle.bl_desc.specs.DescriptionKept.{file_rules, files_pass, fill_rules}
+use Rattle.bl_desc.specs.EntriesKept.{common_rules}
+use Rattle.bl_desc.specs.EntriesKept.{initrd_rules, linux_passes}
+use Rattle.bl_desc.specs.DescriptionKept.{index_rules, indices_pass}
+use Rattle.bl_desc.specs.EntriesKept.{module_rules}
+use Rattle.bl_desc.specs.DescriptionKept.{machine_passes, machine_rules, menu_passes}
+use Rattle.bl_desc.specs.EntriesKept.{modules_pass, multiboot2_passes, passes_by, protocol_in}
+use Rattle.bl_desc.specs.EntriesKept.{protocol_rules}
+use Rattle.bl_desc.specs.DescriptionKept.{region_rules, regions_pass}
 use Rattle.bl_desc.specs.declared.bad_key.Allowed.TheVariants.{Number, Byte, IndexBelow}
 use Rattle.bl_desc.specs.declared.bad_key.Allowed.TheVariants.{TwoNumbers, Indices, Tables}
 use Rattle.bl_desc.specs.declared.bad_key.Allowed.TheVariants.{EntryTables, ModuleTables, AnyText}
@@ -47,9 +55,9 @@ record Front (ms : Members) : Type 0 where
 
 front_reads : (ms : Members) → all_pass common_rules ms ≡ true → Front ms
 front_reads ms h =
-    let title = rule_passes common_rules ms 0 (must (codes "title") Title) h refl in
-    let kernel = rule_passes common_rules ms 1 (must (codes "kernel") AnyText) h refl in
-    let line = rule_passes common_rules ms 2 (may (codes "line") AnyText) h refl in
+    let title = rule_passes common_rules ms 0 (required_key (codes "title") Title) h refl in
+    let kernel = rule_passes common_rules ms 1 (required_key (codes "kernel") AnyText) h refl in
+    let line = rule_passes common_rules ms 2 (optional_key (codes "line") AnyText) h refl in
     let t =
     required_reads Title toml_title (get_member (codes "title") ms) (λ d can. can) title in
     let k =
@@ -86,9 +94,10 @@ multiboot2_reads ms h =
     let modules =
     and_parts (all_pass module_rules ms)
     (all_items (item_passes keys.Module) (array_items (get_member (codes "module") ms))) rest.0 in
-    let rule = rule_passes module_rules ms 0 (may (codes "module") ModuleTables) modules.0 refl in
-    let old = rule_passes copy_rules ms 0 (may (codes "rsdp_old") CopyText) rest.1 refl in
-    let new = rule_passes copy_rules ms 1 (may (codes "rsdp_new") CopyText) rest.1 refl in
+    let rule =
+    rule_passes module_rules ms 0 (optional_key (codes "module") ModuleTables) modules.0 refl in
+    let old = rule_passes copy_rules ms 0 (optional_key (codes "rsdp_old") CopyText) rest.1 refl in
+    let new = rule_passes copy_rules ms 1 (optional_key (codes "rsdp_new") CopyText) rest.1 refl in
     let m = modules_given (get_member (codes "module") ms) rule modules.1 in
     let o = given_reads CopyText toml_copy (get_member (codes "rsdp_old") ms) (λ d can. can) old in
     let n = given_reads CopyText toml_copy (get_member (codes "rsdp_new") ms) (λ d can. can) new in
@@ -110,7 +119,8 @@ linux_reads ms h =
     let whole = and_parts (front_passes keys.LinuxEntry ms) (all_pass initrd_rules ms) h in
     let front =
     and_parts (has_only (keys_of_set keys.LinuxEntry) ms) (all_pass common_rules ms) whole.0 in
-    let initrd = rule_passes initrd_rules ms 0 (may (codes "initrd") AnyText) whole.1 refl in
+    let initrd =
+    rule_passes initrd_rules ms 0 (optional_key (codes "initrd") AnyText) whole.1 refl in
     let i = given_reads AnyText toml_text (get_member (codes "initrd") ms) (λ d can. can) initrd in
     linux_by ms (front_reads ms front.1) i.0 front.0 i.1
 
@@ -123,7 +133,8 @@ by_protocol : (ms : Members) (protocol : Option Protocol) → protocol_in ms ≡
     → passes_by protocol ms ≡ true → IsSome (menu_entry_in ms)
 unfolding menu_entry_in
 by_protocol ms None is h =
-    let named = rule_passes protocol_rules ms 0 (must (codes "protocol") ProtocolName) h refl in
+    let named =
+    rule_passes protocol_rules ms 0 (required_key (codes "protocol") ProtocolName) h refl in
     let p =
     required_reads ProtocolName toml_protocol (get_member (codes "protocol") ms) (λ d can. can)
     named in
@@ -237,17 +248,20 @@ describes ms machine regions files named menu indices =
     and_parts (all_pass (index_rules count) ms)
     (all_items (allows (IndexBelow count)) (array_items (get_member (codes "fallback") ms)))
     indices in
-    let size = rule_passes machine_rules ms 0 (must (codes "size") Number) n.0 refl in
-    let pool = rule_passes machine_rules ms 1 (must (codes "pool") TwoNumbers) n.0 refl in
-    let fill = rule_passes fill_rules ms 0 (may (codes "fill") Byte) l.1 refl in
-    let region = rule_passes region_rules ms 0 (may (codes "region") Tables) regioned.0 refl in
-    let file = rule_passes file_rules ms 0 (may (codes "file") Tables) filed.0 refl in
-    let entry = rule_passes entry_rules ms 0 (must (codes "entry") EntryTables) entered.0 refl in
+    let size = rule_passes machine_rules ms 0 (required_key (codes "size") Number) n.0 refl in
+    let pool = rule_passes machine_rules ms 1 (required_key (codes "pool") TwoNumbers) n.0 refl in
+    let fill = rule_passes fill_rules ms 0 (optional_key (codes "fill") Byte) l.1 refl in
+    let region =
+    rule_passes region_rules ms 0 (optional_key (codes "region") Tables) regioned.0 refl in
+    let file = rule_passes file_rules ms 0 (optional_key (codes "file") Tables) filed.0 refl in
+    let entry =
+    rule_passes entry_rules ms 0 (required_key (codes "entry") EntryTables) entered.0 refl in
     let default =
-    rule_passes (index_rules count) ms 0 (may (codes "default") (IndexBelow count)) indexed.0 refl
+    rule_passes (index_rules count) ms 0 (optional_key (codes "default") (IndexBelow count))
+    indexed.0 refl
     in
     let fallback =
-    rule_passes (index_rules count) ms 1 (may (codes "fallback") Indices) indexed.0 refl in
+    rule_passes (index_rules count) ms 1 (optional_key (codes "fallback") Indices) indexed.0 refl in
     let s =
     required_reads Number toml_number (get_member (codes "size") ms) (λ d can. can) size in
     let p = pool_given (get_member (codes "pool") ms) pool l.0 in

@@ -3,7 +3,7 @@ use Rattle.std.specs.Prelude.{ℕ, suc, Bool, true, false, ◌&&◌, nat_le, Lis
 use Rattle.std.specs.Prelude.{None, codes, is_some, map}
 use Rattle.toml.specs.Data.{Data, Items, no_items, item, as_array}
 use Rattle.bl_map.specs.Kinds.{kind_named}
-use Rattle.bl_plan.specs.Limits.{max_entries, max_modules}
+use Rattle.bl_plan.specs.MenuLimits.{max_entries, max_modules}
 use Rattle.bl_desc.specs.Values.{◌>>=◌, toml_number, toml_byte, toml_text, toml_bytes, toml_index}
 use Rattle.bl_desc.specs.Entries.{toml_title, toml_copy, toml_protocol}
 use Rattle.bl_desc.specs.declared.bad_key.Allowed.{Allowed}
@@ -58,12 +58,12 @@ pub record KeyRule : Type 0 where
   pub items : Option Allowed
 
 -- it must stand
-abbrev pub must : List ℕ → Allowed → KeyRule
-must key allowed = record { key = key; required = true; allowed = allowed; items = None }
+abbrev pub required_key : List ℕ → Allowed → KeyRule
+required_key key allowed = record { key = key; required = true; allowed = allowed; items = None }
 
 -- it may be left out
-abbrev pub may : List ℕ → Allowed → KeyRule
-may key allowed = record { key = key; required = false; allowed = allowed; items = None }
+abbrev pub optional_key : List ℕ → Allowed → KeyRule
+optional_key key allowed = record { key = key; required = false; allowed = allowed; items = None }
 
 abbrev pub with_items : KeyRule → Allowed → KeyRule
 with_items rule allowed = record rule { items = Some allowed }
@@ -71,45 +71,47 @@ with_items rule allowed = record rule { items = Some allowed }
 -- the keys of a table, where there are so many entries
 abbrev pub key_rules : ℕ → KeySet → List KeyRule
 key_rules count Description =
-    must (codes "size") Number
-    ∷ with_items (must (codes "pool") TwoNumbers) Number
-    ∷ may (codes "fill") Byte
-    ∷ may (codes "default") (IndexBelow count)
-    ∷ with_items (may (codes "fallback") Indices) (IndexBelow count)
-    ∷ may (codes "region") Tables
-    ∷ may (codes "file") Tables
-    ∷ must (codes "entry") EntryTables
+    required_key (codes "size") Number
+    ∷ with_items (required_key (codes "pool") TwoNumbers) Number
+    ∷ optional_key (codes "fill") Byte
+    ∷ optional_key (codes "default") (IndexBelow count)
+    ∷ with_items (optional_key (codes "fallback") Indices) (IndexBelow count)
+    ∷ optional_key (codes "region") Tables
+    ∷ optional_key (codes "file") Tables
+    ∷ required_key (codes "entry") EntryTables
     ∷ []
 key_rules count Region =
-    must (codes "base") Number ∷ must (codes "length") Number ∷ must (codes "kind") KindName ∷ []
-key_rules count File = must (codes "name") AnyText ∷ must (codes "hex") HexText ∷ []
+    required_key (codes "base") Number ∷ required_key (codes "length") Number
+    ∷ required_key (codes "kind") KindName ∷ []
+key_rules count File = required_key (codes "name") AnyText ∷ required_key (codes "hex") HexText ∷ []
 key_rules count Entry =
-    must (codes "title") Title
-    ∷ must (codes "protocol") ProtocolName
-    ∷ must (codes "kernel") AnyText
-    ∷ may (codes "line") AnyText
-    ∷ may (codes "module") ModuleTables
-    ∷ may (codes "rsdp_old") CopyText
-    ∷ may (codes "rsdp_new") CopyText
-    ∷ may (codes "initrd") AnyText
+    required_key (codes "title") Title
+    ∷ required_key (codes "protocol") ProtocolName
+    ∷ required_key (codes "kernel") AnyText
+    ∷ optional_key (codes "line") AnyText
+    ∷ optional_key (codes "module") ModuleTables
+    ∷ optional_key (codes "rsdp_old") CopyText
+    ∷ optional_key (codes "rsdp_new") CopyText
+    ∷ optional_key (codes "initrd") AnyText
     ∷ []
 key_rules count Multiboot2Entry =
-    must (codes "title") Title
-    ∷ must (codes "protocol") ProtocolName
-    ∷ must (codes "kernel") AnyText
-    ∷ may (codes "line") AnyText
-    ∷ may (codes "module") ModuleTables
-    ∷ may (codes "rsdp_old") CopyText
-    ∷ may (codes "rsdp_new") CopyText
+    required_key (codes "title") Title
+    ∷ required_key (codes "protocol") ProtocolName
+    ∷ required_key (codes "kernel") AnyText
+    ∷ optional_key (codes "line") AnyText
+    ∷ optional_key (codes "module") ModuleTables
+    ∷ optional_key (codes "rsdp_old") CopyText
+    ∷ optional_key (codes "rsdp_new") CopyText
     ∷ []
 key_rules count LinuxEntry =
-    must (codes "title") Title
-    ∷ must (codes "protocol") ProtocolName
-    ∷ must (codes "kernel") AnyText
-    ∷ may (codes "line") AnyText
-    ∷ may (codes "initrd") AnyText
+    required_key (codes "title") Title
+    ∷ required_key (codes "protocol") ProtocolName
+    ∷ required_key (codes "kernel") AnyText
+    ∷ optional_key (codes "line") AnyText
+    ∷ optional_key (codes "initrd") AnyText
     ∷ []
-key_rules count Module = must (codes "file") AnyText ∷ may (codes "line") AnyText ∷ []
+key_rules count Module =
+    required_key (codes "file") AnyText ∷ optional_key (codes "line") AnyText ∷ []
 
 -- the keys that a table may have
 abbrev pub keys_of_set : KeySet → List (List ℕ)

@@ -59,12 +59,12 @@ IsItemFault set d fault = IsSomeAnd (as_table d) (λ ms. IsKeyFault 0 set ms fau
 -- ---- in the description
 
 -- how many items the array at a key has, 0 if there is none
-abbrev pub count_or_none : Option Items → ℕ
-count_or_none None = 0
-count_or_none (Some ds) = item_count ds
+abbrev pub item_count_or_zero : Option Items → ℕ
+item_count_or_zero None = 0
+item_count_or_zero (Some ds) = item_count ds
 
 abbrev pub count_at : List ℕ → Members → ℕ
-count_at key ms = count_or_none (get_member key ms >>= as_array)
+count_at key ms = item_count_or_zero (get_member key ms >>= as_array)
 
 -- the keys that an entry may have
 abbrev pub set_of_protocol : Option Protocol → KeySet

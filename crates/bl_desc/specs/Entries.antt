@@ -6,7 +6,7 @@ use Rattle.std.specs.List.{list_all}
 use Rattle.toml.specs.Data.{Data, Members}
 use Rattle.bl_desc.specs.Values.{◌>>=◌, passing, toml_text, toml_bytes, has_only, at_key, at_key_or}
 use Rattle.bl_desc.specs.Values.{at_key_if, in_tables}
-use Rattle.bl_plan.specs.Limits.{max_copy, max_entries, max_modules}
+use Rattle.bl_plan.specs.MenuLimits.{max_copy, max_entries, max_modules}
 use Rattle.bl_plan.specs.Protocols.{protocol_named}
 use Rattle.bl_plan.specs.declared.protocol.Protocol.{Protocol}
 use Rattle.bl_plan.specs.declared.protocol.Protocol.TheVariants.{Multiboot2, Linux, Linux64}

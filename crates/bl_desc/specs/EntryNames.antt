@@ -15,6 +15,6 @@ file_names entry = entry.kernel ∷ names_beside entry.form
 
 -- the index of a file: the place of its name among these. A name that is not looked for, since its
 -- entry is not attempted, has the place after the last
-abbrev pub index_of : List (List ℕ) → List ℕ → ℕ
-index_of [] name = 0
-index_of (n ∷ names) name = if bytes_eq n name then 0 else 1 + index_of names name
+abbrev pub file_index : List (List ℕ) → List ℕ → ℕ
+file_index [] name = 0
+file_index (n ∷ names) name = if bytes_eq n name then 0 else 1 + file_index names name

@@ -1,7 +1,7 @@
 -- How what an entry has beside its kernel is seen, and how long its copies of an RSDP are. Own.
 use Rattle.std.specs.Prelude.{ℕ, List, length, map, ◌≤◌}
 use Rattle.bl_desc.specs.Entries.{Module, Form, bare_form}
-use Rattle.bl_plan.specs.Limits.{max_copy}
+use Rattle.bl_plan.specs.MenuLimits.{max_copy}
 use Rattle.bl_plan.specs.Protocols.{of_linux}
 use Rattle.bl_plan.specs.declared.protocol.Protocol.TheVariants as protocol
 use Rattle.bl_desc.specs.declared.entry_form.EntryForm.{EntryForm}

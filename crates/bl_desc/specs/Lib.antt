@@ -7,4 +7,5 @@ pub mod Views
 pub mod Allowed
 pub mod BadKeys
 pub mod BadKeysKept
+pub mod EntriesKept
 pub mod DescriptionKept

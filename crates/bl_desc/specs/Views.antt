@@ -3,7 +3,7 @@ use Rattle.std.specs.Prelude.{◌≡◌, ◌<◌, ◌≤◌, length, map, All, O
 use Rattle.bl_desc.specs.Described.{InlineFile, Described}
 use Rattle.bl_desc.specs.Entries.{Entry}
 pub use Rattle.bl_desc.specs.Forms.{module_view, form_view}
-use Rattle.bl_plan.specs.Limits.{max_entries}
+use Rattle.bl_plan.specs.MenuLimits.{max_entries}
 use Rattle.bl_desc.specs.declared.file_row.FileRow.{FileRow}
 use Rattle.bl_desc.specs.declared.entry_row.EntryRow.{EntryRow}
 use Rattle.bl_desc.specs.declared.desc.Description.{Description}

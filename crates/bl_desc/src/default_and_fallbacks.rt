@@ -2,7 +2,7 @@
 ghost use Rattle.std.specs.Prelude.{◌≡◌, ◌<◌, ◌≤◌, [], length, map, codes, All, IfOk};
 ghost use Rattle.toml.specs.View.{view, table_view, items_view};
 ghost use Rattle.bl_desc.specs.Values as spec;
-ghost use Rattle.bl_plan.specs.Limits.{max_entries};
+ghost use Rattle.bl_plan.specs.MenuLimits.{max_entries};
 ghost use Rattle.bl_desc.specs.Views.{AnswersAs, entry_view};
 
 use crate::entries::count_of;

@@ -3,7 +3,7 @@ ghost use Rattle.std.specs.Prelude.{◌≡◌, ◌≤◌, length, map, codes, If
 ghost use Rattle.toml.specs.View.{view, table_view, items_view};
 ghost use Rattle.bl_desc.specs.Values as values;
 ghost use Rattle.bl_desc.specs.Entries as spec;
-ghost use Rattle.bl_plan.specs.Limits.{max_entries};
+ghost use Rattle.bl_plan.specs.MenuLimits.{max_entries};
 ghost use Rattle.bl_desc.specs.Forms.{HasCopyLength};
 ghost use Rattle.bl_desc.specs.Views.{AnswersAs, entry_view, form_view};
 

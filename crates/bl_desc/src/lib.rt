@@ -30,5 +30,5 @@ pub use entry_form::{EntryForm, ModuleRow, Modules};
 pub use entry_row::EntryRow;
 pub use fault::DescFault;
 pub use file_row::FileRow;
-pub use name_index::index_of;
+pub use name_index::file_index;
 pub use owned_text::Text;

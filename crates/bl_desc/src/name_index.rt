@@ -3,8 +3,8 @@ ghost use Rattle.std.specs.Prelude.{◌≡◌, ◌≤◌, length, map};
 ghost use Rattle.bl_desc.specs.EntryNames as names_of;
 
 /// The place of a name among these, or how many they are if it is not there.
-pub fn index_of(names: &[&str], name: &str) -> usize
-    ensures index { result ≡ names_of.index_of (map (λ n. n.now) names.now) name.now }
+pub fn file_index(names: &[&str], name: &str) -> usize
+    ensures index { result ≡ names_of.file_index (map (λ n. n.now) names.now) name.now }
     ensures few { result ≤ length names.now }
 {
     match names {
@@ -13,7 +13,7 @@ pub fn index_of(names: &[&str], name: &str) -> usize
             if *first == name {
                 0
             } else {
-                1 + index_of(rest, name)
+                1 + file_index(rest, name)
             }
         }
     }

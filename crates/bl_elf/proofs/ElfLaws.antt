@@ -11,7 +11,7 @@ use Rattle.bl_elf.specs.declared.fault.ElfFault.TheVariants.{AddressTooHigh, Seg
 use Rattle.bl_elf.specs.declared.fault.ElfFault.TheVariants.{NoEntry, NoMemory}
 use Rattle.bl_elf.specs.Header.{header_of, header_fault}
 use Rattle.bl_elf.specs.Program.{program_fault_at, program_header, segment_by_header}
-use Rattle.bl_elf.specs.Elf.{ElfFacts, IsElf, IsIndex, IsFirstFaulty, IsFirstOverlap}
+use Rattle.bl_elf.specs.Elf.{ElfFacts, IsElf, IsProgramHeaderIndex, IsFirstFaulty, IsFirstOverlap}
 use Rattle.bl_elf.specs.Elf.{HasFirstElfFault}
 use Rattle.bl_elf.specs.Elf.{IsSoundSegment, AreApartSegments, IsAddressOf}
 use Rattle.bl_elf.proofs.HeaderLemmas.{few_program_headers}
@@ -137,7 +137,8 @@ not_both bytes facts fault elf (of_header a) = let none = elf.header in cc
 not_both bytes facts fault elf (of_program i a) =
     let none = elf.sound i a.within in let some = a.faulty in cc
 not_both bytes facts fault elf (of_overlap i j a e) =
-    let within : IsIndex bytes i = let above = a.above in let below = a.within in omega arith in
+    let within : IsProgramHeaderIndex bytes i = let above = a.above in let below =
+    a.within in omega arith in
     let apart = elf.apart i within j a.above a.within in
     let share = a.share in
     cc

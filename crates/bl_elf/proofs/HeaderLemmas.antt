@@ -4,7 +4,7 @@ use Rattle.std.proofs.lemmas.Bool.Decides.{nat_tests}
 use Rattle.bl_elf.specs.declared.header.Header.{Header}
 use Rattle.bl_elf.specs.Header.{header_of, has_table, field_fault, header_fault}
 use Rattle.bl_elf.specs.Header.{program_header_size}
-use Rattle.bl_elf.specs.Kept.{IsHeaderOf}
+use Rattle.bl_elf.specs.Kept.{IsSoundHeaderOf}
 use Rattle.bl_elf.specs.Program.{header_place}
 
 -- the table of a file of this size has at most 128 entries, and ends within it
@@ -30,7 +30,7 @@ within_table : (size i : ℕ) (header : Header) → has_table size header ≡ tr
     → header_place header i + program_header_size header.class ≤ size
 within_table size i header table within = grind (arith, nat_tests)
 
-pub within_file : (bytes : List ℕ) (header : Header) (i : ℕ) → IsHeaderOf bytes header
+pub within_file : (bytes : List ℕ) (header : Header) (i : ℕ) → IsSoundHeaderOf bytes header
     → i < header.e_phnum → header_place header i + program_header_size header.class ≤ length bytes
 within_file bytes header i read within =
     let table : has_table (length bytes) header ≡ true =

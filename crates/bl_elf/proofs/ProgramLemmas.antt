@@ -5,52 +5,55 @@ use Rattle.std.specs.Prelude.{find}
 use Rattle.std.proofs.lemmas.Bool.Decides.{nat_tests}
 use Rattle.bl_mem.specs.declared.segment.Segment.{Segment}
 use Rattle.bl_elf.specs.declared.program.ProgramHeader.{ProgramHeader}
-use Rattle.bl_elf.specs.Program.{program_header, headers_from, is_loadable, segment_by_header}
+use Rattle.bl_elf.specs.Program.{program_header, program_headers_from, is_loadable}
+use Rattle.bl_elf.specs.Program.{segment_by_header}
 use Rattle.bl_elf.specs.Program.{segments_of}
 use Rattle.bl_elf.specs.Program.{is_entered, program_fault}
 
 -- the program headers from the i-th on are the i-th and those after it
 headers_more : (bytes : List ℕ) (i count : ℕ) → i < count
-    → headers_from bytes i (count - i)
-    ≡ program_header bytes i ∷ headers_from bytes (i + 1) (count - (i + 1))
+    → program_headers_from bytes i (count - i)
+    ≡ program_header bytes i ∷ program_headers_from bytes (i + 1) (count - (i + 1))
 headers_more bytes i count within =
     let more : count - i ≡ suc (count - (i + 1)) = omega arith in rw more refl
 
 -- the first that holds the entry is the i-th
 pub find_here : (bytes : List ℕ) (entry i count : ℕ) → i < count
     → is_entered entry (program_header bytes i) ≡ true
-    → find (is_entered entry) (headers_from bytes i (count - i)) ≡ Some (program_header bytes i)
+    → find (is_entered entry) (program_headers_from bytes i (count - i))
+    ≡ Some (program_header bytes i)
 find_here bytes entry i count within entered = rw (headers_more bytes i count within, entered) refl
 
 -- or it stands after the i-th
 pub find_behind : (bytes : List ℕ) (entry i count : ℕ) → i < count
     → is_entered entry (program_header bytes i) ≡ false
-    → find (is_entered entry) (headers_from bytes i (count - i))
-    ≡ find (is_entered entry) (headers_from bytes (i + 1) (count - (i + 1)))
+    → find (is_entered entry) (program_headers_from bytes i (count - i))
+    ≡ find (is_entered entry) (program_headers_from bytes (i + 1) (count - (i + 1)))
 find_behind bytes entry i count within entered =
     rw (headers_more bytes i count within, entered) refl
 
 -- a program header that is not loadable gives no segment
 pub skips : (bytes : List ℕ) (front all : List Segment) (i count : ℕ) → i < count
     → is_loadable (program_header bytes i) ≡ false
-    → front ++ segments_of (headers_from bytes i (count - i)) ≡ all
-    → front ++ segments_of (headers_from bytes (i + 1) (count - (i + 1))) ≡ all
+    → front ++ segments_of (program_headers_from bytes i (count - i)) ≡ all
+    → front ++ segments_of (program_headers_from bytes (i + 1) (count - (i + 1))) ≡ all
 skips bytes front all i count within loadable so_far =
-    let one : front ++ segments_of (headers_from bytes i (count - i))
-    ≡ front ++ segments_of (headers_from bytes (i + 1) (count - (i + 1))) =
+    let one : front ++ segments_of (program_headers_from bytes i (count - i))
+    ≡ front ++ segments_of (program_headers_from bytes (i + 1) (count - (i + 1))) =
     rw (headers_more bytes i count within, loadable) refl in
     sym one ∙ so_far
 
 -- a loadable one gives its segment
 pub takes : (bytes : List ℕ) (front all : List Segment) (i count : ℕ) → i < count
     → is_loadable (program_header bytes i) ≡ true
-    → front ++ segments_of (headers_from bytes i (count - i)) ≡ all
+    → front ++ segments_of (program_headers_from bytes i (count - i)) ≡ all
     → (front ++ segment_by_header (program_header bytes i) ∷ [])
-    ++ segments_of (headers_from bytes (i + 1) (count - (i + 1))) ≡ all
+    ++ segments_of (program_headers_from bytes (i + 1) (count - (i + 1))) ≡ all
 takes bytes front all i count within loadable so_far =
     let segment = segment_by_header (program_header bytes i) in
-    let rest = segments_of (headers_from bytes (i + 1) (count - (i + 1))) in
-    let one : front ++ segments_of (headers_from bytes i (count - i)) ≡ front ++ (segment ∷ rest) =
+    let rest = segments_of (program_headers_from bytes (i + 1) (count - (i + 1))) in
+    let one : front ++ segments_of (program_headers_from bytes i (count - i)) ≡ front
+    ++ (segment ∷ rest) =
     rw (headers_more bytes i count within, loadable) refl in
     append_assoc front (segment ∷ []) rest ∙ sym one ∙ so_far
 

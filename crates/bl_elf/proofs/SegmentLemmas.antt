@@ -7,7 +7,8 @@ use Rattle.std.proofs.lemmas.List.Elements.{All-cons, All-nil}
 use Rattle.std.proofs.lemmas.List.Kept.{AllPairs-cons}
 use Rattle.bl_mem.specs.declared.segment.Segment.{Segment}
 use Rattle.bl_elf.specs.declared.program.ProgramHeader.{ProgramHeader}
-use Rattle.bl_elf.specs.Program.{program_header, headers_from, is_loadable, segment_by_header}
+use Rattle.bl_elf.specs.Program.{program_header, program_headers_from, is_loadable}
+use Rattle.bl_elf.specs.Program.{segment_by_header}
 use Rattle.bl_elf.specs.Program.{segments_of}
 use Rattle.bl_elf.specs.Program.{program_fault, share_byte, share_at}
 use Rattle.bl_elf.specs.Elf.{IsSoundSegment, AreApartSegments, IsAddressOf}
@@ -29,10 +30,11 @@ few_more header rest n true e few = rw (loaded header rest e) (omega arith)
 few_more header rest n false e few = rw (skipped header rest e) (omega arith)
 
 -- there are at most as many segments as program headers
-pub few_segments : (bytes : List ℕ) (i n : ℕ) → length (segments_of (headers_from bytes i n)) ≤ n
+pub few_segments : (bytes : List ℕ) (i n : ℕ)
+    → length (segments_of (program_headers_from bytes i n)) ≤ n
 few_segments bytes i zero = omega arith
 few_segments bytes i (suc n) =
-    few_more (program_header bytes i) (headers_from bytes (i + 1) n) n
+    few_more (program_header bytes i) (program_headers_from bytes (i + 1) n) n
     (is_loadable (program_header bytes i)) refl (few_segments bytes (i + 1) n)
 
 all_more : (P : Segment → Type 0) (header : ProgramHeader) (rest : List ProgramHeader) (b : Bool)
@@ -47,10 +49,11 @@ all_more P header rest false e one all =
 -- what holds of the segment of each loadable one of n program headers from the i-th on
 pub all_segments : (P : Segment → Type 0) (bytes : List ℕ) (i n : ℕ)
     → ((k : ℕ) → i ≤ k → k < i + n → is_loadable (program_header bytes k) ≡ true
-    → P (segment_by_header (program_header bytes k))) → All P (segments_of (headers_from bytes i n))
+    → P (segment_by_header (program_header bytes k)))
+    → All P (segments_of (program_headers_from bytes i n))
 all_segments P bytes i zero each = All-nil P
 all_segments P bytes i (suc n) each =
-    all_more P (program_header bytes i) (headers_from bytes (i + 1) n)
+    all_more P (program_header bytes i) (program_headers_from bytes (i + 1) n)
     (is_loadable (program_header bytes i)) refl (each i (omega arith) (omega arith))
     (all_segments P bytes (i + 1) n (λ k low high. each k (omega arith) (omega arith)))
 
@@ -83,10 +86,10 @@ pairs_more R header rest false e one all =
 -- no two segments share a byte, where no two program headers do
 pub apart_segments : (bytes : List ℕ) (i n : ℕ)
     → ((j k : ℕ) → i ≤ j → j < k → k < i + n → share_at bytes j k ≡ false)
-    → AllPairs AreApartSegments (segments_of (headers_from bytes i n))
+    → AllPairs AreApartSegments (segments_of (program_headers_from bytes i n))
 apart_segments bytes i zero apart = λ j k d above within. absurd (omega arith)
 apart_segments bytes i (suc n) apart =
-    pairs_more AreApartSegments (program_header bytes i) (headers_from bytes (i + 1) n)
+    pairs_more AreApartSegments (program_header bytes i) (program_headers_from bytes (i + 1) n)
     (is_loadable (program_header bytes i)) refl
     (λ first. all_segments (AreApartSegments (segment_by_header (program_header bytes i))) bytes
     (i + 1) n

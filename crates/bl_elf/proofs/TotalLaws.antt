@@ -8,7 +8,8 @@ use Rattle.bl_elf.specs.declared.fault.ElfFault.TheVariants.{SegmentsOverlap, No
 use Rattle.bl_elf.specs.Header.{header_of, header_fault}
 use Rattle.bl_elf.specs.Program.{program_fault_at, program_header, program_headers, segments_of}
 use Rattle.bl_elf.specs.Program.{share_at}
-use Rattle.bl_elf.specs.Elf.{ElfFacts, IsElf, IsIndex, SharesNone, IsFirstFaulty, IsFirstOverlap}
+use Rattle.bl_elf.specs.Elf.{ElfFacts, IsElf, IsProgramHeaderIndex, SharesNone, IsFirstFaulty}
+use Rattle.bl_elf.specs.Elf.{IsFirstOverlap}
 use Rattle.bl_elf.specs.Elf.{HasFirstElfFault, physical_entry}
 use Rattle.bl_elf.proofs.FaultLemmas.{header_kinds, program_kinds, header_first, program_first}
 
@@ -86,7 +87,7 @@ overlap_refused bytes i j first = (SegmentsOverlap i j, (λ memory. cc), first)
 
 -- where the header and each program header are sound
 after_programs : (bytes : List ℕ) → header_fault bytes ≡ None
-    → ((i : ℕ) → IsIndex bytes i → program_fault_at bytes i ≡ None)
+    → ((i : ℕ) → IsProgramHeaderIndex bytes i → program_fault_at bytes i ≡ None)
     → ((facts : ElfFacts) × IsElf bytes facts) ⊎ IsRefused bytes
 after_programs bytes header sound =
     elim (least_below (SharesOne bytes) (one_or_not bytes) (header_of bytes).e_phnum) [

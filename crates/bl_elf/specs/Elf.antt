@@ -3,7 +3,7 @@
 use Rattle.std.specs.Prelude.{◌≡◌, ◌⊎◌, ◌+◌, ◌-◌, ◌<◌, ◌≤◌, ◌^◌, ℕ, true, false, if◌then◌else◌}
 use Rattle.std.specs.Prelude.{List, length, find, Option, Some, None}
 use Rattle.std.specs.List.{list_any}
-use Rattle.bl_mem.specs.Contents.{holds_at}
+use Rattle.bl_mem.specs.Contents.{is_in_segment}
 use Rattle.bl_mem.specs.declared.segment.Segment.{Segment}
 use Rattle.bl_elf.specs.declared.program.ProgramHeader.{ProgramHeader}
 use Rattle.bl_elf.specs.declared.fault.ElfFault.{ElfFault}
@@ -22,39 +22,40 @@ pub record ElfFacts : Type 0 where
 
 -- own: e_entry moved with the program header that holds it among its virtual addresses; or else
 -- e_entry itself where it is a physical address of a segment; or else none
-abbrev pub entry_among : ℕ → List Segment → Option ProgramHeader → Option ℕ
-entry_among e_entry segments (Some header) = Some (e_entry - header.p_vaddr + header.p_paddr)
-entry_among e_entry segments None =
-    if list_any (holds_at e_entry) segments then Some e_entry else None
+abbrev pub physical_entry_from : ℕ → List Segment → Option ProgramHeader → Option ℕ
+physical_entry_from e_entry segments (Some header) =
+    Some (e_entry - header.p_vaddr + header.p_paddr)
+physical_entry_from e_entry segments None =
+    if list_any (is_in_segment e_entry) segments then Some e_entry else None
 
 -- the first loadable program header counts
 unfoldable pub physical_entry : List ℕ → Option ℕ
 physical_entry bytes =
     let e_entry = (header_of bytes).e_entry in
     let headers = program_headers bytes in
-    entry_among e_entry (segments_of headers) (find (is_entered e_entry) headers)
+    physical_entry_from e_entry (segments_of headers) (find (is_entered e_entry) headers)
 
 -- a number below e_phnum
-abbrev pub IsIndex : List ℕ → ℕ → Type 0
-IsIndex bytes i = i < (header_of bytes).e_phnum
+abbrev pub IsProgramHeaderIndex : List ℕ → ℕ → Type 0
+IsProgramHeaderIndex bytes i = i < (header_of bytes).e_phnum
 
 -- program header i shares no physical byte with a later one
 abbrev pub SharesNone : List ℕ → ℕ → Type 0
-SharesNone bytes i = (j : ℕ) → i < j → IsIndex bytes j → share_at bytes i j ≡ false
+SharesNone bytes i = (j : ℕ) → i < j → IsProgramHeaderIndex bytes j → share_at bytes i j ≡ false
 
 -- the header is sound and so is each program header, no two share a physical byte, and these are
 -- the facts
 pub record IsElf (bytes : List ℕ) (facts : ElfFacts) : Type 0 where
   pub header : header_fault bytes ≡ None
-  pub sound : (i : ℕ) → IsIndex bytes i → program_fault_at bytes i ≡ None
-  pub apart : (i : ℕ) → IsIndex bytes i → SharesNone bytes i
+  pub sound : (i : ℕ) → IsProgramHeaderIndex bytes i → program_fault_at bytes i ≡ None
+  pub apart : (i : ℕ) → IsProgramHeaderIndex bytes i → SharesNone bytes i
   pub segments : facts.segments ≡ segments_of (program_headers bytes)
   pub entry : facts.entry ≡ physical_entry bytes
 
 -- the header is sound, and program header i is the first with a fault, which is this one
 pub record IsFirstFaulty (bytes : List ℕ) (i : ℕ) (fault : ElfFault) : Type 0 where
   pub header : header_fault bytes ≡ None
-  pub within : IsIndex bytes i
+  pub within : IsProgramHeaderIndex bytes i
   pub faulty : program_fault_at bytes i ≡ Some fault
   pub sound_before : (k : ℕ) → k < i → program_fault_at bytes k ≡ None
 
@@ -62,9 +63,9 @@ pub record IsFirstFaulty (bytes : List ℕ) (i : ℕ) (fault : ElfFault) : Type 
 -- the least of those
 pub record IsFirstOverlap (bytes : List ℕ) (i j : ℕ) : Type 0 where
   pub header : header_fault bytes ≡ None
-  pub sound : (k : ℕ) → IsIndex bytes k → program_fault_at bytes k ≡ None
+  pub sound : (k : ℕ) → IsProgramHeaderIndex bytes k → program_fault_at bytes k ≡ None
   pub above : i < j
-  pub within : IsIndex bytes j
+  pub within : IsProgramHeaderIndex bytes j
   pub share : share_at bytes i j ≡ true
   pub least_first : (k : ℕ) → k < i → SharesNone bytes k
   pub least_second : (k : ℕ) → i < k → k < j → share_at bytes i k ≡ false

@@ -41,12 +41,12 @@ program_header bytes i =
     let header = header_of bytes in program_header_at header.class bytes (header_place header i)
 
 -- the n program headers from the i-th on
-abbrev pub headers_from : List ℕ → ℕ → ℕ → List ProgramHeader
-headers_from bytes i zero = []
-headers_from bytes i (suc n) = program_header bytes i ∷ headers_from bytes (i + 1) n
+abbrev pub program_headers_from : List ℕ → ℕ → ℕ → List ProgramHeader
+program_headers_from bytes i zero = []
+program_headers_from bytes i (suc n) = program_header bytes i ∷ program_headers_from bytes (i + 1) n
 
 abbrev pub program_headers : List ℕ → List ProgramHeader
-program_headers bytes = headers_from bytes 0 (header_of bytes).e_phnum
+program_headers bytes = program_headers_from bytes 0 (header_of bytes).e_phnum
 
 -- PT_LOAD, and it takes memory
 abbrev pub is_loadable : ProgramHeader → Bool

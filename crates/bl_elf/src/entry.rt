@@ -1,10 +1,10 @@
 //! Where a file is entered.
 ghost use Rattle.std.specs.Prelude.{◌≡◌, ◌≤◌, ◌<◌, ◌+◌, ◌-◌, ◌^◌, ℕ, None, IfSome, find};
 ghost use Rattle.std.specs.List.{list_any};
-ghost use Rattle.bl_elf.specs.Kept.{IsHeaderOf};
+ghost use Rattle.bl_elf.specs.Kept.{IsSoundHeaderOf};
 ghost use Rattle.bl_elf.specs.Program.{program_headers, segments_of, program_fault_at, is_entered};
-ghost use Rattle.bl_mem.specs.Contents.{holds_at};
-ghost use Rattle.bl_elf.specs.Elf.{IsIndex, physical_entry};
+ghost use Rattle.bl_mem.specs.Contents.{is_in_segment};
+ghost use Rattle.bl_elf.specs.Elf.{IsProgramHeaderIndex, physical_entry};
 
 use crate::header::Header;
 use crate::program::{ProgramHeader, program_header};
@@ -13,8 +13,9 @@ use bl_mem::{ByteView, Segment};
 /// The physical address at which a sound file is entered, if some segment holds its entry.
 #[tactic(auto, unfolding(crate::specs::Elf::physical_entry))]
 pub fn find_entry<V: ByteView>(view: &V, header: Header, segments: &[Segment]) -> Option<u64>
-    requires header { IsHeaderOf (V.bytes view.now) header }
-    requires sound { (i : ℕ) → IsIndex (V.bytes view.now) i → program_fault_at (V.bytes view.now) i
+    requires header { IsSoundHeaderOf (V.bytes view.now) header }
+    requires sound { (i : ℕ) → IsProgramHeaderIndex (V.bytes view.now) i
+        → program_fault_at (V.bytes view.now) i
         ≡ None }
     requires segments { segments.now ≡ segments_of (program_headers (V.bytes view.now)) }
     ensures { result ≡ physical_entry (V.bytes view.now) }
@@ -30,8 +31,9 @@ pub fn find_entry<V: ByteView>(view: &V, header: Header, segments: &[Segment]) -
 
 /// The first loadable program header whose virtual addresses hold the entry.
 fn first_entered<V: ByteView>(view: &V, header: Header) -> Option<ProgramHeader>
-    requires header { IsHeaderOf (V.bytes view.now) header }
-    requires sound { (i : ℕ) → IsIndex (V.bytes view.now) i → program_fault_at (V.bytes view.now) i
+    requires header { IsSoundHeaderOf (V.bytes view.now) header }
+    requires sound { (i : ℕ) → IsProgramHeaderIndex (V.bytes view.now) i
+        → program_fault_at (V.bytes view.now) i
         ≡ None }
     ensures first { result ≡ find (is_entered header.e_entry) (program_headers (V.bytes view.now)) }
     ensures inside { IfSome result (λ program. (program.p_vaddr ≤ header.e_entry)
@@ -48,7 +50,7 @@ fn first_entered<V: ByteView>(view: &V, header: Header) -> Option<ProgramHeader>
 
 /// Whether some segment's physical addresses hold `a`.
 fn is_held(a: u64, segments: &[Segment]) -> bool
-    ensures { result ≡ list_any (holds_at a) segments.now }
+    ensures { result ≡ list_any (is_in_segment a) segments.now }
 {
     segments.iter().any(|segment| segment.holds(a))
 }

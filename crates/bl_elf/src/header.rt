@@ -1,7 +1,7 @@
 //! The ELF header.
 ghost use Rattle.std.specs.Prelude.{◌≡◌, ◌≤◌, Some, None, length, MatchResult, IfOk};
 ghost use Rattle.bl_elf.specs.Header as spec;
-ghost use Rattle.bl_elf.specs.Kept.{IsHeaderOf};
+ghost use Rattle.bl_elf.specs.Kept.{IsSoundHeaderOf};
 
 use crate::class::Class;
 use crate::fault::ElfFault;
@@ -33,7 +33,7 @@ pub fn read_header<V: ByteView>(view: &V) -> Result<Header, ElfFault>
     ensures exact { MatchResult result
         (λ _. spec.header_fault (V.bytes view.now) ≡ None)
         (λ fault. spec.header_fault (V.bytes view.now) ≡ Some fault) }
-    ensures header { IfOk result (IsHeaderOf (V.bytes view.now)) }
+    ensures header { IfOk result (IsSoundHeaderOf (V.bytes view.now)) }
 {
     let size = view.len();
     if !has_magic(view) {

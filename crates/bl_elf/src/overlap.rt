@@ -1,8 +1,8 @@
 //! Segments that share a physical byte.
 ghost use Rattle.std.specs.Prelude.{◌≡◌, ◌<◌, ℕ, true, false, None, MatchOption, MatchResult};
-ghost use Rattle.bl_elf.specs.Kept.{IsHeaderOf};
+ghost use Rattle.bl_elf.specs.Kept.{IsSoundHeaderOf};
 ghost use Rattle.bl_elf.specs.Program.{program_fault_at, share_at};
-ghost use Rattle.bl_elf.specs.Elf.{IsIndex, SharesNone, HasFirstElfFault};
+ghost use Rattle.bl_elf.specs.Elf.{IsProgramHeaderIndex, SharesNone, HasFirstElfFault};
 
 use crate::fault::ElfFault;
 use crate::header::Header;
@@ -11,11 +11,12 @@ use bl_mem::ByteView;
 
 /// The least program header after the `i`-th that shares a physical byte with it.
 fn overlap_after<V: ByteView>(view: &V, header: Header, i: u16) -> Option<u16>
-    requires header { IsHeaderOf (V.bytes view.now) header }
+    requires header { IsSoundHeaderOf (V.bytes view.now) header }
     requires within { i < header.e_phnum }
     ensures { MatchOption result
         (SharesNone (V.bytes view.now) i)
-        (λ j. (i < j) × IsIndex (V.bytes view.now) j × (share_at (V.bytes view.now) i j ≡ true)
+        (λ j. (i < j) × IsProgramHeaderIndex (V.bytes view.now) j
+        × (share_at (V.bytes view.now) i j ≡ true)
         × ((k : ℕ) → i < k → k < j → share_at (V.bytes view.now) i k ≡ false)) }
 {
     let first = program_header(view, header, i);
@@ -29,11 +30,12 @@ fn overlap_after<V: ByteView>(view: &V, header: Header, i: u16) -> Option<u16>
 
 /// Refuses a file in which two loadable segments share a physical byte, with the first two.
 pub fn check_overlaps<V: ByteView>(view: &V, header: Header) -> Result<(), ElfFault>
-    requires header { IsHeaderOf (V.bytes view.now) header }
-    requires sound { (i : ℕ) → IsIndex (V.bytes view.now) i → program_fault_at (V.bytes view.now) i
+    requires header { IsSoundHeaderOf (V.bytes view.now) header }
+    requires sound { (i : ℕ) → IsProgramHeaderIndex (V.bytes view.now) i
+        → program_fault_at (V.bytes view.now) i
         ≡ None }
     ensures { MatchResult result
-        (λ _. (i : ℕ) → IsIndex (V.bytes view.now) i → SharesNone (V.bytes view.now) i)
+        (λ _. (i : ℕ) → IsProgramHeaderIndex (V.bytes view.now) i → SharesNone (V.bytes view.now) i)
         (HasFirstElfFault (V.bytes view.now)) }
 {
     for i in 0..header.e_phnum {

@@ -1,6 +1,6 @@
 //! Program headers.
 ghost use Rattle.std.specs.Prelude.{◌≡◌, ◌≤◌, ◌<◌, ◌+◌, ◌^◌, Some, None, length, MatchResult};
-ghost use Rattle.bl_elf.specs.Kept.{IsHeaderOf};
+ghost use Rattle.bl_elf.specs.Kept.{IsSoundHeaderOf};
 ghost use Rattle.bl_elf.specs.Program as spec;
 
 use crate::class::Class;
@@ -27,7 +27,7 @@ pub struct ProgramHeader {
 /// Program header `i` of a file.
 #[tactic(auto, unfolding(crate::specs::Program::program_header))]
 pub fn program_header<V: ByteView>(view: &V, header: Header, i: u16) -> ProgramHeader
-    requires header { IsHeaderOf (V.bytes view.now) header }
+    requires header { IsSoundHeaderOf (V.bytes view.now) header }
     requires within { i < header.e_phnum }
     ensures { result ≡ spec.program_header (V.bytes view.now) i }
 {

@@ -1,8 +1,8 @@
 //! The loadable segments.
 ghost use Rattle.std.specs.Prelude.{◌≡◌, ℕ, None, IfOk, OnOk, IfErr};
-ghost use Rattle.bl_elf.specs.Kept.{IsHeaderOf};
+ghost use Rattle.bl_elf.specs.Kept.{IsSoundHeaderOf};
 ghost use Rattle.bl_elf.specs.Program.{program_headers, segments_of, program_fault_at};
-ghost use Rattle.bl_elf.specs.Elf.{IsIndex, HasFirstElfFault};
+ghost use Rattle.bl_elf.specs.Elf.{IsProgramHeaderIndex, HasFirstElfFault};
 
 use crate::fault::ElfFault;
 use crate::header::Header;
@@ -16,11 +16,12 @@ pub fn loadable_segments<A: Allocator + Copy, V: ByteView>(
     view: &V,
     header: Header,
 ) -> Result<Vec<Segment, A>, ElfFault>
-    requires { IsHeaderOf (V.bytes view.now) header }
+    requires { IsSoundHeaderOf (V.bytes view.now) header }
     ensures segments { IfOk result
         (λ segments. segments.items ≡ segments_of (program_headers (V.bytes view.now))) }
     ensures sound { OnOk result
-        ((i : ℕ) → IsIndex (V.bytes view.now) i → program_fault_at (V.bytes view.now) i ≡ None) }
+        ((i : ℕ) → IsProgramHeaderIndex (V.bytes view.now) i
+        → program_fault_at (V.bytes view.now) i ≡ None) }
     ensures first_fault { IfErr result (HasFirstElfFault (V.bytes view.now)) }
 {
     let size = view.len();

@@ -2,7 +2,7 @@
 ghost use Rattle.std.specs.Prelude.{◌≡◌, ◌≤◌, IfOk, length, map};
 ghost use Rattle.bl_load.specs.Parts.{IsHandover};
 ghost use Rattle.bl_load.specs.PlanFacts.{handover_in};
-ghost use Rattle.bl_load.specs.Value.{value_of, file_count, IsWithinLimits};
+ghost use Rattle.bl_load.specs.EntryValue.{value_of, file_count, IsWithinLimits};
 
 use bl_load::{Entry, Handoff, PrepFault, load_entry};
 use bl_map::{Kind, Machine, MapFault, Region};

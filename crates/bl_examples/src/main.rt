@@ -6,8 +6,8 @@ mod by_hand;
 mod check;
 mod disk;
 mod disk_boot;
-mod files;
 mod guest;
+mod guest_from_files;
 mod menu;
 mod showing;
 
@@ -23,10 +23,15 @@ fn show_all(rt: &HostRuntime) -> io::Result<()> {
 fn main(rt: HostRuntime) -> io::Result<()> {
     let words = env::args(&rt)?.collect::<Vec<String>>(rt.alloc())?;
     match words.as_slice() {
-        [_, kernel, initrd] => files::show_files(&rt, kernel.as_str(), initrd.as_str(), 1),
+        [_, kernel, initrd] => guest_from_files::show_files(
+            &rt,
+            kernel.as_str(),
+            initrd.as_str(),
+            1,
+        ),
         [_, kernel, initrd, rounds] => {
             let rounds = rounds.as_str().parse::<u64>().unwrap_or(1);
-            files::show_files(&rt, kernel.as_str(), initrd.as_str(), rounds)
+            guest_from_files::show_files(&rt, kernel.as_str(), initrd.as_str(), rounds)
         }
         _ => show_all(&rt),
     }

@@ -4,7 +4,7 @@ ghost use Rattle.std.specs.Prelude.{◌+◌, ◌≤◌, length, All};
 use crate::by_hand::boot_by_hand;
 use crate::check::check_image;
 use crate::disk_boot::boot_from_disk;
-use crate::files::show_load;
+use crate::guest_from_files::show_load;
 use crate::menu::{KERNEL, MACHINE_SIZE, machine, menu};
 use bl_image::{MemSink, write_image};
 use bl_load::{Entry, Handoff};

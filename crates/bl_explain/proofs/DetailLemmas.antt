@@ -5,12 +5,12 @@ use Rattle.std.specs.Prelude.{IfOk, Result, Ok, Err, slice_get}
 use Rattle.std.specs.declared.alloc.AllocError.{AllocError}
 use Rattle.std.proofs.lemmas.List.{length-map, map-append, take_more}
 use Rattle.bl_map.specs.MachineFacts.{MachineFacts}
-use Rattle.bl_map.specs.Room.{open_frames}
+use Rattle.bl_map.specs.PoolFrames.{open_frames}
 use Rattle.bl_plan.specs.Placed.{place_range}
 use Rattle.bl_load.specs.Loadable.{lengths_of, IsLoadable}
 use Rattle.bl_load.specs.Parts.{IsHandover}
 use Rattle.bl_load.specs.PlanFacts.{handover_by, places_of}
-use Rattle.bl_load.specs.Value.{EntryValue, file_count, value_of}
+use Rattle.bl_load.specs.EntryValue.{EntryValue, file_count, value_of}
 use Rattle.bl_load.specs.declared.entry.Entry as loaded
 use Rattle.bl_load.specs.declared.entry.Module.{Module}
 use Rattle.bl_load.specs.declared.entry.Entry.TheVariants.{Multiboot2, Linux}
@@ -24,8 +24,9 @@ use Rattle.bl_desc.specs.declared.entry_row.EntryRow.{EntryRow}
 use Rattle.bl_desc.specs.Entries.{Entry}
 use Rattle.bl_desc.specs.Views.{entry_view}
 use Rattle.bl_menu.specs.Attempted.{entry_facts}
-use Rattle.bl_desc.specs.EntryNames.{file_names, index_of}
-use Rattle.bl_explain.specs.Details.{AreFramesBeside, IsRefusalDetail, IsRefusalDetailOrNothing, value_sought}
+use Rattle.bl_desc.specs.EntryNames.{file_names, file_index}
+use Rattle.bl_explain.specs.Details.{AreFramesBeside, IsRefusalDetail, IsRefusalDetailOrNothing}
+use Rattle.bl_explain.specs.Details.{value_sought}
 use Rattle.bl_say.specs.Sought.{SoughtFacts, bytes_found}
 use Rattle.bl_say.specs.declared.told.refusal_detail.RefusalDetail.{RefusalDetail}
 use Rattle.bl_say.specs.declared.told.refusal_detail.RefusalDetail.TheVariants.{Nothing}
@@ -48,7 +49,7 @@ module _ {A : Type 0} (entry : loaded.Entry A) (names texts : List (List ℕ)) (
   pub counted_files : length texts ≡ file_count entry
   counted_files =
       ap length are ∙ length-map (file_names e) (bytes_found sought)
-      ∙ sym (length-map (file_names e) (index_of names))
+      ∙ sym (length-map (file_names e) (file_index names))
       ∙ sym (ap (λ (f : EntryFacts). length f.files) made) ∙ as_many entry
 
   -- and this value
@@ -82,7 +83,8 @@ no_detail rows facts sought index refusal past =
     (sym (no_row rows index past)) refl
 
 pub one_detail : {A : Type 0} (rows : List (EntryRow A)) (facts : MachineFacts)
-    (sought : SoughtFacts) (index : ℕ) (row : EntryRow A) (refusal : Refusal) (detail : RefusalDetail)
+    (sought : SoughtFacts) (index : ℕ) (row : EntryRow A) (refusal : Refusal)
+    (detail : RefusalDetail)
     → index < length rows → row ≡ get_or rows index row
     → IsRefusalDetail facts (value_sought sought (entry_view row)) refusal detail
     → IsRefusalDetailOrNothing facts sought (slice_get (map entry_view rows) index) refusal detail
@@ -95,7 +97,8 @@ pub one_detail_if : {A : Type 0} (rows : List (EntryRow A)) (facts : MachineFact
     (sought : SoughtFacts) (index : ℕ) (row : EntryRow A) (refusal : Refusal)
     (found : Result RefusalDetail AllocError) → index < length rows → row ≡ get_or rows index row
     → IfOk found (IsRefusalDetail facts (value_sought sought (entry_view row)) refusal)
-    → IfOk found (IsRefusalDetailOrNothing facts sought (slice_get (map entry_view rows) index) refusal)
+    → IfOk found
+    (IsRefusalDetailOrNothing facts sought (slice_get (map entry_view rows) index) refusal)
 one_detail_if rows facts sought index row refusal (Ok detail) within at is =
     one_detail rows facts sought index row refusal detail within at is
 one_detail_if rows facts sought index row refusal (Err e) within at is = is

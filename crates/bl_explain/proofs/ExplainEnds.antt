@@ -14,7 +14,7 @@ use Rattle.bl_blame.specs.declared.told.blame.Blame.TheVariants.{BadMachine}
 use Rattle.bl_explain.specs.declared.fault.ExplainFault.{ExplainFault}
 use Rattle.bl_explain.specs.declared.fault.ExplainFault.TheVariants.{Blamed, NoMemory}
 use Rattle.bl_menu.specs.Attempted.{menu_of, names_in}
-use Rattle.bl_blame.specs.BlameHints.{blame_lines}
+use Rattle.bl_blame.specs.BlameLines.{blame_lines}
 use Rattle.bl_explain.specs.BlameConditions.{HasBlame}
 use Rattle.bl_menu.specs.DescribedMachine.{IsMachineOf}
 use Rattle.bl_menu.specs.Cases.{BootCase}

@@ -13,7 +13,7 @@ use Rattle.bl_load.specs.PlanFacts.{part_in}
 use Rattle.bl_image.proofs.Spelled.{EndsIn, length-place_bytes}
 use Rattle.bl_session.specs.declared.outcome.RefusedEntry.{RefusedEntry}
 use Rattle.bl_session.specs.AttemptResult.{part_range}
-use Rattle.bl_session.specs.Boot.{handed_over}
+use Rattle.bl_session.specs.BootSteps.{handed_over}
 use Rattle.bl_session.specs.Phases.{handover_held}
 use Rattle.bl_desc.specs.declared.entry_row.EntryRow.{EntryRow}
 use Rattle.bl_desc.specs.Described.{Described}
@@ -23,7 +23,8 @@ use Rattle.bl_say.specs.HandedLines.{SourceWords, handoff_lines, part_line, plac
 use Rattle.bl_say.specs.Segments.{KernelSegmentsFacts}
 use Rattle.bl_say.specs.Sought.{SoughtFacts}
 use Rattle.bl_say.specs.Sources.{source_at}
-use Rattle.bl_explain.specs.Told.{booted_lines, entry_handoff_lines, entry_handover_lines, told_lines}
+use Rattle.bl_explain.specs.Told.{booted_lines, entry_handoff_lines, entry_handover_lines}
+use Rattle.bl_explain.specs.Told.{told_lines}
 use Rattle.bl_say.specs.declared.told.refusal_detail.ToldRefusal.{ToldRefusal}
 
 -- ---- part by part

@@ -5,7 +5,7 @@ use Rattle.std.specs.Prelude.{if◌then◌else◌, not, nat_le, nat_lt, option_m
 use Rattle.std.specs.List.{list_any}
 use Rattle.std.specs.Option.{option_or}
 use Rattle.std.proofs.lemmas.Option.{same_Some}
-use Rattle.bl_mem.specs.Contents.{holds_at}
+use Rattle.bl_mem.specs.Contents.{is_in_segment}
 use Rattle.bl_mem.specs.declared.segment.Segment.{Segment}
 use Rattle.bl_map.specs.MachineFacts.{MachineFacts}
 use Rattle.bl_map.specs.declared.region.Region.{Region}
@@ -18,17 +18,17 @@ use Rattle.bl_bzimage.specs.declared.fault.SetupFault.{SetupFault}
 use Rattle.bl_bzimage.specs.declared.fault.SetupFault.TheVariants as setups
 use Rattle.bl_bzimage.specs.declared.setup.Setup.{Setup}
 use Rattle.bl_params.specs.BootParamsFacts.{max_e820_entries}
-use Rattle.bl_plan.specs.Limits.{max_line}
+use Rattle.bl_plan.specs.MenuLimits.{max_line}
 use Rattle.bl_plan.specs.declared.protocol.Protocol.{Protocol}
 use Rattle.bl_plan.specs.declared.protocol.Protocol.TheVariants.{Multiboot2, Linux, Linux64}
 use Rattle.bl_load.specs.Kernel.{HasKernelFault, HasElfRefusal, counted_entry, elf_refusal}
 use Rattle.bl_load.specs.Kernel.{entry_fault, head_refusal}
 use Rattle.bl_load.specs.Linux.{entering_fault, entry_64, has_64_bit_entry, linux_fault}
 use Rattle.bl_load.specs.Linux.{setup_refusal, telling_fault}
-use Rattle.bl_load.specs.Parts.{IsRefusal, Then, handover_of}
+use Rattle.bl_load.specs.Parts.{IsRefusal, OrRefused, handover_of}
 use Rattle.bl_load.specs.Reading.{HasReadFault}
 use Rattle.bl_load.specs.Unplaced.{IsUnplaced, IsReadingFault}
-use Rattle.bl_load.specs.Value.{EntryValue, kernel_file, line_fault, lines_fault, lines_of}
+use Rattle.bl_load.specs.EntryValue.{EntryValue, kernel_file, line_fault, lines_fault, lines_of}
 use Rattle.bl_load.specs.declared.refusal.PrepFault.TheVariants.{Refused}
 use Rattle.bl_load.specs.declared.refusal.Refusal.{Refusal}
 use Rattle.bl_load.specs.declared.refusal.Refusal.TheVariants as refusals
@@ -95,7 +95,7 @@ other_elf elves.NoMemory = no_other
 other_entry : (segments : List Segment) (entry : Option ℕ) → IsOther (entry_fault segments entry)
 other_entry segments None = other_is refusals.NoEntry refl
 other_entry segments (Some entry) =
-    other_if (list_any (holds_at entry) segments) None (Some refusals.EntryOutside) no_other
+    other_if (list_any (is_in_segment entry) segments) None (Some refusals.EntryOutside) no_other
     (other_is refusals.EntryOutside refl)
 
 other_load : (file : List ℕ) (segment : Option Segment) (r : Refusal)
@@ -157,12 +157,13 @@ other_read facts value r (inr (is, fault)) =
     other_linux value.protocol facts.runs value.line (kernel_file value) r fault
 
 other_early : (facts : MachineFacts) (value : EntryValue) (r : Refusal)
-    → Then (lines_fault (lines_of value)) (HasReadFault facts value) r → is_placing r ≡ false
+    → OrRefused (lines_fault (lines_of value)) (HasReadFault facts value) r → is_placing r ≡ false
 other_early facts value r (inl lines) = other_lines (lines_of value) r lines
 other_early facts value r (inr (none, read)) = other_read facts value r read
 
 as_refusal : (facts : MachineFacts) (value : EntryValue) (r : Refusal)
-    → Then (lines_fault (lines_of value)) (HasReadFault facts value) r → IsRefusal facts value r
+    → OrRefused (lines_fault (lines_of value)) (HasReadFault facts value) r
+    → IsRefusal facts value r
 as_refusal facts value r (inl lines) = inl lines
 as_refusal facts value r (inr (none, read)) = inr (none, inl read)
 

@@ -7,15 +7,15 @@ use Rattle.std.proofs.lemmas.List.Elements.{All-push}
 use Rattle.std.proofs.lemmas.Option.{get_or_from_slice_get, slice_get-map}
 use Rattle.std.proofs.lemmas.Simd.{map-map}
 use Rattle.bl_map.specs.MachineFacts.{MachineFacts}
-use Rattle.bl_map.specs.Room.{frames_for, frames_in}
+use Rattle.bl_map.specs.PoolFrames.{frames_for, frames_in}
 use Rattle.bl_load.specs.Parts.{IsRefusal}
-use Rattle.bl_load.specs.Value.{EntryValue}
+use Rattle.bl_load.specs.EntryValue.{EntryValue}
 use Rattle.bl_load.specs.declared.refusal.Refusal.{Refusal}
 use Rattle.bl_load.specs.declared.refusal.Refusal.TheVariants.{NoFile, FileTooLong, NoPool}
 use Rattle.bl_session.specs.AttemptResult.{AttemptResult, HasResult, UnlessRefused, handed, refused}
 use Rattle.bl_session.specs.AttemptResult.{file_limit, file_refusal, known_lengths, pool_refusal}
 use Rattle.bl_session.specs.AttemptResult.{size_refusal}
-use Rattle.bl_session.specs.Boot.{BootFacts, State, fresh, sizes_of}
+use Rattle.bl_session.specs.BootSteps.{BootFacts, State, fresh, sizes_of}
 use Rattle.bl_session.specs.Menu.{EntryFacts, MenuFacts, entry_at, no_entry, value_with}
 use Rattle.bl_session.specs.Outcome.{EntryHasResult, File, IsFirst, IsOutcome, faulty_file}
 use Rattle.bl_session.specs.Outcome.{file_bytes, missing, no_fault, size_of, entry_value_in}
@@ -25,7 +25,7 @@ use Rattle.bl_session.specs.declared.outcome.RefusedEntry.{RefusedEntry}
 use Rattle.bl_desc.specs.Described.{Described}
 use Rattle.bl_desc.specs.Entries.{Entry}
 use Rattle.bl_menu.specs.Attempted.{boot_of, entry_facts, menu_of, names_in}
-use Rattle.bl_desc.specs.EntryNames.{file_names, index_of}
+use Rattle.bl_desc.specs.EntryNames.{file_names, file_index}
 use Rattle.bl_explain.specs.Details.{value_sought}
 use Rattle.bl_explain.specs.ExplainKept.{HasPlaceRefusal, is_placing}
 use Rattle.bl_say.specs.Sought.{SoughtFacts}
@@ -106,7 +106,8 @@ refused_results facts files (entry ∷ rest) earlier state all (refused r, ends,
 -- ---- by what was found
 
 -- the value of an entry of a description
-pub value_of_entry : (d : Described) (facts : MachineFacts) (files : List File) (index : ℕ) (e : Entry)
+pub value_of_entry : (d : Described) (facts : MachineFacts) (files : List File) (index : ℕ)
+    (e : Entry)
     → slice_get d.entries index ≡ Some e
     → entry_value_in (boot_of d facts files) files index ≡ value_sought (sought_in d files) e
 value_of_entry d facts files index e here =
@@ -116,7 +117,7 @@ value_of_entry d facts files index e here =
     get_or_from_slice_get (map facts_by d.entries) index (facts_by e) no_entry
     (slice_get-map facts_by d.entries index ∙ ap (option_map facts_by) here) in
     ap (λ (f : EntryFacts). value_with f (map text f.files)) at
-    ∙ ap (value_with (facts_by e)) (map-map text (index_of (names_in d)) (file_names e))
+    ∙ ap (value_with (facts_by e)) (map-map text (file_index (names_in d)) (file_names e))
 
 by_found : (d : Described) (facts : MachineFacts) (files : List File) (r : RefusedEntry)
     → IsResult (boot_of d facts files) files r

@@ -16,12 +16,12 @@ use Rattle.bl_mb2head.specs.declared.header.Header.{Header}
 use Rattle.bl_mb2head.proofs.HeaderLaws.{one_header}
 use Rattle.bl_plan.specs.declared.protocol.Protocol.TheVariants.{Multiboot2}
 use Rattle.bl_load.specs.Handover.{Handover}
-use Rattle.bl_load.specs.Kernel.{KernelFacts, IsKernel, IsLoadedBy}
+use Rattle.bl_load.specs.Kernel.{Multiboot2KernelFacts, IsKernel, IsLoadedBy}
 use Rattle.bl_load.specs.Parts.{IsHandover}
 use Rattle.bl_load.specs.Protocols.{has_params}
 use Rattle.bl_load.specs.Reading.{Reading, multiboot2, linux, IsRead}
-use Rattle.bl_load.specs.Value.{EntryValue, kernel_file}
-use Rattle.bl_session.specs.Boot.{handed_over}
+use Rattle.bl_load.specs.EntryValue.{EntryValue, kernel_file}
+use Rattle.bl_session.specs.BootSteps.{handed_over}
 use Rattle.bl_session.specs.Menu.{MenuFacts}
 use Rattle.bl_session.specs.Outcome.{File, IsOutcome, no_fault, size_of}
 use Rattle.bl_session.specs.Phases.{boot_facts}
@@ -65,7 +65,8 @@ only_memory bytes facts NoEntry is has = absurd has
 only_memory bytes facts NoMemory is has = refl
 
 -- a header that was found is the kernel's
-module _ (bytes : List ℕ) (kernel : KernelFacts) (is : IsKernel bytes kernel) (header : Header)
+module _ (bytes : List ℕ) (kernel : Multiboot2KernelFacts) (is : IsKernel bytes kernel)
+    (header : Header)
     (found : IsHeader bytes header) where
   same_header : is.header ≡ header
   same_header = one_header bytes is.header header is.is_header found
@@ -109,7 +110,7 @@ segments_at_if rows sought index row (Err e) within at are = are
 
 kernel_read : (facts : MachineFacts) (value : EntryValue) (reading : Reading)
     → value.protocol ≡ Multiboot2 → IsRead facts value reading
-    → (kernel : KernelFacts) × IsKernel (kernel_file value) kernel
+    → (kernel : Multiboot2KernelFacts) × IsKernel (kernel_file value) kernel
 kernel_read facts value (multiboot2 kernel) by read = (kernel, read.1)
 kernel_read facts value (linux setup) by read =
     let bad : false ≡ true = sym (ap has_params by) ∙ read.0 in absurd cc

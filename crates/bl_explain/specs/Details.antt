@@ -3,14 +3,14 @@ use Rattle.std.specs.Prelude.{◌≡◌, ◌+◌, ◌<◌, ℕ, List, map, slice
 use Rattle.std.specs.Prelude.{MatchOption}
 use Rattle.bl_mem.specs.Least.{IsLeast}
 use Rattle.bl_map.specs.MachineFacts.{MachineFacts, AllUsable}
-use Rattle.bl_map.specs.Room.{open_frames}
+use Rattle.bl_map.specs.PoolFrames.{open_frames}
 use Rattle.bl_plan.specs.Unusable.{IsUnusableFrom}
 use Rattle.bl_plan.specs.declared.part.Choice.{Choice}
 use Rattle.bl_plan.specs.declared.part.Choice.TheVariants.{Fixed, Lowest, Highest, Preferred}
 use Rattle.bl_load.specs.Handover.{Handover}
 use Rattle.bl_load.specs.Parts.{IsHandover, IsRefusal}
 use Rattle.bl_load.specs.Unplaced.{IsUnplaced}
-use Rattle.bl_load.specs.Value.{EntryValue}
+use Rattle.bl_load.specs.EntryValue.{EntryValue}
 use Rattle.bl_load.specs.declared.refusal.Refusal.{Refusal}
 use Rattle.bl_load.specs.declared.refusal.Refusal.TheVariants.{NotUsable, NoRoom, NoPool}
 use Rattle.bl_session.specs.AttemptResult.{part_range}

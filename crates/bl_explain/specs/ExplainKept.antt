@@ -7,13 +7,13 @@ use Rattle.bl_map.specs.declared.fault.MapFault.{MapFault}
 use Rattle.bl_map.specs.declared.fault.MapFault.TheVariants as map_fault
 use Rattle.bl_plan.specs.declared.protocol.Protocol.TheVariants.{Multiboot2}
 use Rattle.bl_load.specs.Handover.{Handover}
-use Rattle.bl_load.specs.Kernel.{KernelFacts, IsKernel}
+use Rattle.bl_load.specs.Kernel.{Multiboot2KernelFacts, IsKernel}
 use Rattle.bl_load.specs.Parts.{IsRefusal}
-use Rattle.bl_load.specs.Value.{EntryValue}
+use Rattle.bl_load.specs.EntryValue.{EntryValue}
 use Rattle.bl_load.specs.declared.refusal.Refusal.{Refusal}
 use Rattle.bl_load.specs.declared.refusal.Refusal.TheVariants.{NotUsable, NoRoom}
 use Rattle.bl_session.specs.declared.outcome.RefusedEntry.{RefusedEntry}
-use Rattle.bl_session.specs.Boot.{BootFacts, handed_over, none_left}
+use Rattle.bl_session.specs.BootSteps.{BootFacts, handed_over, none_left}
 use Rattle.bl_session.specs.Outcome.{File, IsOutcome, no_fault}
 use Rattle.bl_desc.specs.Described.{Described}
 use Rattle.bl_desc.specs.Entries.{Entry}
@@ -22,7 +22,7 @@ use Rattle.bl_menu.specs.declared.boot_end.End.TheVariants.{Booted, NoEntryLeft}
 use Rattle.bl_blame.specs.declared.told.blame.Blame.TheVariants.{BadMachine}
 use Rattle.bl_explain.specs.declared.fault.ExplainFault.{ExplainFault}
 use Rattle.bl_explain.specs.declared.fault.ExplainFault.TheVariants.{Blamed, NoMemory}
-use Rattle.bl_blame.specs.BlameHints.{blame_lines}
+use Rattle.bl_blame.specs.BlameLines.{blame_lines}
 use Rattle.bl_explain.specs.Explained.{ExplainsBlame, ExplainsBoot, ExplainsRefusals}
 use Rattle.bl_menu.specs.Found.{AsksPrefix}
 use Rattle.bl_say.specs.Sought.{SoughtFacts, bytes_found}
@@ -72,7 +72,7 @@ HasPlaceRefusal facts entries sought refused =
 abbrev pub HasKernel : SoughtFacts → Entry → Type 0
 HasKernel sought entry =
     entry.form.protocol ≡ Multiboot2
-    → (kernel : KernelFacts) × IsKernel (bytes_found sought entry.kernel) kernel
+    → (kernel : Multiboot2KernelFacts) × IsKernel (bytes_found sought entry.kernel) kernel
 
 -- so is that of the entry of a menu that has this index, if there is one
 abbrev pub HasKernelAt : List Entry → SoughtFacts → ℕ → Type 0

@@ -2,14 +2,14 @@
 use Rattle.std.specs.Prelude.{◌≡◌, ℕ, List, ◌++◌}
 use Rattle.bl_load.specs.Handover.{Handover}
 use Rattle.bl_session.specs.declared.outcome.RefusedEntry.{RefusedEntry}
-use Rattle.bl_session.specs.Boot.{State, handed_over, none_left}
+use Rattle.bl_session.specs.BootSteps.{State, handed_over, none_left}
 use Rattle.bl_session.specs.Outcome.{File}
 use Rattle.bl_desc.specs.Described.{described}
 use Rattle.bl_blame.specs.declared.told.blame.Blame.{Blame}
 use Rattle.bl_explain.specs.BlameConditions.{HasBlame}
-use Rattle.bl_blame.specs.BlameHints.{blame_lines}
+use Rattle.bl_blame.specs.BlameLines.{blame_lines}
 use Rattle.bl_menu.specs.DescribedMachine.{IsBadDescription}
-use Rattle.bl_menu.specs.Cases.{BootCase, ComesTo}
+use Rattle.bl_menu.specs.Cases.{BootCase, HasOutcome}
 use Rattle.bl_explain.specs.Details.{AreToldRefusals}
 use Rattle.bl_explain.specs.KernelSegments.{AreToldSegments}
 use Rattle.bl_say.specs.Segments.{KernelSegmentsFacts}
@@ -23,7 +23,7 @@ module _ {F : Type 0} (answers : F → List ℕ → File → Type 0) (faults : F
   pub record IsExplained (desc : List ℕ) (before after : F) (old new : List ℕ)
       (state : State) : Type 0 where
     pub case : BootCase answers faults desc before after
-    pub outcome : ComesTo answers faults case state
+    pub outcome : HasOutcome answers faults case state
     pub told : List ToldRefusal
     pub are_told : AreToldRefusals case.facts case.description.entries
         (sought_in case.description case.files) (refused_in state) told

@@ -2,21 +2,22 @@
 use Rattle.std.specs.Prelude.{◌≡◌, ℕ, List, Option, Some, None, is_some, slice_get}
 use Rattle.bl_plan.specs.declared.protocol.Protocol.{Protocol}
 use Rattle.bl_plan.specs.declared.protocol.Protocol.TheVariants.{Multiboot2, Linux, Linux64}
-use Rattle.bl_load.specs.Kernel.{KernelFacts, IsKernel}
-use Rattle.bl_session.specs.Boot.{State, unstarted, running, handed_over, none_left, out_of_memory}
+use Rattle.bl_load.specs.Kernel.{Multiboot2KernelFacts, IsKernel}
+use Rattle.bl_session.specs.BootSteps.{State, unstarted, running, handed_over, none_left}
+use Rattle.bl_session.specs.BootSteps.{out_of_memory}
 use Rattle.bl_desc.specs.Entries.{Entry}
 use Rattle.bl_say.specs.Sought.{SoughtFacts, bytes_found}
 use Rattle.bl_say.specs.Segments.{KernelSegmentsFacts, no_segments}
 
 -- those of a kernel; with a relocatable tag they are a block
-abbrev pub told_segments : KernelFacts → KernelSegmentsFacts
+abbrev pub told_segments : Multiboot2KernelFacts → KernelSegmentsFacts
 told_segments kernel =
     record { segments = kernel.segments; is_block = is_some kernel.relocation }
 
 -- these bytes are a kernel, and these are its segments
 abbrev pub AreKernelSegments : List ℕ → KernelSegmentsFacts → Type 0
 AreKernelSegments bytes segments =
-    (kernel : KernelFacts) × IsKernel bytes kernel × (segments ≡ told_segments kernel)
+    (kernel : Multiboot2KernelFacts) × IsKernel bytes kernel × (segments ≡ told_segments kernel)
 
 -- of a kernel of another protocol none is told
 abbrev pub AreSegmentsBy : Protocol → List ℕ → KernelSegmentsFacts → Type 0

@@ -8,12 +8,13 @@ use Rattle.bl_load.specs.HandoffFacts.{HandoffFacts}
 use Rattle.bl_load.specs.Handover.{Handover}
 use Rattle.bl_session.specs.declared.outcome.RefusedEntry.{RefusedEntry}
 use Rattle.bl_session.specs.AttemptResult.{part_range}
-use Rattle.bl_session.specs.Boot.{State, unstarted, running, handed_over, none_left, out_of_memory}
+use Rattle.bl_session.specs.BootSteps.{State, unstarted, running, handed_over, none_left}
+use Rattle.bl_session.specs.BootSteps.{out_of_memory}
 use Rattle.bl_session.specs.Outcome.{File}
 use Rattle.bl_desc.specs.Described.{Described}
 use Rattle.bl_desc.specs.Entries.{Entry}
 use Rattle.bl_menu.specs.Attempted.{entry_of, names_in}
-use Rattle.bl_say.specs.Frames.{names_at, room_line}
+use Rattle.bl_say.specs.Frames.{names_at, sought_frames_line}
 use Rattle.bl_say.specs.HandedLines.{handoff_lines, handover_lines}
 use Rattle.bl_say.specs.Hints.{hint_lines}
 use Rattle.bl_say.specs.Segments.{KernelSegmentsFacts}
@@ -36,14 +37,14 @@ abbrev pub entry_handover_lines :
     List Entry → SoughtFacts → KernelSegmentsFacts → (pool : Range ℕ) → ℕ → Handover → List ℕ
 entry_handover_lines entries sought kernel pool entry handover =
     handover_lines (source_at entries sought kernel entry) handover
-    ++ room_line sought (names_at entries entry) pool (map part_range handover.parts)
+    ++ sought_frames_line sought (names_at entries entry) pool (map part_range handover.parts)
 
 -- by the places that parts of a handoff have
 abbrev pub entry_handoff_lines :
     List Entry → SoughtFacts → KernelSegmentsFacts → (pool : Range ℕ) → ℕ → HandoffFacts → List ℕ
 entry_handoff_lines entries sought kernel pool entry handoff =
     handoff_lines (source_at entries sought kernel entry) handoff
-    ++ room_line sought (names_at entries entry) pool (map place_range handoff.places)
+    ++ sought_frames_line sought (names_at entries entry) pool (map place_range handoff.places)
 
 -- each entry that was attempted was refused, and this is told of the refusals
 abbrev pub none_left_lines :

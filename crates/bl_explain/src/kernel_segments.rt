@@ -2,7 +2,7 @@
 ghost use Rattle.std.specs.Prelude.{◌≡◌, IfOk, map};
 ghost use Rattle.bl_elf.specs.Elf.{ElfFacts, IsElf};
 ghost use Rattle.bl_elf.specs.declared.fault.ElfFault.TheVariants.{NoMemory};
-ghost use Rattle.bl_load.specs.Kernel.{KernelFacts, IsKernel, IsLoadedBy};
+ghost use Rattle.bl_load.specs.Kernel.{Multiboot2KernelFacts, IsKernel, IsLoadedBy};
 ghost use Rattle.bl_explain.specs.ExplainKept.{HasKernel, HasKernelAt};
 ghost use Rattle.bl_explain.specs.KernelSegments.{AreEntrySegments, AreKernelSegments};
 ghost use Rattle.bl_explain.specs.KernelSegments.{AreSegmentsAt};
@@ -66,7 +66,7 @@ fn kernel_segments<A: Allocator + Copy>(
     alloc: A,
     bytes: &[u8],
 ) -> Result<KernelSegments<A>, AllocError>
-    requires { (kernel : KernelFacts) × IsKernel bytes.now kernel }
+    requires { (kernel : Multiboot2KernelFacts) × IsKernel bytes.now kernel }
     ensures { IfOk result (AreKernelSegments bytes.now) }
 {
     let file = SliceView::new(bytes);

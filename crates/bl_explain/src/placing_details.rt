@@ -3,7 +3,7 @@ ghost use Rattle.std.specs.Prelude.{◌≡◌, ◌+◌, ◌<◌, IfOk, MatchOpti
 ghost use Rattle.bl_mem.specs.Least.{IsLeast};
 ghost use Rattle.bl_map.specs.MachineFacts.{AllUsable};
 ghost use Rattle.bl_plan.specs.Unusable.{IsUnusableFrom};
-ghost use Rattle.bl_load.specs.Value.{value_of, file_count, IsWithinLimits};
+ghost use Rattle.bl_load.specs.EntryValue.{value_of, file_count, IsWithinLimits};
 ghost use Rattle.bl_explain.specs.Details.{IsFirstUnusable, IsFramesDetail, IsPlaceDetail};
 ghost use Rattle.bl_explain.specs.ExplainKept.{HasNoPlace};
 

@@ -6,7 +6,7 @@ ghost use Rattle.toml.specs.Parse.{parse_document};
 ghost use Rattle.bl_desc.specs.Described.{described};
 ghost use Rattle.bl_desc.specs.Views.{HasMenu, view};
 ghost use Rattle.bl_blame.specs.declared.told.blame.Blame.TheVariants.{BadMachine};
-ghost use Rattle.bl_blame.specs.BlameHints.{blame_lines};
+ghost use Rattle.bl_blame.specs.BlameLines.{blame_lines};
 ghost use Rattle.bl_menu.specs.DescribedMachine.{IsMachineOf};
 ghost use Rattle.bl_explain.specs.ExplainKept.{IsMachineBlame, IsReadBlame, SaysLines};
 

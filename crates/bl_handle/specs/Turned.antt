@@ -3,8 +3,9 @@ use Rattle.std.specs.Prelude.{◌≡◌, ◌≢◌, ℕ, List, Option, MatchBool
 use Rattle.std.specs.Prelude.{Result, length}
 use Rattle.bl_mem.specs.Memory.{memory_from}
 use Rattle.bl_session.specs.declared.outcome.Progress.{Progress}
-use Rattle.bl_session.specs.Boot.{EventFacts, StepsOrFails, StartsOrFails, is_taken, attempt_number}
-use Rattle.bl_session.specs.Boot as steps
+use Rattle.bl_session.specs.BootSteps.{EventFacts, StepsOrFails, StartsOrFails, is_taken}
+use Rattle.bl_session.specs.BootSteps.{attempt_number}
+use Rattle.bl_session.specs.BootSteps as steps
 use Rattle.bl_session.specs.Memory.{IsMemoryAt}
 use Rattle.bl_session.specs.Phases.{SessionFacts, state_at, not_started}
 use Rattle.bl_handle.specs.declared.handle_fault.HandleFault.{HandleFault}

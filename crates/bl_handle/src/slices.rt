@@ -1,8 +1,8 @@
 //! The calls through a handle over memory in a slice, as one in C has it.
 ghost use Rattle.std.specs.Prelude.{◌≡◌, ◌≢◌, IfErr, IfOk, MatchBool, OnErr, OnOk, length};
 ghost use Rattle.bl_mem.specs.Memory.{memory_from};
-ghost use Rattle.bl_session.specs.Boot.{StepsOrFails, StartsOrFails, is_taken, attempt_number};
-ghost use Rattle.bl_session.specs.Boot as boot;
+ghost use Rattle.bl_session.specs.BootSteps.{StepsOrFails, StartsOrFails, is_taken, attempt_number};
+ghost use Rattle.bl_session.specs.BootSteps as boot;
 ghost use Rattle.bl_session.specs.Memory.{IsMemoryAt};
 ghost use Rattle.bl_session.specs.Phases.{event_facts, state_at, not_started};
 ghost use Rattle.bl_handle.specs.Faults.{IsHandleFault};

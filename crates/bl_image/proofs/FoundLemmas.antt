@@ -13,7 +13,7 @@ use Rattle.bl_load.specs.declared.registers.Registers.{Registers}
 use Rattle.bl_load.specs.HandoffFacts.{MayStand}
 use Rattle.bl_image.specs.Image.{magic, head, spelled_registers}
 use Rattle.bl_image.specs.Layouts.{max_role}
-use Rattle.bl_image.specs.Spellable.{FitsRegisters}
+use Rattle.bl_image.specs.Spellable.{AreRegistersOf}
 use Rattle.bl_image.specs.RecordsKept.{place_record, IsNext}
 use Rattle.bl_image.specs.declared.version.Version.{Version}
 use Rattle.bl_image.specs.Versions.{version_number, max_protocol, HasProtocol}
@@ -38,7 +38,7 @@ pub record HeadFound (bytes : List ℕ) : Type 0 where
   pub is : head version protocol registers count ++ rest ≡ bytes
   pub few : count ≤ 256
   pub has : HasProtocol version protocol
-  pub fit : FitsRegisters protocol registers
+  pub fit : AreRegistersOf protocol registers
   pub small : IsSmall rest
 
 pub head_found : (bytes : List ℕ) → IsSmall bytes → head_fault bytes ≡ None → HeadFound bytes

@@ -19,10 +19,10 @@ use Rattle.bl_image.specs.declared.version.Version.TheVariants.{One, Two}
 use Rattle.bl_image.specs.Image.{magic, head, spelled_registers}
 use Rattle.bl_image.specs.Fields.{fields_fault}
 use Rattle.bl_image.specs.Fields.{count_field, zero_field}
-use Rattle.bl_image.specs.ImageFaults.{head_fault, image_fault, parts_fault, none_before}
+use Rattle.bl_image.specs.ImageFaults.{head_fault, image_fault, parts_fault, no_records}
 use Rattle.bl_image.specs.Layouts.{Layout, layout, layout_of, max_role}
 use Rattle.bl_image.specs.Source.{SourceFacts, IsInputFault}
-use Rattle.bl_image.specs.Spellable.{FitsRegisters}
+use Rattle.bl_image.specs.Spellable.{AreRegistersOf}
 use Rattle.bl_image.specs.Versions.{version_number, HasProtocol}
 use Rattle.bl_image.proofs.FieldLemmas.{field_passes, word_tells}
 use Rattle.bl_image.proofs.RecordLemmas.{first_refuses}
@@ -58,7 +58,7 @@ counted count x few =
 
 -- a head has no fault
 head_passes : (v : Version) (p : Protocol) (r : Registers) (count : ℕ) (x : List ℕ)
-    → HasProtocol v p → FitsRegisters p r → count ≤ 256 → head_fault (head v p r count ++ x) ≡ None
+    → HasProtocol v p → AreRegistersOf p r → count ≤ 256 → head_fault (head v p r count ++ x) ≡ None
 head_passes v p r count x has fit few =
     let n = version_number v in
     let m = protocol_number p in
@@ -139,14 +139,14 @@ behind_head Two p (Bits64 r) count x has width =
 front_by : (bytes x : List ℕ) (count : ℕ) → head_fault bytes ≡ None
     → u32_at bytes (layout_of bytes).count_at ≡ count
     → drop (layout_of bytes).records_at bytes ≡ x
-    → image_fault bytes ≡ parts_fault (layout_of bytes).max_role count none_before x
+    → image_fault bytes ≡ parts_fault (layout_of bytes).max_role count no_records x
 unfolding image_fault
 front_by bytes x count sound stands behind = rw (sound, stands, behind) refl
 
 -- so it leaves the parts to be judged
 pub head_front : (v : Version) (p : Protocol) (r : Registers) (count : ℕ) (x : List ℕ)
-    → HasProtocol v p → FitsRegisters p r → count ≤ 256
-    → image_fault (head v p r count ++ x) ≡ parts_fault (max_role (is_wide p)) count none_before x
+    → HasProtocol v p → AreRegistersOf p r → count ≤ 256
+    → image_fault (head v p r count ++ x) ≡ parts_fault (max_role (is_wide p)) count no_records x
 head_front v p r count x has fit few =
     let bytes = head v p r count ++ x in
     let is = layout_told v p r count x in
@@ -154,15 +154,16 @@ head_front v p r count x has fit few =
     (ap (λ (l : Layout). u32_at bytes l.count_at) is
     ∙ count_stands v p r count x has fit.0 (omega arith))
     (ap (λ (l : Layout). drop l.records_at bytes) is ∙ behind_head v p r count x has fit.0)
-    ∙ ap (λ (n : ℕ). parts_fault n count none_before x)
+    ∙ ap (λ (n : ℕ). parts_fault n count no_records x)
     (ap (λ (l : Layout). l.max_role) is ∙ max_role_told v p has)
 
 -- a fault of the head is the image's
-pub head_refuses : (old new : SourceFacts) (fault : ImageFault) → IsInputFault head_fault old new fault
+pub head_refuses : (old new : SourceFacts) (fault : ImageFault)
+    → IsInputFault head_fault old new fault
     → IsInputFault image_fault old new fault
 unfolding image_fault
 head_refuses old new fault s =
     first_refuses head_fault
     (λ bytes.
-    parts_fault (layout_of bytes).max_role (u32_at bytes (layout_of bytes).count_at) none_before
+    parts_fault (layout_of bytes).max_role (u32_at bytes (layout_of bytes).count_at) no_records
     (drop (layout_of bytes).records_at bytes)) old new fault s

@@ -20,7 +20,7 @@ use Rattle.bl_image.specs.declared.fault.ImageFault.TheVariants.{BadPart, WrongL
 use Rattle.bl_image.specs.declared.fault.ImageFault.TheVariants.{NoMemory}
 use Rattle.bl_image.specs.declared.version.Version.{Version}
 use Rattle.bl_image.specs.Image.{part_record, spelling}
-use Rattle.bl_image.specs.ImageFaults.{Before, and_record, parts_fault, end_fault, none_before}
+use Rattle.bl_image.specs.ImageFaults.{Before, and_record, parts_fault, end_fault, no_records}
 use Rattle.bl_image.specs.ImageFaults.{image_fault}
 use Rattle.bl_image.specs.ImageParts.{part_place, PartAscends, IsKeptByImages, IsImage}
 use Rattle.bl_image.specs.RecordsKept.{IsNext}
@@ -84,7 +84,8 @@ sound_parts h kept k d within =
     }
 
 -- the image of what an image keeps, in a version that has its protocol, has no fault
-pub image_sound : (version : Version) (h : Handover) → HasProtocol version h.protocol → IsKeptByImages h
+pub image_sound : (version : Version) (h : Handover) → HasProtocol version h.protocol
+    → IsKeptByImages h
     → image_fault (spelling version h) ≡ None
 image_sound version h has kept =
     let records : List ℕ = flat_map part_record h.parts in
@@ -93,7 +94,7 @@ image_sound version h has kept =
     let same = length-map h.parts part_place in
     head_front version h.protocol h.registers (length h.parts) (records ++ bytes) has
     kept.spellable.registers (omega arith)
-    ∙ parts_sound (is_wide h.protocol) h.parts none_before bytes (λ k d within. omega arith)
+    ∙ parts_sound (is_wide h.protocol) h.parts no_records bytes (λ k d within. omega arith)
     (related_under h.parts (pairs_related Ascends (map part_place h.parts) kept.handoff.ascending))
     (sound_parts h kept)
     ∙ whole_ends bytes
@@ -126,7 +127,8 @@ accepted_by (Err fault) bytes fails version handover is =
     (ap image_fault is.is ∙ image_sound version handover is.has is.kept) fails
 
 -- and is refused for nothing that its bytes say
-pub image_not_refused : (old new : SourceFacts) (fault : ImageFault) (bytes : List ℕ) (version : Version)
+pub image_not_refused : (old new : SourceFacts) (fault : ImageFault) (bytes : List ℕ)
+    (version : Version)
     (handover : Handover) → IsImage version bytes handover → old.rest ≡ Some bytes
     → IsInputFault image_fault old new fault → IsOfTheMoment fault
 image_not_refused old new fault bytes version handover is e refuses =

@@ -23,7 +23,7 @@ use Rattle.bl_image.specs.Image.{narrow_values, wide_values, spelled_registers}
 use Rattle.bl_image.specs.Layouts.{layout, registers_1, registers_2_wide}
 use Rattle.bl_image.specs.Source.{SourceFacts}
 use Rattle.bl_image.specs.SourceKept.{PassAll}
-use Rattle.bl_image.specs.Spellable.{FitsRegisters}
+use Rattle.bl_image.specs.Spellable.{AreRegistersOf}
 use Rattle.bl_image.specs.Versions.{version_number, HasProtocol}
 use Rattle.bl_image.proofs.FieldLemmas.{field_passes, field_short, Passed, passed_more}
 use Rattle.bl_image.proofs.FieldRows.{Leaves}
@@ -113,7 +113,7 @@ full_pass r others x =
 
 -- the registers of an image pass their fields
 pub registers_pass : (v : Version) (p : Protocol) (r : Registers) → HasProtocol v p
-    → FitsRegisters p r
+    → AreRegistersOf p r
     → Leaves (layout (version_number v) (protocol_number p)).registers (spelled_registers v r)
 registers_pass One p (Bits32 r) has fit = narrow_pass r
 registers_pass One p (Bits64 r) has fit = let both : true ≡ false = fit.0 ∙ has in cc

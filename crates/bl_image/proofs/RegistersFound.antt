@@ -13,10 +13,11 @@ use Rattle.bl_plan.specs.Protocols.{protocol_number}
 use Rattle.bl_load.specs.declared.registers.Registers.{Registers}
 use Rattle.bl_load.specs.declared.registers.Registers.TheVariants.{Bits32, Bits64}
 use Rattle.bl_load.specs.Protocols.{is_wide}
-use Rattle.bl_image.specs.Fields.{Field, fields_fault, register_field, zero_extended_field, absent_field}
+use Rattle.bl_image.specs.Fields.{Field, fields_fault, register_field, zero_extended_field}
+use Rattle.bl_image.specs.Fields.{absent_field}
 use Rattle.bl_image.specs.Image.{narrow_values, wide_values, spelled_registers}
 use Rattle.bl_image.specs.Layouts.{layout, registers_1, registers_2_narrow, registers_2_wide}
-use Rattle.bl_image.specs.Spellable.{FitsRegisters}
+use Rattle.bl_image.specs.Spellable.{AreRegistersOf}
 use Rattle.bl_image.specs.Versions.{version_number, HasProtocol}
 use Rattle.bl_image.specs.declared.version.Version.{Version}
 use Rattle.bl_image.specs.declared.version.Version.TheVariants.{One, Two}
@@ -34,7 +35,7 @@ pub record RegistersFound (version : Version) (protocol : Protocol) (others : Li
     pub registers : Registers
     pub rest : List ℕ
     pub is : spelled_registers version registers ++ rest ≡ bytes
-    pub fit : FitsRegisters protocol registers
+    pub fit : AreRegistersOf protocol registers
     pub left : fields_fault others rest ≡ None
     pub small : IsSmall rest
 
@@ -71,7 +72,8 @@ regroup_fields a b c d e others = simp append_assoc
 
 found_2 : (protocol : Protocol) (others : List Field) (bytes : List ℕ)
     → is_wide protocol ≡ false → IsSmall bytes
-    → fields_fault (registers_2_narrow ++ others) bytes ≡ None → RegistersFound Two protocol others bytes
+    → fields_fault (registers_2_narrow ++ others) bytes ≡ None
+    → RegistersFound Two protocol others bytes
 unfolding registers_2_narrow
 found_2 protocol others bytes is_narrow small none =
     let fits : ℕ → Type 0 = λ k. k < 2 ^ 32 in
@@ -129,7 +131,8 @@ found_2 protocol others bytes is_narrow small none =
 
 found_3 : (protocol : Protocol) (others : List Field) (bytes : List ℕ)
     → is_wide protocol ≡ true → IsSmall bytes
-    → fields_fault (registers_2_wide ++ others) bytes ≡ None → RegistersFound Two protocol others bytes
+    → fields_fault (registers_2_wide ++ others) bytes ≡ None
+    → RegistersFound Two protocol others bytes
 unfolding registers_2_wide
 found_3 protocol others bytes wide small none =
     let found = wides_found 31 others bytes small none in

@@ -16,7 +16,7 @@ use Rattle.bl_load.specs.Protocols.{is_wide}
 use Rattle.bl_load.specs.Registers.{are_wide}
 use Rattle.bl_image.specs.Layouts.{max_role}
 use Rattle.bl_image.specs.RecordsKept.{place_record, IsNext, AreSound, bytes_at, PlaceFits}
-use Rattle.bl_image.specs.ImageFaults.{Before, parts_fault, none_before}
+use Rattle.bl_image.specs.ImageFaults.{Before, parts_fault, no_records}
 use Rattle.bl_image.proofs.RecordLemmas.{parts_step}
 
 pub bytes_at-more : (ps : List Place) (p : Place) → bytes_at (ps ++ p ∷ []) ≡ bytes_at ps + p.length
@@ -38,18 +38,18 @@ so_far count end ps = record { count = count; end = end; bytes = bytes_at ps }
 pub judged_more : (wide : Bool) (count part : ℕ) (ps : List Place) (end : ℕ) (p : Place)
     → part < count → MayStand wide p.role → IsNext end p
     → ((bytes : List ℕ)
-    → parts_fault (max_role wide) count none_before (flat_map place_record ps ++ bytes)
+    → parts_fault (max_role wide) count no_records (flat_map place_record ps ++ bytes)
     ≡ parts_fault (max_role wide) (count - part) (so_far part end ps) bytes)
     → (bytes : List ℕ)
-    → parts_fault (max_role wide) count none_before
+    → parts_fault (max_role wide) count no_records
     (flat_map place_record (ps ++ p ∷ []) ++ bytes)
     ≡ parts_fault (max_role wide) (count - (part + 1))
     (so_far (part + 1) (p.address + p.length) (ps ++ p ∷ [])) bytes
 judged_more wide count part ps end p inside may next judged bytes =
     let most = max_role wide in
     let left : count - part ≡ suc (count - (part + 1)) = omega arith in
-    ap (λ (l : List ℕ). parts_fault most count none_before (l ++ bytes)) (came_more ps p)
-    ∙ ap (parts_fault most count none_before)
+    ap (λ (l : List ℕ). parts_fault most count no_records (l ++ bytes)) (came_more ps p)
+    ∙ ap (parts_fault most count no_records)
     (append_assoc (flat_map place_record ps) (place_record p) bytes)
     ∙ judged (place_record p ++ bytes)
     ∙ ap (λ (n : ℕ). parts_fault most n (so_far part end ps) (place_record p ++ bytes)) left

@@ -20,7 +20,7 @@ use Rattle.bl_image.specs.declared.version.Version.{Version}
 use Rattle.bl_image.specs.Image.{head}
 use Rattle.bl_image.specs.RecordsKept.{place_record, bytes_at, PlaceFits}
 use Rattle.bl_image.specs.ImageFaults.{head_fault, image_fault, parts_fault, Before, and_record}
-use Rattle.bl_image.specs.ImageFaults.{none_before, end_fault}
+use Rattle.bl_image.specs.ImageFaults.{no_records, end_fault}
 use Rattle.bl_image.specs.ImageParts.{part_place, IsImage}
 use Rattle.bl_image.proofs.FrontLemmas.{head_front}
 use Rattle.bl_image.proofs.PartLemmas.{all_bytes, spelled_by, image_kept}
@@ -131,10 +131,10 @@ image_found bytes small none =
     let h = head_found bytes small (head_none bytes none) in
     let top : List ℕ = head h.version h.protocol h.registers h.count in
     let wide = is_wide h.protocol in
-    let left : parts_fault (max_role wide) h.count none_before h.rest ≡ None =
+    let left : parts_fault (max_role wide) h.count no_records h.rest ≡ None =
     sym (head_front h.version h.protocol h.registers h.count h.rest h.has h.fit h.few)
     ∙ ap image_fault h.is ∙ none in
-    let f = places_found wide h.count none_before h.rest h.small left in
+    let f = places_found wide h.count no_records h.rest h.small left in
     let parts = split_tail f.places f.tail (let long = f.long in omega arith) in
     let kept : IsWellFormedHandoff
     (record { protocol = h.protocol; registers = h.registers; places = f.places }) =

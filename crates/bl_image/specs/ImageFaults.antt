@@ -44,8 +44,8 @@ pub record Before : Type 0 where
   pub end : ℕ
   pub bytes : ℕ
 
-abbrev pub none_before : Before
-none_before = record { count = 0; end = 0; bytes = 0 }
+abbrev pub no_records : Before
+no_records = record { count = 0; end = 0; bytes = 0 }
 
 -- and one more record: its part's address, and how many bytes the part has
 abbrev pub and_record : Before → ℕ → ℕ → Before
@@ -73,5 +73,5 @@ parts_fault most (suc n) before bytes =
 unfoldable pub image_fault : List ℕ → Option ImageFault
 image_fault bytes =
     first (head_fault bytes)
-    (parts_fault (layout_of bytes).max_role (u32_at bytes (layout_of bytes).count_at) none_before
+    (parts_fault (layout_of bytes).max_role (u32_at bytes (layout_of bytes).count_at) no_records
     (drop (layout_of bytes).records_at bytes))

@@ -20,11 +20,11 @@ AreFit (Bits32 r) = All (λ n. n < 2 ^ 32) (narrow_values r)
 AreFit (Bits64 r) = All (λ n. n < 2 ^ 64) (wide_values (Bits64 r))
 
 -- the registers are those of the protocol, and their numbers fit
-abbrev pub FitsRegisters : Protocol → Registers → Type 0
-FitsRegisters protocol r = (are_wide r ≡ is_wide protocol) × AreFit r
+abbrev pub AreRegistersOf : Protocol → Registers → Type 0
+AreRegistersOf protocol r = (are_wide r ≡ is_wide protocol) × AreFit r
 
 -- the numbers of a handover fit its image
 pub record IsSpellable (h : Handover) : Type 0 where
-  pub registers : FitsRegisters h.protocol h.registers
+  pub registers : AreRegistersOf h.protocol h.registers
   pub count : length h.parts < 2 ^ 32
   pub parts : All FitsRecord h.parts

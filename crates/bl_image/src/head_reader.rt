@@ -8,12 +8,12 @@ ghost use Rattle.bl_image.specs.Image.{magic, head};
 ghost use Rattle.bl_image.specs.ImageFaults.{head_fault};
 ghost use Rattle.bl_image.specs.Source.{Comes, IsInputFault, faults_met};
 ghost use Rattle.bl_image.specs.SourceKept.{ReadsField};
-ghost use Rattle.bl_image.specs.Spellable.{FitsRegisters};
+ghost use Rattle.bl_image.specs.Spellable.{AreRegistersOf};
 ghost use Rattle.bl_image.specs.Versions.{version_number, max_protocol, HasProtocol};
 
 use crate::fault::ImageFault;
 use crate::fields::{read_exact, read_u32};
-use crate::head::{MAGIC, MAX_COUNT};
+use crate::front::{MAGIC, MAX_COUNT};
 use crate::register_reader::read_registers;
 use crate::source::Source;
 use crate::version::Version;
@@ -128,7 +128,7 @@ pub(crate) fn read_head<S: Source>(source: &mut S) -> Result<Head, ImageFault>
     requires { S.faults source.old < 2 ^ 63 }
     ensures ok { IfOk result (λ h. Comes (S.input source.old) (S.input source.new)
         (head h.version h.protocol h.registers h.count)) }
-    ensures fit { IfOk result (λ h. FitsRegisters h.protocol h.registers) }
+    ensures fit { IfOk result (λ h. AreRegistersOf h.protocol h.registers) }
     ensures has { IfOk result (λ h. HasProtocol h.version h.protocol) }
     ensures few { IfOk result (λ h. h.count ≤ max_parts) }
     ensures refused { IfErr result

@@ -25,7 +25,7 @@ impl History {
     }
 
     /// These bytes were taken too.
-    pub(crate) fn and(&self, _part: &[u8]) -> History
+    pub(crate) fn with_part(&self, _part: &[u8]) -> History
         ensures { result.bytes ≡ self.now.bytes ++ _part.now }
     {
         History {}

@@ -65,7 +65,7 @@ impl<W: Write + Drop> Sink for IoSink<W> {
     fn write(&mut self, part: &[u8]) -> Result<usize, DeviceFault> {
         match self.writer.write(part) {
             Ok(count) if count > 0 || part.is_empty() => {
-                self.history = self.history.and(&part[..count]);
+                self.history = self.history.with_part(&part[..count]);
                 Ok(count)
             }
             _ => {

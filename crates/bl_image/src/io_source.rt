@@ -64,7 +64,7 @@ impl<R: Read + Drop> Source for IoSource<R> {
         }
         match self.reader.read(out) {
             Ok(count) => {
-                self.history = self.history.and(&out[..count]);
+                self.history = self.history.with_part(&out[..count]);
                 self.is_ended = count == 0 && !out.is_empty();
                 Ok(count)
             }

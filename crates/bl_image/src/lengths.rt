@@ -5,7 +5,7 @@ ghost use Rattle.bl_image.specs.Image.{spelling};
 ghost use Rattle.bl_image.specs.Lengths.{image_length};
 ghost use Rattle.bl_image.specs.Versions.{written_version};
 
-use crate::head::{HEAD, RECORD};
+use crate::front::{HEAD, RECORD};
 use bl_load::Handoff;
 use std::alloc::Allocator;
 

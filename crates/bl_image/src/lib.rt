@@ -3,7 +3,8 @@
 
 mod fault;
 mod fields;
-mod head;
+mod front;
+mod handoff_image;
 mod head_reader;
 mod history;
 mod image;
@@ -13,7 +14,6 @@ mod laws;
 mod lengths;
 mod mem_sink;
 mod mem_source;
-mod memory_image;
 mod numbers;
 mod part_reader;
 mod parts;
@@ -23,7 +23,7 @@ mod record_reader;
 mod register_reader;
 mod sink;
 mod source;
-mod value;
+mod value_writing;
 mod version;
 mod write;
 
@@ -38,6 +38,6 @@ pub use mem_source::MemSource;
 pub use read::read_image;
 pub use sink::{DeviceFault, Sink, write_all};
 pub use source::Source;
-pub use value::write_value;
+pub use value_writing::write_value;
 pub use version::Version;
 pub use write::write_image;

@@ -7,7 +7,6 @@ ghost use Rattle.bl_image.specs.RecordsKept.{place_bytes};
 
 use crate::sink::{DeviceFault, Sink, write_all};
 use bl_load::Handoff;
-use bl_map::FRAME_SIZE;
 use bl_mem::PhysMem;
 use bl_plan::Place;
 use std::alloc::Allocator;
@@ -15,9 +14,13 @@ use std::alloc::Allocator;
 /// How many bytes memory is asked to lend at once at most, so that few calls write a long part.
 const MAX_LENT: u64 = 65536;
 
-/// Writes what stands in memory from `at` on, as much as the buffer holds: as memory lends it, else
-/// by way of the buffer.
-fn write_frame<M: PhysMem, S: Sink>(
+/// How many bytes are copied at once at most where memory lends none. Each call of the sink costs
+/// something, so it is more than a frame; the buffer lies on the stack, so it is no more. What
+/// stands before the parts goes through the same buffer, so it is no less than `MAX_FRONT`.
+pub(crate) const MAX_COPIED: usize = 16384;
+
+/// Writes what stands in memory from `at` on, as much as the buffer holds, by way of the buffer.
+fn write_copy<M: PhysMem, S: Sink>(
     memory: &M,
     sink: &mut S,
     at: u64,
@@ -32,17 +35,12 @@ fn write_frame<M: PhysMem, S: Sink>(
         (slice_range (M.bytes memory.now) at (at + length buffer.old))) }
     ensures fault { OnErr result (S.faults sink.new ≡ S.faults sink.old + 1) }
 {
-    match memory.lend(at, buffer.len()) {
-        Some(part) => write_all(sink, part),
-        None => {
-            memory.read(at, buffer);
-            write_all(sink, buffer)
-        }
-    }
+    memory.read(at, buffer);
+    write_all(sink, buffer)
 }
 
 /// Writes a beginning of so many bytes that stand in memory from `at` on, and answers how many: all
-/// of them if memory lends them together, else those of the frame that `at` lies in.
+/// of them if memory lends them, else as many as the buffer holds.
 fn write_piece<M: PhysMem, S: Sink>(
     memory: &M,
     sink: &mut S,
@@ -51,7 +49,7 @@ fn write_piece<M: PhysMem, S: Sink>(
     buffer: &mut [u8],
 ) -> Result<usize, DeviceFault>
     requires inside { at + most ≤ length (M.bytes memory.now) }
-    requires room { 4096 ≤ length buffer.old }
+    requires room { 1 ≤ length buffer.old }
     requires faults { S.faults sink.old < 2 ^ 63 }
     ensures ok { IfOk result (λ count. S.contents sink.new ≡ S.contents sink.old
         ++ slice_range (M.bytes memory.now) at (at + count)) }
@@ -68,15 +66,15 @@ fn write_piece<M: PhysMem, S: Sink>(
             Ok(most)
         }
         None => {
-            let count = most.min((FRAME_SIZE - at % FRAME_SIZE) as usize);
-            write_frame(memory, sink, at, &mut buffer[..count])?;
+            let count = most.min(buffer.len());
+            write_copy(memory, sink, at, &mut buffer[..count])?;
             Ok(count)
         }
     }
 }
 
-/// Writes what stands in memory at a place, in pieces that end where an address is a multiple of
-/// what is lent at most.
+/// Writes what stands in memory at a place: again and again it asks for the bytes up to the next
+/// multiple of `MAX_LENT`, and goes on behind those that were written.
 fn write_part<M: PhysMem, S: Sink>(
     memory: &M,
     sink: &mut S,
@@ -84,7 +82,7 @@ fn write_part<M: PhysMem, S: Sink>(
     buffer: &mut [u8],
 ) -> Result<(), DeviceFault>
     requires inside { place.now.address + place.now.length ≤ length (M.bytes memory.now) }
-    requires room { 4096 ≤ length buffer.old }
+    requires room { 1 ≤ length buffer.old }
     requires faults { S.faults sink.old < 2 ^ 63 }
     ensures ok { OnOk result (S.contents sink.new ≡ S.contents sink.old
         ++ place_bytes (M.bytes memory.now) place.now) }
@@ -114,7 +112,7 @@ pub(crate) fn write_parts<M: PhysMem, S: Sink, A: Allocator>(
 ) -> Result<(), DeviceFault>
     requires inside { All (λ place. place.address + place.length ≤ length (M.bytes memory.now))
         handoff.now.places }
-    requires room { 4096 ≤ length buffer.old }
+    requires room { 1 ≤ length buffer.old }
     requires faults { S.faults sink.old < 2 ^ 63 }
     ensures ok { OnOk result (S.contents sink.new ≡ S.contents sink.old
         ++ flat_map (place_bytes (M.bytes memory.now)) handoff.now.places) }

@@ -8,7 +8,7 @@ ghost use Rattle.bl_load.specs.HandoffFacts.{max_parts, MayStand};
 ghost use Rattle.bl_image.specs.Fields as fields;
 ghost use Rattle.bl_image.specs.Layouts.{max_role};
 ghost use Rattle.bl_image.specs.RecordsKept.{place_record, IsNext, AreSound, bytes_at};
-ghost use Rattle.bl_image.specs.ImageFaults.{record_fault, parts_fault, end_fault, none_before};
+ghost use Rattle.bl_image.specs.ImageFaults.{record_fault, parts_fault, end_fault, no_records};
 ghost use Rattle.bl_image.specs.Source.{Comes, IsInputFault, faults_met};
 ghost use Rattle.bl_image.specs.SourceKept.{ReadsField};
 
@@ -156,10 +156,10 @@ pub(crate) fn read_records<S: Source, A: Allocator>(
     ensures sound { IfOk result (λ places. AreSound places.items (2 ^ 32)) }
     ensures may { IfOk result (λ places. All (λ place. MayStand wide place.role) places.items) }
     ensures judged { IfOk result (λ places. (bytes : List ℕ)
-        → parts_fault (max_role wide) count none_before
+        → parts_fault (max_role wide) count no_records
         (flat_map place_record places.items ++ bytes)
         ≡ end_fault (bytes_at places.items) bytes) }
-    ensures refused { IfErr result (IsInputFault (parts_fault (max_role wide) count none_before)
+    ensures refused { IfErr result (IsInputFault (parts_fault (max_role wide) count no_records)
         (S.input source.old) (S.input source.new)) }
     ensures faults { S.faults source.new ≡ S.faults source.old + faults_met result }
 {

@@ -10,7 +10,7 @@ ghost use Rattle.bl_image.specs.Fields as fields;
 ghost use Rattle.bl_image.specs.Layouts.{layout, layout_1, layout_2_narrow, layout_2_wide};
 ghost use Rattle.bl_image.specs.Source.{faults_met};
 ghost use Rattle.bl_image.specs.SourceKept.{ReadsField, ReadsFields};
-ghost use Rattle.bl_image.specs.Spellable.{FitsRegisters};
+ghost use Rattle.bl_image.specs.Spellable.{AreRegistersOf};
 ghost use Rattle.bl_image.specs.Versions.{version_number, HasProtocol};
 ghost use Rattle.bl_image.specs.declared.version.Version.TheVariants as version;
 
@@ -156,7 +156,7 @@ pub(crate) fn read_registers<S: Source>(
     ensures fields { ReadsFields
         (layout (version_number version) (protocols.protocol_number protocol)).registers
         (S.input source.old) (S.input source.new) (spelled_registers version) result }
-    ensures fit { IfOk result (FitsRegisters protocol) }
+    ensures fit { IfOk result (AreRegistersOf protocol) }
     ensures faults { S.faults source.new ≡ S.faults source.old + faults_met result }
 {
     match (version, protocol) {

@@ -7,16 +7,16 @@ ghost use Rattle.bl_image.specs.ImageParts.{IsKeptByImages};
 ghost use Rattle.bl_image.specs.Versions.{written_version};
 
 use crate::fault::ImageFault;
-use crate::head::{MAX_FRONT, write_front};
-use crate::parts::write_parts;
+use crate::front::write_front;
+use crate::parts::{MAX_COPIED, write_parts};
 use crate::sink::Sink;
 use bl_load::Handoff;
 use bl_mem::PhysMem;
 use std::alloc::Allocator;
 
 /// Writes the image of what memory hands over: the head, a record for each part, the parts' bytes,
-/// and nothing else. It takes no memory. Its one error is a fault of the sink, which then took a
-/// beginning of the image.
+/// and nothing else. It takes no memory, but has a buffer of 16384 bytes on the stack. Its one
+/// error is a fault of the sink, which then took a beginning of the image.
 pub fn write_image<M: PhysMem, S: Sink, A: Allocator>(
     handoff: &Handoff<A>,
     memory: &M,
@@ -42,7 +42,7 @@ pub fn write_image<M: PhysMem, S: Sink, A: Allocator>(
 {
     // What a handoff keeps is told with its length.
     let _len = handoff.len();
-    let mut buffer = [0u8; MAX_FRONT];
+    let mut buffer = [0u8; MAX_COPIED];
     write_front(
         sink,
         handoff.protocol(),

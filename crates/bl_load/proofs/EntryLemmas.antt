@@ -6,20 +6,20 @@ use Rattle.std.specs.List.{list_any}
 use Rattle.std.proofs.lemmas.List.Elements.{All-nil, All-cons, All-head, All-tail}
 use Rattle.std.specs.declared.ops.Range.{Range}
 use Rattle.bl_mem.specs.declared.segment.Segment.{Segment}
-use Rattle.bl_mem.specs.Contents.{holds, holds_at}
+use Rattle.bl_mem.specs.Contents.{holds, is_in_segment}
 use Rattle.bl_map.specs.MachineFacts.{MachineFacts}
 use Rattle.bl_mb2head.specs.declared.relocation.Relocation.{Relocation}
 use Rattle.bl_plan.specs.PlannerFacts.{put_in}
 use Rattle.std.proofs.lemmas.Bool.{cond_both}
-use Rattle.bl_plan.specs.Placed.{ArePlaced, place_at, place_range}
+use Rattle.bl_plan.specs.Placed.{ArePlaced, row_place, place_range}
 use Rattle.bl_plan.specs.declared.part.Row.{Row}
 use Rattle.bl_plan.specs.declared.part.Place.{Place}
 use Rattle.bl_plan.specs.declared.part.Role.TheVariants.{Kernel}
 use Rattle.bl_plan.specs.declared.part.Role.{Role}
 use Rattle.bl_plan.specs.Roles.{role_number}
-use Rattle.bl_load.specs.Value.{EntryValue}
+use Rattle.bl_load.specs.EntryValue.{EntryValue}
 use Rattle.bl_load.specs.Reading.{multiboot2}
-use Rattle.bl_load.specs.Kernel.{KernelFacts, IsKernel, entry_fault, counted_entry}
+use Rattle.bl_load.specs.Kernel.{Multiboot2KernelFacts, IsKernel, entry_fault, counted_entry}
 use Rattle.bl_load.specs.KernelKept.{AreLoadable}
 use Rattle.bl_load.specs.Blocks.{low_of, high_of, span_of}
 use Rattle.bl_load.specs.Rows.{segment_rows, block_choice, kernel_rows, information_row, rows_of}
@@ -31,11 +31,11 @@ use Rattle.bl_load.proofs.SortedLemmas.{low_below, high_above_all}
 
 -- an address that a segment holds lies within the bounds of all
 held_between : (segments : List Segment) (a low high : ℕ) → All (λ s. low ≤ s.address) segments
-    → All (λ s. s.address + s.memsz ≤ high) segments → list_any (holds_at a) segments ≡ true
+    → All (λ s. s.address + s.memsz ≤ high) segments → list_any (is_in_segment a) segments ≡ true
     → (low ≤ a) × (a < high)
 held_between [] a low high above below held = absurd cc
 held_between (s ∷ segments) a low high above below held =
-    elim (holds s a) as (λ b. holds s a ≡ b → (b || list_any (holds_at a) segments) ≡ true
+    elim (holds s a) as (λ b. holds s a ≡ b → (b || list_any (is_in_segment a) segments) ≡ true
     → (low ≤ a) × (a < high)) [
       | true ↦ λ e h.
           let w = held_within s a e in
@@ -50,7 +50,7 @@ held_between (s ∷ segments) a low high above below held =
     ] refl held
 
 -- the entry of a kernel lies within the bounds of its segments
-pub entry_within : (file : List ℕ) (kernel : KernelFacts) → IsKernel file kernel
+pub entry_within : (file : List ℕ) (kernel : Multiboot2KernelFacts) → IsKernel file kernel
     → (low_of kernel.segments ≤ kernel.entry) × (kernel.entry < high_of kernel.segments)
 entry_within file kernel is =
     let sound : entry_fault kernel.segments (Some kernel.entry) ≡ None =
@@ -94,7 +94,7 @@ small_address role i (p ∷ places) n h =
 -- the block is the kernel's only part
 block_address : (r : Relocation) (segments : List Segment) (p : Place) (places : List Place)
     → p
-    ≡ place_at
+    ≡ row_place
     (record {
       role = Kernel;
       index = 0;
@@ -138,7 +138,8 @@ entry_small_by facts file value segments (Some r) entry (p ∷ places) loadable 
     (omega arith, omega arith)
 
 -- the entry lies in the block, and its sums stay small
-pub entry_small : (file : List ℕ) (facts : MachineFacts) (value : EntryValue) (kernel : KernelFacts)
+pub entry_small : (file : List ℕ) (facts : MachineFacts) (value : EntryValue)
+    (kernel : Multiboot2KernelFacts)
     (places : List Place) → IsKernel file kernel → AreLoadable file kernel.segments
     → ArePlaced facts [] (rows_of facts value (multiboot2 kernel)) places
     → All (λ p. p.address + p.length ≤ 0xFFFFF000) places

@@ -19,7 +19,8 @@ use Rattle.bl_mb2head.specs.declared.fault.HeadFault.TheVariants.{BadTag}
 use Rattle.bl_mb2head.specs.declared.header.Header.{Header}
 use Rattle.bl_mb2head.specs.declared.relocation.Relocation.{Relocation}
 use Rattle.bl_mb2head.specs.declared.tag.Tag.{Tag}
-use Rattle.bl_load.specs.Kernel.{KernelFacts, IsKernel, IsLoadedBy, entry_fault, counted_entry}
+use Rattle.bl_load.specs.Kernel.{Multiboot2KernelFacts, IsKernel, IsLoadedBy, entry_fault}
+use Rattle.bl_load.specs.Kernel.{counted_entry}
 use Rattle.bl_load.specs.PlacingKept.{HasKernelLength}
 use Rattle.bl_load.specs.Parts.{kernel_content, no_segment}
 use Rattle.bl_load.proofs.KernelLaws.{some_segment, one_filled}
@@ -68,7 +69,7 @@ loaded_full file None facts entry fits loaded sound =
     λ k d within. record { filled = (all k d within).filled; fits = (all k d within).fits }
 
 -- a kernel has a segment, and each of its segments is full
-pub kernel_full : (file : List ℕ) (kernel : KernelFacts) → IsKernel file kernel
+pub kernel_full : (file : List ℕ) (kernel : Multiboot2KernelFacts) → IsKernel file kernel
     → (1 ≤ length kernel.segments) × All IsFull kernel.segments
 kernel_full file kernel is =
     let counted = counted_entry is.header is.facts in (
@@ -86,7 +87,7 @@ loaded_few file (Some segment) facts loaded =
     subst (λ (f : ElfFacts). length f.segments ≤ 128) (sym loaded) (omega arith)
 loaded_few file None facts loaded = elf_few file facts loaded
 
-pub kernel_few : (file : List ℕ) (kernel : KernelFacts) → IsKernel file kernel
+pub kernel_few : (file : List ℕ) (kernel : Multiboot2KernelFacts) → IsKernel file kernel
     → length kernel.segments ≤ 128
 kernel_few file kernel is =
     subst (λ (ss : List Segment). length ss ≤ 128) (sym is.segments)
@@ -100,7 +101,7 @@ loaded_apart file (Some segment) facts loaded =
     (λ i j d ij within. absurd (omega arith))
 loaded_apart file None facts loaded = elf_apart file facts loaded
 
-pub kernel_apart : (file : List ℕ) (kernel : KernelFacts) → IsKernel file kernel
+pub kernel_apart : (file : List ℕ) (kernel : Multiboot2KernelFacts) → IsKernel file kernel
     → AllPairs AreApartSegments kernel.segments
 kernel_apart file kernel is =
     subst (λ (ss : List Segment). AllPairs AreApartSegments ss) (sym is.segments)

@@ -6,11 +6,11 @@ use Rattle.bl_plan.specs.Placed.{ArePlaced}
 use Rattle.bl_plan.specs.declared.part.Row.{Row}
 use Rattle.bl_plan.proofs.OneListLaws as places
 use Rattle.bl_load.specs.declared.refusal.Refusal.{Refusal}
-use Rattle.bl_load.specs.Value.{EntryValue, lines_fault, lines_of}
+use Rattle.bl_load.specs.EntryValue.{EntryValue, lines_fault, lines_of}
 use Rattle.bl_load.specs.Reading.{Reading, HasReadFault}
 use Rattle.bl_load.specs.Rows.{rows_of}
 use Rattle.bl_load.specs.Handover.{Handover}
-use Rattle.bl_load.specs.Parts.{IsHandover, IsRefusal, HasRowFault, HasPlaceFault, Then}
+use Rattle.bl_load.specs.Parts.{IsHandover, IsRefusal, HasRowFault, HasPlaceFault, OrRefused}
 use Rattle.bl_load.specs.Parts.{handover_of, placing_refusal}
 use Rattle.bl_load.proofs.OneReadingLaws.{one_reading, one_read_fault, read_not_fault}
 
@@ -35,7 +35,7 @@ one_row_fault facts rows r s (f, a, f_is) (g, b, g_is) =
     same_Some r s (sym f_is ∙ ap placing_refusal (places.one_fault facts [] rows f g a b) ∙ g_is)
 
 one_then : (first : Option Refusal) (rest : Refusal → Type 0) (r s : Refusal)
-    → (rest r → rest s → r ≡ s) → Then first rest r → Then first rest s → r ≡ s
+    → (rest r → rest s → r ≡ s) → OrRefused first rest r → OrRefused first rest s → r ≡ s
 one_then first rest r s one (inl a) (inl b) = same_Some r s (sym a ∙ b)
 one_then first rest r s one (inl a) (inr b) = let bad : Some r ≡ None = sym a ∙ b.0 in absurd cc
 one_then first rest r s one (inr a) (inl b) = let bad : Some s ≡ None = sym b ∙ a.0 in absurd cc

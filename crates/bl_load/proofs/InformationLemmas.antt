@@ -13,8 +13,8 @@ use Rattle.bl_mbi.proofs.Sizes.{length-spelling}
 use Rattle.bl_plan.specs.declared.part.Place.{Place}
 use Rattle.bl_plan.specs.declared.part.Role.TheVariants.{Kernel}
 use Rattle.bl_load.specs.Addresses.{address_of}
-use Rattle.bl_load.specs.Value.{EntryValue, IsCopy}
-use Rattle.bl_map.specs.Room.{round_up_to_frames}
+use Rattle.bl_load.specs.EntryValue.{EntryValue, IsRsdpCopy}
+use Rattle.bl_map.specs.PoolFrames.{round_up_to_frames}
 use Rattle.bl_load.specs.Rows.{told_modules, information_of}
 use Rattle.bl_load.specs.PlacingKept.{tags_size}
 
@@ -49,21 +49,21 @@ tags_small (line ∷ lines) short =
     omega arith
 
 -- a copy's tag takes at most 264 bytes
-copy_size_small : (copy : Option (List ℕ)) → IfSome copy IsCopy
+copy_size_small : (copy : Option (List ℕ)) → IfSome copy IsRsdpCopy
     → copy_size (option_map length copy) ≤ 264
 copy_size_small None is = omega arith
 copy_size_small (Some copy) is = let short = is.short in omega (arith, short)
 
 -- with few modules and copies it is short
 pub told_below : (line tags runs : ℕ) (old new : Option (List ℕ)) (given : Bool) → line ≤ 4095
-    → runs ≤ 256 → tags < 2 ^ 20 → IfSome old IsCopy → IfSome new IsCopy
+    → runs ≤ 256 → tags < 2 ^ 20 → IfSome old IsRsdpCopy → IfSome new IsRsdpCopy
     → size_by_lengths line [] runs (option_map length old) (option_map length new) given + tags
     < 2 ^ 32
 told_below line tags runs old new given l r t o n =
     omega (arith, most_load_base given, copy_size_small old o, copy_size_small new n)
 
 -- the length of a copy is below 2^31
-pub copy_short : (copy : Option (List ℕ)) → IfSome copy IsCopy
+pub copy_short : (copy : Option (List ℕ)) → IfSome copy IsRsdpCopy
     → IfSome (option_map length copy) (λ n. n < 2 ^ 31)
 copy_short None is = tt
 copy_short (Some copy) is = let short = is.short in omega (arith, short)

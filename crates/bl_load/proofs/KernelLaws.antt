@@ -9,7 +9,7 @@ use Rattle.std.proofs.lemmas.List.Elements.{All-nil, All-cons, All-head, All-tai
 use Rattle.std.proofs.lemmas.Bool.Decides.{nat_tests}
 use Rattle.std.proofs.lemmas.Grind.{common_steps}
 use Rattle.bl_mem.specs.declared.segment.Segment.{Segment}
-use Rattle.bl_mem.specs.Contents.{holds, holds_at}
+use Rattle.bl_mem.specs.Contents.{holds, is_in_segment}
 use Rattle.bl_elf.specs.Elf.{ElfFacts, IsElf}
 use Rattle.bl_elf.proofs.ElfLaws.{elf_few, elf_loadable, elf_apart}
 use Rattle.bl_mb2head.specs.Header.{SegmentFitsFile, IsHeader}
@@ -27,8 +27,9 @@ none_when false x h = absurd cc
 
 -- the entry that counts lies in a segment
 pub entry_held : (segments : List Segment) (entry : ℕ) → entry_fault segments (Some entry) ≡ None
-    → list_any (holds_at entry) segments ≡ true
-entry_held segments entry h = none_when (list_any (holds_at entry) segments) refusal.EntryOutside h
+    → list_any (is_in_segment entry) segments ≡ true
+entry_held segments entry h =
+    none_when (list_any (is_in_segment entry) segments) refusal.EntryOutside h
 
 -- a segment that holds an address
 pub held_within : (s : Segment) (a : ℕ) → holds s a ≡ true

@@ -10,7 +10,7 @@ use Rattle.std.proofs.lemmas.List.Elements.{All-map}
 use Rattle.std.specs.declared.ops.Range.{Range}
 use Rattle.bl_mem.specs.Memory.{IsIn}
 use Rattle.bl_map.specs.MachineFacts.{MachineFacts}
-use Rattle.bl_plan.specs.Permitted.{AllOpen, IsPermitted, IsPreferred}
+use Rattle.bl_plan.specs.Permitted.{AreUntaken, IsPermitted, IsPreferred}
 use Rattle.bl_plan.specs.Placed.{ArePlaced, IsChosen, IsApart, place_range}
 use Rattle.bl_plan.specs.PlannerFacts.{put_in}
 use Rattle.bl_plan.specs.declared.part.Choice.{Choice}
@@ -18,7 +18,7 @@ use Rattle.bl_plan.specs.declared.part.Choice.TheVariants.{Fixed, Lowest, Highes
 use Rattle.bl_plan.specs.declared.part.Row.{Row}
 use Rattle.bl_plan.specs.declared.part.Place.{Place}
 use Rattle.bl_plan.proofs.PlaceLaws.{of_rows, all_apart}
-use Rattle.bl_load.specs.Value.{EntryValue}
+use Rattle.bl_load.specs.EntryValue.{EntryValue}
 use Rattle.bl_load.specs.Rows.{rows_of}
 use Rattle.bl_load.specs.Handover.{Handover}
 use Rattle.bl_load.specs.Parts.{IsHandover}
@@ -41,7 +41,7 @@ All-remove P xs i within each k d left =
 -- places that are apart leave the range of each free
 others_open : (places : List Place) (i : ℕ) (d : Place) → i < length places
     → AllPairs IsApart places
-    → AllOpen (others places i) (get_or places i d).address
+    → AreUntaken (others places i) (get_or places i d).address
     ((get_or places i d).address + (get_or places i d).length)
 others_open places i d within apart a low high =
     All-map (λ (r : Range ℕ). ¬ IsIn r a) place_range (remove places i)
@@ -62,7 +62,8 @@ preferred_holds at P a (inr least) = least.1.holds
 
 -- a chosen address is allowed beside all that its range does not meet
 chosen_allowed : (facts : MachineFacts) (taken ranges : List (Range ℕ)) (count : ℕ)
-    (choice : Choice) (a : ℕ) → IsChosen facts taken count choice a → AllOpen ranges a (a + count)
+    (choice : Choice) (a : ℕ) → IsChosen facts taken count choice a
+    → AreUntaken ranges a (a + count)
     → IsAllowed facts ranges count choice a
 chosen_allowed facts taken ranges count (Fixed at) a chosen free =
     let e = chosen.0 in (e, (λ b low high. chosen.1 b (omega arith) (omega arith)), free)
@@ -133,7 +134,7 @@ placed_allowed facts rows places placed i row place is_row is_place =
     (get_or rows i row).choice (get_or places i place).address chosen.1
     (subst
     (λ (n : ℕ).
-    AllOpen (others places i) (get_or places i place).address
+    AreUntaken (others places i) (get_or places i place).address
     ((get_or places i place).address + n)) chosen.2 free)))
 
 -- so what is handed over is legal

@@ -8,13 +8,13 @@ use Rattle.std.proofs.lemmas.List.Elements.{All-nil, All-cons, All-append}
 use Rattle.std.specs.declared.ops.Range.{Range}
 use Rattle.bl_map.specs.Limits.{max_size, high_start}
 use Rattle.bl_map.specs.MachineFacts.{MachineFacts}
-use Rattle.bl_map.specs.Room.{round_up_to_frames}
+use Rattle.bl_map.specs.PoolFrames.{round_up_to_frames}
 use Rattle.bl_bzimage.specs.declared.setup.Setup.{Setup}
 use Rattle.bl_bzimage.specs.Setup.{IsSetup}
 use Rattle.bl_bzimage.proofs.CheckLaws.{some_alignment}
 use Rattle.bl_bzimage.proofs.SetupLaws.{payload_is_tail}
 use Rattle.bl_mem.specs.Memory.{IsIn}
-use Rattle.bl_plan.specs.Permitted.{AllOpen}
+use Rattle.bl_plan.specs.Permitted.{AreUntaken}
 use Rattle.bl_plan.specs.Placed.{ArePlaced, IsRow, IsFirstPlaceFault, HasChoiceFault}
 use Rattle.bl_plan.specs.declared.fault.PlanFault.TheVariants.{Overlap}
 use Rattle.bl_plan.specs.declared.part.Place.{Place}
@@ -24,13 +24,13 @@ use Rattle.bl_plan.specs.declared.part.Row.{Row}
 use Rattle.bl_plan.specs.declared.protocol.Protocol.{Protocol}
 use Rattle.bl_plan.specs.declared.protocol.Protocol.TheVariants as protocols
 use Rattle.bl_plan.proofs.PlaceLaws.{as_many}
-use Rattle.bl_load.specs.LinuxRows.{moved_row, fixed_row, linux_kernel_row, frame_row}
+use Rattle.bl_load.specs.LinuxRows.{moved_row, fixed_kernel_row, linux_kernel_row, frame_row}
 use Rattle.bl_load.specs.LinuxRows.{line_limit, paging_row, front_rows, initrd_rows, linux_rows}
 use Rattle.bl_load.specs.PlacingKept.{HasLength, IsRowed}
 use Rattle.bl_load.specs.Protocols.{is_wide}
 use Rattle.bl_load.specs.Reading.{linux}
 use Rattle.bl_load.specs.Rows.{rows_of}
-use Rattle.bl_load.specs.Value.{EntryValue, initrd_file}
+use Rattle.bl_load.specs.EntryValue.{EntryValue, initrd_file}
 use Rattle.bl_load.proofs.RowLemmas.{some_frames}
 use Rattle.bl_load.proofs.RowPlaceLemmas.{Anywhere, each_place}
 
@@ -40,7 +40,7 @@ pub kernel_row_is : (file : List ℕ) (setup : Setup) → IsSetup file setup
     → IsRow (linux_kernel_row setup)
 kernel_row_is file setup is =
     let payload = (payload_is_tail file setup is).1 in
-    cond_both (nat_eq setup.relocatable_kernel 0) (fixed_row setup) (moved_row setup) IsRow
+    cond_both (nat_eq setup.relocatable_kernel 0) (fixed_kernel_row setup) (moved_row setup) IsRow
     (λ _. record { filled = omega arith; choice = tt })
     (λ moved. record { filled = omega arith; choice = some_alignment file setup is moved })
 
@@ -61,7 +61,8 @@ paging_row_is protocols.Linux64 =
     All-cons IsRow _ [] (record { filled = omega arith; choice = omega arith }) (All-nil IsRow)
 
 -- what holds of each row before the initrd's holds of all
-pub each_front : (P : Row → Type 0) (protocol : Protocol) (setup : Setup) → P (linux_kernel_row setup)
+pub each_front : (P : Row → Type 0) (protocol : Protocol) (setup : Setup)
+    → P (linux_kernel_row setup)
     → P (frame_row BootParams max_size) → P (frame_row CommandLine line_limit)
     → P (frame_row Gdt max_size)
     → All P (option_to_list (paging_row protocol)) → All P (front_rows protocol setup)
@@ -114,7 +115,7 @@ linux_few facts protocol setup initrd taken places placed =
 -- ---- each place has the length that its role and its index ask for
 
 pub kernel_role : (fixed : Bool) (setup : Setup)
-    → (cond fixed (fixed_row setup) (moved_row setup)).role ≡ Kernel
+    → (cond fixed (fixed_kernel_row setup) (moved_row setup)).role ≡ Kernel
 kernel_role true setup = refl
 kernel_role false setup = refl
 
@@ -162,16 +163,16 @@ module _ (facts : MachineFacts) (value : EntryValue) (setup : Setup) where
 
 -- ---- none overlaps another: the first alone has a fixed place
 
-nothing_taken : (start end : ℕ) → AllOpen [] start end
+nothing_taken : (start end : ℕ) → AreUntaken [] start end
 nothing_taken start end a low high = All-nil (λ (range : Range ℕ). ¬ IsIn range a)
 
 kernel_no_overlap : (facts : MachineFacts) (setup : Setup)
     → HasChoiceFault facts [] (linux_kernel_row setup).length
     (linux_kernel_row setup).choice Overlap → ⊥
 kernel_no_overlap facts setup =
-    cond_both (nat_eq setup.relocatable_kernel 0) (fixed_row setup) (moved_row setup)
+    cond_both (nat_eq setup.relocatable_kernel 0) (fixed_kernel_row setup) (moved_row setup)
     (λ row. HasChoiceFault facts [] row.length row.choice Overlap → ⊥)
-    (λ _ here. here.1 (nothing_taken high_start (high_start + (fixed_row setup).length)))
+    (λ _ here. here.1 (nothing_taken high_start (high_start + (fixed_kernel_row setup).length)))
     (λ _ here. here)
 
 initrd_no_overlap : (facts : MachineFacts) (taken : List (Range ℕ)) (setup : Setup)

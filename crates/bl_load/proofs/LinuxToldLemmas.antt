@@ -7,10 +7,10 @@ use Rattle.std.proofs.lemmas.List.Elements.{All-head, All-tail}
 use Rattle.std.specs.declared.ops.Range.{Range}
 use Rattle.bl_map.specs.MachineFacts.{MachineFacts}
 use Rattle.bl_map.specs.Limits.{max_size}
-use Rattle.bl_map.specs.Room.{round_up_to_frames}
+use Rattle.bl_map.specs.PoolFrames.{round_up_to_frames}
 use Rattle.bl_bzimage.specs.declared.setup.Setup.{Setup}
 use Rattle.bl_plan.specs.Permitted.{IsPermitted}
-use Rattle.bl_plan.specs.Placed.{ArePlaced, IsFirstPlaceFault, IsChosen, HasChoiceFault, place_at}
+use Rattle.bl_plan.specs.Placed.{ArePlaced, IsFirstPlaceFault, IsChosen, HasChoiceFault, row_place}
 use Rattle.bl_plan.specs.Placed.{place_range}
 use Rattle.bl_plan.specs.PlannerFacts.{put_in}
 use Rattle.bl_plan.specs.declared.part.Choice.{Choice}
@@ -73,7 +73,7 @@ module _ (facts : MachineFacts) (protocol : Protocol) (setup : Setup) where
               same placed.0,
           subst
               (λ (n : ℕ).
-              p ≡ place_at
+              p ≡ row_place
               (record {
                 role = Initrd;
                 index = 0;
@@ -99,7 +99,8 @@ module _ (facts : MachineFacts) (protocol : Protocol) (setup : Setup) where
             (λ (n : ℕ). HasChoiceFault facts taken n (Highest 4096 4096 high) fault) same here)
         | inr long ↦
             inl
-            (no_room taken 4096 4096 high (round_up_to_frames size) (capped_length size) fault long.1
+            (no_room taken 4096 4096 high (round_up_to_frames size) (capped_length size) fault
+            long.1
             here)
       ]
   told_initrd_fault fault (byte ∷ bytes) taken (inr (a, chosen, later)) = absurd later
@@ -108,14 +109,16 @@ module _ (facts : MachineFacts) (protocol : Protocol) (setup : Setup) where
       → ArePlaced facts [] (told_linux_rows protocol setup initrd) places
       → ArePlaced facts [] (linux_rows protocol setup initrd) places
   linux_as_placed initrd places placed =
-      behind_placed facts (front_rows protocol setup) (told_initrd_rows setup initrd) (initrd_rows setup initrd)
+      behind_placed facts (front_rows protocol setup) (told_initrd_rows setup initrd)
+      (initrd_rows setup initrd)
       (told_initrd_placed initrd) [] places placed
 
   pub linux_as_fault : (fault : PlanFault) (initrd : List ℕ)
       → IsFirstPlaceFault facts [] (told_linux_rows protocol setup initrd) fault
       → IsFirstPlaceFault facts [] (linux_rows protocol setup initrd) fault
   linux_as_fault fault initrd has =
-      behind_fault facts fault (front_rows protocol setup) (told_initrd_rows setup initrd) (initrd_rows setup initrd)
+      behind_fault facts fault (front_rows protocol setup) (told_initrd_rows setup initrd)
+      (initrd_rows setup initrd)
       (told_initrd_fault fault initrd) [] has
 
   -- ---- the initrd has a place, which is as long as its file
@@ -144,4 +147,5 @@ module _ (facts : MachineFacts) (protocol : Protocol) (setup : Setup) where
   pub initrd_fits : (initrd : List ℕ) (places : List Place)
       → ArePlaced facts [] (linux_rows protocol setup initrd) places → All EndsLow places
       → length initrd < 2 ^ 32
-  initrd_fits initrd places placed low = behind_small initrd (front_rows protocol setup) [] places placed low
+  initrd_fits initrd places placed low =
+      behind_small initrd (front_rows protocol setup) [] places placed low

@@ -10,7 +10,7 @@ use Rattle.std.proofs.lemmas.Bool.Decides.{nat_tests}
 use Rattle.std.proofs.lemmas.Grind.{common_steps}
 use Rattle.std.specs.declared.ops.Range.{Range}
 use Rattle.bl_map.specs.MachineFacts.{MachineFacts}
-use Rattle.bl_map.specs.Room.{round_up_to_frames}
+use Rattle.bl_map.specs.PoolFrames.{round_up_to_frames}
 use Rattle.bl_plan.specs.Placed.{ArePlaced, place_range}
 use Rattle.bl_plan.specs.PlannerFacts.{put_in}
 use Rattle.bl_plan.specs.Roles.{role_number}
@@ -20,8 +20,8 @@ use Rattle.bl_plan.specs.declared.part.Role.TheVariants.{Kernel, Module, Informa
 use Rattle.bl_plan.specs.declared.part.Role.TheVariants.{CommandLine, Gdt, Initrd, PageTables}
 use Rattle.bl_plan.specs.declared.part.Row.{Row}
 use Rattle.bl_load.specs.Addresses.{address_of}
-use Rattle.bl_load.specs.Value.{EntryValue, module_file}
-use Rattle.bl_load.specs.Kernel.{KernelFacts}
+use Rattle.bl_load.specs.EntryValue.{EntryValue, module_file}
+use Rattle.bl_load.specs.Kernel.{Multiboot2KernelFacts}
 use Rattle.bl_load.specs.Reading.{multiboot2}
 use Rattle.bl_load.specs.Rows.{module_rows, kernel_rows, information_row, rows_of, told_modules}
 use Rattle.bl_load.specs.PlacingKept.{EndsLow, IsRowed, ModulesEndLow, HasLength}
@@ -96,7 +96,8 @@ is_module Gdt h = absurd cc
 is_module Initrd h = absurd cc
 is_module PageTables h = absurd cc
 
-module_ends : (facts : MachineFacts) (value : EntryValue) (kernel : KernelFacts) (i : ℕ) (p : Place)
+module_ends : (facts : MachineFacts) (value : EntryValue) (kernel : Multiboot2KernelFacts) (i : ℕ)
+    (p : Place)
     → IsRowed facts value (multiboot2 kernel) p → EndsLow p
     → EndsBy Module i (length (module_file value.files i)) 0xFFFFF000 p
 module_ends facts value kernel i p rowed low role index =
@@ -109,7 +110,7 @@ module_ends facts value kernel i p rowed low role index =
     ap (λ (j : ℕ). length (module_file value.files j)) index in
     omega arith
 
-pub modules_end_low : (facts : MachineFacts) (value : EntryValue) (kernel : KernelFacts)
+pub modules_end_low : (facts : MachineFacts) (value : EntryValue) (kernel : Multiboot2KernelFacts)
     (places : List Place) → ArePlaced facts [] (rows_of facts value (multiboot2 kernel)) places
     → All (IsRowed facts value (multiboot2 kernel)) places → All EndsLow places
     → ModulesEndLow value.files places (length value.module_lines)
@@ -133,7 +134,8 @@ told_module files places k line =
 
 pub told_more : (files : List (List ℕ)) (places : List Place) (k : ℕ) (told : List ModuleInfo)
     (new : ModuleInfo) (line : List ℕ) (rest : List (List ℕ)) (all : List ModuleInfo)
-    → new ≡ told_module files places k line → told ++ told_modules files places k (line ∷ rest) ≡ all
+    → new ≡ told_module files places k line → told ++ told_modules files places k (line ∷ rest)
+    ≡ all
     → (told ++ new ∷ []) ++ told_modules files places (k + 1) rest ≡ all
 told_more files places k told new line rest all is so_far =
     let next : k + 1 ≡ suc k = omega arith in

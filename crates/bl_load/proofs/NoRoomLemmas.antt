@@ -6,10 +6,10 @@ use Rattle.std.proofs.lemmas.Bool.{cases_lt}
 use Rattle.std.specs.declared.ops.Range.{Range}
 use Rattle.bl_map.specs.MachineFacts.{MachineFacts}
 use Rattle.bl_map.specs.Limits.{max_size}
-use Rattle.bl_map.specs.Room.{round_up_to_frames}
+use Rattle.bl_map.specs.PoolFrames.{round_up_to_frames}
 use Rattle.bl_plan.specs.Placed.{ArePlaced, IsFirstPlaceFault, IsChosen, HasChoiceFault}
 use Rattle.bl_plan.specs.Placed.{IsPlacingFault}
-use Rattle.bl_plan.specs.Placed.{place_at, place_range}
+use Rattle.bl_plan.specs.Placed.{row_place, place_range}
 use Rattle.bl_plan.specs.PlannerFacts.{put_in}
 use Rattle.bl_plan.specs.declared.part.Choice.TheVariants.{Lowest}
 use Rattle.bl_plan.specs.declared.fault.PlanFault.{PlanFault}
@@ -17,8 +17,8 @@ use Rattle.bl_plan.specs.declared.fault.PlanFault.TheVariants.{NotUsable, Overla
 use Rattle.bl_plan.specs.declared.part.Place.{Place}
 use Rattle.bl_plan.specs.declared.part.Role.TheVariants.{Module}
 use Rattle.bl_plan.specs.declared.part.Row.{Row}
-use Rattle.bl_load.specs.Value.{EntryValue, module_file}
-use Rattle.bl_load.specs.Kernel.{KernelFacts}
+use Rattle.bl_load.specs.EntryValue.{EntryValue, module_file}
+use Rattle.bl_load.specs.Kernel.{Multiboot2KernelFacts}
 use Rattle.bl_load.specs.Reading.{multiboot2}
 use Rattle.bl_load.specs.Rows.{module_rows, kernel_rows, information_row, rows_of}
 use Rattle.bl_load.specs.PlacingKept.{length_cap, capped_length, capped_rows, told_rows_of}
@@ -68,7 +68,7 @@ module _ (facts : MachineFacts) where
               same placed.0,
           subst
               (λ (n : ℕ).
-              p ≡ place_at
+              p ≡ row_place
               (record {
                 role = Module;
                 index = k;
@@ -95,7 +95,8 @@ module _ (facts : MachineFacts) where
             same here)
         | inr long ↦
             inl
-            (no_room taken 4096 0x100000 (round_up_to_frames (max size 1)) (capped_length size) fault
+            (no_room taken 4096 0x100000 (round_up_to_frames (max size 1)) (capped_length size)
+            fault
             long.1 here)
       ]
   told_fault files rest fault k (line ∷ lines) taken (inr (a, chosen, later)) =
@@ -110,7 +111,7 @@ module _ (facts : MachineFacts) where
               IsFirstPlaceFault facts
               (put_in
               (place_range
-              (place_at
+              (row_place
               (record {
                 role = Module;
                 index = k;
@@ -147,7 +148,7 @@ module _ (facts : MachineFacts) where
   behind_fault fault (row ∷ first) told rest each taken (inr (a, chosen, later)) =
       inr (a, chosen, behind_fault fault first told rest each _ later)
 
-  module _ (value : EntryValue) (kernel : KernelFacts) where
+  module _ (value : EntryValue) (kernel : Multiboot2KernelFacts) where
     pub as_placed : (places : List Place)
         → ArePlaced facts [] (told_rows_of facts value kernel) places
         → ArePlaced facts [] (rows_of facts value (multiboot2 kernel)) places

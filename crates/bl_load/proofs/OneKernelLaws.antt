@@ -11,7 +11,8 @@ use Rattle.bl_mb2head.specs.declared.header.Header.{Header}
 use Rattle.bl_mb2head.specs.declared.relocation.Relocation.{Relocation}
 use Rattle.bl_mb2head.proofs.HeaderLaws as headers
 use Rattle.bl_load.specs.declared.refusal.Refusal.{Refusal}
-use Rattle.bl_load.specs.Kernel.{KernelFacts, IsLoadedBy, IsKernel, HasElfRefusal, HasKernelFault}
+use Rattle.bl_load.specs.Kernel.{Multiboot2KernelFacts, IsLoadedBy, IsKernel, HasElfRefusal}
+use Rattle.bl_load.specs.Kernel.{HasKernelFault}
 use Rattle.bl_load.specs.Kernel.{entry_fault, counted_entry, head_refusal, elf_refusal}
 
 -- ---- a Multiboot2 kernel's file
@@ -32,11 +33,11 @@ same_loaded file h k f g is_h is_k a b =
     one_loaded file h.segment g f
     (subst (λ (x : Header). IsLoadedBy file x.segment g) (same_header file h k is_h is_k) b) a
 
-kernel_from : List Segment → ℕ → Option Relocation → KernelFacts
+kernel_from : List Segment → ℕ → Option Relocation → Multiboot2KernelFacts
 kernel_from segments entry relocation =
     record { segments = segments; entry = entry; relocation = relocation }
 
-same_kernel : (a b : KernelFacts) → a.segments ≡ b.segments → a.entry ≡ b.entry
+same_kernel : (a b : Multiboot2KernelFacts) → a.segments ≡ b.segments → a.entry ≡ b.entry
     → a.relocation ≡ b.relocation → a ≡ b
 unfolding kernel_from
 same_kernel a b segments entry relocation =
@@ -45,7 +46,8 @@ same_kernel a b segments entry relocation =
     ∙ ap (λ (r : Option Relocation). kernel_from b.segments b.entry r) relocation
 
 -- a file is one kernel
-pub one_kernel : (file : List ℕ) (a b : KernelFacts) → IsKernel file a → IsKernel file b → a ≡ b
+pub one_kernel : (file : List ℕ) (a b : Multiboot2KernelFacts) → IsKernel file a → IsKernel file b
+    → a ≡ b
 one_kernel file a b is_a is_b =
     let header : is_b.header ≡ is_a.header =
     same_header file is_a.header is_b.header is_a.is_header is_b.is_header in
@@ -120,7 +122,8 @@ one_kernel_fault file r s (inr (inr (h, f, is_h, f_is, a))) (inr (inr (k, g, is_
     same_Some r s (sym a ∙ same_entry_fault file h k f g is_h is_k f_is g_is ∙ b)
 
 -- and never both
-pub kernel_not_fault : (file : List ℕ) (kernel : KernelFacts) (r : Refusal) → IsKernel file kernel
+pub kernel_not_fault : (file : List ℕ) (kernel : Multiboot2KernelFacts) (r : Refusal)
+    → IsKernel file kernel
     → HasKernelFault file r → ⊥
 kernel_not_fault file kernel r is (inl (f, a, r_is)) =
     headers.not_both file is.header f is.is_header a

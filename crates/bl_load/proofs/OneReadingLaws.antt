@@ -7,7 +7,7 @@ use Rattle.bl_bzimage.specs.declared.setup.Setup.{Setup}
 use Rattle.bl_plan.specs.declared.protocol.Protocol.{Protocol}
 use Rattle.bl_plan.specs.declared.protocol.Protocol.TheVariants.{Multiboot2}
 use Rattle.bl_load.specs.declared.refusal.Refusal.{Refusal}
-use Rattle.bl_load.specs.Value.{EntryValue, kernel_file}
+use Rattle.bl_load.specs.EntryValue.{EntryValue, kernel_file}
 use Rattle.bl_load.specs.Reading.{Reading, multiboot2, linux, IsRead, HasReadFault}
 use Rattle.bl_load.specs.Linux.{IsLinuxKernel, HasLinuxFault}
 use Rattle.bl_load.specs.Protocols.{has_params}

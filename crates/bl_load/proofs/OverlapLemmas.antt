@@ -9,17 +9,17 @@ use Rattle.bl_mem.specs.Memory.{IsIn}
 use Rattle.bl_map.specs.MachineFacts.{MachineFacts}
 use Rattle.bl_elf.specs.Elf.{AreApartSegments}
 use Rattle.bl_mb2head.specs.declared.relocation.Relocation.{Relocation}
-use Rattle.bl_plan.specs.Permitted.{AllOpen}
+use Rattle.bl_plan.specs.Permitted.{AreUntaken}
 use Rattle.bl_plan.specs.PlannerFacts.{put_in}
-use Rattle.bl_plan.specs.Placed.{IsFirstPlaceFault, HasChoiceFault, place_at, place_range}
+use Rattle.bl_plan.specs.Placed.{IsFirstPlaceFault, HasChoiceFault, row_place, place_range}
 use Rattle.bl_plan.specs.declared.part.Choice.TheVariants.{Fixed, Lowest, Highest, Preferred}
 use Rattle.bl_plan.specs.declared.fault.PlanFault.TheVariants.{Overlap}
 use Rattle.bl_plan.specs.declared.part.Row.{Row}
 use Rattle.bl_plan.specs.declared.part.Role.TheVariants.{Kernel}
 use Rattle.bl_plan.proofs.PutLemmas.{All-put_in}
-use Rattle.bl_load.specs.Value.{EntryValue}
+use Rattle.bl_load.specs.EntryValue.{EntryValue}
 use Rattle.bl_load.specs.Reading.{multiboot2}
-use Rattle.bl_load.specs.Kernel.{KernelFacts}
+use Rattle.bl_load.specs.Kernel.{Multiboot2KernelFacts}
 use Rattle.bl_load.specs.Blocks.{low_of, span_of}
 use Rattle.bl_load.specs.Rows.{segment_rows, align_of, block_choice, kernel_rows, information_row}
 use Rattle.bl_load.specs.Rows.{rows_of, module_rows}
@@ -27,14 +27,14 @@ use Rattle.bl_plan.proofs.OrderLemmas.{AreRelated, pairs_related}
 
 -- no address of a segment is taken
 abbrev IsFreeSegment : List (Range ℕ) → Segment → Type 0
-IsFreeSegment taken s = AllOpen taken s.address (s.address + s.memsz)
+IsFreeSegment taken s = AreUntaken taken s.address (s.address + s.memsz)
 
 -- where a segment was placed, those apart from it stay free
 stays_free : (taken : List (Range ℕ)) (s t : Segment) (row : Row) → row.length ≡ s.memsz
     → AreApartSegments s t → IsFreeSegment taken t
-    → IsFreeSegment (put_in (place_range (place_at row s.address)) taken) t
+    → IsFreeSegment (put_in (place_range (row_place row s.address)) taken) t
 stays_free taken s t row size apart free = λ a low high.
-    All-put_in (λ r. ¬ IsIn r a) (place_range (place_at row s.address)) taken
+    All-put_in (λ r. ¬ IsIn r a) (place_range (row_place row s.address)) taken
     (λ here. apart a (omega (arith, here.0), omega (arith, here.1)) (low, high))
     (free a low high)
 
@@ -50,7 +50,8 @@ segments_no_overlap facts taken k (s ∷ segments) rest free apart none (inl her
 segments_no_overlap facts taken k (s ∷ segments) rest free apart none (inr later) =
     let row : Row =
     record { role = Kernel; index = k; length = s.memsz; choice = Fixed s.address } in
-    segments_no_overlap facts (put_in (place_range (place_at row s.address)) taken) (suc k) segments
+    segments_no_overlap facts (put_in (place_range (row_place row s.address)) taken) (suc k)
+    segments
     rest
     (λ i d within.
     stays_free taken s (get_or segments i d) row refl (apart.0 i d within)
@@ -58,7 +59,7 @@ segments_no_overlap facts taken k (s ∷ segments) rest free apart none (inr lat
     apart.1 none
     (subst
     (λ (a : ℕ).
-    IsFirstPlaceFault facts (put_in (place_range (place_at row a)) taken)
+    IsFirstPlaceFault facts (put_in (place_range (row_place row a)) taken)
     (segment_rows (suc k) segments ++ rest) Overlap) later.1.0 later.2)
 
 information_no_overlap : (facts : MachineFacts) (value : EntryValue)
@@ -106,7 +107,7 @@ rows_no_overlap facts value segments (Some r) apart (inr later) =
     tail_no_overlap facts value (Some r) 0 value.module_lines _ later.2
 
 -- so the first fault of a kernel whose segments share no byte is no overlap
-pub no_overlap : (facts : MachineFacts) (value : EntryValue) (kernel : KernelFacts)
+pub no_overlap : (facts : MachineFacts) (value : EntryValue) (kernel : Multiboot2KernelFacts)
     → AllPairs AreApartSegments kernel.segments
     → IsFirstPlaceFault facts [] (rows_of facts value (multiboot2 kernel)) Overlap → ⊥
 no_overlap facts value kernel apart h =

@@ -12,7 +12,7 @@ use Rattle.bl_plan.specs.declared.part.Place.{Place}
 use Rattle.bl_plan.specs.declared.part.Role.{Role}
 use Rattle.bl_plan.specs.declared.part.Row.{Row}
 use Rattle.bl_plan.proofs.PlaceLaws as places_laws
-use Rattle.bl_load.specs.Value.{EntryValue}
+use Rattle.bl_load.specs.EntryValue.{EntryValue}
 use Rattle.bl_load.specs.Rows.{rows_of}
 use Rattle.bl_load.specs.PlacingKept.{IsRowed}
 use Rattle.bl_plan.specs.Order.{place_key, in_order}

@@ -1,5 +1,6 @@
 -- What is prepared of an entry by its lines and its kernel.
-use Rattle.std.proofs.Common.{◌≡◌, ◌≤◌, ℕ, List, [], ◌∷◌, length, get_or, map, Option, None, arith, refl}
+use Rattle.std.proofs.Common.{◌≡◌, ◌≤◌, ℕ, List, [], ◌∷◌, length, get_or, map, Option, None, arith}
+use Rattle.std.proofs.Common.{refl}
 use Rattle.std.proofs.Common.{true, sym, ap, ◌∙◌, inl, inr}
 use Rattle.std.proofs.lemmas.List.{get_or-map}
 use Rattle.bl_map.specs.MachineFacts.{MachineFacts}
@@ -9,7 +10,8 @@ use Rattle.bl_plan.specs.declared.protocol.Protocol.{Protocol}
 use Rattle.bl_load.specs.Handover.{Handover}
 use Rattle.bl_load.specs.KernelKept.{IsKernelFault}
 use Rattle.bl_load.specs.ReadKept.{IsLinuxFault}
-use Rattle.bl_load.specs.Value.{EntryValue, multiboot2_value, linux_value, lines_fault, lines_of}
+use Rattle.bl_load.specs.EntryValue.{EntryValue, multiboot2_value, linux_value, lines_fault}
+use Rattle.bl_load.specs.EntryValue.{lines_of}
 use Rattle.bl_load.specs.Protocols.{has_params}
 use Rattle.bl_load.specs.Reading.{Reading, IsRead}
 use Rattle.bl_load.specs.Rows.{rows_of}

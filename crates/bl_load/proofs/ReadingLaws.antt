@@ -22,16 +22,16 @@ use Rattle.bl_plan.specs.declared.protocol.Protocol.{Protocol}
 use Rattle.bl_plan.specs.declared.protocol.Protocol.TheVariants as protocols
 use Rattle.bl_load.specs.Addresses.{address_of}
 use Rattle.bl_load.specs.HandoffFacts.{IsWellFormedHandoff, MayStand, max_parts}
-use Rattle.bl_load.specs.Kernel.{KernelFacts}
-use Rattle.bl_load.specs.LinuxRows.{fixed_row, moved_row, linux_kernel_row, told_of}
+use Rattle.bl_load.specs.Kernel.{Multiboot2KernelFacts}
+use Rattle.bl_load.specs.LinuxRows.{fixed_kernel_row, moved_row, linux_kernel_row, told_of}
 use Rattle.bl_load.specs.Parts.{content_of, payload_of, registers_of}
 use Rattle.bl_load.specs.PlacingKept.{HasLength, IsRowed}
 use Rattle.bl_load.specs.Protocols.{descriptors_of, is_wide}
 use Rattle.bl_load.specs.Reading.{Reading, multiboot2, linux, IsRead}
 use Rattle.bl_load.specs.Registers.{are_wide}
 use Rattle.bl_load.specs.Rows.{rows_of}
-use Rattle.bl_load.specs.Value.{EntryValue, kernel_file, module_file, initrd_file, line_fault}
-use Rattle.bl_load.specs.Value.{lines_fault, lines_of}
+use Rattle.bl_load.specs.EntryValue.{EntryValue, kernel_file, module_file, initrd_file, line_fault}
+use Rattle.bl_load.specs.EntryValue.{lines_fault, lines_of}
 use Rattle.bl_load.proofs.FullLemmas.{IsFull, kernel_full, kernel_few, kernel_apart, kernel_short}
 use Rattle.bl_load.proofs.InformationLemmas.{information_short}
 use Rattle.bl_load.proofs.LineLemmas.{first_sound, sound_short}
@@ -139,7 +139,7 @@ reading_kept facts value reading places is few placed =
 
 -- ---- what stands there is no longer
 
-multiboot2_short : (facts : MachineFacts) (value : EntryValue) (kernel : KernelFacts)
+multiboot2_short : (facts : MachineFacts) (value : EntryValue) (kernel : Multiboot2KernelFacts)
     (places : List Place) (role : Role) (i count : ℕ) → All IsFull kernel.segments
     → HasLength facts value (multiboot2 kernel) role i count
     → length (content_of facts value (multiboot2 kernel) places role i) ≤ count
@@ -164,7 +164,7 @@ payload_short file setup =
 -- a kernel's part takes its payload
 pub payload_fits : (setup : Setup) → setup.payload_size ≤ (linux_kernel_row setup).length
 payload_fits setup =
-    cond_both (nat_eq setup.relocatable_kernel 0) (fixed_row setup) (moved_row setup)
+    cond_both (nat_eq setup.relocatable_kernel 0) (fixed_kernel_row setup) (moved_row setup)
     (λ row. setup.payload_size ≤ row.length) (λ _. omega arith) (λ _. omega arith)
 
 -- descriptors fit a frame

@@ -12,7 +12,7 @@ use Rattle.bl_load.specs.PlacingKept.{EndsLow, IsRowed, ModulesEndLow, told_rows
 use Rattle.bl_load.specs.Reading.{Reading, multiboot2, linux, IsRead}
 use Rattle.bl_load.specs.Rows.{rows_of}
 use Rattle.bl_load.specs.ReadKept.{EntersBy, HasFiles, FitsTold, CanEnter}
-use Rattle.bl_load.specs.Value.{EntryValue, kernel_file, initrd_file}
+use Rattle.bl_load.specs.EntryValue.{EntryValue, kernel_file, initrd_file}
 use Rattle.bl_load.proofs.EntryLemmas.{entry_small}
 use Rattle.bl_load.proofs.LinuxKernelLemmas.{setup_is}
 use Rattle.bl_load.proofs.LinuxToldLemmas.{linux_as_placed, linux_as_fault, initrd_fits}
@@ -62,7 +62,8 @@ module _ (facts : MachineFacts) (value : EntryValue) where
   -- what is told of the parts fits 32 bits
   pub fits_told : (reading : Reading) (places : List Place)
       → ArePlaced facts [] (rows_of facts value reading) places
-      → All (IsRowed facts value reading) places → All EndsLow places → FitsTold value reading places
+      → All (IsRowed facts value reading) places → All EndsLow places
+      → FitsTold value reading places
   fits_told (multiboot2 kernel) places placed rowed low =
       modules_end_low facts value kernel places placed rowed low
   fits_told (linux setup) places placed rowed low = (

@@ -16,13 +16,13 @@ use Rattle.bl_plan.specs.declared.part.Role.TheVariants.{Kernel}
 use Rattle.bl_plan.proofs.PlaceLaws.{as_many}
 use Rattle.std.specs.Prelude.{min, max}
 use Rattle.bl_plan.specs.declared.part.Row.{Row}
-use Rattle.bl_load.specs.Value.{EntryValue, module_file}
+use Rattle.bl_load.specs.EntryValue.{EntryValue, module_file}
 use Rattle.bl_load.specs.PlacingKept.{length_cap, capped_rows, told_rows_of}
 use Rattle.bl_load.specs.Reading.{multiboot2}
-use Rattle.bl_load.specs.Kernel.{KernelFacts}
+use Rattle.bl_load.specs.Kernel.{Multiboot2KernelFacts}
 use Rattle.bl_load.specs.KernelKept.{AreLoadable}
 use Rattle.bl_load.specs.Blocks.{low_of, high_of, span_of}
-use Rattle.bl_map.specs.Room.{round_up_to_frames}
+use Rattle.bl_map.specs.PoolFrames.{round_up_to_frames}
 use Rattle.bl_load.specs.Rows.{segment_rows, align_of, block_choice, kernel_rows, information_of}
 use Rattle.bl_load.specs.Rows.{information_row, rows_of, module_rows}
 use Rattle.bl_load.proofs.SortedLemmas.{low_below, high_above_all}
@@ -56,11 +56,13 @@ some_align r =
 block_choice_is : (r : Relocation) (linked : ℕ) → HasPositiveAlignment (block_choice r linked)
 block_choice_is r linked =
     let some = some_align r in
-    cond_both (nat_eq r.preference 1) (Lowest (align_of r) r.min_addr r.max_addr) _ HasPositiveAlignment
+    cond_both (nat_eq r.preference 1) (Lowest (align_of r) r.min_addr r.max_addr) _
+    HasPositiveAlignment
     (λ _. some)
     (λ _.
     cond_both (nat_eq r.preference 2) (Highest (align_of r) r.min_addr r.max_addr)
-    (Preferred linked (align_of r) r.min_addr r.max_addr) HasPositiveAlignment (λ _. some) (λ _. some))
+    (Preferred linked (align_of r) r.min_addr r.max_addr) HasPositiveAlignment (λ _. some)
+    (λ _. some))
 
 pub some_frames : (n : ℕ) → 1 ≤ n → n ≤ round_up_to_frames n
 some_frames n some = omega arith
@@ -102,7 +104,8 @@ told_rows_are : (files : List (List ℕ)) (k : ℕ) (lines : List (List ℕ))
     → All IsRow (capped_rows files k lines)
 told_rows_are files k [] = All-nil IsRow
 told_rows_are files k (line ∷ lines) =
-    let frames = some_frames (max (min (length (module_file files k)) length_cap) 1) (omega arith) in
+    let frames =
+    some_frames (max (min (length (module_file files k)) length_cap) 1) (omega arith) in
     All-cons IsRow _ (capped_rows files (suc k) lines)
     (record { filled = omega arith; choice = omega arith }) (told_rows_are files (suc k) lines)
 
@@ -116,7 +119,8 @@ behind_kernel facts value relocation rows are =
     (information_row_is facts value relocation) (All-nil IsRow))
 
 -- the rows of a kernel whose segments take memory are rows of some bytes
-pub kernel_rows_are_rows : (facts : MachineFacts) (value : EntryValue) (kernel : KernelFacts)
+pub kernel_rows_are_rows : (facts : MachineFacts) (value : EntryValue)
+    (kernel : Multiboot2KernelFacts)
     → 1 ≤ length kernel.segments → All (λ s. 1 ≤ s.memsz) kernel.segments
     → All IsRow (rows_of facts value (multiboot2 kernel))
 kernel_rows_are_rows facts value kernel some filled =
@@ -129,7 +133,7 @@ kernel_rows_are_rows facts value kernel some filled =
 
 -- and so are the rows as the code tells them
 pub told_rows_are_rows : (file : List ℕ) (facts : MachineFacts) (value : EntryValue)
-    (kernel : KernelFacts) → AreLoadable file kernel.segments
+    (kernel : Multiboot2KernelFacts) → AreLoadable file kernel.segments
     → All IsRow (told_rows_of facts value kernel)
 told_rows_are_rows file facts value kernel loadable =
     All-append IsRow (kernel_rows kernel.segments kernel.relocation)
@@ -140,7 +144,7 @@ told_rows_are_rows file facts value kernel loadable =
     (told_rows_are value.files 0 value.module_lines))
 
 pub rows_are_rows : (file : List ℕ) (facts : MachineFacts) (value : EntryValue)
-    (kernel : KernelFacts) → AreLoadable file kernel.segments
+    (kernel : Multiboot2KernelFacts) → AreLoadable file kernel.segments
     → All IsRow (rows_of facts value (multiboot2 kernel))
 rows_are_rows file facts value kernel loadable =
     kernel_rows_are_rows facts value kernel loadable.some loadable.filled
@@ -167,7 +171,7 @@ length-module_rows files k (line ∷ lines) =
     ap (λ (n : ℕ). suc n) (length-module_rows files (suc k) lines)
 
 -- there are at most 193 rows, and as many places
-pub few_places : (facts : MachineFacts) (value : EntryValue) (kernel : KernelFacts)
+pub few_places : (facts : MachineFacts) (value : EntryValue) (kernel : Multiboot2KernelFacts)
     (taken : List (Range ℕ)) (places : List Place) → 1 ≤ length kernel.segments
     → length kernel.segments ≤ 128 → length value.module_lines ≤ 64
     → ArePlaced facts taken (rows_of facts value (multiboot2 kernel)) places → length places ≤ 193

@@ -8,14 +8,14 @@ use Rattle.bl_mem.specs.declared.segment.Segment.{Segment}
 use Rattle.bl_map.specs.MachineFacts.{MachineFacts}
 use Rattle.bl_mb2head.specs.declared.relocation.Relocation.{Relocation}
 use Rattle.bl_plan.specs.PlannerFacts.{put_in}
-use Rattle.bl_plan.specs.Placed.{ArePlaced, place_at, place_range}
+use Rattle.bl_plan.specs.Placed.{ArePlaced, row_place, place_range}
 use Rattle.bl_plan.specs.declared.part.Choice.TheVariants.{Fixed}
 use Rattle.bl_plan.specs.declared.part.Row.{Row}
 use Rattle.bl_plan.specs.declared.part.Place.{Place}
 use Rattle.bl_plan.specs.declared.part.Role.TheVariants.{Kernel}
-use Rattle.bl_load.specs.Value.{EntryValue}
+use Rattle.bl_load.specs.EntryValue.{EntryValue}
 use Rattle.bl_load.specs.Reading.{multiboot2}
-use Rattle.bl_load.specs.Kernel.{KernelFacts}
+use Rattle.bl_load.specs.Kernel.{Multiboot2KernelFacts}
 use Rattle.bl_load.specs.Blocks.{low_of, span_of}
 use Rattle.bl_load.specs.Rows.{segment_rows, block_choice, kernel_rows, information_row, rows_of}
 use Rattle.bl_load.specs.Rows.{module_rows}
@@ -26,7 +26,7 @@ use Rattle.bl_load.specs.PlacingKept.{HasKernelLength, IsRowed}
 
 -- what holds of a row wherever it is placed
 abbrev pub Anywhere : (Place → Type 0) → Row → Type 0
-Anywhere P row = (a : ℕ) → P (place_at row a)
+Anywhere P row = (a : ℕ) → P (row_place row a)
 
 pub each_place : (facts : MachineFacts) (P : Place → Type 0) (taken : List (Range ℕ))
     (rows : List Row) (places : List Place) → All (Anywhere P) rows
@@ -45,7 +45,8 @@ AreFrom all k segments =
     (i : ℕ) (d : Segment) → i < length segments
     → (k + i < length all) × (get_or all (k + i) no_segment ≡ get_or segments i d)
 
-segment_rows_rowed : (facts : MachineFacts) (value : EntryValue) (kernel : KernelFacts) (k : ℕ)
+segment_rows_rowed : (facts : MachineFacts) (value : EntryValue) (kernel : Multiboot2KernelFacts)
+    (k : ℕ)
     (segments : List Segment) → kernel.relocation ≡ None → AreFrom kernel.segments k segments
     → All (Anywhere (IsRowed facts value (multiboot2 kernel))) (segment_rows k segments)
 segment_rows_rowed facts value kernel k [] fixed from =
@@ -68,7 +69,7 @@ segment_rows_rowed facts value kernel k (s ∷ segments) fixed from =
     let on : k + suc i ≡ suc k + i = omega arith in
     (omega (arith, next.0), ap (λ (n : ℕ). get_or kernel.segments n no_segment) (sym on) ∙ next.1)))
 
-kernel_rows_rowed : (facts : MachineFacts) (value : EntryValue) (kernel : KernelFacts)
+kernel_rows_rowed : (facts : MachineFacts) (value : EntryValue) (kernel : Multiboot2KernelFacts)
     (relocation : Option Relocation) → kernel.relocation ≡ relocation
     → All (Anywhere (IsRowed facts value (multiboot2 kernel)))
     (kernel_rows kernel.segments relocation)
@@ -93,7 +94,8 @@ kernel_rows_rowed facts value kernel (Some r) is =
     HasKernelLength kernel.segments o 0 (span_of kernel.segments)) (sym is) refl)
     (All-nil (Anywhere (IsRowed facts value (multiboot2 kernel))))
 
-module_rows_rowed : (facts : MachineFacts) (value : EntryValue) (kernel : KernelFacts) (k : ℕ)
+module_rows_rowed : (facts : MachineFacts) (value : EntryValue) (kernel : Multiboot2KernelFacts)
+    (k : ℕ)
     (lines : List (List ℕ)) → k + length lines ≤ length value.module_lines
     → All (Anywhere (IsRowed facts value (multiboot2 kernel))) (module_rows value.files k lines)
 module_rows_rowed facts value kernel k [] most =
@@ -103,7 +105,7 @@ module_rows_rowed facts value kernel k (line ∷ lines) most =
     _ (module_rows value.files (suc k) lines) (λ a. (omega (arith, most), refl))
     (module_rows_rowed facts value kernel (suc k) lines (omega (arith, most)))
 
-rows_rowed : (facts : MachineFacts) (value : EntryValue) (kernel : KernelFacts)
+rows_rowed : (facts : MachineFacts) (value : EntryValue) (kernel : Multiboot2KernelFacts)
     → All (Anywhere (IsRowed facts value (multiboot2 kernel)))
     (rows_of facts value (multiboot2 kernel))
 rows_rowed facts value kernel =
@@ -121,7 +123,7 @@ rows_rowed facts value kernel =
     (All-nil (Anywhere (IsRowed facts value (multiboot2 kernel))))))
 
 -- each place has the length that its role and its index ask for
-pub each_rowed : (facts : MachineFacts) (value : EntryValue) (kernel : KernelFacts)
+pub each_rowed : (facts : MachineFacts) (value : EntryValue) (kernel : Multiboot2KernelFacts)
     (taken : List (Range ℕ)) (places : List Place)
     → ArePlaced facts taken (rows_of facts value (multiboot2 kernel)) places
     → All (IsRowed facts value (multiboot2 kernel)) places

@@ -7,7 +7,7 @@ use Rattle.std.specs.List.{list_any}
 use Rattle.std.proofs.lemmas.List.Elements.{All-nil, All-cons, All-head, All-tail}
 use Rattle.std.proofs.lemmas.Bool.{cond_both, cases_lt, or_parts}
 use Rattle.bl_mem.specs.declared.segment.Segment.{Segment}
-use Rattle.bl_mem.specs.Contents.{contents_of, holds, holds_at}
+use Rattle.bl_mem.specs.Contents.{contents_of, holds, is_in_segment}
 use Rattle.bl_elf.specs.Elf.{AreApartSegments}
 use Rattle.bl_load.specs.Blocks.{low_of, high_of, span_of, block_byte, first_values, block_of}
 use Rattle.bl_load.specs.Loadable.{SegmentsAscend}
@@ -26,22 +26,22 @@ abbrev Gives : List ℕ → ℕ → ℕ → Segment → Type 0
 Gives file a b s = holds s a ≡ true → byte_of file s a ≡ b
 
 byte_none : (file : List ℕ) (segments : List Segment) (a : ℕ)
-    → list_any (holds_at a) segments ≡ false → block_byte file segments a ≡ 0
+    → list_any (is_in_segment a) segments ≡ false → block_byte file segments a ≡ 0
 byte_none file [] a h = refl
 byte_none file (s ∷ segments) a h =
-    let parts = or_parts (holds s a) (list_any (holds_at a) segments) h in
+    let parts = or_parts (holds s a) (list_any (is_in_segment a) segments) h in
     cond_both (holds s a) (byte_of file s a) (block_byte file segments a) (λ n. n ≡ 0)
     (λ e. let bad = parts.0 in absurd cc) (λ e. byte_none file segments a parts.1)
 
 byte_some : (file : List ℕ) (segments : List Segment) (a b : ℕ)
-    → list_any (holds_at a) segments ≡ true → All (Gives file a b) segments
+    → list_any (is_in_segment a) segments ≡ true → All (Gives file a b) segments
     → block_byte file segments a ≡ b
 byte_some file [] a b h each = absurd cc
 byte_some file (s ∷ segments) a b h each =
     cond_both (holds s a) (byte_of file s a) (block_byte file segments a) (λ n. n ≡ b)
     (λ e. All-head (Gives file a b) s segments each e)
     (λ e.
-    byte_some file segments a b (or_rest (holds s a) (list_any (holds_at a) segments) h e)
+    byte_some file segments a b (or_rest (holds s a) (list_any (is_in_segment a) segments) h e)
     (All-tail (Gives file a b) s segments each))
 
 held_once : (s t : Segment) (a : ℕ) → AreApartSegments s t → holds t a ≡ true → holds s a ≡ true → ⊥
@@ -63,7 +63,7 @@ byte_each file (s ∷ segments) a h =
     (λ _. byte_each file segments a h.1 k d within e))
 
 same_byte_by : (file : List ℕ) (segments sorted : List Segment) (a : ℕ) (held : Bool)
-    → list_any (holds_at a) segments ≡ held → list_any (holds_at a) sorted ≡ held
+    → list_any (is_in_segment a) segments ≡ held → list_any (is_in_segment a) sorted ≡ held
     → All (Gives file a (block_byte file segments a)) sorted
     → block_byte file sorted a ≡ block_byte file segments a
 same_byte_by file segments sorted a true h k each =
@@ -74,8 +74,8 @@ same_byte_by file segments sorted a false h k each =
 same_byte : (file : List ℕ) (segments : List Segment) (a : ℕ) → AllPairs AreApartSegments segments
     → block_byte file (ascending segments) a ≡ block_byte file segments a
 same_byte file segments a apart =
-    same_byte_by file segments (ascending segments) a (list_any (holds_at a) segments) refl
-    (list_any-in_order segment_key (holds_at a) segments)
+    same_byte_by file segments (ascending segments) a (list_any (is_in_segment a) segments) refl
+    (list_any-in_order segment_key (is_in_segment a) segments)
     (in_order_all segment_key (Gives file a (block_byte file segments a)) segments
     (byte_each file segments a (pairs_related AreApartSegments segments apart)))
 
@@ -114,7 +114,8 @@ ascending_ascends segments filled apart i j d ij within =
     let sorted = ascending segments in
     let some = in_order_all segment_key (λ s. 1 ≤ s.memsz) segments filled j d within in
     let order = in_order_sorted segment_key segments i j d ij within in
-    let other = in_order_pairs segment_key AreApartSegments apart_back segments apart i j d ij within in
+    let other =
+    in_order_pairs segment_key AreApartSegments apart_back segments apart i j d ij within in
     elim (cases_lt (get_or sorted j d).address
     ((get_or sorted i d).address + (get_or sorted i d).memsz)) [
       | inl meet ↦

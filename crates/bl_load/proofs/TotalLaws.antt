@@ -21,8 +21,9 @@ use Rattle.bl_plan.specs.declared.protocol.Protocol.{Protocol}
 use Rattle.bl_plan.specs.declared.protocol.Protocol.TheVariants as protocol
 use Rattle.bl_load.specs.declared.refusal.Refusal.{Refusal}
 use Rattle.bl_load.specs.declared.refusal.Refusal.TheVariants as refusal
-use Rattle.bl_load.specs.Value.{EntryValue, kernel_file, lines_fault, lines_of}
-use Rattle.bl_load.specs.Kernel.{KernelFacts, IsLoadedBy, IsKernel, HasElfRefusal, HasKernelFault}
+use Rattle.bl_load.specs.EntryValue.{EntryValue, kernel_file, lines_fault, lines_of}
+use Rattle.bl_load.specs.Kernel.{Multiboot2KernelFacts, IsLoadedBy, IsKernel, HasElfRefusal}
+use Rattle.bl_load.specs.Kernel.{HasKernelFault}
 use Rattle.bl_load.specs.Kernel.{entry_fault, counted_entry, head_refusal, elf_refusal}
 use Rattle.bl_load.specs.Reading.{Reading, multiboot2, linux, IsRead, HasReadFault}
 use Rattle.bl_load.specs.Linux.{IsLinuxKernel, HasLinuxFault, linux_fault}
@@ -68,7 +69,7 @@ entry_given segments (Some a) sound = (a, refl)
 kernel_of : (file : List ℕ) (header : Header) (facts : ElfFacts) → IsHeader file header
     → IsLoadedBy file header.segment facts
     → entry_fault facts.segments (counted_entry header facts) ≡ None
-    → (kernel : KernelFacts) × IsKernel file kernel
+    → (kernel : Multiboot2KernelFacts) × IsKernel file kernel
 kernel_of file header facts is loaded sound =
     let entry = entry_given facts.segments (counted_entry header facts) sound in (
       record { segments = facts.segments; entry = entry.0; relocation = header.relocation },
@@ -85,7 +86,8 @@ kernel_of file header facts is loaded sound =
     )
 
 kernel_or_fault : (file : List ℕ)
-    → ((kernel : KernelFacts) × IsKernel file kernel) ⊎ ((r : Refusal) × HasKernelFault file r)
+    → ((kernel : Multiboot2KernelFacts) × IsKernel file kernel)
+    ⊎ ((r : Refusal) × HasKernelFault file r)
 kernel_or_fault file =
     elim (header_or_fault file) [
       | inr (fault, has) ↦ inr (head_refusal fault, inl (fault, has, refl))

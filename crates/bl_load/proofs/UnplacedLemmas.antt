@@ -7,9 +7,9 @@ use Rattle.std.specs.declared.ops.Range.{Range}
 use Rattle.bl_bzimage.specs.declared.setup.Setup.{Setup}
 use Rattle.bl_map.specs.MachineFacts.{MachineFacts}
 use Rattle.bl_map.specs.Limits.{max_size}
-use Rattle.bl_map.specs.Room.{round_up_to_frames}
+use Rattle.bl_map.specs.PoolFrames.{round_up_to_frames}
 use Rattle.bl_plan.specs.Permitted.{OrNoMemory}
-use Rattle.bl_plan.specs.Placed.{ArePlaced, IsChosen, HasChoiceFault, place_at, place_range}
+use Rattle.bl_plan.specs.Placed.{ArePlaced, IsChosen, HasChoiceFault, row_place, place_range}
 use Rattle.bl_plan.specs.PlannerFacts.{put_in}
 use Rattle.bl_plan.specs.declared.fault.PlanFault.{PlanFault}
 use Rattle.bl_plan.specs.declared.part.Choice.{Choice}
@@ -26,8 +26,9 @@ use Rattle.bl_load.specs.Reading.{Reading, multiboot2, linux, IsRead}
 use Rattle.bl_load.specs.Rows.{module_rows, kernel_rows, information_row, rows_of}
 use Rattle.bl_load.specs.Unplaced.{IsToldAs, IsFirstUnplaced, IsUnplacedOf, IsUnplaced}
 use Rattle.bl_load.specs.Unplaced.{IsReadingFault}
-use Rattle.bl_load.specs.Value.{EntryValue, module_file, initrd_file, multiboot2_value, linux_value}
-use Rattle.bl_load.specs.Value.{lines_fault, lines_of}
+use Rattle.bl_load.specs.EntryValue.{EntryValue, module_file, initrd_file, multiboot2_value}
+use Rattle.bl_load.specs.EntryValue.{linux_value}
+use Rattle.bl_load.specs.EntryValue.{lines_fault, lines_of}
 use Rattle.bl_load.specs.KernelKept.{IsKernelFault}
 use Rattle.bl_load.specs.ReadKept.{IsLinuxFault}
 use Rattle.bl_load.specs.Protocols.{has_params}
@@ -75,11 +76,13 @@ module _ (facts : MachineFacts) (which : Row) where
           (fault, subst (λ (n : ℕ). HasChoiceFault facts taken n choice fault) same here),
         )
         | inr long ↦ inl (
-          long_told Module k choice (capped_length size) (round_up_to_frames (max size 1)) which long.0
+          long_told Module k choice (capped_length size) (round_up_to_frames (max size 1)) which
+              long.0
               long.1 kind,
           (
             fault,
-            modules.no_room facts taken 4096 0x100000 (round_up_to_frames (max size 1)) (capped_length size)
+            modules.no_room facts taken 4096 0x100000 (round_up_to_frames (max size 1))
+                (capped_length size)
                 fault long.1 here,
           ),
         )
@@ -95,12 +98,13 @@ module _ (facts : MachineFacts) (which : Row) where
               _ (subst
               (λ (n : ℕ).
               IsFirstUnplaced facts
-              (put_in (place_range (place_at (row_of Module k choice n) a)) taken)
+              (put_in (place_range (row_place (row_of Module k choice n) a)) taken)
               (capped_rows files (suc k) lines ++ rest) which) same
               later),
         )
         | inr long ↦
-            absurd (modules.no_chosen facts taken 4096 0x100000 (capped_length size) a long.0 chosen)
+            absurd (modules.no_chosen facts taken 4096 0x100000 (capped_length size) a long.0
+            chosen)
       ]
 
   told_initrd_unplaced : (protocol : Protocol) (setup : Setup) (initrd : List ℕ)
@@ -118,7 +122,8 @@ module _ (facts : MachineFacts) (which : Row) where
           (fault, subst (λ (n : ℕ). HasChoiceFault facts taken n choice fault) same here),
         )
         | inr long ↦ inl (
-          long_told Initrd 0 choice (capped_length size) (round_up_to_frames size) which long.0 long.1 kind,
+          long_told Initrd 0 choice (capped_length size) (round_up_to_frames size) which long.0
+              long.1 kind,
           (
             fault,
             initrds.no_room facts protocol setup taken 4096 4096 high (round_up_to_frames size)
@@ -204,13 +209,13 @@ module _ (facts : MachineFacts) (taken : List (Range ℕ)) (all : List Row) (i :
 
   pub placed_step : (m : MachineFacts) → m ≡ facts → (more : List (Range ℕ)) (a : ℕ)
       → IsChosen m taken (get_or all i d).length (get_or all i d).choice a
-      → more ≡ put_in (place_range (place_at (get_or all i d) a)) taken
+      → more ≡ put_in (place_range (row_place (get_or all i d) a)) taken
       → (((places : List Place) × ArePlaced facts taken (drop i all) places)
       → ((places : List Place) × ArePlaced facts [] all places))
       → ((places : List Place) × ArePlaced facts more (drop (i + 1) all) places)
       → ((places : List Place) × ArePlaced facts [] all places)
   placed_step m same more a has is so_far rest =
-      let here = place_at (get_or all i d) a in
+      let here = row_place (get_or all i d) a in
       let chosen =
       subst (λ (n : MachineFacts).
       IsChosen n taken (get_or all i d).length (get_or all i d).choice a) same has in
@@ -226,7 +231,7 @@ module _ (facts : MachineFacts) (taken : List (Range ℕ)) (all : List Row) (i :
 
   pub unplaced_step : (m : MachineFacts) → m ≡ facts → (more : List (Range ℕ)) (a : ℕ)
       → IsChosen m taken (get_or all i d).length (get_or all i d).choice a
-      → more ≡ put_in (place_range (place_at (get_or all i d) a)) taken
+      → more ≡ put_in (place_range (row_place (get_or all i d) a)) taken
       → (which : Row)
       → (IsFirstUnplaced facts taken (drop i all) which → IsFirstUnplaced facts [] all which)
       → IsFirstUnplaced facts more (drop (i + 1) all) which → IsFirstUnplaced facts [] all which

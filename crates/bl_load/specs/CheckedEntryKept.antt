@@ -1,11 +1,11 @@
 -- What the code keeps of an entry with its files.
 use Rattle.std.specs.Prelude.{ℕ, List, length, map}
-use Rattle.bl_mem.specs.declared.view.ByteView.{Ghosts}
+use Rattle.bl_mem.specs.declared.byte_view.ByteView.{Ghosts}
 use Rattle.bl_load.specs.declared.checked_entry.CheckedEntry.{CheckedEntry}
 use Rattle.bl_load.specs.Kept.{lines_by}
 use Rattle.bl_load.specs.ReadKept.{HasFiles}
 use Rattle.bl_load.specs.Reading.{Reading, IsRead}
-use Rattle.bl_load.specs.Value.{EntryValue}
+use Rattle.bl_load.specs.EntryValue.{EntryValue}
 
 -- the files' bytes
 abbrev pub texts_in : {A : Type 0} → {V : Type 0} → {view : Ghosts V} → CheckedEntry A V view

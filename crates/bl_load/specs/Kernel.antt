@@ -6,7 +6,7 @@ use Rattle.std.specs.List.{list_any}
 use Rattle.bl_mem.specs.declared.segment.Segment.{Segment}
 use Rattle.bl_elf.specs.Elf.{ElfFacts, IsElf}
 use Rattle.bl_elf.specs.Elf as elf
-use Rattle.bl_mem.specs.Contents.{holds_at}
+use Rattle.bl_mem.specs.Contents.{is_in_segment}
 use Rattle.bl_elf.specs.declared.fault.ElfFault.{ElfFault}
 use Rattle.bl_elf.specs.declared.fault.ElfFault.TheVariants as elf_fault
 use Rattle.bl_mb2head.specs.Header.{IsHeader}
@@ -20,7 +20,7 @@ use Rattle.bl_load.specs.declared.refusal.Refusal.TheVariants as refusal
 
 -- a kernel: its segments in their order, the address that it is entered at where they lie as
 -- linked, how it may be moved
-pub record KernelFacts : Type 0 where
+pub record Multiboot2KernelFacts : Type 0 where
   pub segments : List Segment
   pub entry : ℕ
   pub relocation : Option Relocation
@@ -35,13 +35,13 @@ IsLoadedBy file None facts = IsElf file facts
 abbrev pub entry_fault : List Segment → Option ℕ → Option Refusal
 entry_fault segments None = Some refusal.NoEntry
 entry_fault segments (Some entry) =
-    if list_any (holds_at entry) segments then None else Some refusal.EntryOutside
+    if list_any (is_in_segment entry) segments then None else Some refusal.EntryOutside
 
 -- the entry address tag (Multiboot2 3.1.6) counts where it stands, and else the file's own entry
 abbrev pub counted_entry : Header → ElfFacts → Option ℕ
 counted_entry header facts = option_or header.entry facts.entry
 
-pub record IsKernel (file : List ℕ) (kernel : KernelFacts) : Type 0 where
+pub record IsKernel (file : List ℕ) (kernel : Multiboot2KernelFacts) : Type 0 where
   pub header : Header
   pub facts : ElfFacts
   pub is_header : IsHeader file header

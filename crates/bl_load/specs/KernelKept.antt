@@ -11,7 +11,7 @@ use Rattle.bl_load.specs.declared.multiboot2.kernel.Kernel.{Kernel}
 use Rattle.bl_load.specs.declared.refusal.PrepFault.{PrepFault}
 use Rattle.bl_load.specs.declared.refusal.PrepFault.TheVariants as prep_fault
 use Rattle.bl_load.specs.Blocks.{span_of}
-use Rattle.bl_load.specs.Kernel.{KernelFacts, HasElfRefusal, HasKernelFault, elf_refusal}
+use Rattle.bl_load.specs.Kernel.{Multiboot2KernelFacts, HasElfRefusal, HasKernelFault, elf_refusal}
 
 -- what was read
 
@@ -19,7 +19,7 @@ abbrev pub executable_facts : {A : Type 0} → Executable A → ElfFacts
 executable_facts (AddressTag one) = record { segments = one; entry = None }
 executable_facts (Elf elf) = elf
 
-abbrev pub kernel_by : {A : Type 0} → Kernel A → KernelFacts
+abbrev pub kernel_by : {A : Type 0} → Kernel A → Multiboot2KernelFacts
 kernel_by kernel =
     record {
       segments = (executable_facts kernel.executable).segments;

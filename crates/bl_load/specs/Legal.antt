@@ -3,13 +3,13 @@ use Rattle.std.specs.Prelude.{◌≡◌, ◌+◌, ℕ, List, map, Some, None}
 use Rattle.std.specs.List.{AllZip, remove, slice_get}
 use Rattle.std.specs.declared.ops.Range.{Range}
 use Rattle.bl_map.specs.MachineFacts.{MachineFacts, AllUsable}
-use Rattle.bl_plan.specs.Permitted.{AllOpen, IsPermitted}
+use Rattle.bl_plan.specs.Permitted.{AreUntaken, IsPermitted}
 use Rattle.bl_plan.specs.Placed.{IsPlaceOf, place_range}
 use Rattle.bl_plan.specs.declared.part.Choice.{Choice}
 use Rattle.bl_plan.specs.declared.part.Choice.TheVariants.{Fixed, Lowest, Highest, Preferred}
 use Rattle.bl_plan.specs.declared.part.Row.{Row}
 use Rattle.bl_plan.specs.declared.part.Place.{Place}
-use Rattle.bl_load.specs.Value.{EntryValue, lines_fault, lines_of}
+use Rattle.bl_load.specs.EntryValue.{EntryValue, lines_fault, lines_of}
 use Rattle.bl_load.specs.Reading.{Reading, IsRead}
 use Rattle.bl_load.specs.Rows.{rows_of}
 use Rattle.bl_load.specs.Handover.{Handover}
@@ -19,7 +19,7 @@ use Rattle.bl_load.specs.Parts.{handover_of}
 -- any within its limits; that it is the lowest, the highest or the preferred one is not asked
 abbrev pub IsAllowed : MachineFacts → List (Range ℕ) → ℕ → Choice → ℕ → Type 0
 IsAllowed facts ranges length (Fixed at) a =
-    (a ≡ at) × AllUsable facts a (a + length) × AllOpen ranges a (a + length)
+    (a ≡ at) × AllUsable facts a (a + length) × AreUntaken ranges a (a + length)
 IsAllowed facts ranges length (Lowest align low high) a =
     IsPermitted facts ranges length align low high a
 IsAllowed facts ranges length (Highest align low high) a =

@@ -5,7 +5,7 @@ pub mod PlanFacts
 pub mod Loadable
 pub mod Kept
 pub mod HandoffFacts
-pub mod Value
+pub mod EntryValue
 pub mod Offered
 pub mod Numbers
 pub mod Kernel

@@ -5,10 +5,10 @@ use Rattle.std.specs.Prelude.{ℕ, ◌+◌, ◌-◌, max, if◌then◌else◌, �
 use Rattle.std.specs.Prelude.{Option, Some, None, option_to_list}
 use Rattle.bl_map.specs.MachineFacts.{MachineFacts}
 use Rattle.bl_map.specs.Limits.{frame_size, first_usable, max_size, high_start}
-use Rattle.bl_map.specs.Room.{round_up_to_frames}
+use Rattle.bl_map.specs.PoolFrames.{round_up_to_frames}
 use Rattle.bl_bzimage.specs.declared.setup.Setup.{Setup}
 use Rattle.bl_params.specs.BootParamsFacts.{BootParamsFacts}
-use Rattle.bl_params.specs.Numbers.{tables_size}
+use Rattle.bl_params.specs.SizesAndOffsets.{tables_size}
 use Rattle.bl_plan.specs.declared.protocol.Protocol.{Protocol}
 use Rattle.bl_plan.specs.declared.protocol.Protocol.TheVariants as protocols
 use Rattle.bl_plan.specs.declared.part.Row.{Row}
@@ -18,7 +18,7 @@ use Rattle.bl_plan.specs.declared.part.Role.TheVariants.{Kernel, BootParams, Com
 use Rattle.bl_plan.specs.declared.part.Role.TheVariants.{Initrd, PageTables}
 use Rattle.bl_plan.specs.declared.part.Choice.TheVariants.{Fixed, Lowest, Highest}
 use Rattle.bl_load.specs.Addresses.{address_of}
-use Rattle.bl_load.specs.Value.{EntryValue, initrd_file}
+use Rattle.bl_load.specs.EntryValue.{EntryValue, initrd_file}
 
 -- a kernel that is loaded high lies from 1 MiB on ("loadflags", LOADED_HIGH); a relocatable one
 -- that is loaded below "pref_address" moves itself up to it, so it is not
@@ -32,8 +32,8 @@ moved_row setup = record {
 }
 
 -- another one lies at 1 MiB, and needs "init_size" bytes from "pref_address" on
-abbrev pub fixed_row : Setup → Row
-fixed_row setup = record {
+abbrev pub fixed_kernel_row : Setup → Row
+fixed_kernel_row setup = record {
   role = Kernel;
   index = 0;
   length =
@@ -42,7 +42,8 @@ fixed_row setup = record {
 }
 
 abbrev pub linux_kernel_row : Setup → Row
-linux_kernel_row setup = if setup.relocatable_kernel == 0 then fixed_row setup else moved_row setup
+linux_kernel_row setup =
+    if setup.relocatable_kernel == 0 then fixed_kernel_row setup else moved_row setup
 
 -- a part of one frame, at the lowest place below a limit
 abbrev pub frame_row : Role → ℕ → Row

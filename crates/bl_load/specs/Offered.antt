@@ -2,7 +2,7 @@
 -- bytes. Own.
 use Rattle.std.specs.Prelude.{[], All, IfSome}
 use Rattle.bl_mbi.specs.InformationFacts.{AreBytes}
-use Rattle.bl_load.specs.Value.{EntryValue, HasLimits, value_of, lines_of}
+use Rattle.bl_load.specs.EntryValue.{EntryValue, HasLimits, value_of, lines_of}
 use Rattle.bl_load.specs.declared.entry.Entry.{Entry}
 
 -- an entry's value is within its limits, and its lines and copies are bytes

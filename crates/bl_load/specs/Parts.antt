@@ -24,8 +24,8 @@ use Rattle.bl_load.specs.Addresses.{address_of}
 use Rattle.bl_bzimage.specs.declared.setup.Setup.{Setup}
 use Rattle.bl_params.specs.BootParams.{boot_params}
 use Rattle.bl_params.specs.Paging.{paging}
-use Rattle.bl_load.specs.Value.{EntryValue, kernel_file, module_file, initrd_file, lines_fault}
-use Rattle.bl_load.specs.Value.{lines_of}
+use Rattle.bl_load.specs.EntryValue.{EntryValue, kernel_file, module_file, initrd_file, lines_fault}
+use Rattle.bl_load.specs.EntryValue.{lines_of}
 use Rattle.bl_load.specs.Reading.{Reading, multiboot2, linux, IsRead, HasReadFault}
 use Rattle.bl_load.specs.Blocks.{low_of, block_of}
 use Rattle.bl_load.specs.Rows.{rows_of, information_of}
@@ -151,13 +151,13 @@ HasPlaceFault facts value refused =
     × HasRowFault facts (rows_of facts value reading) refused
 
 -- the first check refuses; or it does not, and the rest does
-abbrev pub Then : Option Refusal → (Refusal → Type 0) → Refusal → Type 0
-Then first rest refused = (first ≡ Some refused) ⊎ ((first ≡ None) × rest refused)
+abbrev pub OrRefused : Option Refusal → (Refusal → Type 0) → Refusal → Type 0
+OrRefused first rest refused = (first ≡ Some refused) ⊎ ((first ≡ None) × rest refused)
 
 -- this is its first refusal: of its lines, its kernel, its places
 abbrev pub IsRefusal : MachineFacts → EntryValue → Refusal → Type 0
 IsRefusal facts value =
-    Then (lines_fault (lines_of value))
+    OrRefused (lines_fault (lines_of value))
     (λ r. HasReadFault facts value r ⊎ HasPlaceFault facts value r)
 
 -- why an entry is not prepared, unless memory ran out

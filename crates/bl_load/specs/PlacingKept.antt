@@ -3,7 +3,7 @@ use Rattle.std.specs.Prelude.{◌≡◌, ◌+◌, ◌<◌, ◌≤◌, ℕ, true,
 use Rattle.std.specs.Prelude.{length, slice_index_or, Option, Some, None, option_map}
 use Rattle.bl_mem.specs.declared.segment.Segment.{Segment}
 use Rattle.bl_map.specs.MachineFacts.{MachineFacts}
-use Rattle.bl_map.specs.Room.{round_up_to_frames}
+use Rattle.bl_map.specs.PoolFrames.{round_up_to_frames}
 use Rattle.bl_mb2head.specs.declared.relocation.Relocation.{Relocation}
 use Rattle.bl_mbi.specs.InformationFacts.{info_size}
 use Rattle.bl_plan.specs.declared.part.Role.{Role}
@@ -12,8 +12,8 @@ use Rattle.bl_plan.specs.declared.part.Role.TheVariants.{CommandLine, Gdt, Initr
 use Rattle.bl_plan.specs.declared.part.Choice.TheVariants.{Lowest, Highest}
 use Rattle.bl_map.specs.Limits.{frame_size, first_usable, max_size, high_start, usable_limit}
 use Rattle.bl_mbi.specs.Size.{tag_size}
-use Rattle.bl_params.specs.Numbers.{tables_size}
-use Rattle.bl_load.specs.Kernel.{KernelFacts}
+use Rattle.bl_params.specs.SizesAndOffsets.{tables_size}
+use Rattle.bl_load.specs.Kernel.{Multiboot2KernelFacts}
 use Rattle.bl_plan.specs.declared.protocol.Protocol.{Protocol}
 use Rattle.bl_plan.specs.declared.part.Row.{Row}
 use Rattle.bl_plan.specs.declared.part.Place.{Place}
@@ -23,7 +23,7 @@ use Rattle.bl_plan.specs.Placed.{ArePlaced}
 use Rattle.bl_load.specs.declared.refusal.PrepFault.{PrepFault}
 use Rattle.bl_load.specs.declared.refusal.PrepFault.TheVariants as prep_fault
 use Rattle.bl_load.specs.Addresses.{address_of}
-use Rattle.bl_load.specs.Value.{EntryValue, module_file, initrd_file}
+use Rattle.bl_load.specs.EntryValue.{EntryValue, module_file, initrd_file}
 use Rattle.bl_load.specs.Reading.{Reading, multiboot2, linux}
 use Rattle.bl_bzimage.specs.declared.setup.Setup.{Setup}
 use Rattle.bl_load.specs.LinuxRows.{linux_kernel_row, front_rows}
@@ -109,7 +109,7 @@ capped_rows files k (line ∷ lines) = record {
 } ∷ capped_rows files (suc k) lines
 
 -- the rows of an entry as the code tells them
-abbrev pub told_rows_of : MachineFacts → EntryValue → KernelFacts → List Row
+abbrev pub told_rows_of : MachineFacts → EntryValue → Multiboot2KernelFacts → List Row
 told_rows_of facts value kernel =
     kernel_rows kernel.segments kernel.relocation
     ++ (capped_rows value.files 0 value.module_lines

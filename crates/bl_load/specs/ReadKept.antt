@@ -17,8 +17,8 @@ use Rattle.bl_load.specs.Protocols.{has_params}
 use Rattle.bl_load.specs.PlacingKept.{ModulesEndLow}
 use Rattle.bl_mem.specs.Files.{nth_file}
 use Rattle.bl_load.specs.Reading.{Reading, multiboot2, linux}
-use Rattle.bl_load.specs.Value.{EntryValue, initrd_file}
-use Rattle.bl_params.specs.Numbers.{tables_size}
+use Rattle.bl_load.specs.EntryValue.{EntryValue, initrd_file}
+use Rattle.bl_params.specs.SizesAndOffsets.{tables_size}
 
 -- a kernel that was read so is entered by this protocol
 abbrev pub EntersBy : Protocol → Reading → Type 0

@@ -5,12 +5,12 @@ use Rattle.bl_bzimage.specs.declared.setup.Setup.{Setup}
 use Rattle.bl_plan.specs.declared.protocol.Protocol.TheVariants.{Multiboot2}
 use Rattle.bl_load.specs.declared.refusal.Refusal.{Refusal}
 use Rattle.bl_load.specs.Protocols.{has_params}
-use Rattle.bl_load.specs.Value.{EntryValue, kernel_file}
-use Rattle.bl_load.specs.Kernel.{KernelFacts, IsKernel, HasKernelFault}
+use Rattle.bl_load.specs.EntryValue.{EntryValue, kernel_file}
+use Rattle.bl_load.specs.Kernel.{Multiboot2KernelFacts, IsKernel, HasKernelFault}
 use Rattle.bl_load.specs.Linux.{IsLinuxKernel, HasLinuxFault}
 
 pub data Reading : Type 0 where
-  multiboot2 : KernelFacts → Reading
+  multiboot2 : Multiboot2KernelFacts → Reading
   linux : Setup → Reading
 
 -- the kernel's file is read so, by the entry's protocol

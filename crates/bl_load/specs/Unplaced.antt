@@ -6,14 +6,14 @@ use Rattle.bl_map.specs.Limits.{max_size}
 use Rattle.bl_plan.specs.declared.fault.PlanFault.{PlanFault}
 use Rattle.bl_plan.specs.declared.part.Row.{Row}
 use Rattle.bl_plan.specs.declared.part.Place.{Place}
-use Rattle.bl_plan.specs.Placed.{ArePlaced, IsChosen, HasChoiceFault, place_at, place_range}
+use Rattle.bl_plan.specs.Placed.{ArePlaced, IsChosen, HasChoiceFault, row_place, place_range}
 use Rattle.bl_plan.specs.PlannerFacts.{put_in}
 use Rattle.bl_load.specs.declared.refusal.PrepFault.{PrepFault}
 use Rattle.bl_load.specs.declared.refusal.PrepFault.TheVariants as prep_fault
-use Rattle.bl_load.specs.Parts.{Then}
+use Rattle.bl_load.specs.Parts.{OrRefused}
 use Rattle.bl_load.specs.Reading.{Reading, IsRead, HasReadFault}
 use Rattle.bl_load.specs.Rows.{rows_of}
-use Rattle.bl_load.specs.Value.{EntryValue, lines_fault, lines_of}
+use Rattle.bl_load.specs.EntryValue.{EntryValue, lines_fault, lines_of}
 
 -- a row is told: with its own length, or, where that is above 4 GiB, with some length above 4 GiB
 pub record IsToldAs (row which : Row) : Type 0 where
@@ -31,7 +31,7 @@ IsFirstUnplaced facts taken (row ∷ rows) which =
     (IsToldAs row which
     × ((fault : PlanFault) × HasChoiceFault facts taken row.length row.choice fault))
     ⊎ ((a : ℕ) × IsChosen facts taken row.length row.choice a
-    × IsFirstUnplaced facts (put_in (place_range (place_at row a)) taken) rows which)
+    × IsFirstUnplaced facts (put_in (place_range (row_place row a)) taken) rows which)
 
 -- which of these rows has no place beside what is taken: none, where each has its place
 abbrev pub IsUnplacedOf : MachineFacts → List (Range ℕ) → List Row → Option Row → Type 0
@@ -49,5 +49,5 @@ pub record IsUnplaced (facts : MachineFacts) (value : EntryValue)
 -- why no place is looked for: the first refusal of its lines and its kernel, or want of memory
 abbrev pub IsReadingFault : MachineFacts → EntryValue → PrepFault → Type 0
 IsReadingFault facts value (prep_fault.Refused refused) =
-    Then (lines_fault (lines_of value)) (HasReadFault facts value) refused
+    OrRefused (lines_fault (lines_of value)) (HasReadFault facts value) refused
 IsReadingFault facts value prep_fault.NoMemory = Unit {0}

@@ -1,7 +1,7 @@
 //! A relocatable kernel's image comes into memory.
 ghost use Rattle.std.specs.Prelude.{◌≡◌, ◌+◌, ◌<◌, ◌≤◌, length, All, AllPairs};
 ghost use Rattle.bl_mem.specs.Contents.{contents_of};
-ghost use Rattle.bl_mem.specs.Files.{nth_file, AreBelow, IsBeside};
+ghost use Rattle.bl_mem.specs.Files.{nth_file, AreAddressesBelow, IsBeside};
 ghost use Rattle.bl_mem.specs.Memory.{overwrite, HasRoom, KeepsSizeAndRoom};
 ghost use Rattle.bl_load.specs.Blocks.{span_of, block_of};
 ghost use Rattle.bl_load.specs.Loadable.{IsCopyable, SegmentsAscend};
@@ -17,7 +17,7 @@ fn load_segment<M: PhysMem, F: FileSet>(
     file: usize,
     segment: &Segment,
 )
-    requires held { AreBelow (F.holds files.now) (length (M.bytes memory.old)) }
+    requires held { AreAddressesBelow (F.holds files.now) (length (M.bytes memory.old)) }
     requires file { file < length (F.texts files.now (M.bytes memory.old)) }
     requires copied { IsCopyable
         (length (nth_file (F.texts files.now (M.bytes memory.old)) file)) segment.now }
@@ -46,7 +46,7 @@ pub(crate) fn load_block<M: PhysMem, F: FileSet>(
     file: usize,
     segments: &[Segment],
 ) -> u64
-    requires held { AreBelow (F.holds files.now) (length (M.bytes memory.old)) }
+    requires held { AreAddressesBelow (F.holds files.now) (length (M.bytes memory.old)) }
     requires file { file < length (F.texts files.now (M.bytes memory.old)) }
     requires some { 1 ≤ length segments.now }
     requires copied { All (IsCopyable

@@ -1,8 +1,8 @@
 //! An entry with its files, on a machine.
 ghost use Rattle.std.specs.Prelude.{◌≡◌, ◌≤◌, None, All, IfSome, length};
 ghost use Rattle.std.proofs.Props.{props};
-ghost use Rattle.bl_load.specs.Value.{line_fault, IsCopy};
-ghost use Rattle.bl_plan.specs.Limits.{max_line, max_modules};
+ghost use Rattle.bl_load.specs.EntryValue.{line_fault, IsRsdpCopy};
+ghost use Rattle.bl_plan.specs.MenuLimits.{max_line, max_modules};
 
 use crate::entry::Module;
 use bl_map::Machine;
@@ -25,8 +25,8 @@ pub struct CheckedEntry<'a, A: Allocator, V: ByteView> {
     ghost short: { length line.now ≤ max_line },
     ghost sound_modules: { All (λ m. line_fault m.line ≡ None) modules.now },
     ghost few: { length modules.now ≤ max_modules },
-    ghost old: { IfSome rsdp_old.now IsCopy } by { Prim.hlevel props },
-    ghost new: { IfSome rsdp_new.now IsCopy } by { Prim.hlevel props },
+    ghost old: { IfSome rsdp_old.now IsRsdpCopy } by { Prim.hlevel props },
+    ghost new: { IfSome rsdp_new.now IsRsdpCopy } by { Prim.hlevel props },
 }
 
 /// The copies of the RSDP that an entry hands over, of ACPI 1.0 and of ACPI 2.0 or later.

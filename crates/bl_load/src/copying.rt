@@ -1,6 +1,6 @@
 //! A file's bytes come into memory, which may hold the file.
 ghost use Rattle.std.specs.Prelude.{◌≡◌, ◌+◌, ◌<◌, ◌≤◌, length, slice_range};
-ghost use Rattle.bl_mem.specs.Files.{nth_file, AreBelow, IsBeside};
+ghost use Rattle.bl_mem.specs.Files.{nth_file, AreAddressesBelow, IsBeside};
 ghost use Rattle.bl_mem.specs.Memory.{overwrite, HasRoom, KeepsSizeAndRoom};
 
 use bl_mem::{FileSet, PhysMem};
@@ -16,7 +16,7 @@ fn copy_piece<M: PhysMem, F: FileSet>(
     buffer: &mut [u8],
 )
     requires few { length buffer.old ≤ 4096 }
-    requires held { AreBelow (F.holds files.now) (length (M.bytes memory.old)) }
+    requires held { AreAddressesBelow (F.holds files.now) (length (M.bytes memory.old)) }
     requires file { file < length (F.texts files.now (M.bytes memory.old)) }
     requires source { offset + length buffer.old
         ≤ length (nth_file (F.texts files.now (M.bytes memory.old)) file) }
@@ -39,8 +39,8 @@ fn copy_piece<M: PhysMem, F: FileSet>(
     }
 }
 
-/// Copies `count` bytes of the file, from `offset` on, to `at`, piece by piece. The one buffer stays
-/// in the processor's cache.
+/// Copies `count` bytes of the file, from `offset` on, to `at`, piece by piece. The one buffer
+/// stays in the processor's cache.
 fn copy_by_pieces<M: PhysMem, F: FileSet>(
     memory: &mut M,
     at: u64,
@@ -49,7 +49,7 @@ fn copy_by_pieces<M: PhysMem, F: FileSet>(
     offset: u64,
     count: u64,
 )
-    requires held { AreBelow (F.holds files.now) (length (M.bytes memory.old)) }
+    requires held { AreAddressesBelow (F.holds files.now) (length (M.bytes memory.old)) }
     requires file { file < length (F.texts files.now (M.bytes memory.old)) }
     requires source { 1 ≤ count → offset + count
         ≤ length (nth_file (F.texts files.now (M.bytes memory.old)) file) }
@@ -84,7 +84,7 @@ fn copy_by_pieces<M: PhysMem, F: FileSet>(
 
 /// Writes bytes that the files lent.
 fn write_lent<M: PhysMem, F: FileSet>(memory: &mut M, at: u64, files: &F, lent: &[u8])
-    requires held { AreBelow (F.holds files.now) (length (M.bytes memory.old)) }
+    requires held { AreAddressesBelow (F.holds files.now) (length (M.bytes memory.old)) }
     requires inside { at + length lent.now ≤ length (M.bytes memory.old) }
     requires room { HasRoom (M.room memory.old) at (at + length lent.now) }
     requires beside { IsBeside (F.holds files.now) at (at + length lent.now) }
@@ -106,7 +106,7 @@ pub(crate) fn copy<M: PhysMem, F: FileSet>(
     offset: u64,
     count: u64,
 )
-    requires held { AreBelow (F.holds files.now) (length (M.bytes memory.old)) }
+    requires held { AreAddressesBelow (F.holds files.now) (length (M.bytes memory.old)) }
     requires file { file < length (F.texts files.now (M.bytes memory.old)) }
     requires source { 1 ≤ count → offset + count
         ≤ length (nth_file (F.texts files.now (M.bytes memory.old)) file) }

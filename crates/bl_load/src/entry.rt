@@ -1,6 +1,6 @@
 //! What a menu offers.
 ghost use Rattle.std.specs.Prelude.{◌≡◌, ◌↔◌, IfOk, IfSome, IsTrue, None, true, false};
-ghost use Rattle.bl_load.specs.Value.{file_count, IsCopy, IsWithinLimits};
+ghost use Rattle.bl_load.specs.EntryValue.{file_count, IsRsdpCopy, IsWithinLimits};
 ghost use Rattle.bl_load.specs.declared.entry.Entry.TheVariants.{Multiboot2, Linux};
 
 use bl_mem::Bytes;
@@ -51,7 +51,7 @@ pub enum Entry<A: Allocator> {
 
 /// Whether there is no copy of an RSDP, or one of 1 to 256 bytes.
 fn is_copy<A: Allocator>(copy: &Option<Bytes<A>>) -> bool
-    ensures { IsTrue result ↔ IfSome copy.now IsCopy }
+    ensures { IsTrue result ↔ IfSome copy.now IsRsdpCopy }
 {
     match copy {
         Some(bytes) => !bytes.is_empty() && bytes.len() <= MAX_COPY,
@@ -129,7 +129,7 @@ impl<A: Allocator> Entry<A> {
 
     /// Whether it has at most 64 modules, and copies of an RSDP of 1 to 256 bytes, as `prepare`
     /// requires. Each entry of a menu is so.
-    #[tactic(auto, unfolding(crate::specs::Value::IsWithinLimits))]
+    #[tactic(auto, unfolding(crate::specs::EntryValue::IsWithinLimits))]
     pub fn is_within_limits(&self) -> bool
         ensures { IsTrue result ↔ IsWithinLimits self.now }
     {

@@ -4,7 +4,7 @@ ghost use Rattle.std.specs.List.{count_by};
 ghost use Rattle.bl_map.specs.MachineFacts.{MachineFacts, AllUsable};
 ghost use Rattle.bl_plan.specs.declared.part.Role.{Role};
 ghost use Rattle.bl_load.specs.declared.refusal.Refusal.{Refusal};
-ghost use Rattle.bl_load.specs.Value.{EntryValue};
+ghost use Rattle.bl_load.specs.EntryValue.{EntryValue};
 ghost use Rattle.bl_load.specs.Handover.{Handover, end_of};
 ghost use Rattle.bl_load.specs.Parts.{IsHandover, IsRefusal};
 ghost use Rattle.bl_load.specs.Legal.{IsLegal};

@@ -1,7 +1,7 @@
 //! A Linux entry.
 ghost use Rattle.std.specs.Prelude.{◌≡◌, ◌≤◌, true, IfOk, IfErr, length, map};
 ghost use Rattle.bl_load.specs.Reading.{linux};
-ghost use Rattle.bl_load.specs.Value.{linux_value};
+ghost use Rattle.bl_load.specs.EntryValue.{linux_value};
 ghost use Rattle.bl_load.specs.Protocols.{has_params};
 ghost use Rattle.bl_load.specs.Parts.{IsHandover, IsPrepFault};
 ghost use Rattle.bl_load.specs.PlanFacts.{handover_by};
@@ -10,7 +10,7 @@ ghost use Rattle.bl_load.specs.Unplaced.{IsUnplaced, IsReadingFault};
 
 use crate::addresses::address_of;
 use crate::checked_entry::CheckedEntry;
-use crate::lines::check_line;
+use crate::line_checks::check_line;
 use crate::linux::contents::linux_content;
 use crate::linux::kernel::{ENTRY_64, read_linux};
 use crate::linux::rows::linux_rows;

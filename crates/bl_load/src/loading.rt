@@ -1,6 +1,6 @@
 //! The parts of a plan come into memory.
 ghost use Rattle.std.specs.Prelude.{◌≡◌, ℕ, ◌+◌, ◌-◌, ◌<◌, ◌≤◌, length, map, slice_index, All};
-ghost use Rattle.bl_mem.specs.Files.{AreBelow, IsBeside, AllBeside};
+ghost use Rattle.bl_mem.specs.Files.{AreAddressesBelow, IsBeside, AllBeside};
 ghost use Rattle.bl_mem.specs.Memory.{overwrite, HasRoom, AllHaveRoom, KeepsSizeAndRoom};
 ghost use Rattle.bl_plan.specs.Placed.{Covers, place_range};
 ghost use Rattle.bl_load.specs.Handover.{written};
@@ -23,7 +23,7 @@ fn load_content<M: PhysMem, F: FileSet, A: Allocator>(
     content: &Content<A>,
     files: &F,
 ) -> u64
-    requires held { AreBelow (F.holds files.now) (length (M.bytes memory.old)) }
+    requires held { AreAddressesBelow (F.holds files.now) (length (M.bytes memory.old)) }
     requires there { IsInFiles (lengths_of (F.texts files.now (M.bytes memory.old))) content.now }
     requires inside { at + content_length content.now ≤ length (M.bytes memory.old) }
     requires room { HasRoom (M.room memory.old) at (at + content_length content.now) }
@@ -56,7 +56,7 @@ fn load_content<M: PhysMem, F: FileSet, A: Allocator>(
 
 /// Writes a part.
 fn load_part<M: PhysMem, F: FileSet, A: Allocator>(memory: &mut M, part: &PlannedPart<A>, files: &F)
-    requires held { AreBelow (F.holds files.now) (length (M.bytes memory.old)) }
+    requires held { AreAddressesBelow (F.holds files.now) (length (M.bytes memory.old)) }
     requires can { CanLoad (lengths_of (F.texts files.now (M.bytes memory.old)))
         (length (M.bytes memory.old)) (M.room memory.old) (F.holds files.now) part.now }
     ensures after { M.bytes memory.new ≡ overwrite (M.bytes memory.old) part.now.place.address
@@ -79,7 +79,7 @@ fn load_parts<M: PhysMem, F: FileSet, A: Allocator>(
     parts: &[PlannedPart<A>],
     files: &F,
 )
-    requires held { AreBelow (F.holds files.now) (length (M.bytes memory.old)) }
+    requires held { AreAddressesBelow (F.holds files.now) (length (M.bytes memory.old)) }
     requires can { All (CanLoad (lengths_of (F.texts files.now (M.bytes memory.old)))
         (length (M.bytes memory.old)) (M.room memory.old) (F.holds files.now)) parts.now }
     ensures after { M.bytes memory.new ≡ written
@@ -107,7 +107,7 @@ pub fn load<M: PhysMem, F: FileSet, A: Allocator>(
     plan: Plan<A>,
     files: &F,
 ) -> Handoff<A>
-    requires held { AreBelow (F.holds files.now) (length (M.bytes memory.old)) }
+    requires held { AreAddressesBelow (F.holds files.now) (length (M.bytes memory.old)) }
     requires loadable { IsLoadable (lengths_of (F.texts files.now (M.bytes memory.old)))
         (length (M.bytes memory.old)) plan }
     requires room { AllHaveRoom (M.room memory.old) (map place_range (places_of plan)) }

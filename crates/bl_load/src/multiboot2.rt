@@ -3,19 +3,19 @@ ghost use Rattle.std.specs.Prelude.{◌≡◌, ◌≤◌, ◌<◌, ◌+◌, ◌^
 ghost use Rattle.bl_load.specs.Blocks as blocks;
 ghost use Rattle.bl_load.specs.KernelKept.{kernel_by};
 ghost use Rattle.bl_load.specs.Reading.{multiboot2};
-ghost use Rattle.bl_load.specs.Value.{multiboot2_value, IsCopy};
+ghost use Rattle.bl_load.specs.EntryValue.{multiboot2_value, IsRsdpCopy};
 ghost use Rattle.bl_load.specs.Parts as parts;
 ghost use Rattle.bl_load.specs.Parts.{IsHandover, IsPrepFault};
 ghost use Rattle.bl_load.specs.PlanFacts.{handover_by};
 ghost use Rattle.bl_load.specs.Kept.{lines_by};
 ghost use Rattle.bl_load.specs.Loadable.{lengths_of, IsLoadable, IsLean};
 ghost use Rattle.bl_load.specs.Unplaced.{IsUnplaced, IsReadingFault};
-ghost use Rattle.bl_plan.specs.Limits.{max_modules};
+ghost use Rattle.bl_plan.specs.MenuLimits.{max_modules};
 
 use crate::addresses::address_of;
 use crate::checked_entry::{CheckedEntry, Rsdps};
 use crate::entry::Module;
-use crate::lines::check_lines;
+use crate::line_checks::check_lines;
 use crate::multiboot2::contents::multiboot2_content;
 use crate::multiboot2::kernel::{Kernel, read_kernel};
 use crate::multiboot2::rows::{low_of, multiboot2_rows};
@@ -89,8 +89,8 @@ pub fn prepare<A: Allocator + Copy, V: ByteView>(
 ) -> Result<Plan<A>, PrepFault>
     requires files { length files.now ≡ 1 + length modules.now }
     requires few { length modules.now ≤ max_modules }
-    requires old { IfSome rsdps.now.old.now IsCopy }
-    requires new { IfSome rsdps.now.new.now IsCopy }
+    requires old { IfSome rsdps.now.old.now IsRsdpCopy }
+    requires new { IfSome rsdps.now.new.now IsRsdpCopy }
     ensures handover { IfOk result (λ plan. IsHandover machine.now
         (multiboot2_value (map V.bytes files.now) line.now (lines_by modules.now) rsdps.now.old.now
         rsdps.now.new.now)
@@ -128,8 +128,8 @@ pub(crate) fn unplaced<A: Allocator + Copy, V: ByteView>(
 ) -> Result<Option<Row>, PrepFault>
     requires files { length files.now ≡ 1 + length modules.now }
     requires few { length modules.now ≤ max_modules }
-    requires old { IfSome rsdps.now.old.now IsCopy }
-    requires new { IfSome rsdps.now.new.now IsCopy }
+    requires old { IfSome rsdps.now.old.now IsRsdpCopy }
+    requires new { IfSome rsdps.now.new.now IsRsdpCopy }
     ensures which { IfOk result (IsUnplaced machine.now
         (multiboot2_value (map V.bytes files.now) line.now (lines_by modules.now) rsdps.now.old.now
         rsdps.now.new.now)) }

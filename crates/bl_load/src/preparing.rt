@@ -1,6 +1,6 @@
 //! What is loaded for an entry on a machine, or its first refusal.
 ghost use Rattle.std.specs.Prelude.{◌≡◌, IfOk, IfErr, length, map};
-ghost use Rattle.bl_load.specs.Value.{value_of, file_count, IsWithinLimits};
+ghost use Rattle.bl_load.specs.EntryValue.{value_of, file_count, IsWithinLimits};
 ghost use Rattle.bl_load.specs.Parts.{IsHandover, IsPrepFault};
 ghost use Rattle.bl_load.specs.PlanFacts.{handover_by};
 ghost use Rattle.bl_load.specs.Loadable.{lengths_of, IsLoadable, IsLean};
@@ -24,7 +24,7 @@ use std::alloc::Allocator;
 /// it, a line longer than `cmdline_size`, a memory map of more than 128 runs. Want of memory may be
 /// answered at any growth, in the place of a refusal that would have come later; it is never told
 /// as a refusal.
-#[tactic(auto, unfolding(crate::specs::Value::IsWithinLimits))]
+#[tactic(auto, unfolding(crate::specs::EntryValue::IsWithinLimits))]
 pub fn prepare<A: Allocator + Copy, V: ByteView>(
     alloc: A,
     machine: &Machine<A>,

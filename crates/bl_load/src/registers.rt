@@ -54,7 +54,7 @@ impl Registers {
     }
 
     /// Where the kernel is entered.
-    pub fn entry(self) -> u64
+    pub fn entry_point(self) -> u64
         ensures { result ≡ entry_in self }
     {
         match self {

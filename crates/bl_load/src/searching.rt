@@ -6,7 +6,7 @@ ghost use Rattle.bl_plan.specs.PlannerFacts.{with_taken};
 ghost use Rattle.bl_load.specs.CheckedEntryKept.{value_of_files, IsReady};
 ghost use Rattle.bl_load.specs.Rows as table;
 ghost use Rattle.bl_load.specs.Unplaced.{IsUnplacedOf, IsUnplaced, IsReadingFault};
-ghost use Rattle.bl_load.specs.Value.{value_of, file_count, IsWithinLimits};
+ghost use Rattle.bl_load.specs.EntryValue.{value_of, file_count, IsWithinLimits};
 ghost use Rattle.bl_load.specs.declared.refusal.PrepFault.TheVariants.{NoMemory};
 
 use crate::checked_entry::{CheckedEntry, Rsdps};
@@ -100,7 +100,7 @@ pub(crate) fn unplaced_part<A: Allocator + Copy, V: ByteView, K: ReadKernel>(
 /// as another one above 4 GiB. What refuses before a place is looked for is the fault, as of
 /// `prepare`: the lines, then what is read of the kernel. Want of memory may be answered at any
 /// growth.
-#[tactic(auto, unfolding(crate::specs::Value::IsWithinLimits))]
+#[tactic(auto, unfolding(crate::specs::EntryValue::IsWithinLimits))]
 pub fn unplaced<A: Allocator + Copy, V: ByteView>(
     alloc: A,
     machine: &Machine<A>,

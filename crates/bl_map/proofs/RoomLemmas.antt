@@ -8,7 +8,7 @@ use Rattle.std.proofs.lemmas.List.Sums.{list_all-from_AllPass}
 use Rattle.std.specs.declared.ops.Range.{Range}
 use Rattle.std.specs.Prelude.{max}
 use Rattle.bl_map.specs.Kept.{AreMet}
-use Rattle.bl_map.specs.Room.{frames_in, is_beside, is_open, open_among, AreAscending}
+use Rattle.bl_map.specs.PoolFrames.{frames_in, misses_frame, is_open, open_among, AreAscending}
 
 -- frames of which each is open are counted
 all_open : (ranges : List (Range ℕ)) (start n k : ℕ)
@@ -36,14 +36,14 @@ none_open ranges start n (suc k) h =
 
 -- a frame before a range
 before_range : (range : Range ℕ) (frame : ℕ) → frame + 4096 ≤ range.start
-    → is_beside range frame ≡ true
+    → misses_frame range frame ≡ true
 before_range range frame h = search rules
 
 -- where the first k ranges meet none of the frames from the next one on
 abbrev pub AreBehind : Range ℕ → List (Range ℕ) → ℕ → ℕ → Type 0
 AreBehind pool ranges k next =
     (j i : ℕ) (d : Range ℕ) → j < k → next ≤ i → i < frames_in pool
-    → is_beside (get_or ranges j d) (pool.start + 4096 * i) ≡ true
+    → misses_frame (get_or ranges j d) (pool.start + 4096 * i) ≡ true
 
 module _ (pool : Range ℕ) (ranges : List (Range ℕ)) (ascend : AreAscending ranges) (k : ℕ)
     (here : k < length ranges) (next : ℕ) (behind : AreBehind pool ranges k next) where
@@ -53,7 +53,7 @@ module _ (pool : Range ℕ) (ranges : List (Range ℕ)) (ascend : AreAscending r
       → pool.start + 4096 * i + 4096 ≤ (get_or ranges k d).start
       → is_open ranges (pool.start + 4096 * i) ≡ true
   open_before i d low high before =
-      list_all-from_AllPass (λ (range : Range ℕ). is_beside range (pool.start + 4096 * i)) ranges
+      list_all-from_AllPass (λ (range : Range ℕ). misses_frame range (pool.start + 4096 * i)) ranges
       (λ j e inside. elim (cases_lt j k) [
         | inl first ↦ behind j i e first low high
         | inr same ↦
@@ -84,7 +84,7 @@ module _ (pool : Range ℕ) (ranges : List (Range ℕ)) (ascend : AreAscending r
         (λ i low high. open_before i d low (omega arith) (is.before i (omega arith))) in
         let taken = none_open ranges pool.start from (later - from)
         (λ i low high.
-        list_all_at (λ (range : Range ℕ). is_beside range (pool.start + 4096 * i)) ranges k d
+        list_all_at (λ (range : Range ℕ). misses_frame range (pool.start + 4096 * i)) ranges k d
         here (is.inside i (omega arith) (omega arith))) in
         let all : later ≡ from + (later - from) = omega arith in
         omega (arith, ap (open_among ranges pool.start) all, taken, free)
@@ -106,7 +106,7 @@ pub counted_all : (pool : Range ℕ) (ranges : List (Range ℕ)) (k next : ℕ) 
 counted_all pool ranges k next all behind within =
     let free = all_open ranges pool.start next (frames_in pool - next)
     (λ i low high.
-    list_all-from_AllPass (λ (range : Range ℕ). is_beside range (pool.start + 4096 * i)) ranges
+    list_all-from_AllPass (λ (range : Range ℕ). misses_frame range (pool.start + 4096 * i)) ranges
     (λ j d inside. behind j i d (omega arith) low (omega arith))) in
     let same : frames_in pool ≡ next + (frames_in pool - next) = omega arith in
     ap (open_among ranges pool.start) same ∙ free

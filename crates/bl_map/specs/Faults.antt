@@ -5,7 +5,7 @@ use Rattle.bl_map.specs.declared.region.Region.{Region}
 use Rattle.bl_map.specs.declared.fault.MapFault.{MapFault}
 use Rattle.bl_map.specs.declared.fault.MapFault.TheVariants.{BadSize, TooManyRegions, BadRegion}
 use Rattle.bl_map.specs.declared.fault.MapFault.TheVariants.{BadPool, NoMemory}
-use Rattle.bl_map.specs.Limits.{max_regions, region_limit}
+use Rattle.bl_map.specs.Limits.{max_regions, max_region_end}
 use Rattle.bl_map.specs.NormalMap.{region_end}
 use Rattle.bl_map.specs.MachineFacts.{IsSize, IsPool}
 
@@ -18,7 +18,7 @@ map_fault_number NoMemory = 5
 
 -- a region ends at most at 2^52
 abbrev pub IsLowRegion : Region → Type 0
-IsLowRegion region = region_end region ≤ region_limit
+IsLowRegion region = region_end region ≤ max_region_end
 
 -- the first fault of a machine, in the order of these lines; memory may run out at any growth
 abbrev pub HasFirstMapFault : ℕ → List Region → Range ℕ → MapFault → Type 0

@@ -3,5 +3,5 @@ pub mod Kinds
 pub mod NormalMap
 pub mod MachineFacts
 pub mod Faults
-pub mod Room
+pub mod PoolFrames
 pub mod Kept

@@ -18,8 +18,8 @@ abbrev pub max_regions : ℕ
 max_regions = 128
 
 -- where a region ends at most
-abbrev pub region_limit : ℕ
-region_limit = 2 ^ 52
+abbrev pub max_region_end : ℕ
+max_region_end = 2 ^ 52
 
 -- bytes in a KiB
 abbrev pub kib : ℕ

@@ -2,7 +2,7 @@
 use Rattle.std.specs.Prelude.{◌≡◌, ◌≢◌, ◌+◌, ◌-◌, ◌/◌, ◌≤◌, ℕ, Bool, ◌&&◌, if◌then◌else◌, ◌==◌}
 use Rattle.std.specs.Prelude.{nat_le, nat_lt, min, max, List, [], ◌∷◌, All, AllPairs}
 use Rattle.bl_map.specs.Kinds.{kind_number}
-use Rattle.bl_map.specs.Limits.{region_limit, kib, max_low_kib, high_start, max_high_kib}
+use Rattle.bl_map.specs.Limits.{max_region_end, kib, max_low_kib, high_start, max_high_kib}
 use Rattle.bl_map.specs.declared.region.Region.{Region}
 
 abbrev pub region_end : Region → ℕ
@@ -25,7 +25,7 @@ ComesBefore p q = (region_end p ≤ q.base) × (region_end p ≡ q.base → p.ki
 -- runs are not empty, end at most at 2^52, ascend, and are the longest of one kind
 pub record AreRuns (runs : List Region) : Type 0 where
   pub filled : All (λ run. 1 ≤ run.length) runs
-  pub low : All (λ run. region_end run ≤ region_limit) runs
+  pub low : All (λ run. region_end run ≤ max_region_end) runs
   pub in_order : AllPairs ComesBefore runs
 
 -- the normal map of regions: runs that give each address the kind that the regions give it

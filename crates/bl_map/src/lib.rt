@@ -6,8 +6,8 @@ mod kind;
 mod laws;
 mod limits;
 mod machine;
+mod pool_frames;
 mod region;
-mod room;
 mod rules;
 mod sweep;
 
@@ -15,9 +15,9 @@ pub use fault::MapFault;
 pub use kind::Kind;
 pub use laws::normal_maps_are_determined;
 pub use limits::{
-    FIRST_USABLE, FRAME_SIZE, HIGH_START, KIB, MAX_HIGH_KIB, MAX_LOW_KIB, MAX_REGIONS, MAX_SIZE,
-    MIN_SIZE, REGION_LIMIT, USABLE_LIMIT,
+    FIRST_USABLE, FRAME_SIZE, HIGH_START, KIB, MAX_HIGH_KIB, MAX_LOW_KIB, MAX_REGION_END,
+    MAX_REGIONS, MAX_SIZE, MIN_SIZE, USABLE_LIMIT,
 };
 pub use machine::Machine;
+pub use pool_frames::{frames_in, frames_of, open_frames, round_up_to_frames};
 pub use region::Region;
-pub use room::{frames_in, frames_of, open_frames, round_up_to_frames};

@@ -20,7 +20,7 @@ pub const FIRST_USABLE: u64 = FRAME_SIZE;
 pub const USABLE_LIMIT: u64 = MAX_SIZE - FRAME_SIZE;
 
 /// The highest end that a region may have, not included: 2^52.
-pub const REGION_LIMIT: u64 = 0x0010_0000_0000_0000;
+pub const MAX_REGION_END: u64 = 0x0010_0000_0000_0000;
 
 /// Bytes in a KiB.
 pub const KIB: u64 = 1024;

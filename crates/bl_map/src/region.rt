@@ -1,6 +1,6 @@
 //! A region of the firmware's memory map.
 use crate::kind::Kind;
-use crate::limits::REGION_LIMIT;
+use crate::limits::MAX_REGION_END;
 
 /// The addresses from `base` up to `base + length`, in bytes, and their kind. A length of 0 holds
 /// nothing.
@@ -27,6 +27,6 @@ impl Region {
     pub(crate) fn is_low(&self) -> bool
         ensures { MatchBool result (IsLowRegion self.now) (¬ IsLowRegion self.now) }
     {
-        self.base <= REGION_LIMIT && self.length <= REGION_LIMIT - self.base
+        self.base <= MAX_REGION_END && self.length <= MAX_REGION_END - self.base
     }
 }

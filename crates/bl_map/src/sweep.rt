@@ -6,7 +6,7 @@ ghost use Rattle.bl_map.specs.Kinds.{number_or_zero};
 ghost use Rattle.bl_map.specs.Faults.{IsLowRegion};
 
 use crate::kind::Kind;
-use crate::limits::REGION_LIMIT;
+use crate::limits::MAX_REGION_END;
 use crate::region::Region;
 use std::alloc::{AllocError, Allocator};
 
@@ -64,12 +64,12 @@ fn change_in(region: &Region, at: u64, limit: u64) -> u64
 /// An address before which all addresses from `at` on have one kind.
 fn change_after(regions: &[Region], at: u64) -> u64
     requires low { All IsLowRegion regions.now }
-    requires ahead { at < REGION_LIMIT }
+    requires ahead { at < MAX_REGION_END }
     ensures ahead { at < result }
-    ensures within { result ≤ REGION_LIMIT }
+    ensures within { result ≤ MAX_REGION_END }
     ensures same { (a : ℕ) → at ≤ a → a < result → kind_at regions.now a ≡ kind_at regions.now at }
 {
-    let mut next = REGION_LIMIT;
+    let mut next = MAX_REGION_END;
     for region in regions {
         next = change_in(region, at, next);
     }
@@ -79,15 +79,15 @@ fn change_after(regions: &[Region], at: u64) -> u64
 /// Where the addresses from `at` on that have one kind end.
 pub fn run_end(regions: &[Region], at: u64) -> u64
     requires low { All IsLowRegion regions.now }
-    requires ahead { at < REGION_LIMIT }
+    requires ahead { at < MAX_REGION_END }
     ensures ahead { at < result }
-    ensures within { result ≤ REGION_LIMIT }
+    ensures within { result ≤ MAX_REGION_END }
     ensures same { (a : ℕ) → at ≤ a → a < result → kind_at regions.now a ≡ kind_at regions.now at }
-    ensures other { result < REGION_LIMIT → kind_at regions.now result ≢ kind_at regions.now at }
+    ensures other { result < MAX_REGION_END → kind_at regions.now result ≢ kind_at regions.now at }
 {
     let number = known_number(greatest_kind(regions, at));
     let mut end = change_after(regions, at);
-    while end < REGION_LIMIT {
+    while end < MAX_REGION_END {
         if known_number(greatest_kind(regions, end)) != number {
             return end;
         }
@@ -104,7 +104,7 @@ pub fn normal_map<A: Allocator>(alloc: A, regions: &[Region]) -> Result<Vec<Regi
 {
     let mut runs = Vec::new(alloc);
     let mut at = 0;
-    while at < REGION_LIMIT {
+    while at < MAX_REGION_END {
         let end = run_end(regions, at);
         if let Some(kind) = greatest_kind(regions, at) {
             runs.push(Region {

@@ -19,16 +19,16 @@ address_tag_at bytes at = record {
 }
 
 -- load_addr is -1: the file is loaded from its start on, and header_addr says where to (own)
-abbrev pub is_whole_file : AddressTag → Bool
-is_whole_file tag = tag.load_addr == 0xFFFFFFFF
+abbrev pub loads_from_start : AddressTag → Bool
+loads_from_start tag = tag.load_addr == 0xFFFFFFFF
 
 -- where the first byte that is loaded comes to stand
 abbrev pub load_address_of : ℕ → AddressTag → ℕ
-load_address_of h tag = if is_whole_file tag then tag.header_addr - h else tag.load_addr
+load_address_of h tag = if loads_from_start tag then tag.header_addr - h else tag.load_addr
 
 -- where it stands in the file: as far before the header as load_addr is before header_addr
 abbrev pub offset_of : ℕ → AddressTag → ℕ
-offset_of h tag = if is_whole_file tag then 0 else h - (tag.header_addr - tag.load_addr)
+offset_of h tag = if loads_from_start tag then 0 else h - (tag.header_addr - tag.load_addr)
 
 -- how many bytes of the file: up to load_end_addr, or up to the file's end where that is 0
 abbrev pub filesz_of : ℕ → ℕ → AddressTag → ℕ
@@ -52,7 +52,7 @@ segment_by_tag size h tag = record {
 -- the file's start, or its first byte that is loaded, would lie below 0
 abbrev pub has_bad_start : ℕ → AddressTag → Bool
 has_bad_start h tag =
-    if is_whole_file tag then nat_lt tag.header_addr h else
+    if loads_from_start tag then nat_lt tag.header_addr h else
     nat_lt tag.header_addr tag.load_addr || nat_lt h (tag.header_addr - tag.load_addr)
 
 -- the file's part ends before it begins

@@ -75,8 +75,8 @@ abbrev pub can_be_given : ℕ → Bool
 can_be_given kind = nat_le 1 kind && nat_le kind 21 && not (kind == 9)
 
 -- the first type that an information request names and that can't be given (3.1.4)
-unfoldable pub first_unknown : List ℕ → Tag → Option ℕ
-first_unknown bytes t =
+unfoldable pub first_unsupported : List ℕ → Tag → Option ℕ
+first_unsupported bytes t =
     find (λ kind. not (can_be_given kind)) (words_at bytes (t.place + 8) ((t.size - 8) / 4))
 
 -- what is wrong with what a request names
@@ -96,7 +96,7 @@ tag_fault_at bytes end at =
     if not (is_well_formed bytes end at) then Some (BadTag at) else
     if is_optional t then None else
     if nat_lt last_type t.kind then Some (UnsupportedTag t.kind) else
-    if t.kind == request_type then request_fault (first_unknown bytes t) else
+    if t.kind == request_type then request_fault (first_unsupported bytes t) else
     if asks_for_console bytes t then Some NoConsole else
     None
 

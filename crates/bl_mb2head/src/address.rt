@@ -38,8 +38,8 @@ impl AddressTag {
     }
 
     /// Whether the file is loaded from its start on.
-    fn is_whole_file(self) -> bool
-        ensures { result ≡ tags.is_whole_file self }
+    fn loads_from_start(self) -> bool
+        ensures { result ≡ tags.loads_from_start self }
     {
         self.load_addr == WHOLE_FILE
     }
@@ -48,7 +48,7 @@ impl AddressTag {
     fn has_bad_start(self, place: u64) -> bool
         ensures { result ≡ tags.has_bad_start place self }
     {
-        if self.is_whole_file() {
+        if self.loads_from_start() {
             return (self.header_addr as u64) < place;
         }
         self.header_addr < self.load_addr || place < (self.header_addr - self.load_addr) as u64
@@ -59,7 +59,7 @@ impl AddressTag {
         requires { tags.has_bad_start place self ≡ false }
         ensures { result ≡ tags.load_address_of place self }
     {
-        if self.is_whole_file() {
+        if self.loads_from_start() {
             return self.header_addr as u64 - place;
         }
         self.load_addr as u64
@@ -70,7 +70,7 @@ impl AddressTag {
         requires { tags.has_bad_start place self ≡ false }
         ensures { result ≡ tags.offset_of place self }
     {
-        if self.is_whole_file() {
+        if self.loads_from_start() {
             return 0;
         }
         place - (self.header_addr - self.load_addr) as u64

@@ -47,7 +47,7 @@ fn can_be_given(kind: u32) -> bool
 }
 
 /// The first of `count` words from `at` on that names information which can't be given.
-fn first_unknown_word<V: ByteView>(view: &V, at: u64, count: u64) -> Option<u32>
+fn first_unsupported_word<V: ByteView>(view: &V, at: u64, count: u64) -> Option<u32>
     requires in_file { at + WORD * count ≤ length (V.bytes view.now) }
     requires in_front { at + WORD * count ≤ SEARCH_END }
     ensures { result
@@ -101,18 +101,19 @@ fn is_optional(tag: Tag) -> bool
 }
 
 /// What a request names first that can't be given. A tag of another kind requests nothing.
-#[tactic(auto, unfolding(crate::specs::Tags::first_unknown))]
+#[tactic(auto, unfolding(crate::specs::Tags::first_unsupported))]
 fn unknown_request<V: ByteView>(view: &V, tag: Tag) -> Option<u32>
     requires whole { END_SIZE ≤ tag.size }
     requires in_file { tag.place + tag.size ≤ length (V.bytes view.now) }
     requires in_front { tag.place + tag.size ≤ SEARCH_END }
     ensures { result
-        ≡ (if tag.kind == TAG_REQUEST then tags.first_unknown (V.bytes view.now) tag else None) }
+        ≡ (if tag.kind == TAG_REQUEST then tags.first_unsupported (V.bytes view.now) tag
+        else None) }
 {
     if tag.kind != TAG_REQUEST {
         return None;
     }
-    first_unknown_word(view, tag.place + BODY, (tag.size as u64 - BODY) / WORD)
+    first_unsupported_word(view, tag.place + BODY, (tag.size as u64 - BODY) / WORD)
 }
 
 /// Whether a tag asks for a console.

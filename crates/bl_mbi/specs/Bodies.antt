@@ -6,7 +6,7 @@ use Rattle.std.specs.Prelude.{option_map, option_and_then}
 use Rattle.std.specs.List.{list_any}
 use Rattle.bl_map.specs.declared.region.Region.{Region}
 use Rattle.bl_map.specs.Kinds.{kind_of}
-use Rattle.bl_map.specs.Limits.{region_limit, max_low_kib}
+use Rattle.bl_map.specs.Limits.{max_region_end, max_low_kib}
 use Rattle.bl_mbi.specs.InformationFacts.{ModuleInfo}
 use Rattle.bl_mbi.specs.Fields.{first_u32, first_u64}
 use Rattle.bl_mbi.specs.Size.{map_entry_size}
@@ -43,7 +43,7 @@ memory_of body =
 -- an entry of the memory map, 3.6.8: base_addr, length, type, reserved
 unfoldable pub run_of : List ℕ → Option Region
 run_of bytes =
-    if nat_lt region_limit (first_u64 bytes + first_u64 (drop 8 bytes)) then None else
+    if nat_lt max_region_end (first_u64 bytes + first_u64 (drop 8 bytes)) then None else
     if not (first_u32 (drop 20 bytes) == 0) then None else
     option_map (λ kind. record {
       base = first_u64 bytes;

@@ -3,7 +3,7 @@
 use Rattle.std.specs.Prelude.{◌≢◌, ◌^◌, ◌<◌, ◌≤◌, ℕ, List, length, map, All, Option, option_map}
 use Rattle.std.specs.Prelude.{is_some, IfSome}
 use Rattle.bl_map.specs.declared.region.Region.{Region}
-use Rattle.bl_map.specs.Limits.{region_limit, max_low_kib}
+use Rattle.bl_map.specs.Limits.{max_region_end, max_low_kib}
 use Rattle.bl_map.specs.NormalMap.{region_end}
 use Rattle.bl_mbi.specs.Size.{size_by_lengths}
 
@@ -44,7 +44,7 @@ pub record FitsFields (facts : InformationFacts) : Type 0 where
   pub modules : All IsModule facts.modules
   pub mem_lower : facts.mem_lower ≤ max_low_kib
   pub mem_upper : facts.mem_upper < 2 ^ 32
-  pub runs : All (λ run. region_end run ≤ region_limit) facts.runs
+  pub runs : All (λ run. region_end run ≤ max_region_end) facts.runs
   pub rsdp_old : IfSome facts.rsdp_old AreBytes
   pub rsdp_new : IfSome facts.rsdp_new AreBytes
   pub load_base : IfSome facts.load_base (λ base. base < 2 ^ 32)

@@ -9,7 +9,7 @@ ghost use Rattle.bl_mbi.specs.Size.{map_entry_size};
 use crate::fault::InfoFault;
 use crate::module::Module;
 use crate::numbers::ENTRY_SIZE;
-use bl_map::{Kind, MAX_LOW_KIB, REGION_LIMIT, Region};
+use bl_map::{Kind, MAX_LOW_KIB, MAX_REGION_END, Region};
 use bl_mem::{Bytes, SliceView, u32_at, u64_at};
 use std::alloc::Allocator;
 
@@ -107,7 +107,7 @@ fn run_of(bytes: &[u8]) -> Option<Region>
 {
     let base = long(bytes);
     let length = long(&bytes[8..]);
-    if base as u128 + length as u128 > REGION_LIMIT as u128 {
+    if base as u128 + length as u128 > MAX_REGION_END as u128 {
         return None;
     }
     if word(&bytes[20..]) != 0 {

@@ -8,7 +8,6 @@
 
 mod body_reader;
 mod fault;
-mod group_reader;
 mod info;
 mod info_to_write;
 mod laws;
@@ -19,6 +18,7 @@ mod read;
 mod reader;
 mod rest;
 mod size;
+mod tag_groups;
 mod tags;
 mod write;
 

@@ -9,10 +9,10 @@ ghost use Rattle.bl_mbi.specs.Reading as spec;
 
 use crate::body_reader::word;
 use crate::fault::InfoFault;
-use crate::group_reader::{last_at, map_tags_at, texts_at};
 use crate::info::Info;
 use crate::numbers::MIN_INFO_SIZE;
 use crate::rest::Rest;
+use crate::tag_groups::{last_at, map_tags_at, texts_at};
 use std::alloc::Allocator;
 
 /// What the tags tell.

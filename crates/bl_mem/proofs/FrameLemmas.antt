@@ -3,18 +3,23 @@ use Rattle.std.proofs.Common.{◌≡◌, ℕ, ◌+◌, ◌-◌, ◌*◌, ◌/◌
 use Rattle.std.proofs.Common.{None, Some, arith, rules, refl, sym, ap, ◌∙◌, inl, inr, true}
 use Rattle.std.proofs.Common.{◌∷◌, [], zero, suc, replicate, slice_range, take}
 use Rattle.std.proofs.lemmas.Bool.{cases_eq, cases_lt}
-use Rattle.std.proofs.lemmas.List.{places, get_or-replicate, length-replicate, get_or-set_same, get_or-set_other}
-use Rattle.bl_mem.specs.declared.frame.Frame.{Frame}
-use Rattle.bl_mem.specs.declared.frame.Frame.TheVariants.{Bare, Plain, Kept, Wiped, Lent, Borrowed}
+use Rattle.std.proofs.lemmas.List.{places, get_or-replicate, get_or-set_same}
+use Rattle.std.proofs.lemmas.List.{get_or-set_other}
+use Rattle.bl_mem.specs.declared.frame_state.FrameState.{FrameState}
+use Rattle.bl_mem.specs.declared.frame_state.FrameState.TheVariants.{Bare, Plain, Kept, Wiped, Lent}
+use Rattle.bl_mem.specs.declared.frame_state.FrameState.TheVariants.{Borrowed}
 use Rattle.bl_mem.specs.Memory.{overwrite}
-use Rattle.bl_mem.specs.Frame.{has_room, byte_in, cleared, slot_read}
-use Rattle.bl_mem.specs.Frames.{FramesFacts, frame_numbered, frame_byte, IsWritten, IsStored, IsLent}
-use Rattle.bl_mem.specs.Frames.{AreBytesAt}
-use Rattle.bl_mem.specs.Kept.{slot_of, owes, partner, IsKeptIn, IsPutAt, AreTogether}
-use Rattle.bl_mem.proofs.Overwrites.{get_or-overwrite_below, get_or-overwrite_above, get_or-overwrite_in}
+use Rattle.bl_mem.specs.FrameState.{has_room, byte_in, cleared, slot_read}
+use Rattle.bl_mem.specs.SparseFrames.{SparseFramesFacts, frame_numbered, frame_byte, IsWritten}
+use Rattle.bl_mem.specs.SparseFrames.{IsStored}
+use Rattle.bl_mem.specs.SparseFrames.{IsLent}
+use Rattle.bl_mem.specs.SparseFrames.{AreBytesAt}
+use Rattle.bl_mem.specs.Kept.{slot_of, owed_slots, partner, IsKeptIn, IsPutAt, AreTogether}
+use Rattle.bl_mem.proofs.Overwrites.{get_or-overwrite_below, get_or-overwrite_above}
+use Rattle.bl_mem.proofs.Overwrites.{get_or-overwrite_in}
 
 -- a byte after `at` in the same frame
-pub byte_found : (facts : FramesFacts) (at k : ℕ) (frame : Frame)
+pub byte_found : (facts : SparseFramesFacts) (at k : ℕ) (frame : FrameState)
     → frame ≡ frame_numbered facts (at / 4096) → at % 4096 + k < 4096
     → frame_byte facts (at + k) ≡ byte_in facts.fill facts.kept frame (at % 4096 + k)
 byte_found facts at k frame is h =
@@ -23,7 +28,7 @@ byte_found facts at k frame is h =
     rw (number, place, is) refl
 
 -- a frame that has room lies in the table
-pub in_table : (table : List Frame) (i : ℕ) → has_room (get_or table i Bare) ≡ true
+pub in_table : (table : List FrameState) (i : ℕ) → has_room (get_or table i Bare) ≡ true
     → i < length table
 in_table [] i h = cc
 in_table (x ∷ xs) zero h = omega arith
@@ -33,7 +38,7 @@ same_slot : (a b : ℕ) → Some a ≡ Some b → a ≡ b
 same_slot a b h = cc
 
 -- what a frame reads as whose slot's bytes stay
-pub byte_in_same : (fill : ℕ) (kept changed : List ℕ) (frame : Frame) (place : ℕ)
+pub byte_in_same : (fill : ℕ) (kept changed : List ℕ) (frame : FrameState) (place : ℕ)
     → ((s : ℕ) → slot_read frame ≡ Some s
     → get_or changed (4096 * s + place) 0 ≡ get_or kept (4096 * s + place) 0)
     → byte_in fill changed frame place ≡ byte_in fill kept frame place
@@ -45,7 +50,7 @@ byte_in_same fill kept changed (Lent slot to) place same = same slot refl
 byte_in_same fill kept changed (Borrowed slot from) place same = same slot refl
 
 -- what a frame reads as that reads a slot
-pub byte_read : (fill : ℕ) (kept : List ℕ) (frame : Frame) (s place : ℕ)
+pub byte_read : (fill : ℕ) (kept : List ℕ) (frame : FrameState) (s place : ℕ)
     → slot_read frame ≡ Some s
     → byte_in fill kept frame place ≡ get_or kept (4096 * s + place) 0
 byte_read fill kept Bare s place h = cc
@@ -59,7 +64,7 @@ byte_read fill kept (Borrowed slot from) s place h =
     ap (λ n. get_or kept (4096 * n + place) 0) (same_slot slot s h)
 
 -- the frame that has a slot has room
-pub slot_room : (frame : Frame) (s : ℕ) → slot_of frame ≡ Some s → has_room frame ≡ true
+pub slot_room : (frame : FrameState) (s : ℕ) → slot_of frame ≡ Some s → has_room frame ≡ true
 slot_room Bare s h = cc
 slot_room (Plain value) s h = cc
 slot_room (Kept slot) s h = refl
@@ -67,7 +72,7 @@ slot_room (Wiped slot) s h = refl
 slot_room (Lent slot to) s h = refl
 slot_room (Borrowed slot from) s h = refl
 
-pub slot_owes : (frame : Frame) (s : ℕ) → slot_of frame ≡ Some s → owes frame ≡ 0
+pub slot_owes : (frame : FrameState) (s : ℕ) → slot_of frame ≡ Some s → owed_slots frame ≡ 0
 slot_owes Bare s h = refl
 slot_owes (Plain value) s h = cc
 slot_owes (Kept slot) s h = refl
@@ -75,7 +80,7 @@ slot_owes (Wiped slot) s h = refl
 slot_owes (Lent slot to) s h = refl
 slot_owes (Borrowed slot from) s h = cc
 
-pub owes_room : (frame : Frame) → owes frame ≡ 1 → has_room frame ≡ true
+pub owes_room : (frame : FrameState) → owed_slots frame ≡ 1 → has_room frame ≡ true
 owes_room Bare h = absurd (omega (arith, h))
 owes_room (Plain value) h = refl
 owes_room (Kept slot) h = refl
@@ -84,7 +89,7 @@ owes_room (Lent slot to) h = refl
 owes_room (Borrowed slot from) h = refl
 
 -- room stays if a frame that is set has it
-pub set_room : (table : List Frame) (i : ℕ) (frame : Frame) (j : ℕ) → i < length table
+pub set_room : (table : List FrameState) (i : ℕ) (frame : FrameState) (j : ℕ) → i < length table
     → has_room frame ≡ true → has_room (get_or table j Bare) ≡ true
     → has_room (get_or (set table i frame) j Bare) ≡ true
 set_room table i frame j within room had =
@@ -94,7 +99,7 @@ set_room table i frame j within room had =
     ]
 
 -- a frame is kept, where the slots of the others stay
-pub kept_set : (fill : ℕ) (table : List Frame) (kept changed : List ℕ) (i slot : ℕ)
+pub kept_set : (fill : ℕ) (table : List FrameState) (kept changed : List ℕ) (i slot : ℕ)
     → i < length table
     → ((j s place : ℕ) → (j ≡ i → ⊥) → place < 4096 → slot_read (get_or table j Bare) ≡ Some s
     → get_or changed (4096 * s + place) 0 ≡ get_or kept (4096 * s + place) 0)
@@ -137,7 +142,8 @@ put_whole kept part slot whole fits k small =
     ∙ ap (λ n. get_or part n 0) (omega arith)
 
 -- a frame that is kept whole is stored
-pub stored : (old new : FramesFacts) (number slot : ℕ) (part : List ℕ) → IsKeptIn old new number slot
+pub stored : (old new : SparseFramesFacts) (number slot : ℕ) (part : List ℕ)
+    → IsKeptIn old new number slot
     → IsPutAt new.kept slot part → IsStored old new number part
 stored old new number slot part is put = record {
   here = λ a at. rw (at, is.here) (put (a % 4096) (omega arith));
@@ -146,7 +152,7 @@ stored old new number slot part is put = record {
 }
 
 -- a part of a frame that was kept already is written
-pub written : (old new : FramesFacts) (at slot : ℕ) (part : List ℕ)
+pub written : (old new : SparseFramesFacts) (at slot : ℕ) (part : List ℕ)
     → frame_numbered old (at / 4096) ≡ Kept slot → IsKeptIn old new (at / 4096) slot
     → new.kept ≡ overwrite old.kept (4096 * slot + at % 4096) part
     → 4096 * slot + 4096 ≤ length old.kept → at % 4096 + length part ≤ 4096
@@ -178,7 +184,7 @@ written old new at slot part was is put fits one =
     }
 
 -- a part of a frame is written over what it read as
-pub over : (old new : FramesFacts) (at from : ℕ) (part was whole : List ℕ)
+pub over : (old new : SparseFramesFacts) (at from : ℕ) (part was whole : List ℕ)
     → from ≡ at - at % 4096 → length was ≡ 4096 → AreBytesAt (frame_byte old) from was
     → whole ≡ overwrite was (at % 4096) part → IsStored old new (at / 4096) whole
     → at % 4096 + length part ≤ 4096 → IsWritten old new at part
@@ -216,7 +222,7 @@ take_replicate (suc n) zero x h = absurd (omega arith)
 take_replicate (suc n) (suc m) x h = ap (λ xs. x ∷ xs) (take_replicate n m x (omega arith))
 
 -- a whole frame is written
-pub whole_written : (old new : FramesFacts) (at : ℕ) (part : List ℕ)
+pub whole_written : (old new : SparseFramesFacts) (at : ℕ) (part : List ℕ)
     → IsStored old new (at / 4096) part → length part ≡ 4096 → at % 4096 + length part ≤ 4096
     → IsWritten old new at part
 whole_written old new at part is whole one = record {
@@ -227,7 +233,7 @@ whole_written old new at part is whole one = record {
   room = is.room;
 }
 
-pub cleared_byte : (fill : ℕ) (kept : List ℕ) (frame : Frame) (place : ℕ)
+pub cleared_byte : (fill : ℕ) (kept : List ℕ) (frame : FrameState) (place : ℕ)
     → has_room frame ≡ true → byte_in fill kept (cleared frame) place ≡ 0
 cleared_byte fill kept Bare place h = cc
 cleared_byte fill kept (Plain value) place h = refl
@@ -236,7 +242,7 @@ cleared_byte fill kept (Wiped slot) place h = refl
 cleared_byte fill kept (Lent slot to) place h = refl
 cleared_byte fill kept (Borrowed slot from) place h = refl
 
-pub cleared_room : (frame : Frame) → has_room (cleared frame) ≡ has_room frame
+pub cleared_room : (frame : FrameState) → has_room (cleared frame) ≡ has_room frame
 cleared_room Bare = refl
 cleared_room (Plain value) = refl
 cleared_room (Kept slot) = refl
@@ -244,7 +250,7 @@ cleared_room (Wiped slot) = refl
 cleared_room (Lent slot to) = refl
 cleared_room (Borrowed slot from) = refl
 
-pub cleared_owes : (frame : Frame) → owes (cleared frame) ≡ owes frame
+pub cleared_owes : (frame : FrameState) → owed_slots (cleared frame) ≡ owed_slots frame
 cleared_owes Bare = refl
 cleared_owes (Plain value) = refl
 cleared_owes (Kept slot) = refl
@@ -252,7 +258,7 @@ cleared_owes (Wiped slot) = refl
 cleared_owes (Lent slot to) = refl
 cleared_owes (Borrowed slot from) = refl
 
-pub cleared_slot : (frame : Frame) → slot_of (cleared frame) ≡ slot_of frame
+pub cleared_slot : (frame : FrameState) → slot_of (cleared frame) ≡ slot_of frame
 cleared_slot Bare = refl
 cleared_slot (Plain value) = refl
 cleared_slot (Kept slot) = refl
@@ -260,7 +266,7 @@ cleared_slot (Wiped slot) = refl
 cleared_slot (Lent slot to) = refl
 cleared_slot (Borrowed slot from) = refl
 
-pub cleared_alone : (frame : Frame) → partner (cleared frame) ≡ None
+pub cleared_alone : (frame : FrameState) → partner (cleared frame) ≡ None
 cleared_alone Bare = refl
 cleared_alone (Plain value) = refl
 cleared_alone (Kept slot) = refl
@@ -269,7 +275,7 @@ cleared_alone (Lent slot to) = refl
 cleared_alone (Borrowed slot from) = refl
 
 -- a frame is cleared
-pub cleared_stored : (fill : ℕ) (table : List Frame) (kept : List ℕ) (i : ℕ)
+pub cleared_stored : (fill : ℕ) (table : List FrameState) (kept : List ℕ) (i : ℕ)
     → has_room (get_or table i Bare) ≡ true
     → IsStored (record { fill = fill; table = table; kept = kept })
     (record { fill = fill; table = set table i (cleared (get_or table i Bare)); kept = kept }) i
@@ -288,7 +294,7 @@ cleared_stored fill table kept i had =
     }
 
 -- bytes of slots that follow one another are lent
-pub lent : (facts : FramesFacts) (at slot count start : ℕ)
+pub lent : (facts : SparseFramesFacts) (at slot count start : ℕ)
     → AreTogether facts (at / 4096) slot (at % 4096 + count) → start ≡ 4096 * slot + at % 4096
     → start + count ≤ length facts.kept
     → IsLent facts at count (slice_range facts.kept start (start + count))

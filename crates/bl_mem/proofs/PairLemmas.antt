@@ -5,22 +5,25 @@ use Rattle.std.specs.List.{sum_by}
 use Rattle.std.proofs.lemmas.Bool.{cases_eq}
 use Rattle.std.proofs.lemmas.List.{get_or-set_same, get_or-set_other, length-set}
 use Rattle.std.proofs.lemmas.List.Sums.{sum_by-set}
-use Rattle.bl_mem.specs.declared.frame.Frame.{Frame}
-use Rattle.bl_mem.specs.declared.frame.Frame.TheVariants.{Bare, Plain, Kept, Wiped, Lent, Borrowed}
-use Rattle.bl_mem.specs.Frame.{has_room, byte_in, slot_read}
-use Rattle.bl_mem.specs.Frames.{FramesFacts, frame_numbered, frame_byte, IsShared}
-use Rattle.bl_mem.specs.Kept.{slot_of, owes, partner, ArePair, ArePaired, AreSoundSlots, IsReleased}
+use Rattle.bl_mem.specs.declared.frame_state.FrameState.{FrameState}
+use Rattle.bl_mem.specs.declared.frame_state.FrameState.TheVariants.{Bare, Plain, Kept, Wiped, Lent}
+use Rattle.bl_mem.specs.declared.frame_state.FrameState.TheVariants.{Borrowed}
+use Rattle.bl_mem.specs.FrameState.{has_room, slot_read}
+use Rattle.bl_mem.specs.SparseFrames.{SparseFramesFacts, IsShared}
+use Rattle.bl_mem.specs.Kept.{slot_of, owed_slots, partner, ArePair, ArePaired, AreSoundSlots}
+use Rattle.bl_mem.specs.Kept.{IsReleased}
 use Rattle.bl_mem.proofs.FrameLemmas.{in_table, set_room, byte_read}
 
 never : (j : ℕ) → None ≡ Some j → ⊥
 never j e = cc
 
 -- a frame that shares no slot is set to one that shares none
-pub pairs_set : (table : List Frame) (i : ℕ) (frame : Frame) → ArePaired table
+pub pairs_set : (table : List FrameState) (i : ℕ) (frame : FrameState) → ArePaired table
     → i < length table → partner (get_or table i Bare) ≡ None → partner frame ≡ None
     → ArePaired (set table i frame)
 pairs_set table i frame paired within was alone =
-    let now : get_or (set table i frame) i Bare ≡ frame = get_or-set_same table i frame Bare within in
+    let now : get_or (set table i frame) i Bare ≡ frame =
+    get_or-set_same table i frame Bare within in
     let not : (a b : ℕ) → partner (get_or (set table i frame) a Bare) ≡ Some b → a ≡ i → ⊥ =
     λ a b has same.
     never b
@@ -45,7 +48,7 @@ same_some a b e = cc
 
 -- ---- whose slot a frame reads
 
-own_or_borrowed : (frame : Frame) (s : ℕ) → slot_read frame ≡ Some s
+own_or_borrowed : (frame : FrameState) (s : ℕ) → slot_read frame ≡ Some s
     → (slot_of frame ≡ Some s) ⊎ ((from : ℕ) × (frame ≡ Borrowed s from))
 own_or_borrowed Bare s h = absurd (never s h)
 own_or_borrowed (Plain value) s h = absurd (never s h)
@@ -56,7 +59,7 @@ own_or_borrowed (Borrowed slot from) s h =
     inr (from, ap (λ n. Borrowed n from) (same_some slot s h))
 
 -- it is among those kept
-pub reads_inside : (table : List Frame) (len owed capacity j s : ℕ)
+pub reads_inside : (table : List FrameState) (len owed capacity j s : ℕ)
     → AreSoundSlots table len owed capacity → slot_read (get_or table j Bare) ≡ Some s
     → 4096 * s + 4096 ≤ len
 reads_inside table len owed capacity j s sound reads =
@@ -67,7 +70,7 @@ reads_inside table len owed capacity j s sound reads =
     ]
 
 -- it is not that of another frame that shares none
-pub reads_other : (table : List Frame) (len owed capacity i j slot s : ℕ)
+pub reads_other : (table : List FrameState) (len owed capacity i j slot s : ℕ)
     → AreSoundSlots table len owed capacity → (j ≡ i → ⊥)
     → partner (get_or table i Bare) ≡ None → slot_of (get_or table i Bare) ≡ Some slot
     → slot_read (get_or table j Bare) ≡ Some s → s ≡ slot → ⊥
@@ -85,9 +88,10 @@ reads_other table len owed capacity i j slot s sound not alone mine reads same =
 
 -- ---- two frames are set
 
-module _ (table : List Frame) (a b : ℕ) (x y : Frame) (not : a ≡ b → ⊥) (in_a : a < length table)
+module _ (table : List FrameState) (a b : ℕ) (x y : FrameState) (not : a ≡ b → ⊥)
+    (in_a : a < length table)
     (in_b : b < length table) where
-  abbrev both : List Frame
+  abbrev both : List FrameState
   both = set (set table a x) b y
 
   in_set : b < length (set table a x)
@@ -104,13 +108,14 @@ module _ (table : List Frame) (a b : ℕ) (x y : Frame) (not : a ≡ b → ⊥) 
   at_other k p q =
       get_or-set_other (set table a x) b k y Bare q ∙ get_or-set_other table a k x Bare p
 
-  pub sum_both : owes x + owes y ≡ owes (get_or table a Bare) + owes (get_or table b Bare)
-      → sum_by owes both ≡ sum_by owes table
+  pub sum_both : owed_slots x + owed_slots y ≡ owed_slots (get_or table a Bare)
+      + owed_slots (get_or table b Bare)
+      → sum_by owed_slots both ≡ sum_by owed_slots table
   sum_both same =
-      let first = sum_by-set owes table a x Bare in_a in
-      let second = sum_by-set owes (set table a x) b y Bare in_set in
-      let was : owes (get_or (set table a x) b Bare) ≡ owes (get_or table b Bare) =
-      ap owes (get_or-set_other table a b x Bare (λ e. not (sym e))) in
+      let first = sum_by-set owed_slots table a x Bare in_a in
+      let second = sum_by-set owed_slots (set table a x) b y Bare in_set in
+      let was : owed_slots (get_or (set table a x) b Bare) ≡ owed_slots (get_or table b Bare) =
+      ap owed_slots (get_or-set_other table a b x Bare (λ e. not (sym e))) in
       omega (arith, same, first, second, was)
 
   pub room_both : has_room x ≡ true → has_room y ≡ true → (k : ℕ)
@@ -119,12 +124,13 @@ module _ (table : List Frame) (a b : ℕ) (x y : Frame) (not : a ≡ b → ⊥) 
       set_room (set table a x) b y k in_set q (set_room table a x k in_a p had)
 
 -- a slot goes to one of two frames, from itself or from the other
-module _ (table : List Frame) (len owed capacity a b s : ℕ) (x y : Frame)
+module _ (table : List FrameState) (len owed capacity a b s : ℕ) (x y : FrameState)
     (sound : AreSoundSlots table len owed capacity) (not : a ≡ b → ⊥) (in_a : a < length table)
     (in_b : b < length table) (has : slot_of x ≡ Some s) (none : slot_of y ≡ None)
-    (same : owes x + owes y ≡ owes (get_or table a Bare) + owes (get_or table b Bare)) (owner : ℕ)
+    (same : owed_slots x + owed_slots y ≡ owed_slots (get_or table a Bare)
+    + owed_slots (get_or table b Bare)) (owner : ℕ)
     (owns : slot_of (get_or table owner Bare) ≡ Some s) (one : (owner ≡ a) ⊎ (owner ≡ b)) where
-  abbrev now : List Frame
+  abbrev now : List FrameState
   now = both table a b x y not in_a in_b
 
   first_has : (k t : ℕ) → k ≡ a → slot_of (get_or now k Bare) ≡ Some t → t ≡ s
@@ -195,10 +201,10 @@ module _ (table : List Frame) (len owed capacity a b s : ℕ) (x y : Frame)
 
 -- ---- a frame leaves its slot to the other of its pair
 
-module _ (table : List Frame) (i j s : ℕ) (paired : ArePaired table)
+module _ (table : List FrameState) (i j s : ℕ) (paired : ArePaired table)
     (at_i : partner (get_or table i Bare) ≡ Some j) (at_j : partner (get_or table j Bare) ≡ Some i)
     (not : j ≡ i → ⊥) (in_i : i < length table) (in_j : j < length table) where
-  abbrev left : List Frame
+  abbrev left : List FrameState
   left = both table j i (Kept s) (Plain 0) not in_j in_i
 
   left_out : (k m : ℕ) → partner (get_or left k Bare) ≡ Some m → (k ≡ j → ⊥) × (k ≡ i → ⊥)
@@ -255,11 +261,11 @@ borrowed_from s a t b h = cc
 lent_borrowed : (s a t b : ℕ) → Lent s a ≡ Borrowed t b → ⊥
 lent_borrowed s a t b h = cc
 
-module _ (table : List Frame) (from to s : ℕ) (paired : ArePaired table)
+module _ (table : List FrameState) (from to s : ℕ) (paired : ArePaired table)
     (alone_from : partner (get_or table from Bare) ≡ None)
     (alone_to : partner (get_or table to Bare) ≡ None) (not : to ≡ from → ⊥)
     (in_from : from < length table) (in_to : to < length table) where
-  abbrev joined : List Frame
+  abbrev joined : List FrameState
   joined = both table to from (Lent s from) (Borrowed s to) not in_to in_from
 
   lender : get_or joined to Bare ≡ Lent s from
@@ -321,22 +327,23 @@ module _ (table : List Frame) (from to s : ℕ) (paired : ArePaired table)
 kept_plain : (s value : ℕ) → Kept s ≡ Plain value → ⊥
 kept_plain s value h = cc
 
-not_one : (table : List Frame) (i j s : ℕ) → get_or table i Bare ≡ Lent s j
+not_one : (table : List FrameState) (i j s : ℕ) → get_or table i Bare ≡ Lent s j
     → get_or table j Bare ≡ Borrowed s i → i ≡ j → ⊥
 not_one table i j s lent borrowed same =
-    lent_borrowed s j s i (sym lent ∙ subst (λ n. get_or table n Bare ≡ Borrowed s i) (sym same) borrowed)
+    lent_borrowed s j s i
+    (sym lent ∙ subst (λ n. get_or table n Bare ≡ Borrowed s i) (sym same) borrowed)
 
-module _ (fill : ℕ) (table : List Frame) (kept : List ℕ) (len owed capacity : ℕ)
+module _ (fill : ℕ) (table : List FrameState) (kept : List ℕ) (len owed capacity : ℕ)
     (sound : AreSoundSlots table len owed capacity) where
-  abbrev old : FramesFacts
+  abbrev old : SparseFramesFacts
   old = record { fill = fill; table = table; kept = kept }
 
   -- a frame leaves its slot to the other of its pair
   module _ (i j s : ℕ) where
-    abbrev parted : List Frame
+    abbrev parted : List FrameState
     parted = set (set table j (Kept s)) i (Plain 0)
 
-    abbrev after : FramesFacts
+    abbrev after : SparseFramesFacts
     after = record { fill = fill; table = parted; kept = kept }
 
     -- whichever of the two lends
@@ -362,29 +369,31 @@ module _ (fill : ℕ) (table : List Frame) (kept : List ℕ) (len owed capacity 
         let not : j ≡ i → ⊥ = λ e. not_one table i j s lends borrows (sym e) in
         let in_i = in_table table i (ap has_room lends) in
         let in_j = in_table table j (ap has_room borrows) in
-        let a = ap owes lends in
-        let b = ap owes borrows in (
+        let a = ap owed_slots lends in
+        let b = ap owed_slots borrows in (
           sound_moved table len owed capacity j i s (Kept s) (Plain 0) sound not in_j in_i refl refl
               (omega (arith, a, b)) i (ap slot_of lends) (inr refl)
-              (left_paired table i j s sound.paired (ap partner lends) (ap partner borrows) not in_i in_j),
+              (left_paired table i j s sound.paired (ap partner lends) (ap partner borrows) not in_i
+              in_j),
           is_released not in_i in_j (ap slot_read borrows),
         )
     leaves (inr (borrows, lends)) =
         let not : j ≡ i → ⊥ = not_one table j i s lends borrows in
         let in_i = in_table table i (ap has_room borrows) in
         let in_j = in_table table j (ap has_room lends) in
-        let a = ap owes lends in
-        let b = ap owes borrows in (
+        let a = ap owed_slots lends in
+        let b = ap owed_slots borrows in (
           sound_moved table len owed capacity j i s (Kept s) (Plain 0) sound not in_j in_i refl refl
               (omega (arith, a, b)) j (ap slot_of lends) (inl refl)
-              (left_paired table i j s sound.paired (ap partner borrows) (ap partner lends) not in_i in_j),
+              (left_paired table i j s sound.paired (ap partner borrows) (ap partner lends) not in_i
+              in_j),
           is_released not in_i in_j (ap slot_read lends),
         )
 
   -- a frame comes to share the slot of another
   module _ (from to s value : ℕ) (kept_there : get_or table from Bare ≡ Kept s)
       (plain : get_or table to Bare ≡ Plain value) where
-    abbrev pooled : List Frame
+    abbrev pooled : List FrameState
     pooled = set (set table to (Lent s from)) from (Borrowed s to)
 
     apart : to ≡ from → ⊥
@@ -400,8 +409,8 @@ module _ (fill : ℕ) (table : List Frame) (kept : List ℕ) (len owed capacity 
 
     pub joined_sound : AreSoundSlots pooled len owed capacity
     joined_sound =
-        let a = ap owes kept_there in
-        let b = ap owes plain in
+        let a = ap owed_slots kept_there in
+        let b = ap owed_slots plain in
         sound_moved table len owed capacity to from s (Lent s from) (Borrowed s to) sound apart
         in_to in_from refl refl (omega (arith, a, b)) from (ap slot_of kept_there) (inr refl)
         (joined_paired table from to s sound.paired (ap partner kept_there) (ap partner plain) apart
@@ -431,7 +440,8 @@ module _ (fill : ℕ) (table : List Frame) (kept : List ℕ) (len owed capacity 
             ) refl
         | inr third ↦
             rw
-            (at_other table to from (Lent s from) (Borrowed s to) apart in_to in_from (a / 4096) other
+            (at_other table to from (Lent s from) (Borrowed s to) apart in_to in_from (a / 4096)
+            other
             third) refl
       ];
       room = λ a had.

@@ -6,10 +6,11 @@ use Rattle.std.specs.List.{sum_by, fold}
 use Rattle.std.proofs.lemmas.Bool.{cases_eq, cases_lt}
 use Rattle.std.proofs.lemmas.List.{get_or-set_same, get_or-set_other, length-set}
 use Rattle.std.proofs.lemmas.List.Sums.{sum_by-set, get_or-le-sum_by}
-use Rattle.bl_mem.specs.declared.frame.Frame.{Frame}
-use Rattle.bl_mem.specs.declared.frame.Frame.TheVariants.{Bare, Plain, Kept, Wiped, Lent, Borrowed}
-use Rattle.bl_mem.specs.Frame.{has_room}
-use Rattle.bl_mem.specs.Kept.{slot_of, owes, partner, ArePaired, AreSoundSlots, AreOpened}
+use Rattle.bl_mem.specs.declared.frame_state.FrameState.{FrameState}
+use Rattle.bl_mem.specs.declared.frame_state.FrameState.TheVariants.{Bare, Plain, Kept, Wiped, Lent}
+use Rattle.bl_mem.specs.declared.frame_state.FrameState.TheVariants.{Borrowed}
+use Rattle.bl_mem.specs.FrameState.{has_room}
+use Rattle.bl_mem.specs.Kept.{slot_of, owed_slots, partner, AreSoundSlots, AreGivenRoom}
 use Rattle.bl_mem.proofs.PairLemmas.{pairs_set}
 use Rattle.bl_mem.proofs.FrameLemmas.{set_room}
 
@@ -19,10 +20,10 @@ none_some s e = cc
 some_same : (a b : ℕ) → Some a ≡ Some b → a ≡ b
 some_same a b e = cc
 
--- a frame is set to one that has the same slot or none, and owes as much
-pub sound_set : (table : List Frame) (len owed capacity more i : ℕ) (frame : Frame)
+-- a frame is set to one that has the same slot or none, and owed_slots as much
+pub sound_set : (table : List FrameState) (len owed capacity more i : ℕ) (frame : FrameState)
     → AreSoundSlots table len owed capacity → i < length table → capacity ≤ more
-    → owes frame ≡ owes (get_or table i Bare)
+    → owed_slots frame ≡ owed_slots (get_or table i Bare)
     → partner (get_or table i Bare) ≡ None → partner frame ≡ None
     → ((s : ℕ) → slot_of frame ≡ Some s → slot_of (get_or table i Bare) ≡ Some s)
     → AreSoundSlots (set table i frame) len owed more
@@ -40,7 +41,7 @@ sound_set table len owed capacity more i frame sound within fits same was_alone 
     record {
       whole = sound.whole;
       counted =
-          let sum = sum_by-set owes table i frame Bare within in
+          let sum = sum_by-set owed_slots table i frame Bare within in
           omega (arith, sum, same, sound.counted);
       room = omega (arith, sound.room);
       few = sound.few;
@@ -50,14 +51,15 @@ sound_set table len owed capacity more i frame sound within fits same was_alone 
     }
 
 -- a frame that owed a slot gets the next one
-pub sound_appended : (table : List Frame) (len owed capacity more i slot : ℕ)
+pub sound_appended : (table : List FrameState) (len owed capacity more i slot : ℕ)
     → AreSoundSlots table len owed capacity → i < length table → capacity ≤ more
-    → owes (get_or table i Bare) ≡ 1 → partner (get_or table i Bare) ≡ None → slot ≡ len / 4096
+    → owed_slots (get_or table i Bare) ≡ 1 → partner (get_or table i Bare) ≡ None → slot
+    ≡ len / 4096
     → AreSoundSlots (set table i (Kept slot)) (len + 4096) (owed - 1) more
 sound_appended table len owed capacity more i slot sound within fits owing alone next =
     let whole : len % 4096 ≡ 0 = sound.whole in
-    let sum = sum_by-set owes table i (Kept slot) Bare within in
-    let one = get_or-le-sum_by owes table i Bare within in
+    let sum = sum_by-set owed_slots table i (Kept slot) Bare within in
+    let one = get_or-le-sum_by owed_slots table i Bare within in
     let counted = sound.counted in
     let here : slot_of (get_or (set table i (Kept slot)) i Bare) ≡ Some slot =
     ap slot_of (get_or-set_same table i (Kept slot) Bare within) in
@@ -98,8 +100,8 @@ sound_appended table len owed capacity more i slot sound within fits owing alone
     }
 
 -- frames got room, after there was memory for them
-pub sound_opened : (table new : List Frame) (len owed capacity more first end fill opened : ℕ)
-    → AreSoundSlots table len owed capacity → AreOpened table new first end fill opened
+pub sound_opened : (table new : List FrameState) (len owed capacity more first end fill opened : ℕ)
+    → AreSoundSlots table len owed capacity → AreGivenRoom table new first end fill opened
     → len + 4096 * (owed + opened) ≤ more → len + 4096 * (owed + opened) ≤ 17592186044416
     → AreSoundSlots new len (owed + opened) more
 sound_opened table new len owed capacity more first end fill opened sound is fits few = record {
@@ -123,7 +125,8 @@ sound_opened table new len owed capacity more first end fill opened sound is fit
 }
 
 -- no frame had room, for none
-pub opened_none : (table : List Frame) (first fill : ℕ) → AreOpened table table first first fill 0
+pub opened_none : (table : List FrameState) (first fill : ℕ)
+    → AreGivenRoom table table first first fill 0
 opened_none table first fill = record {
   size = refl;
   counted = omega arith;
@@ -137,8 +140,8 @@ opened_none table first fill = record {
 }
 
 -- one that has room
-pub opened_had : (table : List Frame) (at fill : ℕ) → has_room (get_or table at Bare) ≡ true
-    → AreOpened table table at (at + 1) fill 0
+pub opened_had : (table : List FrameState) (at fill : ℕ) → has_room (get_or table at Bare) ≡ true
+    → AreGivenRoom table table at (at + 1) fill 0
 opened_had table at fill had = record {
   size = refl;
   counted = omega arith;
@@ -151,7 +154,7 @@ opened_had table at fill had = record {
   bytes = λ kept i place. refl;
 }
 
-bare_of : (frame : Frame) → has_room frame ≡ false → frame ≡ Bare
+bare_of : (frame : FrameState) → has_room frame ≡ false → frame ≡ Bare
 bare_of Bare h = refl
 bare_of (Plain value) h = cc
 bare_of (Kept slot) h = cc
@@ -160,13 +163,13 @@ bare_of (Lent slot to) h = cc
 bare_of (Borrowed slot from) h = cc
 
 -- one that had none
-pub opened_one : (table : List Frame) (at fill : ℕ) → at < length table
+pub opened_one : (table : List FrameState) (at fill : ℕ) → at < length table
     → has_room (get_or table at Bare) ≡ false
-    → AreOpened table (set table at (Plain fill)) at (at + 1) fill 1
+    → AreGivenRoom table (set table at (Plain fill)) at (at + 1) fill 1
 opened_one table at fill within bare =
     let is : get_or table at Bare ≡ Bare = bare_of _ bare in
-    let sum = sum_by-set owes table at (Plain fill) Bare within in
-    let none : owes (get_or table at Bare) ≡ 0 = ap owes is in
+    let sum = sum_by-set owed_slots table at (Plain fill) Bare within in
+    let none : owed_slots (get_or table at Bare) ≡ 0 = ap owed_slots is in
     let now : get_or (set table at (Plain fill)) at Bare ≡ Plain fill =
     get_or-set_same table at (Plain fill) Bare within in
     record {
@@ -205,9 +208,9 @@ opened_one table at fill within bare =
     }
 
 -- some, and then more
-pub opened_more : (old mid new : List Frame) (first at fill n k : ℕ) → first ≤ at
-    → AreOpened old mid first at fill n → AreOpened mid new at (at + 1) fill k
-    → AreOpened old new first (at + 1) fill (n + k)
+pub opened_more : (old mid new : List FrameState) (first at fill n k : ℕ) → first ≤ at
+    → AreGivenRoom old mid first at fill n → AreGivenRoom mid new at (at + 1) fill k
+    → AreGivenRoom old new first (at + 1) fill (n + k)
 opened_more old mid new first at fill n k from some more = record {
   size = more.size ∙ some.size;
   counted = omega (arith, some.counted, more.counted);
@@ -228,7 +231,7 @@ opened_more old mid new first at fill n k from some more = record {
 }
 
 -- frames without room at the end are as none
-pub get_or_bare : (table : List Frame) (n i : ℕ)
+pub get_or_bare : (table : List FrameState) (n i : ℕ)
     → get_or (table ++ replicate n Bare) i Bare ≡ get_or table i Bare
 get_or_bare [] zero i = refl
 get_or_bare [] (suc n) zero = refl
@@ -236,21 +239,23 @@ get_or_bare [] (suc n) (suc i) = get_or_bare [] n i
 get_or_bare (x ∷ xs) n zero = refl
 get_or_bare (x ∷ xs) n (suc i) = get_or_bare xs n i
 
-sum_bare : (n a : ℕ) → fold (λ b x. b + owes x) a (replicate n Bare) ≡ a
+sum_bare : (n a : ℕ) → fold (λ b x. b + owed_slots x) a (replicate n Bare) ≡ a
 sum_bare zero a = refl
 sum_bare (suc n) a = sum_bare n (a + 0) ∙ omega arith
 
-fold_grown : (table : List Frame) (n a : ℕ)
-    → fold (λ b x. b + owes x) a (table ++ replicate n Bare) ≡ fold (λ b x. b + owes x) a table
+fold_grown : (table : List FrameState) (n a : ℕ)
+    → fold (λ b x. b + owed_slots x) a (table ++ replicate n Bare)
+    ≡ fold (λ b x. b + owed_slots x) a table
 fold_grown [] n a = sum_bare n a
-fold_grown (x ∷ xs) n a = fold_grown xs n (a + owes x)
+fold_grown (x ∷ xs) n a = fold_grown xs n (a + owed_slots x)
 
-sum_grown : (table : List Frame) (n : ℕ)
-    → sum_by owes (table ++ replicate n Bare) ≡ sum_by owes table
+sum_grown : (table : List FrameState) (n : ℕ)
+    → sum_by owed_slots (table ++ replicate n Bare) ≡ sum_by owed_slots table
 sum_grown table n = fold_grown table n 0
 
 -- the table grows
-pub sound_grown : (table : List Frame) (len owed capacity n : ℕ) → AreSoundSlots table len owed capacity
+pub sound_grown : (table : List FrameState) (len owed capacity n : ℕ)
+    → AreSoundSlots table len owed capacity
     → AreSoundSlots (table ++ replicate n Bare) len owed capacity
 sound_grown table len owed capacity n sound = record {
   whole = sound.whole;

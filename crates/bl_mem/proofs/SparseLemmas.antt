@@ -1,12 +1,14 @@
 -- A read and a write that go on where they stopped.
-use Rattle.std.proofs.Common.{◌≡◌, ℕ, ◌+◌, ◌-◌, ◌*◌, ◌/◌, ◌%◌, ◌<◌, ◌≤◌, List, ◌++◌, length, get_or, sym}
+use Rattle.std.proofs.Common.{◌≡◌, ℕ, ◌+◌, ◌-◌, ◌/◌, ◌%◌, ◌<◌, ◌≤◌, List, ◌++◌, length, get_or}
+use Rattle.std.proofs.Common.{sym}
 use Rattle.std.proofs.Common.{take, slice_range, arith, rules, ap, ◌∙◌}
 use Rattle.std.proofs.Common.{Option, Some, None, IfSome}
 use Rattle.std.proofs.lemmas.List.{places, same_lists}
 use Rattle.bl_mem.specs.Memory.{overwrite}
-use Rattle.bl_mem.specs.Frames.{FramesFacts, frame_byte, IsLent, IsShared}
+use Rattle.bl_mem.specs.SparseFrames.{SparseFramesFacts, frame_byte, IsLent, IsShared}
 use Rattle.bl_mem.specs.Sparse.{bytes_of}
-use Rattle.bl_mem.proofs.ValueLemmas.{values_range, values_overwritten, get_or-values, bytes_of_length}
+use Rattle.bl_mem.proofs.ValueLemmas.{values_range, values_overwritten, get_or-values}
+use Rattle.bl_mem.proofs.ValueLemmas.{bytes_of_length}
 use Rattle.bl_mem.proofs.Overwrites.{overwrite_more, range_more}
 
 -- a read that goes on where it stopped
@@ -34,7 +36,7 @@ write_on bytes part at done next within inside =
     (same_lists _ _ (search (rules, places)) (λ k d h. grind (arith, places)))
 
 -- what frames lend is what memory has there
-pub lent_on : {B : Type 0} → (frames : FramesFacts) (size at count : ℕ) (found : Option B)
+pub lent_on : {B : Type 0} → (frames : SparseFramesFacts) (size at count : ℕ) (found : Option B)
     (now : B → List ℕ) → at + count ≤ length (bytes_of frames size)
     → IfSome found (λ piece. IsLent frames at count (now piece))
     → IfSome found (λ piece. now piece ≡ slice_range (bytes_of frames size) at (at + count))
@@ -46,7 +48,7 @@ lent_on frames size at count (Some piece) now inside is =
     ∙ ap (λ n. slice_range (bytes_of frames size) at (at + n)) len
 
 -- a frame that reads as another one is as one that the other's bytes were written over
-pub shared_bytes : (old new : FramesFacts) (size from to : ℕ) → from + 4096 ≤ size
+pub shared_bytes : (old new : SparseFramesFacts) (size from to : ℕ) → from + 4096 ≤ size
     → to + 4096 ≤ size → from % 4096 ≡ 0 → to % 4096 ≡ 0
     → IsShared old new (from / 4096) (to / 4096)
     → bytes_of new size

@@ -6,7 +6,7 @@ use Rattle.std.proofs.lemmas.Bool.{cases_lt}
 use Rattle.std.proofs.lemmas.List.{places, ext_get_or, get_or-replicate, length-replicate}
 use Rattle.std.proofs.lemmas.List.FromFn.{length-map-range_with_len, get_or-map-range_with_len}
 use Rattle.bl_mem.specs.Memory.{overwrite}
-use Rattle.bl_mem.specs.Frames.{FramesFacts, frame_byte}
+use Rattle.bl_mem.specs.SparseFrames.{SparseFramesFacts, frame_byte}
 use Rattle.bl_mem.specs.Sparse.{bytes_of}
 use Rattle.bl_mem.proofs.Overwrites.{length-overwrite, get_or-overwrite_in, get_or-overwrite_below}
 use Rattle.bl_mem.proofs.Overwrites.{get_or-overwrite_above}
@@ -22,7 +22,7 @@ pub get_or-values : (f : ℕ → ℕ) (n a : ℕ) → a < n → get_or (values f
 get_or-values f n a h = get_or-map-range_with_len f 0 n a a 0 h (omega arith)
 
 -- memory is as long as its size
-pub bytes_of_length : (frames : FramesFacts) (size : ℕ) → length (bytes_of frames size) ≡ size
+pub bytes_of_length : (frames : SparseFramesFacts) (size : ℕ) → length (bytes_of frames size) ≡ size
 bytes_of_length frames size = length-values (frame_byte frames) size
 
 -- functions that agree have the same values

@@ -17,5 +17,5 @@ abbrev pub holds : Segment → ℕ → Bool
 holds segment a = nat_le segment.address a && nat_lt a (segment.address + segment.memsz)
 
 -- the same as a test of segments
-abbrev pub holds_at : ℕ → Segment → Bool
-holds_at a segment = holds segment a
+abbrev pub is_in_segment : ℕ → Segment → Bool
+is_in_segment a segment = holds segment a

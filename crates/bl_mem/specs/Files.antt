@@ -7,8 +7,8 @@ abbrev pub nth_file : List (List ℕ) → ℕ → List ℕ
 nth_file texts file = slice_index_or texts file []
 
 -- memory of this size has each of these addresses
-abbrev pub AreBelow : (ℕ → Type 0) → ℕ → Type 0
-AreBelow holds size = (a : ℕ) → holds a → a < size
+abbrev pub AreAddressesBelow : (ℕ → Type 0) → ℕ → Type 0
+AreAddressesBelow holds size = (a : ℕ) → holds a → a < size
 
 -- none of the addresses from start on is one of these, up to end
 abbrev pub IsBeside : (ℕ → Type 0) → ℕ → ℕ → Type 0

@@ -2,14 +2,15 @@
 use Rattle.std.specs.Prelude.{◌≡◌, ◌⊎◌, ℕ, ◌+◌, ◌-◌, ◌*◌, ◌/◌, ◌%◌, ◌<◌, ◌≤◌, true, List, length}
 use Rattle.std.specs.Prelude.{Option, Some, None, slice_index_or}
 use Rattle.std.specs.List.{sum_by}
-use Rattle.bl_mem.specs.declared.frame.Frame.{Frame}
-use Rattle.bl_mem.specs.declared.frame.Frame.TheVariants.{Bare, Plain, Kept, Wiped, Lent, Borrowed}
+use Rattle.bl_mem.specs.declared.frame_state.FrameState.{FrameState}
+use Rattle.bl_mem.specs.declared.frame_state.FrameState.TheVariants.{Bare, Plain, Kept, Wiped, Lent}
+use Rattle.bl_mem.specs.declared.frame_state.FrameState.TheVariants.{Borrowed}
 use Rattle.bl_mem.specs.Memory.{KeepsRoom}
-use Rattle.bl_mem.specs.Frame.{has_room, byte_in, slot_read}
-use Rattle.bl_mem.specs.Frames.{FramesFacts, frame_numbered, frame_byte, IsHeld}
+use Rattle.bl_mem.specs.FrameState.{has_room, byte_in, slot_read}
+use Rattle.bl_mem.specs.SparseFrames.{SparseFramesFacts, frame_numbered, frame_byte, IsHeld}
 
 -- the slot that is a frame's own
-abbrev pub slot_of : Frame → Option ℕ
+abbrev pub slot_of : FrameState → Option ℕ
 slot_of Bare = None
 slot_of (Plain value) = None
 slot_of (Kept slot) = Some slot
@@ -17,17 +18,17 @@ slot_of (Wiped slot) = Some slot
 slot_of (Lent slot to) = Some slot
 slot_of (Borrowed slot from) = None
 
--- 1 if a frame has room and no slot
-abbrev pub owes : Frame → ℕ
-owes Bare = 0
-owes (Plain value) = 1
-owes (Kept slot) = 0
-owes (Wiped slot) = 0
-owes (Lent slot to) = 0
-owes (Borrowed slot from) = 1
+-- 1 if a frame has room and no slot of its own
+abbrev pub owed_slots : FrameState → ℕ
+owed_slots Bare = 0
+owed_slots (Plain value) = 1
+owed_slots (Kept slot) = 0
+owed_slots (Wiped slot) = 0
+owed_slots (Lent slot to) = 0
+owed_slots (Borrowed slot from) = 1
 
 -- the frame with which a frame shares a slot
-abbrev pub partner : Frame → Option ℕ
+abbrev pub partner : FrameState → Option ℕ
 partner Bare = None
 partner (Plain value) = None
 partner (Kept slot) = None
@@ -36,17 +37,18 @@ partner (Lent slot to) = Some to
 partner (Borrowed slot from) = Some from
 
 -- who lends lends to one that borrows from it, and the other way round
-pub record ArePaired (table : List Frame) : Type 0 where
+pub record ArePaired (table : List FrameState) : Type 0 where
   pub lends : (i j s : ℕ) → slice_index_or table i Bare ≡ Lent s j
       → slice_index_or table j Bare ≡ Borrowed s i
   pub borrows : (i j s : ℕ) → slice_index_or table i Bare ≡ Borrowed s j
       → slice_index_or table j Bare ≡ Lent s i
 
 -- each frame's slot is one of those kept, and its own alone; each frame that has room and no slot
--- is counted, and there is room for so many
-pub record AreSoundSlots (table : List Frame) (len : ℕ) (owed : ℕ) (capacity : ℕ) : Type 0 where
+-- of its own is counted, and there is room for so many
+pub record AreSoundSlots (table : List FrameState) (len : ℕ) (owed : ℕ) (capacity : ℕ)
+    : Type 0 where
   pub whole : len % 4096 ≡ 0
-  pub counted : owed ≡ sum_by owes table
+  pub counted : owed ≡ sum_by owed_slots table
   pub room : len + 4096 * owed ≤ capacity
   pub few : len + 4096 * owed ≤ 17592186044416
   pub inside : (i s : ℕ) → slot_of (slice_index_or table i Bare) ≡ Some s → 4096 * s + 4096 ≤ len
@@ -55,19 +57,21 @@ pub record AreSoundSlots (table : List Frame) (len : ℕ) (owed : ℕ) (capacity
   pub paired : ArePaired table
 
 -- a frame is kept in a slot, and the bytes of all other frames stay
-pub record IsKeptIn (old : FramesFacts) (new : FramesFacts) (number : ℕ) (slot : ℕ) : Type 0 where
+pub record IsKeptIn (old : SparseFramesFacts) (new : SparseFramesFacts) (number : ℕ)
+    (slot : ℕ) : Type 0 where
   pub here : frame_numbered new number ≡ Kept slot
   pub beside : (a : ℕ) → ¬ (a / 4096 ≡ number) → frame_byte new a ≡ frame_byte old a
   pub room : KeepsRoom (IsHeld old) (IsHeld new)
 
 -- these two frames share a slot
-abbrev pub ArePair : FramesFacts → ℕ → ℕ → ℕ → Type 0
+abbrev pub ArePair : SparseFramesFacts → ℕ → ℕ → ℕ → Type 0
 ArePair facts i j slot =
     ((frame_numbered facts i ≡ Lent slot j) × (frame_numbered facts j ≡ Borrowed slot i))
     ⊎ ((frame_numbered facts i ≡ Borrowed slot j) × (frame_numbered facts j ≡ Lent slot i))
 
 -- a frame shares no slot, the bytes of all other frames stay, and it has room if it had
-pub record IsReleased (old : FramesFacts) (new : FramesFacts) (number : ℕ) : Type 0 where
+pub record IsReleased (old : SparseFramesFacts) (new : SparseFramesFacts) (number : ℕ)
+    : Type 0 where
   pub alone : partner (frame_numbered new number) ≡ None
   pub beside : (a : ℕ) → ¬ (a / 4096 ≡ number) → frame_byte new a ≡ frame_byte old a
   pub room : KeepsRoom (IsHeld old) (IsHeld new)
@@ -78,15 +82,15 @@ IsPutAt kept slot part =
     (k : ℕ) → k < 4096 → slice_index_or kept (4096 * slot + k) 0 ≡ slice_index_or part k 0
 
 -- the slots of frames follow one another, for `count` bytes
-abbrev pub AreTogether : FramesFacts → ℕ → ℕ → ℕ → Type 0
+abbrev pub AreTogether : SparseFramesFacts → ℕ → ℕ → ℕ → Type 0
 AreTogether facts number slot count =
     (k : ℕ) → 4096 * k < count → slot_read (frame_numbered facts (number + k)) ≡ Some (slot + k)
 
 -- frames have room, and those that had none are counted; each reads as before
-pub record AreOpened (old : List Frame) (new : List Frame) (first : ℕ) (end : ℕ) (fill : ℕ)
-    (opened : ℕ) : Type 0 where
+pub record AreGivenRoom (old : List FrameState) (new : List FrameState) (first : ℕ) (end : ℕ)
+    (fill : ℕ) (opened : ℕ) : Type 0 where
   pub size : length new ≡ length old
-  pub counted : sum_by owes new ≡ sum_by owes old + opened
+  pub counted : sum_by owed_slots new ≡ sum_by owed_slots old + opened
   pub most : opened ≤ end - first
   pub made : (i : ℕ) → first ≤ i → i < end → has_room (slice_index_or new i Bare) ≡ true
   pub room : (i : ℕ) → has_room (slice_index_or old i Bare) ≡ true

@@ -2,8 +2,8 @@ pub mod Memory
 pub mod LittleEndian
 pub mod Least
 pub mod Contents
-pub mod Frame
-pub mod Frames
+pub mod FrameState
+pub mod SparseFrames
 pub mod Kept
 pub mod Sparse
 pub mod Files

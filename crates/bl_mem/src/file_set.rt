@@ -1,10 +1,10 @@
 //! Files that memory may hold.
 ghost use Rattle.std.specs.Prelude.{◌≡◌, ℕ, ◌+◌, ◌<◌, ◌≤◌, List, length, map, slice_range, refl};
 ghost use Rattle.std.specs.Prelude.{IfSome};
-ghost use Rattle.bl_mem.specs.Files.{nth_file, AreBelow, Agree};
+ghost use Rattle.bl_mem.specs.Files.{nth_file, AreAddressesBelow, Agree};
 
+use crate::byte_view::ByteView;
 use crate::memory::PhysMem;
-use crate::view::ByteView;
 
 /// An entry's files, which may lie in the memory that the entry is loaded into. They go by their
 /// place, from 0 on.
@@ -22,7 +22,7 @@ pub trait FileSet {
 
     /// Copies bytes of a file from offset `at` on, as many as `out` holds.
     fn read<M: PhysMem>(&self, memory: &M, file: usize, at: u64, out: &mut [u8])
-        requires held { AreBelow (holds self.now) (length (M.bytes memory.now)) }
+        requires held { AreAddressesBelow (holds self.now) (length (M.bytes memory.now)) }
         requires file { file < length (texts self.now (M.bytes memory.now)) }
         requires inside { at + length out.old
             ≤ length (nth_file (texts self.now (M.bytes memory.now)) file) }
@@ -47,7 +47,7 @@ pub trait FileSet {
     /// that memory can copy them by itself. Files that don't lie in memory answer none, and so may
     /// others; `read` gives the bytes always.
     fn address<M: PhysMem>(&self, memory: &M, file: usize, at: u64, count: usize) -> Option<u64>
-        requires held { AreBelow (holds self.now) (length (M.bytes memory.now)) }
+        requires held { AreAddressesBelow (holds self.now) (length (M.bytes memory.now)) }
         requires file { file < length (texts self.now (M.bytes memory.now)) }
         requires inside { at + count
             ≤ length (nth_file (texts self.now (M.bytes memory.now)) file) }

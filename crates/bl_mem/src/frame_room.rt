@@ -1,33 +1,33 @@
 //! Room for frames.
 ghost use Rattle.std.specs.Prelude.{◌≡◌, ◌≤◌, ◌<◌, ◌+◌, length, vec_len};
 ghost use Rattle.bl_mem.specs.Memory.{overwrite};
-ghost use Rattle.bl_mem.specs.Kept.{AreOpened};
+ghost use Rattle.bl_mem.specs.Kept.{AreGivenRoom};
 
-use crate::frame::Frame;
+use crate::frame_state::FrameState;
 use std::alloc::Allocator;
 
 /// Notes that a frame has room, and answers 1 if it had none, and else 0.
-fn open_frame<A: Allocator>(table: &mut Vec<Frame, A>, at: usize, fill: u8) -> usize
+fn open_frame<A: Allocator>(table: &mut Vec<FrameState, A>, at: usize, fill: u8) -> usize
     requires { at < vec_len table.old }
-    ensures { AreOpened table.old.items table.new.items at (at + 1) fill result }
+    ensures { AreGivenRoom table.old.items table.new.items at (at + 1) fill result }
 {
     if table[at].has_room() {
         return 0;
     }
-    table[at] = Frame::Plain(fill);
+    table[at] = FrameState::Plain(fill);
     1
 }
 
 /// Notes that the frames from `first` on and below `end` have room, and answers how many had none.
 pub fn give_room<A: Allocator>(
-    table: &mut Vec<Frame, A>,
+    table: &mut Vec<FrameState, A>,
     first: usize,
     end: usize,
     fill: u8,
 ) -> usize
     requires forward { first ≤ end }
     requires inside { end ≤ vec_len table.old }
-    ensures { AreOpened table.old.items table.new.items first end fill result }
+    ensures { AreGivenRoom table.old.items table.new.items first end fill result }
 {
     let mut opened = 0;
     let mut at = first;

@@ -1,20 +1,21 @@
 //! Where bytes come from and where they go: memory by address, and files by offset.
 #![tactic(auto)]
 
+mod byte_view;
 mod bytes;
 mod file_set;
 mod flat;
-mod frame;
 mod frame_room;
-mod frames;
+mod frame_state;
 mod little_endian;
 mod memory;
 mod put;
 mod segment;
 mod slice_memory;
 mod sparse;
-mod view;
+mod sparse_frames;
 
+pub use byte_view::{ByteView, SliceView};
 pub use bytes::Bytes;
 pub use file_set::{FileSet, Views};
 pub use flat::Flat;
@@ -24,4 +25,3 @@ pub use put::{put_bytes, put_u32, put_u64, write_u32s, write_u64s};
 pub use segment::Segment;
 pub use slice_memory::SliceMemory;
 pub use sparse::Sparse;
-pub use view::{ByteView, SliceView};

@@ -2,7 +2,7 @@
 ghost use Rattle.std.specs.Prelude.{◌≡◌, ◌≤◌, ◌+◌, length, slice_index};
 ghost use Rattle.bl_mem.specs.LittleEndian as little_endian;
 
-use crate::view::ByteView;
+use crate::byte_view::ByteView;
 use byteorder::{ByteOrder, LittleEndian};
 
 /// The byte at offset `at`.

@@ -57,8 +57,8 @@ pub trait PhysMem {
         ensures after { bytes self.new ≡ overwrite (bytes self.old) at part.now }
         ensures kept { KeepsSizeAndRoom lender bytes room self.old self.new };
 
-    /// Copies the `count` bytes from address `from` on, at most 4096, to the addresses from `to` on.
-    /// All other bytes stay.
+    /// Copies the `count` bytes from address `from` on, at most 4096, to the addresses from `to`
+    /// on. All other bytes stay.
     fn copy(&mut self, from: u64, to: u64, count: usize)
         requires few { count ≤ 4096 }
         requires source { from + count ≤ length (bytes self.old) }

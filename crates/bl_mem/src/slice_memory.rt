@@ -59,7 +59,7 @@ impl<'a> SliceMemory<'a> {
     }
 
     /// Puts the part into the slice.
-    fn put(&mut self, offset: usize, part: &[u8])
+    fn write_slice(&mut self, offset: usize, part: &[u8])
         requires { offset + length part.now ≤ length self.old.held.now }
         ensures after { self.new.held.now ≡ overwrite self.old.held.now offset part.now }
         ensures base { self.new.base ≡ self.old.base }
@@ -126,7 +126,7 @@ impl PhysMem for SliceMemory<'_> {
         if part.is_empty() {
             return;
         }
-        self.put(self.offset(at), part);
+        self.write_slice(self.offset(at), part);
     }
 
     fn zero(&mut self, range: Range<u64>) {

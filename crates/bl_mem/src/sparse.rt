@@ -1,14 +1,14 @@
 //! Memory of which only those frames are kept that were written to.
-ghost use Rattle.std.specs.Prelude.{◌≡◌, ℕ, ◌+◌, ◌%◌, ◌≤◌, length, replicate, slice_range};
+ghost use Rattle.std.specs.Prelude.{◌≡◌, ◌+◌, ◌%◌, ◌≤◌, length, replicate, slice_range};
 ghost use Rattle.std.specs.Prelude.{true, false};
-ghost use Rattle.std.specs.Prelude.{IfOk, OnOk, IsOk, IfSome};
+ghost use Rattle.std.specs.Prelude.{IfOk, OnOk, IsOk};
 ghost use Rattle.bl_mem.specs.Memory.{overwrite, HasRoom, KeepsRoom};
-ghost use Rattle.bl_mem.specs.Frames.{IsHeld};
+ghost use Rattle.bl_mem.specs.SparseFrames.{IsHeld};
 ghost use Rattle.bl_mem.specs.Sparse.{bytes_of};
 
-use crate::frame::FRAME_SIZE;
-use crate::frames::Frames;
+use crate::frame_state::FRAME_SIZE;
 use crate::memory::PhysMem;
+use crate::sparse_frames::SparseFrames;
 use std::alloc::{AllocError, Allocator};
 use std::marker::Model;
 use std::ops::Range;
@@ -16,7 +16,7 @@ use std::ops::Range;
 /// A machine's memory that keeps only those frames of 4096 bytes which were written to. An address
 /// of a frame without room reads as `fill`, so that a machine of 4 GiB costs what is written of it
 /// and, once a frame has room, twelve bytes for each frame up to the highest one that has it. A
-/// frame that is a copy of another shares its bytes until one of the two is written or cleared.
+/// whole frame that is copied may share its bytes with the copy, until one is written or cleared.
 ///
 /// `reserve` gives room to each frame that a range meets, and its bytes read as before. After a
 /// refused growth the frames that got room until then keep it. No more than 2^32 frames have room:
@@ -24,7 +24,7 @@ use std::ops::Range;
 #[derive(Drop)]
 pub struct Sparse<A: Allocator> {
     size: u64,
-    frames: Frames<A>,
+    frames: SparseFrames<A>,
 }
 
 impl<A: Allocator> Model for Sparse<A> {
@@ -48,7 +48,7 @@ impl<A: Allocator + Copy> Sparse<A> {
     {
         Ok(Sparse {
             size,
-            frames: Frames::new(alloc, fill),
+            frames: SparseFrames::new(alloc, fill),
         })
     }
 

@@ -5,9 +5,9 @@ use Rattle.std.specs.Prelude.{IfSome}
 use Rattle.std.proofs.lemmas.List.{length-append, map-append, take_more}
 use Rattle.bl_load.specs.declared.entry.Entry.{Entry}
 use Rattle.bl_load.specs.declared.entry.Module.{Module}
-use Rattle.bl_load.specs.Value.{IsCopy}
+use Rattle.bl_load.specs.EntryValue.{IsRsdpCopy}
 use Rattle.bl_desc.specs.Forms.{HasCopyLength}
-use Rattle.bl_session.specs.Attempts.{AreWithinLimits, NameEntries, HasMenuFault}
+use Rattle.bl_session.specs.Attempts.{AreWithinLimits, AreEntryIndices, HasMenuFault}
 use Rattle.bl_session.specs.Menu.{EntryFacts, facts_of}
 use Rattle.bl_session.specs.declared.menu.fault.MenuFault.{MenuFault}
 use Rattle.bl_session.specs.declared.menu.fault.MenuFault.TheVariants.{BadIndex, TooMany, NoMemory}
@@ -15,12 +15,12 @@ use Rattle.bl_desc.specs.declared.entry_row.EntryRow.{EntryRow}
 use Rattle.bl_desc.specs.declared.entry_form.ModuleRow.{ModuleRow}
 use Rattle.bl_desc.specs.Views.{entry_view, module_view}
 use Rattle.bl_menu.specs.Attempted.{entry_facts}
-use Rattle.bl_desc.specs.EntryNames.{index_of}
+use Rattle.bl_desc.specs.EntryNames.{file_index}
 
 -- a menu that is small, and whose indices name entries, has no fault; memory may run out
 pub only_memory : {A : Type 0} (entries : List (Entry A)) (default : ℕ) (fallbacks : List ℕ)
     (fault : MenuFault)
-    → AreWithinLimits entries → NameEntries (length entries) default fallbacks
+    → AreWithinLimits entries → AreEntryIndices (length entries) default fallbacks
     → HasMenuFault entries default fallbacks fault → fault ≡ NoMemory
 only_memory entries default fallbacks BadIndex small named is = absurd (is.1 named)
 only_memory entries default fallbacks TooMany small named is = absurd (is small)
@@ -47,23 +47,23 @@ entries_more {A} names rows i row entries entry here within so same =
 
 -- what copies a copy of a description's entry is one
 pub copied : (copy same : Option (List ℕ)) → same ≡ copy → IfSome copy HasCopyLength
-    → IfSome same IsCopy
-copied None same is has = subst (λ (c : Option (List ℕ)). IfSome c IsCopy) (sym is) tt
+    → IfSome same IsRsdpCopy
+copied None same is has = subst (λ (c : Option (List ℕ)). IfSome c IsRsdpCopy) (sym is) tt
 copied (Some bytes) same is has =
-    subst (λ (c : Option (List ℕ)). IfSome c IsCopy) (sym is)
+    subst (λ (c : Option (List ℕ)). IfSome c IsRsdpCopy) (sym is)
     record { filled = has.0; short = has.1 }
 
 -- one module more
 pub modules_more : {A : Type 0} (names : List (List ℕ)) (rows : List (ModuleRow A)) (i : ℕ)
     (row : ModuleRow A) (modules more : List (Module A)) (made : Module A)
     → row ≡ get_or rows i row → i < length rows → more ≡ modules ++ made ∷ []
-    → made.file ≡ index_of names row.file → made.line ≡ row.line
+    → made.file ≡ file_index names row.file → made.line ≡ row.line
     → map (λ m. m.file) modules
-    ≡ map (index_of names) (map (λ m. m.file) (map module_view (take i rows)))
+    ≡ map (file_index names) (map (λ m. m.file) (map module_view (take i rows)))
     → map (λ m. m.line) modules ≡ map (λ m. m.line) (map module_view (take i rows))
     → length modules ≡ i
     → (map (λ m. m.file) more
-    ≡ map (index_of names) (map (λ m. m.file) (map module_view (take (i + 1) rows))))
+    ≡ map (file_index names) (map (λ m. m.file) (map module_view (take (i + 1) rows))))
     × (map (λ m. m.line) more ≡ map (λ m. m.line) (map module_view (take (i + 1) rows)))
     × (length more ≡ i + 1)
 modules_more {A} names rows i row modules more made here within is file line files lines count =

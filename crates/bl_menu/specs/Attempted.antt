@@ -4,14 +4,14 @@ use Rattle.std.specs.Str.{bytes_eq}
 use Rattle.std.specs.List.{flat_map}
 use Rattle.bl_map.specs.MachineFacts.{MachineFacts}
 use Rattle.bl_plan.specs.declared.protocol.Protocol.TheVariants.{Multiboot2}
-use Rattle.bl_load.specs.Value.{EntryValue}
+use Rattle.bl_load.specs.EntryValue.{EntryValue}
 use Rattle.bl_session.specs.Menu.{EntryFacts, MenuFacts}
 use Rattle.bl_session.specs.Attempts.{without_repeats_by, attempt_order}
-use Rattle.bl_session.specs.Boot.{BootFacts}
+use Rattle.bl_session.specs.BootSteps.{BootFacts}
 use Rattle.bl_session.specs.Outcome.{File, size_of}
 use Rattle.bl_desc.specs.Described.{Described}
 use Rattle.bl_desc.specs.Entries.{Entry, bare_form}
-use Rattle.bl_desc.specs.EntryNames.{file_names, index_of}
+use Rattle.bl_desc.specs.EntryNames.{file_names, file_index}
 
 -- ---- the files of an entry
 
@@ -58,7 +58,7 @@ max_names = 32 * 65
 
 abbrev pub entry_facts : List (List ℕ) → Entry → EntryFacts
 entry_facts names entry = record {
-  files = map (index_of names) (file_names entry);
+  files = map (file_index names) (file_names entry);
   blank = entry_value entry [];
 }
 

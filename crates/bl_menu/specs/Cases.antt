@@ -1,9 +1,9 @@
 -- What is booted of a description, and which files are looked for. Own.
 use Rattle.std.specs.Prelude.{◌≡◌, ℕ, List, [], Option, Some, None, IsSome, All}
 use Rattle.bl_map.specs.MachineFacts.{MachineFacts}
-use Rattle.bl_load.specs.Value.{EntryValue}
+use Rattle.bl_load.specs.EntryValue.{EntryValue}
 use Rattle.bl_session.specs.AttemptResult.{AttemptResult}
-use Rattle.bl_session.specs.Boot.{State, sizes_of}
+use Rattle.bl_session.specs.BootSteps.{State, sizes_of}
 use Rattle.bl_session.specs.Outcome.{File, IsOutcome, EntryHasResult, entry_value_in, no_fault}
 use Rattle.bl_desc.specs.Described.{Described, described, file_named}
 use Rattle.bl_menu.specs.Attempted.{names_in, boot_of}
@@ -24,9 +24,9 @@ module _ {F : Type 0} (answers : F → List ℕ → File → Type 0) (faults : F
         files
 
   -- it comes to this: the first entry that is not refused, with the refusals before it, or none
-  abbrev pub ComesTo : {desc : List ℕ} {before after : F} → BootCase desc before after → State
+  abbrev pub HasOutcome : {desc : List ℕ} {before after : F} → BootCase desc before after → State
       → Type 0
-  ComesTo case state =
+  HasOutcome case state =
       IsOutcome (boot_of case.description case.facts case.files) case.files
       no_fault state
 

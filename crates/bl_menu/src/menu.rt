@@ -1,15 +1,15 @@
 //! The menu of a description.
 ghost use Rattle.std.specs.Prelude.{◌≡◌, ◌<◌, ◌^◌, All, IfOk, length, map};
 ghost use Rattle.bl_load.specs.Offered.{IsOffered};
-ghost use Rattle.bl_load.specs.Value.{IsWithinLimits};
+ghost use Rattle.bl_load.specs.EntryValue.{IsWithinLimits};
 ghost use Rattle.bl_session.specs.Menu.{facts_of};
 ghost use Rattle.bl_session.specs.declared.menu.fault.MenuFault.TheVariants as menu_fault;
 ghost use Rattle.bl_menu.specs.Attempted as attempted;
 ghost use Rattle.bl_menu.specs.Attempted.{entry_facts};
-ghost use Rattle.bl_desc.specs.EntryNames.{index_of};
+ghost use Rattle.bl_desc.specs.EntryNames.{file_index};
 ghost use Rattle.bl_desc.specs.Views.{HasMenu, entry_view, module_view, view};
 
-use bl_desc::{Description, EntryForm, EntryRow, ModuleRow, index_of};
+use bl_desc::{Description, EntryForm, EntryRow, ModuleRow, file_index};
 use bl_load::{Entry, Module};
 use bl_mem::Bytes;
 use bl_session::{Menu, MenuFault};
@@ -23,7 +23,7 @@ fn modules_of<A: Allocator + Copy>(
 ) -> Result<Vec<Module<A>, A>, AllocError>
     requires { length names.now < 2 ^ 32 }
     ensures files { IfOk result (λ modules. map (λ m. m.file) modules.items
-        ≡ map (index_of (map (λ n. n.now) names.now))
+        ≡ map (file_index (map (λ n. n.now) names.now))
         (map (λ m. m.file) (map module_view rows.now))) }
     ensures lines { IfOk result (λ modules. map (λ m. m.line) modules.items
         ≡ map (λ m. m.line) (map module_view rows.now)) }
@@ -32,7 +32,7 @@ fn modules_of<A: Allocator + Copy>(
     let mut modules = Vec::new(alloc);
     for row in rows {
         modules.push(Module {
-            file: index_of(names, row.file.as_str()) as u32,
+            file: file_index(names, row.file.as_str()) as u32,
             line: Bytes::copy(alloc, row.line.as_str().as_bytes())?,
         })?;
     }
@@ -53,7 +53,7 @@ fn copy_of<A: Allocator + Copy>(
 }
 
 /// The entry of a row, whose files go by their places among the names.
-#[tactic(auto, unfolding(bl_load::specs::Value::IsWithinLimits))]
+#[tactic(auto, unfolding(bl_load::specs::EntryValue::IsWithinLimits))]
 pub fn entry_of<A: Allocator + Copy>(
     alloc: A,
     names: &[&str],
@@ -64,7 +64,7 @@ pub fn entry_of<A: Allocator + Copy>(
         facts_of entry ≡ entry_facts (map (λ n. n.now) names.now) (entry_view row.now)) }
     ensures few { IfOk result IsWithinLimits }
 {
-    let kernel = index_of(names, row.kernel.as_str()) as u32;
+    let kernel = file_index(names, row.kernel.as_str()) as u32;
     let line = Bytes::copy(alloc, row.line.as_str().as_bytes())?;
     match &row.form {
         EntryForm::Multiboot2 {
@@ -82,7 +82,7 @@ pub fn entry_of<A: Allocator + Copy>(
             kernel,
             line,
             initrd: match initrd {
-                Some(file) => Some(index_of(names, file.as_str()) as u32),
+                Some(file) => Some(file_index(names, file.as_str()) as u32),
                 None => None,
             },
             wide: *wide,

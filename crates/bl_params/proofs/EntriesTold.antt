@@ -15,7 +15,7 @@ use Rattle.bl_map.specs.declared.kind.Kind.TheVariants.{Usable, Reserved, Acpi, 
 use Rattle.bl_map.specs.Kinds.{kind_number}
 use Rattle.bl_map.specs.NormalMap.{region_end}
 use Rattle.bl_params.specs.BootParams.{entry_bytes}
-use Rattle.bl_params.specs.Fields.{number_bytes}
+use Rattle.bl_params.specs.FieldBytes.{number_bytes}
 use Rattle.bl_params.specs.BootParamsForm.{breaks_entry}
 use Rattle.bl_params.specs.Reading.{IsEntry, AreEntries}
 use Rattle.bl_params.proofs.OverLemmas.{earlier, later}

@@ -8,7 +8,7 @@ use Rattle.std.specs.Prelude.{get_or}
 use Rattle.byteorder.specs.Numbers.{length-bytes_low_first}
 use Rattle.bl_map.specs.declared.region.Region.{Region}
 use Rattle.bl_map.specs.Kinds.{kind_number}
-use Rattle.bl_params.specs.Fields.{number_bytes}
+use Rattle.bl_params.specs.FieldBytes.{number_bytes}
 use Rattle.bl_params.specs.BootParams.{entry_bytes}
 
 pub length-number_bytes : (n x : ℕ) → length (number_bytes n x) ≡ n

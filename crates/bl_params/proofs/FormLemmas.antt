@@ -6,9 +6,10 @@ use Rattle.std.proofs.lemmas.Bool.{cases_lt}
 use Rattle.std.proofs.lemmas.Bool.Decides.{nat_tests}
 use Rattle.bl_mem.specs.LittleEndian.{u32_at, u64_at}
 use Rattle.bl_bzimage.specs.Setup.{header_end}
-use Rattle.bl_params.specs.BootParamsForm.{breaks_at, breaks_header, breaks_entry, is_nonzero_at, e820_entry_count}
+use Rattle.bl_params.specs.BootParamsForm.{breaks_at, breaks_header, breaks_entry, is_nonzero_at}
+use Rattle.bl_params.specs.BootParamsForm.{e820_entry_count}
 use Rattle.bl_params.specs.BootParamsForm.{e820_entry_offset}
-use Rattle.bl_params.specs.Kept.{HasFormBelow, IsQuiet}
+use Rattle.bl_params.specs.Kept.{HasFormBelow, HasFormBetween}
 
 pub lt_yes : (k n : ℕ) → k < n → nat_lt k n ≡ true
 lt_yes k n below = grind (arith, nat_tests)
@@ -31,7 +32,8 @@ pub count_is : (bytes : List ℕ) → breaks_at bytes 0x1E8 ≡ nat_lt 128 (e820
 unfolding breaks_at
 count_is bytes = refl
 
-pub gap_is : (bytes : List ℕ) (k : ℕ) → 0x1E9 ≤ k → k < 0x1F1 → breaks_at bytes k ≡ is_nonzero_at bytes k
+pub gap_is : (bytes : List ℕ) (k : ℕ) → 0x1E9 ≤ k → k < 0x1F1 → breaks_at bytes k
+    ≡ is_nonzero_at bytes k
 unfolding breaks_at
 gap_is bytes k from below =
     rw (lt_no k 0x1E8 (omega arith), eq_no k 0x1E8 (omega arith), lt_yes k 0x1F1 below) refl
@@ -59,7 +61,8 @@ behind_is bytes k from below =
       lt_yes k 0x2D0 below,
     ) refl
 
-pub entries_are : (bytes : List ℕ) (k : ℕ) → 0x2D0 ≤ k → k < e820_entry_offset (e820_entry_count bytes)
+pub entries_are : (bytes : List ℕ) (k : ℕ) → 0x2D0 ≤ k
+    → k < e820_entry_offset (e820_entry_count bytes)
     → breaks_at bytes k ≡ breaks_entry bytes ((k - 0x2D0) % 20) k
 unfolding breaks_at
 entries_are bytes k from below =
@@ -95,7 +98,8 @@ entry_is bytes i n m counted e f =
     let place : (e820_entry_offset i - 0x2D0) % 20 ≡ 0 = omega arith in
     rw (e, f)
     (sym
-    (entries_are bytes (e820_entry_offset i) (omega arith) (omega arith) ∙ rw place (simp or_false)))
+    (entries_are bytes (e820_entry_offset i) (omega arith) (omega arith)
+    ∙ rw place (simp or_false)))
 
 pub kind_is : (bytes : List ℕ) (i n : ℕ) → i < e820_entry_count bytes → n
     ≡ u32_at bytes (e820_entry_offset i + 16)
@@ -111,20 +115,21 @@ quiet_place bytes place k not_first not_kind =
     rw (eq_no place 0 not_first, eq_no place 16 not_kind) refl
 
 pub quiet_first : (bytes : List ℕ) (i : ℕ) → i < e820_entry_count bytes
-    → IsQuiet bytes (e820_entry_offset i + 1) (e820_entry_offset i + 16)
+    → HasFormBetween bytes (e820_entry_offset i + 1) (e820_entry_offset i + 16)
 quiet_first bytes i counted = λ k from below.
     entries_are bytes k (omega arith) (omega arith)
     ∙ quiet_place bytes ((k - 0x2D0) % 20) k (omega arith) (omega arith)
 
 pub quiet_last : (bytes : List ℕ) (i : ℕ) → i < e820_entry_count bytes
-    → IsQuiet bytes (e820_entry_offset i + 16 + 1) (e820_entry_offset i + 20)
+    → HasFormBetween bytes (e820_entry_offset i + 16 + 1) (e820_entry_offset i + 20)
 quiet_last bytes i counted = λ k from below.
     entries_are bytes k (omega arith) (omega arith)
     ∙ quiet_place bytes ((k - 0x2D0) % 20) k (omega arith) (omega arith)
 
 -- ---- further on
 
-pub sound_more : (bytes : List ℕ) (mid end : ℕ) → HasFormBelow bytes mid → IsQuiet bytes mid end
+pub sound_more : (bytes : List ℕ) (mid end : ℕ) → HasFormBelow bytes mid
+    → HasFormBetween bytes mid end
     → HasFormBelow bytes end
 sound_more bytes mid end upto quiet =
     record {

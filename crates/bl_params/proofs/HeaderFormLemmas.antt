@@ -7,7 +7,7 @@ use Rattle.std.proofs.lemmas.Bool.Decides.{nat_tests}
 use Rattle.bl_mem.specs.LittleEndian.{u16_at, u32_at, u64_at}
 use Rattle.bl_bzimage.specs.Setup.{header_end}
 use Rattle.bl_params.specs.BootParamsForm.{breaks_at, breaks_header}
-use Rattle.bl_params.specs.Kept.{IsQuiet}
+use Rattle.bl_params.specs.Kept.{HasFormBetween}
 use Rattle.bl_params.proofs.FormLemmas.{eq_no, or_false, header_is}
 
 -- ---- the fields of the header
@@ -38,7 +38,7 @@ quiet_at : (bytes : List ℕ) (k : ℕ) → 0x1F1 ≤ k → k < header_end bytes
     → breaks_at bytes k ≡ false
 quiet_at bytes k from below between = header_is bytes k from below ∙ between_is bytes k between
 
-pub quiet_1F1 : (bytes : List ℕ) → IsQuiet bytes 0x1F1 0x1FA
+pub quiet_1F1 : (bytes : List ℕ) → HasFormBetween bytes 0x1F1 0x1FA
 quiet_1F1 bytes =
     λ k from below.
     quiet_at bytes k from (omega arith)
@@ -54,7 +54,7 @@ quiet_1F1 bytes =
       not_250 = omega arith;
     }
 
-pub quiet_1FB : (bytes : List ℕ) → IsQuiet bytes 0x1FB 0x1FE
+pub quiet_1FB : (bytes : List ℕ) → HasFormBetween bytes 0x1FB 0x1FE
 quiet_1FB bytes =
     λ k from below.
     quiet_at bytes k (omega arith) (omega arith)
@@ -70,7 +70,7 @@ quiet_1FB bytes =
       not_250 = omega arith;
     }
 
-pub quiet_1FF : (bytes : List ℕ) → IsQuiet bytes 0x1FF 0x201
+pub quiet_1FF : (bytes : List ℕ) → HasFormBetween bytes 0x1FF 0x201
 quiet_1FF bytes =
     λ k from below.
     quiet_at bytes k (omega arith) (omega arith)
@@ -86,7 +86,7 @@ quiet_1FF bytes =
       not_250 = omega arith;
     }
 
-pub quiet_203 : (bytes : List ℕ) → 0x264 ≤ header_end bytes → IsQuiet bytes 0x203 0x206
+pub quiet_203 : (bytes : List ℕ) → 0x264 ≤ header_end bytes → HasFormBetween bytes 0x203 0x206
 quiet_203 bytes long =
     λ k from below.
     quiet_at bytes k (omega arith) (omega arith)
@@ -102,7 +102,7 @@ quiet_203 bytes long =
       not_250 = omega arith;
     }
 
-pub quiet_207 : (bytes : List ℕ) → 0x264 ≤ header_end bytes → IsQuiet bytes 0x207 0x210
+pub quiet_207 : (bytes : List ℕ) → 0x264 ≤ header_end bytes → HasFormBetween bytes 0x207 0x210
 quiet_207 bytes long =
     λ k from below.
     quiet_at bytes k (omega arith) (omega arith)
@@ -118,7 +118,7 @@ quiet_207 bytes long =
       not_250 = omega arith;
     }
 
-pub quiet_211 : (bytes : List ℕ) → 0x264 ≤ header_end bytes → IsQuiet bytes 0x211 0x250
+pub quiet_211 : (bytes : List ℕ) → 0x264 ≤ header_end bytes → HasFormBetween bytes 0x211 0x250
 quiet_211 bytes long =
     λ k from below.
     quiet_at bytes k (omega arith) (omega arith)
@@ -134,7 +134,7 @@ quiet_211 bytes long =
       not_250 = omega arith;
     }
 
-pub quiet_251 : (bytes : List ℕ) (end : ℕ) → end ≡ header_end bytes → IsQuiet bytes 0x251 end
+pub quiet_251 : (bytes : List ℕ) (end : ℕ) → end ≡ header_end bytes → HasFormBetween bytes 0x251 end
 quiet_251 bytes end e =
     λ k from below.
     quiet_at bytes k (omega arith) (omega arith)

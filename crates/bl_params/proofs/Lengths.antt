@@ -4,7 +4,7 @@ use Rattle.std.proofs.lemmas.List.{length-append, length-replicate}
 use Rattle.std.proofs.lemmas.List.FromFn.{length-map-range_with_len}
 use Rattle.bl_params.specs.BootParams.{boot_params, fields_of}
 use Rattle.bl_params.specs.BootParamsFacts.{BootParamsFacts}
-use Rattle.bl_params.specs.Fields.{byte_of_fields}
+use Rattle.bl_params.specs.FieldBytes.{byte_of_fields}
 use Rattle.bl_params.specs.Gdt.{gdt, gdt_part, zeros}
 
 pub length-boot_params : (header : List ℕ) (facts : BootParamsFacts)

@@ -5,7 +5,7 @@ use Rattle.std.specs.Prelude.{if◌then◌else◌}
 use Rattle.std.proofs.lemmas.Bool.{cases_lt}
 use Rattle.std.proofs.lemmas.Bool.Decides.{nat_tests}
 use Rattle.std.proofs.lemmas.List.{places, length-append}
-use Rattle.bl_params.specs.Fields.{byte_over}
+use Rattle.bl_params.specs.FieldBytes.{byte_over}
 
 pub over_in : (at : ℕ) (field : List ℕ) (rest : ℕ → ℕ) (k : ℕ) → at ≤ k → k < at + length field
     → byte_over at field rest k ≡ slice_index field (k - at)

@@ -3,9 +3,10 @@ use Rattle.std.proofs.Common.{◌≡◌, ◌∙◌, ◌<◌, ◌≤◌, ◌+◌,
 use Rattle.std.proofs.Common.{None, Some, length, slice_index, arith, refl, sym, ap, ⊎_elim}
 use Rattle.std.proofs.lemmas.Bool.{cases_lt}
 use Rattle.std.proofs.lemmas.Bool.Decides.{nat_tests}
-use Rattle.bl_params.specs.Fields.{number_bytes}
+use Rattle.bl_params.specs.FieldBytes.{number_bytes}
 use Rattle.bl_params.specs.Paging.{upper_word, page_word, paging_word, paging}
-use Rattle.bl_params.specs.Translation.{index_at, table_entry_at, frame_in_word, in_page, next_frame}
+use Rattle.bl_params.specs.Translation.{index_at, table_entry_at, frame_in_word, in_page}
+use Rattle.bl_params.specs.Translation.{next_frame}
 use Rattle.bl_params.specs.Translation.{walked}
 use Rattle.bl_params.specs.Translation.{translation}
 use Rattle.bl_params.proofs.EntriesTold.{number_told}

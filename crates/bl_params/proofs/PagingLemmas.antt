@@ -4,7 +4,7 @@ use Rattle.std.proofs.Common.{length, slice_index, arith, refl, sym, ap, ◌∙�
 use Rattle.std.specs.List.{flat_map, range_with_len}
 use Rattle.std.proofs.lemmas.Bool.{cases_lt}
 use Rattle.std.proofs.lemmas.List.{length-append, get_or_append_left, get_or-append-add, ext_get_or}
-use Rattle.bl_params.specs.Fields.{byte_over, number_bytes}
+use Rattle.bl_params.specs.FieldBytes.{byte_over, number_bytes}
 use Rattle.bl_params.specs.Paging.{paging_word, paging_frame, paging}
 use Rattle.bl_params.proofs.EntryLemmas.{length-number_bytes}
 use Rattle.bl_params.proofs.OverLemmas.{over_in, over_below}

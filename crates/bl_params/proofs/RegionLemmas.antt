@@ -5,7 +5,7 @@ use Rattle.std.specs.List.{flat_map}
 use Rattle.std.proofs.lemmas.List.FromFn.{get_or-map-range_with_len}
 use Rattle.bl_params.specs.BootParamsFacts.{BootParamsFacts}
 use Rattle.bl_params.specs.BootParams.{boot_params, fields_of, entry_bytes}
-use Rattle.bl_params.specs.Fields.{byte_of_fields, number_bytes}
+use Rattle.bl_params.specs.FieldBytes.{byte_of_fields, number_bytes}
 use Rattle.bl_params.proofs.OverLemmas.{over_below, over_above}
 use Rattle.bl_params.proofs.EntryLemmas.{length-number_bytes, length-entries}
 

@@ -6,7 +6,7 @@ use Rattle.std.specs.List.{flat_map}
 use Rattle.bl_map.specs.declared.region.Region.{Region}
 use Rattle.bl_params.specs.BootParams.{boot_params, fields_of, entry_bytes}
 use Rattle.bl_params.specs.BootParamsFacts.{BootParamsFacts}
-use Rattle.bl_params.specs.Fields.{byte_over, byte_of_fields, number_bytes}
+use Rattle.bl_params.specs.FieldBytes.{byte_over, byte_of_fields, number_bytes}
 use Rattle.bl_params.proofs.OverLemmas.{over_same}
 
 zero_at : (n k : ℕ) → slice_index (replicate n 0) k ≡ 0

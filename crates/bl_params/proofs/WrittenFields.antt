@@ -7,7 +7,7 @@ use Rattle.bl_mem.specs.LittleEndian.{number_at, u16_at, u32_at, u64_at}
 use Rattle.bl_bzimage.specs.Setup.{header_end}
 use Rattle.bl_params.specs.BootParamsFacts.{BootParamsFacts, AreE820Runs}
 use Rattle.bl_params.specs.BootParams.{entry_bytes}
-use Rattle.bl_params.specs.Fields.{byte_of_fields, number_bytes}
+use Rattle.bl_params.specs.FieldBytes.{byte_of_fields, number_bytes}
 use Rattle.bl_params.specs.BootParamsForm.{e820_entry_count}
 use Rattle.bl_params.specs.Reading.{AreEntries}
 use Rattle.bl_params.proofs.OverLemmas.{over_in, over_above}

@@ -5,8 +5,8 @@ use Rattle.std.specs.List.{flat_map, range_with_len}
 use Rattle.bl_map.specs.declared.region.Region.{Region}
 use Rattle.bl_map.specs.Kinds.{kind_number}
 use Rattle.bl_params.specs.BootParamsFacts.{BootParamsFacts}
-use Rattle.bl_params.specs.Fields.{number_bytes, byte_of_fields}
-use Rattle.bl_params.specs.Numbers.{params_size}
+use Rattle.bl_params.specs.FieldBytes.{number_bytes, byte_of_fields}
+use Rattle.bl_params.specs.SizesAndOffsets.{params_size}
 
 -- an entry of "e820_table": addr, size, type
 abbrev pub entry_bytes : Region → List ℕ

@@ -2,7 +2,7 @@
 -- Header Fields" and "Zero Page").
 use Rattle.std.specs.Prelude.{◌≤◌, ℕ, List, length, All}
 use Rattle.bl_map.specs.declared.region.Region.{Region}
-use Rattle.bl_map.specs.Limits.{region_limit}
+use Rattle.bl_map.specs.Limits.{max_region_end}
 use Rattle.bl_map.specs.NormalMap.{region_end}
 
 -- where the kernel lies and is entered, where the initrd lies and how long it is, where the line
@@ -21,4 +21,4 @@ max_e820_entries = 128
 -- own: a memory map that boot parameters have room for, each run of which ends at most at 2^52
 pub record AreE820Runs (runs : List Region) : Type 0 where
   pub few : length runs ≤ max_e820_entries
-  pub low : All (λ run. region_end run ≤ region_limit) runs
+  pub low : All (λ run. region_end run ≤ max_region_end) runs

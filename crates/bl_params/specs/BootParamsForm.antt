@@ -3,11 +3,12 @@
 use Rattle.std.specs.Prelude.{ℕ, ◌+◌, ◌-◌, ◌*◌, ◌%◌, Bool, ◌&&◌, ◌||◌, not, if◌then◌else◌}
 use Rattle.std.specs.Prelude.{◌==◌, nat_lt, nat_le, List, slice_index}
 use Rattle.bl_mem.specs.LittleEndian.{u16_at, u32_at, u64_at}
-use Rattle.bl_map.specs.Limits.{region_limit}
+use Rattle.bl_map.specs.Limits.{max_region_end}
 use Rattle.bl_bzimage.specs.Setup.{header_end}
 use Rattle.bl_params.specs.BootParamsFacts.{max_e820_entries}
-use Rattle.bl_params.specs.Numbers.{e820_entries_at, e820_table_at, e820_entry_size, e820_size_at}
-use Rattle.bl_params.specs.Numbers.{e820_type_at, header_at}
+use Rattle.bl_params.specs.SizesAndOffsets.{e820_entries_at, e820_table_at, e820_entry_size}
+use Rattle.bl_params.specs.SizesAndOffsets.{e820_size_at}
+use Rattle.bl_params.specs.SizesAndOffsets.{e820_type_at, header_at}
 
 -- "e820_entries"
 abbrev pub e820_entry_count : List ℕ → ℕ
@@ -35,7 +36,7 @@ breaks_header bytes k =
 -- the fields of an entry of "e820_table", by their place in it: addr with size at 0, and type
 abbrev pub breaks_entry : List ℕ → ℕ → ℕ → Bool
 breaks_entry bytes place k =
-    (place == 0 && nat_lt region_limit (u64_at bytes k + u64_at bytes (k + e820_size_at)))
+    (place == 0 && nat_lt max_region_end (u64_at bytes k + u64_at bytes (k + e820_size_at)))
     || (place == e820_type_at && not (nat_le 1 (u32_at bytes k) && nat_le (u32_at bytes k) 5))
 
 -- whether what stands at an offset breaks the form

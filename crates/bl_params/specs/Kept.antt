@@ -7,5 +7,5 @@ pub record HasFormBelow (bytes : List ℕ) (end : ℕ) : Type 0 where
   pub sound : (k : ℕ) → k < end → breaks_at bytes k ≡ false
 
 -- nothing from one offset up to another breaks it
-abbrev pub IsQuiet : List ℕ → ℕ → ℕ → Type 0
-IsQuiet bytes start end = (k : ℕ) → start ≤ k → k < end → breaks_at bytes k ≡ false
+abbrev pub HasFormBetween : List ℕ → ℕ → ℕ → Type 0
+HasFormBetween bytes start end = (k : ℕ) → start ≤ k → k < end → breaks_at bytes k ≡ false

@@ -1,7 +1,7 @@
 pub mod BootParamsFacts
 pub mod ParamsFacts
 pub mod Faults
-pub mod Fields
+pub mod FieldBytes
 pub mod BootParams
 pub mod Gdt
 pub mod Paging
@@ -9,5 +9,5 @@ pub mod Translation
 pub mod BootParamsForm
 pub mod Reading
 pub mod Kept
-pub mod Numbers
+pub mod SizesAndOffsets
 pub mod Told

@@ -4,8 +4,8 @@
 -- Paging"): frames of 512 words of 64 bits, the lowest byte first.
 use Rattle.std.specs.Prelude.{ℕ, ◌+◌, ◌-◌, ◌*◌, ◌==◌, nat_lt, if◌then◌else◌, List}
 use Rattle.std.specs.List.{flat_map, range_with_len}
-use Rattle.bl_params.specs.Fields.{number_bytes}
-use Rattle.bl_params.specs.Numbers.{page_size}
+use Rattle.bl_params.specs.FieldBytes.{number_bytes}
+use Rattle.bl_params.specs.SizesAndOffsets.{page_size}
 
 -- the address of a frame, present and writable: how an upper table names the next one
 abbrev pub upper_word : ℕ → ℕ → ℕ

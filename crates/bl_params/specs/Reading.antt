@@ -8,8 +8,9 @@ use Rattle.bl_params.specs.declared.fault.ParamFault.{ParamFault}
 use Rattle.bl_params.specs.declared.fault.ParamFault.TheVariants.{WrongLength, BadParams, NoMemory}
 use Rattle.bl_params.specs.BootParamsForm.{breaks_at, e820_entry_count}
 use Rattle.bl_params.specs.ParamsFacts.{ParamsFacts}
-use Rattle.bl_params.specs.Numbers.{params_size, e820_table_at, e820_entry_size, e820_size_at}
-use Rattle.bl_params.specs.Numbers.{e820_type_at}
+use Rattle.bl_params.specs.SizesAndOffsets.{params_size, e820_table_at, e820_entry_size}
+use Rattle.bl_params.specs.SizesAndOffsets.{e820_size_at}
+use Rattle.bl_params.specs.SizesAndOffsets.{e820_type_at}
 
 -- the entry of "e820_table" that stands at an offset
 pub record IsEntry (bytes : List ℕ) (at : ℕ) (run : Region) : Type 0 where

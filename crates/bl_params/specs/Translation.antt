@@ -5,7 +5,7 @@ use Rattle.std.specs.Prelude.{ℕ, ◌+◌, ◌*◌, ◌/◌, ◌%◌, ◌^◌, 
 use Rattle.std.specs.Prelude.{List, length, Option, None, Some}
 use Rattle.bl_mem.specs.LittleEndian.{u64_at}
 use Rattle.bl_params.specs.Paging.{upper_word}
-use Rattle.bl_params.specs.Numbers.{tables_size, page_size}
+use Rattle.bl_params.specs.SizesAndOffsets.{tables_size, page_size}
 
 -- nine bits of an address from a bit on: the index into the tables of one level
 abbrev pub index_at : ℕ → ℕ → ℕ

@@ -5,8 +5,8 @@ ghost use Rattle.bl_bzimage.specs.Setup.{header_end};
 ghost use Rattle.bl_params.specs.BootParamsForm.{breaks_at, is_nonzero_at, e820_entry_count};
 ghost use Rattle.bl_params.specs.Reading.{HasFirstParamFault};
 ghost use Rattle.bl_params.specs.BootParamsFacts.{max_e820_entries};
-ghost use Rattle.bl_params.specs.Kept.{HasFormBelow, IsQuiet};
-ghost use Rattle.bl_params.specs.Numbers.{params_size};
+ghost use Rattle.bl_params.specs.Kept.{HasFormBelow, HasFormBetween};
+ghost use Rattle.bl_params.specs.SizesAndOffsets.{params_size};
 
 use crate::fault::ParamFault;
 use crate::fields::{
@@ -22,7 +22,7 @@ pub fn check_field(bytes: &[u8], at: usize, next: usize, is_broken: bool) -> Res
     requires within { at < params_size }
     requires upto { HasFormBelow bytes.now at }
     requires here { is_broken ≡ breaks_at bytes.now at }
-    requires quiet { IsQuiet bytes.now (at + 1) next }
+    requires quiet { HasFormBetween bytes.now (at + 1) next }
     ensures { MatchResult result
         (λ _. HasFormBelow bytes.now next × (is_broken ≡ false))
         (HasFirstParamFault bytes.now) }

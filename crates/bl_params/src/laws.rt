@@ -14,7 +14,7 @@ ghost use Rattle.bl_params.specs.ParamsFacts.{ParamsFacts};
 ghost use Rattle.bl_params.specs.declared.fault.ParamFault.{ParamFault};
 ghost use Rattle.bl_params.specs.declared.fault.ParamFault.TheVariants.{NoMemory};
 ghost use Rattle.bl_params.specs.Told.{FitFields, params_of};
-ghost use Rattle.bl_params.specs.Numbers.{tables_size};
+ghost use Rattle.bl_params.specs.SizesAndOffsets.{tables_size};
 ghost use Rattle.bl_map.specs.Limits.{frame_size};
 
 /// Boot parameters that were written for the setup of a file are accepted, and tell what they were

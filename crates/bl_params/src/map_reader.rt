@@ -7,13 +7,13 @@ ghost use Rattle.bl_params.specs.BootParamsForm.{e820_entry_count, e820_entry_of
 ghost use Rattle.bl_params.specs.Reading.{HasFirstParamFault, AreEntries, IsEntry};
 ghost use Rattle.bl_params.specs.BootParamsFacts.{max_e820_entries};
 ghost use Rattle.bl_params.specs.Kept.{HasFormBelow};
-ghost use Rattle.bl_params.specs.Numbers.{e820_table_at, params_size};
+ghost use Rattle.bl_params.specs.SizesAndOffsets.{e820_table_at, params_size};
 
 use crate::checks::check_field;
 use crate::fault::ParamFault;
 use crate::fields::{E820_ENTRIES, E820_TABLE, ENTRY_LENGTH, ENTRY_SIZE, ENTRY_TYPE};
 use crate::numbers::{u32_in, u64_in};
-use bl_map::{Kind, REGION_LIMIT, Region};
+use bl_map::{Kind, MAX_REGION_END, Region};
 use std::alloc::Allocator;
 
 /// Whether a number is that of a kind.
@@ -51,7 +51,7 @@ fn entry(bytes: &[u8], i: usize) -> Result<Region, ParamFault>
     let at = E820_TABLE + ENTRY_SIZE * i;
     let base = u64_in(bytes, at);
     let length = u64_in(bytes, at + ENTRY_LENGTH);
-    let is_high = base as u128 + length as u128 > REGION_LIMIT as u128;
+    let is_high = base as u128 + length as u128 > MAX_REGION_END as u128;
     check_field(bytes, at, at + ENTRY_TYPE, is_high)?;
     let number = u32_in(bytes, at + ENTRY_TYPE);
     check_field(bytes, at + ENTRY_TYPE, at + ENTRY_SIZE, !is_kind(number))?;

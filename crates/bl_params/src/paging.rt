@@ -1,7 +1,7 @@
 //! The page tables for the 64-bit entry.
 ghost use Rattle.std.specs.Prelude.{◌≡◌, ◌+◌, ◌*◌, ◌%◌, ◌^◌, ◌<◌, ◌≤◌};
 ghost use Rattle.bl_params.specs.Paging as spec;
-ghost use Rattle.bl_params.specs.Numbers.{tables_size};
+ghost use Rattle.bl_params.specs.SizesAndOffsets.{tables_size};
 ghost use Rattle.bl_map.specs.Limits.{frame_size};
 
 use crate::put::write_u64;

@@ -1,12 +1,12 @@
 //! Fields written at their offsets.
 ghost use Rattle.std.specs.Prelude.{◌≡◌, ◌≤◌, ◌+◌, ℕ, length, slice_index};
-ghost use Rattle.bl_params.specs.Fields.{byte_over, number_bytes};
-ghost use Rattle.bl_params.specs.Numbers.{params_size};
+ghost use Rattle.bl_params.specs.FieldBytes.{byte_over, number_bytes};
+ghost use Rattle.bl_params.specs.SizesAndOffsets.{params_size};
 
 use byteorder::{ByteOrder, LittleEndian};
 
 /// Writes a field at an offset.
-#[tactic(auto, unfolding(crate::specs::Fields::byte_over))]
+#[tactic(auto, unfolding(crate::specs::FieldBytes::byte_over))]
 pub fn write_field(out: &mut [u8; 4096], at: usize, field: &[u8])
     requires { at + length field.now ≤ params_size }
     ensures { (k : ℕ) → slice_index out.new k
@@ -16,7 +16,7 @@ pub fn write_field(out: &mut [u8; 4096], at: usize, field: &[u8])
 }
 
 /// Writes a number of 2 bytes at an offset.
-#[tactic(auto, unfolding(crate::specs::Fields::number_bytes))]
+#[tactic(auto, unfolding(crate::specs::FieldBytes::number_bytes))]
 pub fn write_u16(out: &mut [u8; 4096], at: usize, n: u16)
     requires { at + 2 ≤ params_size }
     ensures { (k : ℕ) → slice_index out.new k
@@ -28,7 +28,7 @@ pub fn write_u16(out: &mut [u8; 4096], at: usize, n: u16)
 }
 
 /// Writes a number of 4 bytes at an offset.
-#[tactic(auto, unfolding(crate::specs::Fields::number_bytes))]
+#[tactic(auto, unfolding(crate::specs::FieldBytes::number_bytes))]
 pub fn write_u32(out: &mut [u8; 4096], at: usize, n: u32)
     requires { at + 4 ≤ params_size }
     ensures { (k : ℕ) → slice_index out.new k
@@ -40,7 +40,7 @@ pub fn write_u32(out: &mut [u8; 4096], at: usize, n: u32)
 }
 
 /// Writes a number of 8 bytes at an offset.
-#[tactic(auto, unfolding(crate::specs::Fields::number_bytes))]
+#[tactic(auto, unfolding(crate::specs::FieldBytes::number_bytes))]
 pub fn write_u64(out: &mut [u8; 4096], at: usize, n: u64)
     requires { at + 8 ≤ params_size }
     ensures { (k : ℕ) → slice_index out.new k

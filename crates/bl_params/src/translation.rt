@@ -1,7 +1,7 @@
 //! Addresses translated by page tables.
 ghost use Rattle.std.specs.Prelude.{◌≡◌, ◌+◌, ◌*◌, ◌^◌, ◌<◌, IfSome, length};
 ghost use Rattle.bl_params.specs.Translation as spec;
-ghost use Rattle.bl_params.specs.Numbers.{tables_size};
+ghost use Rattle.bl_params.specs.SizesAndOffsets.{tables_size};
 
 use crate::numbers::u64_in;
 use crate::paging::{PAGE_SIZE, TABLES_SIZE};

@@ -2,9 +2,9 @@
 ghost use Rattle.std.specs.Prelude.{◌≡◌, ◌≤◌, ◌+◌, ◌*◌, ℕ, length, replicate, slice_index};
 ghost use Rattle.std.specs.List.{flat_map};
 ghost use Rattle.bl_params.specs.BootParams.{boot_params, entry_bytes};
-ghost use Rattle.bl_params.specs.Fields.{byte_over};
+ghost use Rattle.bl_params.specs.FieldBytes.{byte_over};
 ghost use Rattle.bl_params.specs.BootParamsFacts.{max_e820_entries};
-ghost use Rattle.bl_params.specs.Numbers.{e820_entry_size, e820_table_at, params_size};
+ghost use Rattle.bl_params.specs.SizesAndOffsets.{e820_entry_size, e820_table_at, params_size};
 
 use crate::fields::{
     CMD_LINE_PTR, CODE32_START, E820_ENTRIES, E820_TABLE, ENTRY_LENGTH, ENTRY_SIZE, ENTRY_TYPE,

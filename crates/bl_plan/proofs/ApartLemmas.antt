@@ -6,7 +6,7 @@ use Rattle.std.specs.List.{AllWithin}
 use Rattle.std.specs.declared.ops.Range.{Range}
 use Rattle.bl_mem.specs.Memory.{IsIn}
 use Rattle.bl_plan.specs.Kept.{IsBlockedBy}
-use Rattle.bl_plan.specs.Permitted.{AllOpen}
+use Rattle.bl_plan.specs.Permitted.{AreUntaken}
 use Rattle.bl_plan.specs.PlannerFacts.{AreApartRanges}
 
 pub ends_ascend : (ranges : List (Range ℕ)) → AreApartRanges ranges
@@ -24,7 +24,7 @@ ends_ascend ranges apart = λ i j d order within.
 pub open_where : (ranges : List (Range ℕ)) (n start end : ℕ) → AreApartRanges ranges
     → AllWithin (λ range. range.end ≤ start) ranges 0 n
     → ((d : Range ℕ) → n < length ranges → end ≤ (get_or ranges n d).start)
-    → AllOpen ranges start end
+    → AreUntaken ranges start end
 open_where ranges n start end apart before behind a above below k d within here =
     elim (cases_lt k n) [
       | inl less ↦ let e = before k d (omega arith) less in omega (arith, here.0)

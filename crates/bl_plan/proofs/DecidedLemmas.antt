@@ -8,7 +8,7 @@ use Rattle.bl_mem.specs.Memory.{IsIn}
 use Rattle.bl_map.specs.NormalMap.{kind_at}
 use Rattle.bl_map.specs.Limits.{first_usable, usable_limit}
 use Rattle.bl_map.specs.MachineFacts.{MachineFacts, IsUsable, AllUsable}
-use Rattle.bl_plan.specs.Permitted.{AllOpen, IsPermitted}
+use Rattle.bl_plan.specs.Permitted.{AreUntaken, IsPermitted}
 
 -- it holds or it does not
 abbrev pub IsDecided : Type 0 → Type 0
@@ -99,7 +99,8 @@ pub all_usable_or_not : (facts : MachineFacts) (start end : ℕ)
 all_usable_or_not facts start end =
     throughout_or_not (IsUsable facts) (usable_or_not facts) start end
 
-pub all_open_or_not : (taken : List (Range ℕ)) (start end : ℕ) → IsDecided (AllOpen taken start end)
+pub all_open_or_not : (taken : List (Range ℕ)) (start end : ℕ)
+    → IsDecided (AreUntaken taken start end)
 all_open_or_not taken start end =
     throughout_or_not (λ a. All (λ range. ¬ IsIn range a) taken) (open_or_not taken) start end
 

@@ -4,7 +4,7 @@ use Rattle.std.proofs.Common.{inl, inr}
 use Rattle.std.specs.declared.ops.Range.{Range}
 use Rattle.bl_map.specs.MachineFacts.{MachineFacts, AllUsable}
 use Rattle.bl_mem.specs.Least.{IsLeast, IsGreatest}
-use Rattle.bl_plan.specs.Permitted.{AllOpen, IsPermitted, IsPreferred, HasFixedFault, HasNoRoom}
+use Rattle.bl_plan.specs.Permitted.{AreUntaken, IsPermitted, IsPreferred, HasFixedFault, HasNoRoom}
 use Rattle.bl_plan.specs.PlannerFacts.{put_in}
 use Rattle.bl_plan.specs.declared.part.Choice.{Choice}
 use Rattle.bl_plan.specs.declared.part.Choice.TheVariants.{Fixed, Lowest, Highest, Preferred}
@@ -12,7 +12,7 @@ use Rattle.bl_plan.specs.declared.fault.PlanFault.{PlanFault}
 use Rattle.bl_plan.specs.declared.fault.PlanFault.TheVariants.{NotUsable, Overlap, NoRoom, NoMemory}
 use Rattle.bl_plan.specs.declared.part.Row.{Row}
 use Rattle.bl_plan.specs.declared.part.Place.{Place}
-use Rattle.bl_plan.specs.Placed.{IsChosen, HasChoiceFault, place_at, place_range, ArePlaced}
+use Rattle.bl_plan.specs.Placed.{IsChosen, HasChoiceFault, row_place, place_range, ArePlaced}
 use Rattle.bl_plan.specs.Placed.{IsFirstPlaceFault}
 
 one_least : (P : ℕ → Type 0) (a b : ℕ) → IsLeast P a → IsLeast P b → a ≡ b
@@ -49,7 +49,7 @@ one_no_room P NoRoom NoMemory p q = absurd q
 
 module _ (facts : MachineFacts) where
   not_fixed : (taken : List (Range ℕ)) (start end : ℕ) (f : PlanFault) → AllUsable facts start end
-      → AllOpen taken start end → HasFixedFault facts taken start end f → ⊥
+      → AreUntaken taken start end → HasFixedFault facts taken start end f → ⊥
   not_fixed taken start end NotUsable usable free q = q usable
   not_fixed taken start end Overlap usable free q = q.1 free
   not_fixed taken start end NoRoom usable free q = q
@@ -112,7 +112,7 @@ module _ (facts : MachineFacts) where
   one_list taken (row ∷ rows) (p ∷ ps) (q ∷ qs) a b =
       let same : q ≡ p =
       b.1
-      ∙ ap (place_at row)
+      ∙ ap (row_place row)
       (one_address taken row.length row.choice q.address p.address b.0 a.0) ∙ sym a.1 in
       let rest : ArePlaced facts (put_in (place_range p) taken) rows qs =
       subst (λ (x : Place). ArePlaced facts (put_in (place_range x) taken) rows qs) same b.2 in
@@ -126,8 +126,8 @@ module _ (facts : MachineFacts) where
   not_both taken (row ∷ rows) (p ∷ ps) f a (inl here) =
       not_chosen_and_faulty taken row.length row.choice p.address f a.0 here
   not_both taken (row ∷ rows) (p ∷ ps) f a (inr later) =
-      let same : place_at row later.0 ≡ p =
-      ap (place_at row) (one_address taken row.length row.choice later.0 p.address later.1 a.0)
+      let same : row_place row later.0 ≡ p =
+      ap (row_place row) (one_address taken row.length row.choice later.0 p.address later.1 a.0)
       ∙ sym a.1 in
       not_both (put_in (place_range p) taken) rows ps f a.2
       (subst (λ (x : Place). IsFirstPlaceFault facts (put_in (place_range x) taken) rows f) same
@@ -143,7 +143,7 @@ module _ (facts : MachineFacts) where
   one_fault taken (row ∷ rows) f g (inr a) (inl b) =
       absurd (not_chosen_and_faulty taken row.length row.choice a.0 g a.1 b)
   one_fault taken (row ∷ rows) f g (inr a) (inr b) =
-      let same = ap (place_at row) (one_address taken row.length row.choice b.0 a.0 b.1 a.1) in
-      one_fault (put_in (place_range (place_at row a.0)) taken) rows f g a.2
+      let same = ap (row_place row) (one_address taken row.length row.choice b.0 a.0 b.1 a.1) in
+      one_fault (put_in (place_range (row_place row a.0)) taken) rows f g a.2
       (subst (λ (x : Place). IsFirstPlaceFault facts (put_in
       (place_range x) taken) rows g) same b.2)

@@ -7,14 +7,14 @@ use Rattle.std.proofs.lemmas.List.Kept.{AllPairs-cons}
 use Rattle.std.specs.declared.ops.Range.{Range}
 use Rattle.bl_map.specs.MachineFacts.{MachineFacts, AllUsable}
 use Rattle.bl_mem.specs.Memory.{IsIn}
-use Rattle.bl_plan.specs.Permitted.{AllOpen, IsPermitted}
+use Rattle.bl_plan.specs.Permitted.{AreUntaken, IsPermitted}
 use Rattle.bl_plan.specs.PlannerFacts.{put_in}
 use Rattle.bl_plan.specs.declared.part.Choice.{Choice}
 use Rattle.bl_plan.specs.declared.part.Choice.TheVariants.{Fixed, Lowest, Highest, Preferred}
 use Rattle.bl_plan.specs.declared.part.Row.{Row}
 use Rattle.bl_plan.specs.declared.part.Place.{Place}
-use Rattle.bl_plan.specs.Placed.{IsChosen, place_at, place_range, ArePlaced, IsPlaceable, IsApart}
-use Rattle.bl_plan.specs.Placed.{IsOpen, IsPlaceOf}
+use Rattle.bl_plan.specs.Placed.{IsChosen, row_place, place_range, ArePlaced, IsPlaceable, IsApart}
+use Rattle.bl_plan.specs.Placed.{IsUntaken, IsPlaceOf}
 use Rattle.bl_plan.specs.Order.{range_key}
 use Rattle.bl_plan.proofs.OrderLemmas.{put_from}
 use Rattle.bl_plan.proofs.OneListLaws.{preferred_holds}
@@ -31,7 +31,7 @@ module _ (facts : MachineFacts) where
       (preferred_holds at (IsPermitted facts taken count align low high) a p).usable
 
   chosen_open : (taken : List (Range ℕ)) (count : ℕ) (choice : Choice) (a : ℕ)
-      → IsChosen facts taken count choice a → AllOpen taken a (a + count)
+      → IsChosen facts taken count choice a → AreUntaken taken a (a + count)
   chosen_open taken count (Fixed at) a p =
       let e = p.0 in λ b low high. p.2 b (omega arith) (omega arith)
   chosen_open taken count (Lowest align low high) a p = p.holds.apart
@@ -52,29 +52,30 @@ module _ (facts : MachineFacts) where
       (all_usable (put_in (place_range p) taken) rows ps a.2)
 
   here_open : (taken : List (Range ℕ)) (row : Row) (p : Place)
-      → IsChosen facts taken row.length row.choice p.address → p ≡ place_at row p.address
-      → IsOpen taken p
+      → IsChosen facts taken row.length row.choice p.address → p ≡ row_place row p.address
+      → IsUntaken taken p
   here_open taken row p chosen same =
       let size = ap (λ (x : Place). x.length) same in
       λ b low high. chosen_open taken row.length row.choice p.address chosen b low (omega arith)
 
   -- what is open beside more is open beside less
-  less_open : (range : Range ℕ) (taken : List (Range ℕ)) (p : Place) → IsOpen (put_in range taken) p
-      → IsOpen taken p
+  less_open : (range : Range ℕ) (taken : List (Range ℕ)) (p : Place)
+      → IsUntaken (put_in range taken) p
+      → IsUntaken taken p
   less_open range taken p h =
       λ b low high. (put_from range_key (λ r. ¬ IsIn r b) range taken (h b low high)).1
 
   pub all_open : (taken : List (Range ℕ)) (rows : List Row) (ps : List Place)
-      → ArePlaced facts taken rows ps → All (IsOpen taken) ps
-  all_open taken [] [] a = All-nil (IsOpen taken)
+      → ArePlaced facts taken rows ps → All (IsUntaken taken) ps
+  all_open taken [] [] a = All-nil (IsUntaken taken)
   all_open taken [] (p ∷ ps) a = absurd a
   all_open taken (row ∷ rows) [] a = absurd a
   all_open taken (row ∷ rows) (p ∷ ps) a =
       let rest = all_open (put_in (place_range p) taken) rows ps a.2 in
-      All-cons (IsOpen taken) p ps (here_open taken row p a.0 a.1)
+      All-cons (IsUntaken taken) p ps (here_open taken row p a.0 a.1)
       (λ k d within. less_open (place_range p) taken (get_or ps k d) (rest k d within))
 
-  first_apart : (taken : List (Range ℕ)) (p q : Place) → IsOpen (put_in (place_range p) taken) q
+  first_apart : (taken : List (Range ℕ)) (p q : Place) → IsUntaken (put_in (place_range p) taken) q
       → IsApart p q
   first_apart taken p q h =
       λ a in_p in_q.

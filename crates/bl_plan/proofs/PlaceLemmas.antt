@@ -8,14 +8,14 @@ use Rattle.bl_plan.specs.declared.part.Choice.TheVariants.{Fixed}
 use Rattle.bl_plan.specs.declared.fault.PlanFault.{PlanFault}
 use Rattle.bl_plan.specs.declared.part.Row.{Row}
 use Rattle.bl_plan.specs.declared.part.Place.{Place}
-use Rattle.bl_plan.specs.Permitted.{AllOpen, HasFixedFault, OrNoMemory}
+use Rattle.bl_plan.specs.Permitted.{AreUntaken, HasFixedFault, OrNoMemory}
 use Rattle.bl_plan.specs.Placed.{IsChosen, HasChoiceFault, ArePlaced}
 
 pub fixed_chosen : (facts : MachineFacts) (taken : List (Range ℕ)) (length at end : ℕ)
     (choice : Choice) → choice ≡ Fixed at → end ≡ at + length
-    → AllUsable facts at end × AllOpen taken at end → IsChosen facts taken length choice at
+    → AllUsable facts at end × AreUntaken taken at end → IsChosen facts taken length choice at
 fixed_chosen facts taken length at end choice fixed sum h =
-    let here = subst (λ (n : ℕ). AllUsable facts at n × AllOpen taken at n) sum h in
+    let here = subst (λ (n : ℕ). AllUsable facts at n × AreUntaken taken at n) sum h in
     subst (λ (x : Choice). IsChosen facts taken length x at) (sym fixed) (refl, here.0, here.1)
 
 pub fixed_fault : (facts : MachineFacts) (taken : List (Range ℕ)) (length at end : ℕ)

@@ -7,7 +7,7 @@ use Rattle.bl_mem.specs.Least.{IsLeast, IsGreatest}
 use Rattle.bl_mem.proofs.LeastLaws.{least_below}
 use Rattle.bl_map.specs.MachineFacts.{MachineFacts}
 use Rattle.bl_plan.specs.Permitted.{IsPreferred}
-use Rattle.bl_plan.specs.Placed.{ArePlaced, IsFirstPlaceFault, IsChosen, HasChoiceFault, place_at}
+use Rattle.bl_plan.specs.Placed.{ArePlaced, IsFirstPlaceFault, IsChosen, HasChoiceFault, row_place}
 use Rattle.bl_plan.specs.Placed.{place_range}
 use Rattle.bl_plan.specs.PlannerFacts.{put_in}
 use Rattle.bl_plan.specs.declared.part.Choice.{Choice}
@@ -114,8 +114,8 @@ placed_or_fault facts taken (row ∷ rows) =
     elim (chosen_or_fault facts taken row.length row.choice) [
       | inr (fault, some, has) ↦ inr (fault, some, inl has)
       | inl (a, chosen) ↦
-          elim (placed_or_fault facts (put_in (place_range (place_at row a)) taken) rows) [
-            | inl (places, placed) ↦ inl (place_at row a ∷ places, (chosen, refl, placed))
+          elim (placed_or_fault facts (put_in (place_range (row_place row a)) taken) rows) [
+            | inl (places, placed) ↦ inl (row_place row a ∷ places, (chosen, refl, placed))
             | inr (fault, some, has) ↦ inr (fault, some, inr (a, chosen, has))
           ]
     ]

@@ -1,6 +1,6 @@
 pub mod Roles
 pub mod Protocols
-pub mod Limits
+pub mod MenuLimits
 pub mod Order
 pub mod Permitted
 pub mod PlannerFacts

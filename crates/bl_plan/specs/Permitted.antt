@@ -10,8 +10,8 @@ use Rattle.bl_plan.specs.declared.fault.PlanFault.{PlanFault}
 use Rattle.bl_plan.specs.declared.fault.PlanFault.TheVariants.{NotUsable, Overlap, NoRoom, NoMemory}
 
 -- no address from start up to end is taken
-abbrev pub AllOpen : List (Range ℕ) → ℕ → ℕ → Type 0
-AllOpen taken start end = (a : ℕ) → start ≤ a → a < end → All (λ range. ¬ IsIn range a) taken
+abbrev pub AreUntaken : List (Range ℕ) → ℕ → ℕ → Type 0
+AreUntaken taken start end = (a : ℕ) → start ≤ a → a < end → All (λ range. ¬ IsIn range a) taken
 
 -- an address at which so many bytes lie between low and high, all usable, none in a taken range
 pub record IsPermitted (facts : MachineFacts) (taken : List (Range ℕ))
@@ -20,7 +20,7 @@ pub record IsPermitted (facts : MachineFacts) (taken : List (Range ℕ))
   pub above : low ≤ a
   pub below : a + length ≤ high
   pub usable : AllUsable facts a (a + length)
-  pub apart : AllOpen taken a (a + length)
+  pub apart : AreUntaken taken a (a + length)
 
 -- of the numbers with a property, the one at this side
 abbrev pub IsAtSide : Side → (ℕ → Type 0) → ℕ → Type 0
@@ -35,7 +35,7 @@ IsPreferred at P a = (P at × (a ≡ at)) ⊎ ((¬ P at) × IsLeast P a)
 abbrev pub HasFixedFault : MachineFacts → List (Range ℕ) → ℕ → ℕ → PlanFault → Type 0
 HasFixedFault facts taken start end NotUsable = ¬ AllUsable facts start end
 HasFixedFault facts taken start end Overlap =
-    AllUsable facts start end × (¬ AllOpen taken start end)
+    AllUsable facts start end × (¬ AreUntaken taken start end)
 HasFixedFault facts taken start end NoRoom = ⊥
 HasFixedFault facts taken start end NoMemory = ⊥
 

@@ -3,7 +3,7 @@ use Rattle.std.specs.Prelude.{◌≡◌, ◌+◌, ◌<◌, ◌≤◌, ◌⊎◌,
 use Rattle.std.specs.declared.ops.Range.{Range}
 use Rattle.bl_map.specs.MachineFacts.{MachineFacts, AllUsable}
 use Rattle.bl_mem.specs.Least.{IsLeast, IsGreatest}
-use Rattle.bl_plan.specs.Permitted.{AllOpen, IsPermitted, IsPreferred, HasFixedFault, HasNoRoom}
+use Rattle.bl_plan.specs.Permitted.{AreUntaken, IsPermitted, IsPreferred, HasFixedFault, HasNoRoom}
 use Rattle.bl_plan.specs.Permitted.{OrNoMemory}
 use Rattle.bl_plan.specs.PlannerFacts.{put_in}
 use Rattle.bl_plan.specs.declared.part.Choice.{Choice}
@@ -15,7 +15,7 @@ use Rattle.bl_plan.specs.declared.part.Place.{Place}
 -- the address that a choice asks for, for so many bytes beside what is taken
 abbrev pub IsChosen : MachineFacts → List (Range ℕ) → ℕ → Choice → ℕ → Type 0
 IsChosen facts taken length (Fixed at) a =
-    (a ≡ at) × AllUsable facts at (at + length) × AllOpen taken at (at + length)
+    (a ≡ at) × AllUsable facts at (at + length) × AreUntaken taken at (at + length)
 IsChosen facts taken length (Lowest align low high) a =
     IsLeast (IsPermitted facts taken length align low high) a
 IsChosen facts taken length (Highest align low high) a =
@@ -35,8 +35,8 @@ HasChoiceFault facts taken length (Preferred at align low high) fault =
     HasNoRoom (IsPermitted facts taken length align low high) fault
 
 -- the place of a row at an address
-abbrev pub place_at : Row → ℕ → Place
-place_at row a = record { role = row.role; index = row.index; address = a; length = row.length }
+abbrev pub row_place : Row → ℕ → Place
+row_place row a = record { role = row.role; index = row.index; address = a; length = row.length }
 
 abbrev pub place_range : Place → Range ℕ
 place_range place = record { start = place.address; end = place.address + place.length }
@@ -48,7 +48,7 @@ ArePlaced facts taken [] (place ∷ places) = ⊥
 ArePlaced facts taken (row ∷ rows) [] = ⊥
 ArePlaced facts taken (row ∷ rows) (place ∷ places) =
     IsChosen facts taken row.length row.choice place.address
-    × (place ≡ place_at row place.address)
+    × (place ≡ row_place row place.address)
     × ArePlaced facts (put_in (place_range place) taken) rows places
 
 -- the first of these rows that has no place has none for this reason
@@ -57,7 +57,7 @@ IsFirstPlaceFault facts taken [] fault = ⊥
 IsFirstPlaceFault facts taken (row ∷ rows) fault =
     HasChoiceFault facts taken row.length row.choice fault
     ⊎ ((a : ℕ) × IsChosen facts taken row.length row.choice a
-    × IsFirstPlaceFault facts (put_in (place_range (place_at row a)) taken) rows fault)
+    × IsFirstPlaceFault facts (put_in (place_range (row_place row a)) taken) rows fault)
 
 -- a choice aligns to one byte at least
 abbrev pub HasPositiveAlignment : Choice → Type 0
@@ -88,8 +88,8 @@ abbrev pub IsApart : Place → Place → Type 0
 IsApart p q = (a : ℕ) → Covers p a → Covers q a → ⊥
 
 -- no byte of the place is taken
-abbrev pub IsOpen : List (Range ℕ) → Place → Type 0
-IsOpen taken place = AllOpen taken place.address (place.address + place.length)
+abbrev pub IsUntaken : List (Range ℕ) → Place → Type 0
+IsUntaken taken place = AreUntaken taken place.address (place.address + place.length)
 
 -- the place has what its row says of it
 pub record IsPlaceOf (row : Row) (place : Place) : Type 0 where

@@ -2,7 +2,7 @@
 use Rattle.std.specs.Prelude.{ℕ, ◌<◌, ◌≤◌, List, All, AllPairs}
 use Rattle.std.specs.declared.ops.Range.{Range}
 use Rattle.bl_map.specs.MachineFacts.{MachineFacts, AllUsable}
-use Rattle.bl_plan.specs.Order.{put, range_key}
+use Rattle.bl_plan.specs.Order.{insert_sorted, range_key}
 
 pub record PlannerFacts : Type 0 where
   pub facts : MachineFacts
@@ -20,7 +20,7 @@ pub record AreTaken (facts : MachineFacts) (taken : List (Range ℕ)) : Type 0 w
 
 -- these ranges with one more, before the first that starts above it
 abbrev pub put_in : Range ℕ → List (Range ℕ) → List (Range ℕ)
-put_in range taken = put range_key range taken
+put_in range taken = insert_sorted range_key range taken
 
 -- the planner with one more range taken
 abbrev pub with_taken : PlannerFacts → Range ℕ → PlannerFacts

@@ -5,7 +5,7 @@ ghost use Rattle.bl_mem.specs.Memory.{IsIn};
 ghost use Rattle.bl_map.specs.NormalMap.{kind_at, AreRuns};
 ghost use Rattle.bl_map.specs.MachineFacts.{AllUsable};
 ghost use Rattle.bl_plan.specs.Kept.{IsBlockedBy, IsFree};
-ghost use Rattle.bl_plan.specs.Permitted.{AllOpen};
+ghost use Rattle.bl_plan.specs.Permitted.{AreUntaken};
 ghost use Rattle.bl_plan.specs.PlannerFacts.{AreApartRanges};
 
 use bl_map::{FIRST_USABLE, Kind, Machine, Region, USABLE_LIMIT};
@@ -50,7 +50,7 @@ fn ended_by(ranges: &[Range<u64>], start: u64) -> usize
 pub fn taken_stretch(taken: &[Range<u64>], start: u64, end: u64) -> Option<Range<u64>>
     requires apart { AreApartRanges taken.now }
     ensures { MatchOption result
-        (AllOpen taken.now start end)
+        (AreUntaken taken.now start end)
         (λ stretch. IsBlockedBy (λ a. All (λ range. ¬ IsIn range a) taken.now) start end stretch) }
 {
     let next = ended_by(taken, start);
@@ -76,7 +76,7 @@ pub fn blocked_stretch<A: Allocator>(
     requires in_size { end ≤ machine.now.size }
     requires below { end ≤ USABLE_LIMIT }
     ensures { MatchOption result
-        (AllUsable machine.now start end × AllOpen taken.now start end)
+        (AllUsable machine.now start end × AreUntaken taken.now start end)
         (λ stretch. IsBlockedBy (IsFree machine.now taken.now) start end stretch) }
 {
     if let Some(stretch) = unusable_stretch(machine.normal(), start, end) {

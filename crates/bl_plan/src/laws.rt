@@ -7,7 +7,8 @@ ghost use Rattle.bl_plan.specs.declared.fault.PlanFault.{PlanFault};
 ghost use Rattle.bl_plan.specs.declared.fault.PlanFault.TheVariants.{NoMemory};
 ghost use Rattle.bl_plan.specs.declared.part.Row.{Row};
 ghost use Rattle.bl_plan.specs.declared.part.Place.{Place};
-ghost use Rattle.bl_plan.specs.Placed.{ArePlaced, IsFirstPlaceFault, IsApart, IsPlaceable, IsOpen};
+ghost use Rattle.bl_plan.specs.Placed.{ArePlaced, IsFirstPlaceFault, IsApart, IsPlaceable};
+ghost use Rattle.bl_plan.specs.Placed.{IsUntaken};
 ghost use Rattle.bl_plan.specs.Placed.{IsPlaceOf};
 
 /// Rows have one list of places, or one first fault, and never both.
@@ -46,7 +47,7 @@ pub fn places_are_legal()
     ensures beside { (facts : MachineFacts) (taken : List (Range ℕ)) (rows : List Row)
         (ps : List Place)
         → ArePlaced facts taken rows ps
-        → All (IsOpen taken) ps }
+        → All (IsUntaken taken) ps }
     ensures apart { (facts : MachineFacts) (taken : List (Range ℕ)) (rows : List Row)
         (ps : List Place)
         → ArePlaced facts taken rows ps

@@ -29,7 +29,7 @@ impl<'m, A: Allocator> Model for Planner<'m, A> {
 impl<'m, A: Allocator> Planner<'m, A> {
     ghost use Rattle.std.specs.Prelude.{◌≡◌, ◌<◌, [], IsOk, IfOk, IfErr, OnOk, OnErr};
     ghost use Rattle.bl_map.specs.MachineFacts.{AllUsable};
-    ghost use Rattle.bl_plan.specs.Permitted.{AllOpen, HasFixedFault, OrNoMemory};
+    ghost use Rattle.bl_plan.specs.Permitted.{AreUntaken, HasFixedFault, OrNoMemory};
     ghost use Rattle.bl_plan.specs.PlannerFacts.{AreTaken, with_taken};
 
     /// A planner of this machine, of which nothing is taken. It asks for no memory, so it is never
@@ -49,7 +49,7 @@ impl<'m, A: Allocator> Planner<'m, A> {
     fn take(&mut self, range: Range<u64>) -> Result<(), AllocError>
         requires filled { range.start < range.end }
         requires usable { AllUsable self.old.facts range.start range.end }
-        requires free { AllOpen self.old.taken range.start range.end }
+        requires free { AreUntaken self.old.taken range.start range.end }
         ensures taken { OnOk result (self.new ≡ with_taken self.old range) }
         ensures unchanged { OnErr result (self.new ≡ self.old) }
     {
@@ -67,7 +67,7 @@ impl<'m, A: Allocator> Planner<'m, A> {
     pub fn take_fixed(&mut self, range: Range<u64>) -> Result<(), PlanFault>
         requires filled { range.start < range.end }
         ensures free { OnOk result (AllUsable self.old.facts range.start range.end
-            × AllOpen self.old.taken range.start range.end) }
+            × AreUntaken self.old.taken range.start range.end) }
         ensures taken { OnOk result (self.new ≡ with_taken self.old range) }
         ensures fault { IfErr result
             (OrNoMemory (HasFixedFault self.old.facts self.old.taken range.start range.end)) }

@@ -8,8 +8,8 @@ use bl_boot::convert;
 use bl_image::{MemSink, Sink, Source};
 use bl_row_parts::sinks::{AMPLE, Series};
 use bl_row_parts::source::SourceFields;
+use bl_rows::answer_runs::AnswerRuns;
 use bl_rows::row::Row;
-use bl_rows::runs::Runs;
 use std::alloc::Global;
 use std::ops::Range;
 
@@ -60,8 +60,12 @@ pub fn answer(row: &mut Row<'_>) {
 
 /// Converts the row's bytes where each read in turn is a fault of the source, and says how many
 /// bytes the sink took.
-fn converted_at_each(row: &mut Row<'_>, fields: &Conversion, fails: Range<u64>) -> Option<Runs> {
-    let mut runs = Runs::new(row.alloc, true);
+fn converted_at_each(
+    row: &mut Row<'_>,
+    fields: &Conversion,
+    fails: Range<u64>,
+) -> Option<AnswerRuns> {
+    let mut runs = AnswerRuns::new(row.alloc, true);
     for fail in fails {
         let done = convert_into(row, fields, fields.source.failing(fail), fields.limit)?;
         row.say_number(", ", done.out.contents().len() as u64);

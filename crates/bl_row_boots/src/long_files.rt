@@ -29,7 +29,7 @@ impl Files for LongFiles {
     ghost asked = { λ f. f.asked.names };
 
     fn fetch<A: Allocator>(&mut self, _alloc: A, name: &str) -> Result<Fetched<A>, AllocError> {
-        self.asked = self.asked.and(name.as_bytes());
+        self.asked = self.asked.with_name(name.as_bytes());
         Ok(Fetched::TooLong(FILE_LIMIT + 1))
     }
 

@@ -5,8 +5,8 @@ use crate::boot::say_said;
 use bl_boot::walk_to;
 use bl_image::Source;
 use bl_row_parts::source::{SourceFields, read_source};
+use bl_rows::answer_runs::AnswerRuns;
 use bl_rows::row::Row;
-use bl_rows::runs::Runs;
 
 fn say_end(row: &mut Row<'_>, status: u8, said: &[u8], blamed: &[u8], faults: u64) {
     row.say_decimal("status ", status as u64);
@@ -45,7 +45,7 @@ pub fn answer(row: &mut Row<'_>) {
 pub fn answer_each(row: &mut Row<'_>) {
     let fails = row.range_field("fails");
     let fields = read_source(row);
-    let mut runs = Runs::new(row.alloc, true);
+    let mut runs = AnswerRuns::new(row.alloc, true);
     for fail in fails {
         say_walked(row, &[], &[], fields.failing(fail));
         runs.add(fail, row.take_text());

@@ -1,6 +1,6 @@
 //! The calls on an entry and on menus, by their names.
 
-use crate::attempts::{menu, run, steps};
+use crate::menu_calls::{menu, run, steps};
 use crate::{
     describe, handoff, image, line, loaded, made, parts, read_image, read_info, reasons, refusal,
     registers, rewrite, sink, unplaced, walk, write_info,

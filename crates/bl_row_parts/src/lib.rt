@@ -2,7 +2,6 @@
 //! descriptions; and on menus and their attempts. For tests alone.
 #![tactic(auto)]
 
-mod attempts;
 pub mod calls;
 mod describe;
 mod entry;
@@ -11,7 +10,7 @@ mod image;
 mod line;
 mod loaded;
 mod made;
-mod pairs;
+mod menu_calls;
 mod parts;
 mod read_image;
 mod read_info;
@@ -20,6 +19,7 @@ mod refusal;
 mod registers;
 mod rewrite;
 mod row_entry;
+mod short_writer;
 mod sink;
 pub mod sinks;
 pub mod source;

@@ -4,7 +4,7 @@
 //! A function that ends early owns little, since each of its ends drops what it owns: so the proof
 //! of its control flow stays short.
 ghost use Rattle.std.specs.Prelude.{◌≡◌, ◌≤◌, length};
-ghost use Rattle.bl_load.specs.Value.{file_count, IsWithinLimits};
+ghost use Rattle.bl_load.specs.EntryValue.{file_count, IsWithinLimits};
 
 use crate::handoff::say_handoff;
 use crate::refusal::say_fault;

@@ -7,8 +7,8 @@ use crate::source::{SourceFields, read_source};
 use bl_image::{Image, ImageFault, ImagePart, Source, read_image};
 use bl_plan::Place;
 use bl_refusing::Refusing;
+use bl_rows::answer_runs::AnswerRuns;
 use bl_rows::row::Row;
-use bl_rows::runs::Runs;
 
 /// A fault as its number and what it tells.
 fn say_image_fault(row: &mut Row<'_>, fault: ImageFault) {
@@ -87,7 +87,7 @@ pub fn answer_fault(row: &mut Row<'_>) {
 pub fn answer_each(row: &mut Row<'_>) {
     let fails = row.range_field("fails");
     let fields = read_source(row);
-    let mut runs = Runs::new(row.alloc, true);
+    let mut runs = AnswerRuns::new(row.alloc, true);
     for fail in fails {
         say_fault(row, fields.failing(fail));
         runs.add(fail, row.take_text());

@@ -2,7 +2,7 @@
 //! rsdp_old=BYTES rsdp_new=BYTES` or `linux line=BYTES initrd=BYTES`.
 ghost use Rattle.std.specs.Prelude.{◌≡◌, ◌+◌, ◌≤◌, length, map, All, IfSome};
 ghost use Rattle.bl_load.specs.Loadable.{lengths_of, IsLoadable};
-ghost use Rattle.bl_load.specs.Value.{file_count, IsWithinLimits};
+ghost use Rattle.bl_load.specs.EntryValue.{file_count, IsWithinLimits};
 
 use crate::entry::{EntryField, ModuleField, protocol_of};
 use crate::refusal::say_fault;

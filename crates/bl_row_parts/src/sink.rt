@@ -5,7 +5,7 @@
 //! N writes; at the next one it takes nothing (END is `nothing`) or has an error.
 ghost use Rattle.std.specs.Prelude.{◌≡◌, ◌≤◌};
 
-use crate::pairs::{Pairs, error_named};
+use crate::short_writer::{ShortWriter, error_named};
 use bl_image::{ImageFault, IoSink, MemSink, Sink, write_all};
 use bl_rows::row::Row;
 
@@ -70,7 +70,7 @@ fn answer_vector(row: &mut Row<'_>) {
 fn answer_pairs(row: &mut Row<'_>) {
     let writes = row.number();
     let end = row.word();
-    let mut sink = IoSink::new(Pairs {
+    let mut sink = IoSink::new(ShortWriter {
         writes,
         error: error_named(row, end),
         taken: 0,

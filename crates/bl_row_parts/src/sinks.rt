@@ -3,8 +3,8 @@ ghost use Rattle.std.specs.Prelude.{◌≡◌, IfSome};
 
 use bl_image::{ImageFault, MemSink};
 use bl_refusing::Refusing;
+use bl_rows::answer_runs::AnswerRuns;
 use bl_rows::row::Row;
-use bl_rows::runs::Runs;
 use std::alloc::Allocator;
 
 /// A limit above the length of each image of a row.
@@ -54,7 +54,7 @@ fn say_taken(row: &mut Row<'_>, whole: &[u8], taken: &[u8], limit: u64) {
 #[derive(Drop)]
 pub struct Series<A: Allocator> {
     whole: MemSink<A>,
-    runs: Runs,
+    runs: AnswerRuns,
 }
 
 impl<A: Allocator> Series<A> {
@@ -63,7 +63,7 @@ impl<A: Allocator> Series<A> {
         let _text = row.take_text();
         Series {
             whole,
-            runs: Runs::new(row.alloc, true),
+            runs: AnswerRuns::new(row.alloc, true),
         }
     }
 

@@ -1,6 +1,6 @@
 //! `unplaced ENTRY of KERNEL`, on the last machine: which part of the entry finds no place.
 ghost use Rattle.std.specs.Prelude.{◌≡◌, length};
-ghost use Rattle.bl_load.specs.Value.{file_count, IsWithinLimits};
+ghost use Rattle.bl_load.specs.EntryValue.{file_count, IsWithinLimits};
 
 use crate::handoff::role_name;
 use crate::refusal::say_fault;

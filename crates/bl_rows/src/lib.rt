@@ -2,12 +2,12 @@
 //! below an entry's handover. For tests alone.
 #![tactic(auto)]
 
+pub mod answer_runs;
 pub mod calls;
 mod line;
 pub mod pieces;
 mod reading;
 pub mod row;
-pub mod runs;
 mod saying;
 pub mod session;
 mod sweep;

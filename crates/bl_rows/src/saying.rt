@@ -1,7 +1,7 @@
 //! How a row is answered.
 
+use crate::answer_runs::AnswerRuns;
 use crate::row::Row;
-use crate::runs::Runs;
 use std::alloc::AllocError;
 use std::fmt::{Debug, Display};
 
@@ -153,7 +153,7 @@ impl Row<'_> {
     }
 
     /// Appends the answers of a series.
-    pub fn say_runs(&mut self, runs: Runs) {
+    pub fn say_runs(&mut self, runs: AnswerRuns) {
         match runs.finish() {
             Ok(text) => self.say(text.as_str()),
             Err(AllocError) => self.run_short(),

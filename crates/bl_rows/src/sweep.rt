@@ -1,8 +1,8 @@
 //! How often a row's call is made, over which memory and which bytes.
 
+use crate::answer_runs::AnswerRuns;
 use crate::calls::Calls;
 use crate::pieces::Pieces;
-use crate::runs::Runs;
 use crate::session::Session;
 use crate::way::Way;
 use bl_refusing::Refusing;
@@ -65,12 +65,12 @@ impl<'s, 'c> Sweep<'s, 'c> {
     }
 
     /// Adds the last answer to others.
-    fn add_to(&mut self, runs: &mut Runs, number: u64) {
+    fn add_to(&mut self, runs: &mut AnswerRuns, number: u64) {
         let text = std::mem::replace(&mut self.text, String::new(self.alloc));
         runs.add(number, text);
     }
 
-    fn take(&mut self, runs: Runs) {
+    fn take(&mut self, runs: AnswerRuns) {
         match runs.finish() {
             Ok(text) => self.text = text,
             Err(AllocError) => self.is_short = true,
@@ -79,7 +79,7 @@ impl<'s, 'c> Sweep<'s, 'c> {
 
     /// Makes the call where the first request is refused, the second, .. until none was.
     fn each_refusal<C: Calls>(&mut self, calls: &C) {
-        let mut runs = Runs::new(self.alloc, false);
+        let mut runs = AnswerRuns::new(self.alloc, false);
         for nth in 1..REQUESTS {
             self.once(calls, nth, usize::MAX);
             self.add_to(&mut runs, nth);
@@ -92,7 +92,7 @@ impl<'s, 'c> Sweep<'s, 'c> {
 
     /// Makes the call over the first bytes, from none to all.
     fn each_cut<C: Calls>(&mut self, calls: &C) {
-        let mut runs = Runs::new(self.alloc, true);
+        let mut runs = AnswerRuns::new(self.alloc, true);
         for length in 0..self.bytes.len() + 1 {
             self.once(calls, 0, length);
             self.add_to(&mut runs, length as u64);
@@ -110,7 +110,7 @@ impl<'s, 'c> Sweep<'s, 'c> {
 
     /// Makes the call over all bytes with one of them set to a value, for each.
     fn each_set<C: Calls>(&mut self, calls: &C, value: u8) {
-        let mut runs = Runs::new(self.alloc, true);
+        let mut runs = AnswerRuns::new(self.alloc, true);
         for at in 0..self.bytes.len() {
             let before = self.exchange(at, value);
             self.once(calls, 0, usize::MAX);
@@ -138,7 +138,7 @@ impl<'s, 'c> Sweep<'s, 'c> {
             self.is_bad = true;
             return;
         }
-        let mut runs = Runs::new(self.alloc, true);
+        let mut runs = AnswerRuns::new(self.alloc, true);
         for half in 0..self.bytes.len() / 2 {
             let by = half as u64 * 2;
             if at < by && by < end {

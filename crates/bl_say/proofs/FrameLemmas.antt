@@ -1,7 +1,7 @@
 -- The ranges of parts.
 use Rattle.std.proofs.Common.{◌≤◌, map, arith}
 use Rattle.std.proofs.lemmas.List.Elements.{All-map}
-use Rattle.bl_map.specs.Room.{AreAscending}
+use Rattle.bl_map.specs.PoolFrames.{AreAscending}
 use Rattle.bl_plan.specs.Placed.{place_range}
 use Rattle.bl_load.specs.HandoffFacts.{HandoffFacts, IsWellFormedHandoff}
 use Rattle.bl_load.proofs.HeldLemmas.{AllPairs-map}

@@ -5,7 +5,7 @@ use Rattle.std.specs.Prelude.{option_map, slice_get}
 use Rattle.std.proofs.lemmas.Option.{slice_get-map, slice_get_past, slice_get_read}
 use Rattle.bl_desc.specs.declared.entry_row.EntryRow.{EntryRow}
 use Rattle.bl_desc.specs.Views.{entry_view}
-use Rattle.bl_say.specs.AttemptLines.{attempt_lines, row_lines, row_lines_if}
+use Rattle.bl_say.specs.AttemptLines.{attempt_lines, entry_lines, entry_lines_if}
 use Rattle.bl_say.specs.Sought.{SoughtFacts}
 
 -- there is no entry at an index past the last
@@ -17,7 +17,7 @@ no_row rows index past =
 
 pub no_attempt : {A : Type 0} (rows : List (EntryRow A)) (sought : SoughtFacts) (index : ℕ)
     → length rows ≤ index → attempt_lines (map entry_view rows) sought index ≡ []
-no_attempt rows sought index past = ap (row_lines_if sought index) (no_row rows index past)
+no_attempt rows sought index past = ap (entry_lines_if sought index) (no_row rows index past)
 
 -- the entry at an index
 pub one_row : {A : Type 0} (rows : List (EntryRow A)) (index : ℕ) (row : EntryRow A)
@@ -30,6 +30,6 @@ one_row rows index row within at =
 -- it is told
 pub one_attempt : {A : Type 0} (rows : List (EntryRow A)) (sought : SoughtFacts) (index : ℕ)
     (row : EntryRow A) → index < length rows → row ≡ get_or rows index row
-    → attempt_lines (map entry_view rows) sought index ≡ row_lines sought index (entry_view row)
+    → attempt_lines (map entry_view rows) sought index ≡ entry_lines sought index (entry_view row)
 one_attempt rows sought index row within at =
-    ap (row_lines_if sought index) (one_row rows index row within at)
+    ap (entry_lines_if sought index) (one_row rows index row within at)

@@ -13,16 +13,16 @@ abbrev pub entry_title_line : ℕ → List ℕ → List ℕ
 entry_title_line entry title = codes "entry " ++ decimal entry ++ codes " " ++ title ++ codes "\n"
 
 -- an entry of a menu, and its files
-abbrev pub row_lines : SoughtFacts → ℕ → Entry → List ℕ
-row_lines sought index entry =
+abbrev pub entry_lines : SoughtFacts → ℕ → Entry → List ℕ
+entry_lines sought index entry =
     entry_title_line index entry.title ++ sought_lines sought 0 (file_names entry)
 
-abbrev pub row_lines_if : SoughtFacts → ℕ → Option Entry → List ℕ
-row_lines_if sought index None = []
-row_lines_if sought index (Some entry) = row_lines sought index entry
+abbrev pub entry_lines_if : SoughtFacts → ℕ → Option Entry → List ℕ
+entry_lines_if sought index None = []
+entry_lines_if sought index (Some entry) = entry_lines sought index entry
 
 abbrev pub attempt_lines : List Entry → SoughtFacts → ℕ → List ℕ
-attempt_lines entries sought index = row_lines_if sought index (slice_get entries index)
+attempt_lines entries sought index = entry_lines_if sought index (slice_get entries index)
 
 -- a refusal, and what is told beside it
 abbrev pub told_refusal_lines : List Entry → MachineFacts → SoughtFacts → ToldRefusal → List ℕ

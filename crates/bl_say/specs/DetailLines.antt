@@ -3,7 +3,7 @@ use Rattle.std.specs.Prelude.{ℕ, List, [], ◌++◌, codes, decimal, Option, S
 use Rattle.bl_map.specs.Kinds.{kind_of}
 use Rattle.bl_map.specs.NormalMap.{kind_at}
 use Rattle.bl_map.specs.MachineFacts.{MachineFacts}
-use Rattle.bl_map.specs.Room.{frames_in}
+use Rattle.bl_map.specs.PoolFrames.{frames_in}
 use Rattle.bl_plan.specs.declared.part.Choice.{Choice}
 use Rattle.bl_plan.specs.declared.part.Choice.TheVariants.{Fixed, Lowest, Highest, Preferred}
 use Rattle.bl_plan.specs.declared.part.Row.{Row}

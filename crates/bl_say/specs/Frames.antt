@@ -2,7 +2,7 @@
 use Rattle.std.specs.Prelude.{ℕ, ◌+◌, List, [], ◌∷◌, ◌++◌, codes, decimal, slice_get, unwrap_or}
 use Rattle.std.specs.Prelude.{Option, Some, None}
 use Rattle.std.specs.declared.ops.Range.{Range}
-use Rattle.bl_map.specs.Room.{frames_in, frames_of, open_frames}
+use Rattle.bl_map.specs.PoolFrames.{frames_in, frames_of, open_frames}
 use Rattle.bl_desc.specs.Entries.{Entry}
 use Rattle.bl_desc.specs.EntryNames.{file_names}
 use Rattle.bl_say.specs.Sought.{SoughtFacts, size_found}
@@ -37,6 +37,7 @@ frames_line wanted beside all =
     ++ number_between (codes "") all (codes " in all\n")
 
 -- of files of these names in this pool, where the parts lie in these ranges
-abbrev pub room_line : SoughtFacts → List (List ℕ) → (pool : Range ℕ) → List (Range ℕ) → List ℕ
-room_line sought names pool parts =
+abbrev pub sought_frames_line :
+    SoughtFacts → List (List ℕ) → (pool : Range ℕ) → List (Range ℕ) → List ℕ
+sought_frames_line sought names pool parts =
     frames_line (frames_wanted sought names) (open_frames pool parts) (frames_in pool)

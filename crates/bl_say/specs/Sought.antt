@@ -1,10 +1,10 @@
 -- What is told of the files that an entry names. Own.
 use Rattle.std.specs.Prelude.{ℕ, ◌+◌, List, [], ◌∷◌, ◌++◌, codes, decimal, slice_index_or}
 use Rattle.std.specs.Prelude.{Option, Some, None}
-use Rattle.bl_map.specs.Room.{frames_of}
+use Rattle.bl_map.specs.PoolFrames.{frames_of}
 use Rattle.bl_session.specs.Outcome.{File, missing, size_of, file_bytes}
 use Rattle.bl_blame.specs.ShownNames.{shown_name}
-use Rattle.bl_desc.specs.EntryNames.{index_of}
+use Rattle.bl_desc.specs.EntryNames.{file_index}
 
 -- the names that were looked for, and what was found for each of them
 pub record SoughtFacts : Type 0 where
@@ -13,7 +13,7 @@ pub record SoughtFacts : Type 0 where
 
 -- what was found for a name
 abbrev pub file_found : SoughtFacts → List ℕ → File
-file_found sought name = slice_index_or sought.files (index_of sought.names name) missing
+file_found sought name = slice_index_or sought.files (file_index sought.names name) missing
 
 -- its bytes; what is missing or too long has none
 abbrev pub bytes_found : SoughtFacts → List ℕ → List ℕ

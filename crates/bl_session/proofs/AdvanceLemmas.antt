@@ -13,8 +13,8 @@ use Rattle.bl_session.specs.declared.outcome.RefusedEntry.{RefusedEntry}
 use Rattle.bl_session.specs.AttemptResult.{handed, refused, size_refusal}
 use Rattle.bl_session.specs.Menu.{EntryFacts, MenuFacts, entry_at}
 use Rattle.bl_session.specs.Pieces.{are_whole}
-use Rattle.bl_session.specs.Boot.{BootFacts, State, running, handed_over, none_left, sizes_of}
-use Rattle.bl_session.specs.Boot.{fresh, Continues, BeginsUnless, Begins}
+use Rattle.bl_session.specs.BootSteps.{BootFacts, State, running, handed_over, none_left, sizes_of}
+use Rattle.bl_session.specs.BootSteps.{fresh, Continues, BeginsUnless, Begins}
 use Rattle.bl_session.specs.AttemptKept.{IsAttempt, IsAttemptBegun, IsRefusedFor}
 use Rattle.bl_session.specs.Phases.{handover_held}
 
@@ -51,10 +51,12 @@ pub continues : {A : Type 0} (facts : BootFacts) (next : List RefusedEntry → S
 continues facts next entry rest earlier files bytes later (attempt.Waits stage) (whole, same)
     leads =
     by_test false (are_whole files) _ _ whole (ap (running entry rest earlier) same)
-continues facts next entry rest earlier files bytes later (attempt.Ended (ended.HandedOver handoff)) (whole, ends)
+continues facts next entry rest earlier files bytes later (attempt.Ended (ended.HandedOver handoff))
+    (whole, ends)
     leads =
     by_test true (are_whole files) _ _ whole (handed (handover_held bytes handoff), ends, refl)
-continues facts next entry rest earlier files bytes later (attempt.Ended (ended.Refused refusal)) (whole, ends)
+continues facts next entry rest earlier files bytes later (attempt.Ended (ended.Refused refusal))
+    (whole, ends)
     leads =
     by_test true (are_whole files) _ _ whole (refused refusal, ends, leads)
 
@@ -69,9 +71,11 @@ begins_unless facts next entry rest earlier bytes later one None is leads =
     continues facts next entry rest earlier (fresh facts entry) bytes later one is leads
 begins_unless facts next entry rest earlier bytes later (attempt.Waits stage) (Some r) is leads =
     absurd is
-begins_unless facts next entry rest earlier bytes later (attempt.Ended (ended.HandedOver handoff)) (Some r) is
+begins_unless facts next entry rest earlier bytes later (attempt.Ended (ended.HandedOver handoff))
+    (Some r) is
     leads = absurd is
-begins_unless facts next entry rest earlier bytes later (attempt.Ended (ended.Refused refusal)) (Some r) is
+begins_unless facts next entry rest earlier bytes later (attempt.Ended (ended.Refused refusal))
+    (Some r) is
     leads =
     subst (λ (x : Refusal). next (earlier ++ record { entry = entry; refusal = x } ∷ []) later) is
     leads
@@ -81,7 +85,8 @@ pub begins_at : {A : Type 0} (facts : BootFacts) (next entry : ℕ) (offered : E
     (earlier : List RefusedEntry) (bytes : List ℕ) (later : State) (got one : Attempt A)
     → next < length facts.menu.attempts → ((d : ℕ) → entry ≡ get_or facts.menu.attempts next d)
     → offered ≡ entry_at facts.menu entry
-    → IsAttemptBegun facts.machine offered (map (λ file. get_or facts.sizes file None) offered.files) bytes
+    → IsAttemptBegun facts.machine offered
+    (map (λ file. get_or facts.sizes file None) offered.files) bytes
     got → got ≡ one
     → LeadsOn (Begins facts (drop (next + 1) facts.menu.attempts)) entry earlier later one
     → Begins facts (drop next facts.menu.attempts) earlier
@@ -112,7 +117,8 @@ pub begins_refused : {A : Type 0} (facts : BootFacts) (next entry : ℕ) (offere
     (state : State)
     → next < length facts.menu.attempts → ((d : ℕ) → entry ≡ get_or facts.menu.attempts next d)
     → offered ≡ entry_at facts.menu entry
-    → IsAttemptBegun facts.machine offered (map (λ file. get_or facts.sizes file None) offered.files) bytes
+    → IsAttemptBegun facts.machine offered
+    (map (λ file. get_or facts.sizes file None) offered.files) bytes
     got → got ≡ attempt.Ended (ended.Refused refusal)
     → later ≡ earlier ++ record { entry = entry; refusal = refusal } ∷ []
     → Begins facts (drop (next + 1) facts.menu.attempts) later state

@@ -10,14 +10,16 @@ use Rattle.bl_session.specs.declared.outcome.RefusedEntry.{RefusedEntry}
 use Rattle.bl_session.specs.AttemptResult.{AttemptResult, handed, refused, HasResult, size_refusal}
 use Rattle.bl_session.specs.AttemptResult.{known_lengths}
 use Rattle.bl_session.specs.Menu.{MenuFacts, entry_at, value_with}
-use Rattle.bl_session.specs.Pieces.{are_whole, awaited, with_piece}
-use Rattle.bl_session.specs.Boot.{BootFacts, EventFacts, piece, fault, State, unstarted, running}
-use Rattle.bl_session.specs.Boot.{handed_over, none_left, out_of_memory, sizes_of, fresh}
-use Rattle.bl_session.specs.Boot.{TextsHaveResult, RestOfBoot, AfterAttempt, Continues}
-use Rattle.bl_session.specs.Boot.{BeginsUnless, Begins, is_wanted, Takes, Steps, StepsOrFails}
-use Rattle.bl_session.specs.Boot.{Starts, StartsOrFails, attempt_number}
-use Rattle.bl_session.specs.History.{Item}
-use Rattle.bl_session.specs.Asked.{orders_of_files, orders, orders_after}
+use Rattle.bl_session.specs.Pieces.{are_whole, waiting_files, with_piece}
+use Rattle.bl_session.specs.BootSteps.{BootFacts, EventFacts, piece, fault, State, unstarted}
+use Rattle.bl_session.specs.BootSteps.{running}
+use Rattle.bl_session.specs.BootSteps.{handed_over, none_left, out_of_memory, sizes_of, fresh}
+use Rattle.bl_session.specs.BootSteps.{TextsHaveResult, RestOfBoot, AfterAttempt, Continues}
+use Rattle.bl_session.specs.BootSteps.{BeginsUnless, Begins, is_wanted, TakesEvent, Steps}
+use Rattle.bl_session.specs.BootSteps.{StepsOrFails}
+use Rattle.bl_session.specs.BootSteps.{Starts, StartsOrFails, attempt_number}
+use Rattle.bl_session.specs.History.{HistoryItem}
+use Rattle.bl_session.specs.Asked.{file_submissions, attempt_submissions, new_submissions}
 
 -- equal machines and menus, and equal sizes wherever an entry looks
 pub record AreAlike (f g : BootFacts) : Type 0 where
@@ -28,18 +30,20 @@ pub record AreAlike (f g : BootFacts) : Type 0 where
 -- ---- what is asked for
 
 pub orders_alike : (f g : BootFacts) → AreAlike f g → (state : State)
-    → orders f state ≡ orders g state
+    → attempt_submissions f state ≡ attempt_submissions g state
 orders_alike f g alike unstarted = refl
 orders_alike f g alike (running entry rest earlier files) =
-    ap (λ (m : MenuFacts). orders_of_files (length earlier) 0 (entry_at m entry).files files) alike.menu
+    ap (λ (m : MenuFacts). file_submissions (length earlier) 0 (entry_at m entry).files files)
+    alike.menu
 orders_alike f g alike (handed_over entry earlier handover) = refl
 orders_alike f g alike (none_left earlier) = refl
 orders_alike f g alike out_of_memory = refl
 
 pub orders_after_alike : (f g : BootFacts) → AreAlike f g → (old new : State)
-    → orders_after f old new ≡ orders_after g old new
+    → new_submissions f old new ≡ new_submissions g old new
 orders_after_alike f g alike old new =
-    ap (λ (items : List Item). if attempt_number new == attempt_number old then [] else items)
+    ap (λ (items : List HistoryItem). if attempt_number new == attempt_number old then [] else
+    items)
     (orders_alike f g alike new)
 
 -- ---- one attempt after the other
@@ -92,7 +96,7 @@ unless_alike f g alike next more leads entry rest earlier None new goes =
     continues_alike f g alike next more leads entry rest earlier (fresh g entry) new
     (subst
     (λ (sizes : List (Option ℕ)).
-    Continues f next entry rest earlier (awaited (known_lengths sizes)) new)
+    Continues f next entry rest earlier (waiting_files (known_lengths sizes)) new)
     (alike.sizes entry) goes)
 
 begins_alike : (f g : BootFacts) → AreAlike f g
@@ -113,7 +117,8 @@ begins_alike f g alike (entry ∷ rest) earlier new goes =
 takes_alike : (f g : BootFacts) → AreAlike f g
     → (entry : ℕ) (rest : List ℕ) (earlier : List RefusedEntry) (files : List (List PieceState))
     (event : EventFacts) (new : State)
-    → Takes f entry rest earlier files event new → Takes g entry rest earlier files event new
+    → TakesEvent f entry rest earlier files event new
+    → TakesEvent g entry rest earlier files event new
 takes_alike f g alike entry rest earlier files (piece ticket bytes) new goes =
     continues_alike f g alike (Begins f rest) (Begins g rest) (begins_alike f g alike rest) entry
     rest earlier (with_piece files ticket.file ticket.piece bytes) new goes
@@ -127,9 +132,9 @@ steps_alike f g alike (running entry rest earlier files) event new goes =
     choice (is_wanted earlier files event) goes
   where
     choice : (b : Bool)
-        → MatchBool b (Takes f entry rest earlier files event new)
+        → MatchBool b (TakesEvent f entry rest earlier files event new)
         (new ≡ running entry rest earlier files)
-        → MatchBool b (Takes g entry rest earlier files event new)
+        → MatchBool b (TakesEvent g entry rest earlier files event new)
         (new ≡ running entry rest earlier files)
     choice true taken = takes_alike f g alike entry rest earlier files event new taken
     choice false same = same

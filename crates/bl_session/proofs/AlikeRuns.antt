@@ -5,10 +5,10 @@ use Rattle.std.specs.List.{range_with_len}
 use Rattle.std.proofs.lemmas.List.FromFn.{get_or-map-range_with_len}
 use Rattle.bl_map.specs.MachineFacts.{MachineFacts}
 use Rattle.bl_session.specs.Menu.{EntryFacts, MenuFacts, entry_at, no_entry}
-use Rattle.bl_session.specs.Attempts.{count_to, files_named}
-use Rattle.bl_session.specs.Boot.{BootFacts, State, unstarted}
+use Rattle.bl_session.specs.Attempts.{count_to, named_file_count}
+use Rattle.bl_session.specs.BootSteps.{BootFacts, State, unstarted}
 use Rattle.bl_session.specs.Outcome.{File, missing, size_of}
-use Rattle.bl_session.specs.History.{Item}
+use Rattle.bl_session.specs.History.{HistoryItem}
 use Rattle.bl_session.specs.Run.{RunState, run_state_of, Delivers, Reads, IsRun}
 use Rattle.bl_session.specs.Phases.{boot_facts}
 use Rattle.bl_session.proofs.EntryEndLemmas.{size_at}
@@ -18,7 +18,8 @@ use Rattle.bl_session.proofs.AlikeLemmas.{start_alike}
 -- ---- a history
 
 hears_alike : (f g : BootFacts) → AreAlike f g
-    → (files : List File) (given : List Item) (state : State) (owed : List Item) (item : Item)
+    → (files : List File) (given : List HistoryItem) (state : State) (owed : List HistoryItem)
+    (item : HistoryItem)
     (next : RunState) → Delivers f files given state owed item next
     → Delivers g files given state owed item next
 hears_alike f g alike files given state (order ∷ owed) item next hears = hears
@@ -30,7 +31,7 @@ hears_alike f g alike files given state [] item next (event, is, steps, left) = 
 )
 
 reads_alike : (f g : BootFacts) → AreAlike f g
-    → (files : List File) (items given : List Item) (old : RunState) (new : State)
+    → (files : List File) (items given : List HistoryItem) (old : RunState) (new : State)
     → Reads f files given old items new → Reads g files given old items new
 reads_alike f g alike files [] given old new reads = reads
 reads_alike f g alike files (item ∷ items) given old new (next, hears, reads) = (
@@ -41,11 +42,11 @@ reads_alike f g alike files (item ∷ items) given old new (next, hears, reads) 
 
 -- a run of one is a run of the other
 pub run_alike : (f g : BootFacts) → AreAlike f g
-    → (files : List File) (old new : List Item) (end : State) → IsRun f files old new end
+    → (files : List File) (old new : List HistoryItem) (end : State) → IsRun f files old new end
     → IsRun g files old new end
 run_alike f g alike files old new end run =
     let run_state : run_state_of f run.begun ≡ run_state_of g run.begun =
-    ap (λ (owed : List Item). record { state = run.begun; owed = owed })
+    ap (λ (owed : List HistoryItem). record { state = run.begun; owed = owed })
     (orders_alike f g alike run.begun) in
     record {
       gained = run.gained;
@@ -76,14 +77,14 @@ sizes_below files sizes count asked (index ∷ indices) h =
 
 -- no entry names a file beyond the count
 named_at : (entries : List EntryFacts) (entry : ℕ)
-    → count_to (get_or entries entry no_entry).files ≤ files_named entries
+    → count_to (get_or entries entry no_entry).files ≤ named_file_count entries
 named_at [] entry = omega arith
 named_at (e ∷ entries) zero = omega arith
 named_at (e ∷ entries) (suc entry) = let behind = named_at entries entry in omega arith
 
 pub alike_asked : (machine : MachineFacts) (menu : MenuFacts) (files : List File)
     (sizes : List (Option ℕ))
-    → ((i : ℕ) → i < files_named menu.entries
+    → ((i : ℕ) → i < named_file_count menu.entries
     → get_or sizes i None ≡ size_of (get_or files i missing))
     → AreAlike (boot_facts machine menu sizes) (boot_facts machine menu (map size_of files))
 alike_asked machine menu files sizes asked = record {
@@ -91,7 +92,7 @@ alike_asked machine menu files sizes asked = record {
   menu = refl;
   sizes =
       λ entry.
-      sizes_below files sizes (files_named menu.entries) asked (entry_at menu entry).files
+      sizes_below files sizes (named_file_count menu.entries) asked (entry_at menu entry).files
       (named_at menu.entries entry);
 }
 
@@ -100,9 +101,9 @@ pub alike_listed : (machine : MachineFacts) (menu : MenuFacts) (files : List Fil
     (sizes : List (Option ℕ))
     → sizes
     ≡ map (λ file. size_of (get_or files file missing))
-    (range_with_len 0 (files_named menu.entries))
+    (range_with_len 0 (named_file_count menu.entries))
     → AreAlike (boot_facts machine menu sizes) (boot_facts machine menu (map size_of files))
 alike_listed machine menu files sizes is =
     alike_asked machine menu files sizes (λ i h. ap (λ (s : List (Option ℕ)). get_or s i None) is
     ∙ get_or-map-range_with_len (λ file. size_of (get_or files file missing)) 0
-    (files_named menu.entries) i i None h (omega arith))
+    (named_file_count menu.entries) i i None h (omega arith))

@@ -7,11 +7,11 @@ use Rattle.bl_stage.specs.PieceStates.{piece_states}
 use Rattle.bl_session.specs.declared.ticket.Ticket.{Ticket}
 use Rattle.bl_session.specs.declared.outcome.Progress.{Progress}
 use Rattle.bl_session.specs.declared.outcome.Progress.TheVariants.{Waiting}
-use Rattle.bl_session.specs.Boot.{BootFacts, piece, fault, State, StepsOrFails, attempt_number}
-use Rattle.bl_session.specs.Boot.{is_running, progress}
+use Rattle.bl_session.specs.BootSteps.{BootFacts, piece, fault, State, StepsOrFails, attempt_number}
+use Rattle.bl_session.specs.BootSteps.{is_running, progress}
 use Rattle.bl_session.specs.Outcome.{File}
-use Rattle.bl_session.specs.History.{Item, came, failed, nothing, file_under, IsPieceOf}
-use Rattle.bl_session.specs.Asked.{orders, orders_after}
+use Rattle.bl_session.specs.History.{HistoryItem, came, failed, nothing, file_under, IsPieceOf}
+use Rattle.bl_session.specs.Asked.{attempt_submissions, new_submissions}
 use Rattle.bl_session.specs.Memory.{IsMemoryAt}
 use Rattle.bl_session.specs.Phases.{PhaseFacts, not_started, waits, hands_over, has_none}
 use Rattle.bl_session.specs.Phases.{lacks_memory, state_at, is_waiting}
@@ -22,13 +22,14 @@ use Rattle.bl_session.proofs.TurnLemmas.{heard_on, owed_same, owed_next}
 
 -- ---- an answer is an event
 
-pub event_piece : (files : List File) (given : List Item) (phase : PhaseFacts) (before : List ℕ)
-    (ticket : Ticket) (bytes : List ℕ) (item : Item) → is_waiting phase ≡ true
+pub event_piece : (files : List File) (given : List HistoryItem) (phase : PhaseFacts)
+    (before : List ℕ)
+    (ticket : Ticket) (bytes : List ℕ) (item : HistoryItem) → is_waiting phase ≡ true
     → (genuine : Bool) × (item ≡ came ticket (length bytes) genuine)
     × ((genuine ≡ true) ↔ IsPieceOf files (file_under given ticket) ticket.piece bytes)
     → IsEventOf files given (state_at before phase) item (piece ticket bytes)
 event_piece files given (waits entry rest earlier stage) before ticket bytes item w is =
-    subst (λ (i : Item). IsAnswer files given earlier (piece_states before stage) i
+    subst (λ (i : HistoryItem). IsAnswer files given earlier (piece_states before stage) i
     (piece ticket bytes))
     (sym is.1) (bytes, refl, refl, is.2)
 event_piece files given not_started before ticket bytes item w is = absurd cc
@@ -36,23 +37,27 @@ event_piece files given (hands_over n refusals handoff) before ticket bytes item
 event_piece files given (has_none refusals) before ticket bytes item w is = absurd cc
 event_piece files given lacks_memory before ticket bytes item w is = absurd cc
 
-pub event_fault : (files : List File) (given : List Item) (phase : PhaseFacts) (before : List ℕ)
-    (ticket : Ticket) (item : Item) → is_waiting phase ≡ true → item ≡ failed ticket
+pub event_fault : (files : List File) (given : List HistoryItem) (phase : PhaseFacts)
+    (before : List ℕ)
+    (ticket : Ticket) (item : HistoryItem) → is_waiting phase ≡ true → item ≡ failed ticket
     → IsEventOf files given (state_at before phase) item (fault ticket)
 event_fault files given (waits entry rest earlier stage) before ticket item w is =
-    subst (λ (i : Item). IsAnswer files given earlier (piece_states before stage) i (fault ticket))
+    subst (λ (i : HistoryItem). IsAnswer files given earlier (piece_states before stage) i
+    (fault ticket))
     (sym is) refl
 event_fault files given not_started before ticket item w is = absurd cc
 event_fault files given (hands_over n refusals handoff) before ticket item w is = absurd cc
 event_fault files given (has_none refusals) before ticket item w is = absurd cc
 event_fault files given lacks_memory before ticket item w is = absurd cc
 
-pub event_lost : (files : List File) (given : List Item) (phase : PhaseFacts) (before : List ℕ)
-    (ticket : Ticket) (item : Item) → is_waiting phase ≡ true → item ≡ nothing
+pub event_lost : (files : List File) (given : List HistoryItem) (phase : PhaseFacts)
+    (before : List ℕ)
+    (ticket : Ticket) (item : HistoryItem) → is_waiting phase ≡ true → item ≡ nothing
     → first_awaited_ticket (state_at before phase) ≡ Some ticket
     → IsEventOf files given (state_at before phase) item (fault ticket)
 event_lost files given (waits entry rest earlier stage) before ticket item w is first =
-    subst (λ (i : Item). IsAnswer files given earlier (piece_states before stage) i (fault ticket))
+    subst (λ (i : HistoryItem). IsAnswer files given earlier (piece_states before stage) i
+    (fault ticket))
     (sym is) (ticket, first, refl)
 event_lost files given not_started before ticket item w is first = absurd cc
 event_lost files given (hands_over n refusals handoff) before ticket item w is first = absurd cc
@@ -61,7 +66,8 @@ event_lost files given lacks_memory before ticket item w is first = absurd cc
 
 -- the attempt that lost a piece has ended
 pub lost : (facts : BootFacts) (old new : PhaseFacts) (before after : List ℕ) (ticket : Ticket)
-    (p : Progress) → is_waiting old ≡ true → first_awaited_ticket (state_at before old) ≡ Some ticket
+    (p : Progress) → is_waiting old ≡ true → first_awaited_ticket (state_at before old)
+    ≡ Some ticket
     → StepsOrFails facts (state_at before old) (fault ticket) (state_at after new)
     → p ≡ progress (attempt_number (state_at before old)) (state_at after new) → p ≢ Waiting
 lost facts (waits entry rest earlier stage) new before after ticket p w first step told = λ e.
@@ -97,49 +103,55 @@ waiting_memory pool lacks_memory bytes old new w memory = absurd cc
 abbrev pub at : State → RunState
 at state = record { state = state; owed = [] }
 
-pub heard_more : (facts now : BootFacts) (files those : List File) (first mid last : List Item)
+pub heard_more : (facts now : BootFacts) (files those : List File)
+    (first mid last : List HistoryItem)
     (start : RunState) (old new : State) → now ≡ facts → those ≡ files
     → IsHeard facts files first mid start (at old)
-    → IsHeard now those mid last (at old) (record { state = new; owed = orders_after now old new })
+    → IsHeard now those mid last (at old)
+    (record { state = new; owed = new_submissions now old new })
     → IsHeard facts files first last start
-    (record { state = new; owed = orders_after facts old new })
+    (record { state = new; owed = new_submissions facts old new })
 heard_more facts now files those first mid last start old new e f so_far more =
     heard_on facts files first mid last start (at old)
-    (record { state = new; owed = orders_after facts old new }) so_far
+    (record { state = new; owed = new_submissions facts old new }) so_far
     (subst
     (λ (b : BootFacts).
     IsHeard b files mid last (at old)
-    (record { state = new; owed = orders_after b old new })) e
+    (record { state = new; owed = new_submissions b old new })) e
     (subst
     (λ (fs : List File).
     IsHeard now fs mid last (at old)
-    (record { state = new; owed = orders_after now old new })) f more))
+    (record { state = new; owed = new_submissions now old new })) f more))
 
-owing : (facts : BootFacts) (files : List File) (first last : List Item) (start : RunState)
-    (new : State) (a b : List Item) → a ≡ b
+owing : (facts : BootFacts) (files : List File) (first last : List HistoryItem) (start : RunState)
+    (new : State) (a b : List HistoryItem) → a ≡ b
     → IsHeard facts files first last start (record { state = new; owed = a })
     → IsHeard facts files first last start (record { state = new; owed = b })
 owing facts files first last start new a b e heard =
     subst
-    (λ (l : List Item). IsHeard facts files first last start (record { state = new; owed = l }))
+    (λ (l : List HistoryItem). IsHeard facts files first last start
+    (record { state = new; owed = l }))
     e heard
 
 -- after which the attempt waits
-pub heard_waiting : (facts : BootFacts) (files : List File) (first last : List Item) (start : RunState)
+pub heard_waiting : (facts : BootFacts) (files : List File) (first last : List HistoryItem)
+    (start : RunState)
     (old new : State) (p : Progress) → p ≡ progress (attempt_number old) new → p ≡ Waiting
     → IsHeard facts files first last start
-    (record { state = new; owed = orders_after facts old new })
+    (record { state = new; owed = new_submissions facts old new })
     → IsHeard facts files first last start (at new)
 heard_waiting facts files first last start old new p told is heard =
-    owing facts files first last start new (orders_after facts old new) []
+    owing facts files first last start new (new_submissions facts old new) []
     (owed_same facts old new (sym told ∙ is)) heard
 
 -- after which it has ended
-pub heard_ended : (facts : BootFacts) (files : List File) (first last : List Item) (start : RunState)
+pub heard_ended : (facts : BootFacts) (files : List File) (first last : List HistoryItem)
+    (start : RunState)
     (old new : State) (p : Progress) → p ≡ progress (attempt_number old) new → p ≢ Waiting
     → IsHeard facts files first last start
-    (record { state = new; owed = orders_after facts old new })
+    (record { state = new; owed = new_submissions facts old new })
     → IsHeard facts files first last start (run_state_of facts new)
 heard_ended facts files first last start old new p told is heard =
-    owing facts files first last start new (orders_after facts old new) (orders facts new)
+    owing facts files first last start new (new_submissions facts old new)
+    (attempt_submissions facts new)
     (owed_next facts old new (λ e. is (told ∙ e))) heard

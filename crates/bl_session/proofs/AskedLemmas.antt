@@ -9,17 +9,18 @@ use Rattle.bl_session.specs.declared.outcome.RefusedEntry.{RefusedEntry}
 use Rattle.bl_session.specs.declared.ticket.Ticket.{Ticket}
 use Rattle.bl_session.specs.Menu.{entry_at}
 use Rattle.bl_session.specs.Pieces.{with_piece}
-use Rattle.bl_session.specs.Boot.{BootFacts, EventFacts, State, unstarted, running, handed_over}
-use Rattle.bl_session.specs.Boot.{none_left, out_of_memory, Steps, attempt_number}
-use Rattle.bl_session.specs.History.{Item, file_under}
-use Rattle.bl_session.specs.Asked.{ticket_of, orders, orders_after}
+use Rattle.bl_session.specs.BootSteps.{BootFacts, EventFacts, State, unstarted, running}
+use Rattle.bl_session.specs.BootSteps.{handed_over}
+use Rattle.bl_session.specs.BootSteps.{none_left, out_of_memory, Steps, attempt_number}
+use Rattle.bl_session.specs.History.{HistoryItem, file_under}
+use Rattle.bl_session.specs.Asked.{ticket_of, attempt_submissions, new_submissions}
 use Rattle.bl_session.proofs.TicketLemmas.{file_both}
 use Rattle.bl_session.proofs.OrderLemmas.{found_files}
 use Rattle.bl_session.proofs.AwaitedLemmas.{as_many_files, as_many_pieces}
 use Rattle.bl_session.proofs.WentLemmas.{IsNewFrom, step_went, fresh_length}
 
 -- after these items each piece of the attempt that runs was asked for under its own file
-abbrev pub AreAsked : BootFacts → List Item → State → Type 0
+abbrev pub AreAsked : BootFacts → List HistoryItem → State → Type 0
 AreAsked facts items unstarted = Unit {0}
 AreAsked facts items (running entry rest earlier files) =
     (length files ≡ length (entry_at facts.menu entry).files)
@@ -31,15 +32,16 @@ AreAsked facts items (none_left earlier) = Unit {0}
 AreAsked facts items out_of_memory = Unit {0}
 
 -- an attempt that has just begun, once it asked for its pieces
-pub asked_new : (facts : BootFacts) (given : List Item) (count number : ℕ) (state : State)
-    → IsNewFrom facts count number state → AreAsked facts (given ++ orders facts state) state
+pub asked_new : (facts : BootFacts) (given : List HistoryItem) (count number : ℕ) (state : State)
+    → IsNewFrom facts count number state
+    → AreAsked facts (given ++ attempt_submissions facts state) state
 asked_new facts given count number unstarted is = tt
 asked_new facts given count number (running entry rest earlier files) (l, few, sized, is) =
     let long : length files ≡ length (entry_at facts.menu entry).files =
     ap length is ∙ fresh_length facts entry in (
       long,
       λ place piece h.
-          file_both None given (orders facts (running entry rest earlier files))
+          file_both None given (attempt_submissions facts (running entry rest earlier files))
           (ticket_of (length earlier) place piece)
           ∙ found_files (file_under given (ticket_of (length earlier) place piece)) (length earlier)
           (entry_at facts.menu entry).files files place piece long h,
@@ -49,7 +51,7 @@ asked_new facts given count number (none_left earlier) is = tt
 asked_new facts given count number out_of_memory is = tt
 
 -- items that ask for nothing leave it
-pub asked_same : (facts : BootFacts) (items more : List Item) (state : State)
+pub asked_same : (facts : BootFacts) (items more : List HistoryItem) (state : State)
     → ((ticket : Ticket) → file_under more ticket ≡ file_under items ticket)
     → AreAsked facts items state → AreAsked facts more state
 asked_same facts items more unstarted same asked = tt
@@ -60,7 +62,7 @@ asked_same facts items more (none_left earlier) same asked = tt
 asked_same facts items more out_of_memory same asked = tt
 
 -- so does a piece
-asked_piece : (facts : BootFacts) (items : List Item) (entry : ℕ) (rest : List ℕ)
+asked_piece : (facts : BootFacts) (items : List HistoryItem) (entry : ℕ) (rest : List ℕ)
     (earlier : List RefusedEntry) (files : List (List PieceState)) (ticket : Ticket)
     (bytes : List ℕ)
     → AreAsked facts items (running entry rest earlier files)
@@ -75,33 +77,35 @@ asked_piece facts items entry rest earlier files ticket bytes (long, under) = (
 
 -- nothing more is asked for as long as the attempt goes on
 owed_same : (facts : BootFacts) (old new : State) → attempt_number new ≡ attempt_number old
-    → orders_after facts old new ≡ []
+    → new_submissions facts old new ≡ []
 owed_same facts old new e =
     let same : (attempt_number new == attempt_number old) ≡ true = grind (arith, nat_tests) in
-    ap (λ (b : Bool). if b then [] else orders facts new) same
+    ap (λ (b : Bool). if b then [] else attempt_submissions facts new) same
 
-on_same : (facts : BootFacts) (items : List Item) (old new : State)
+on_same : (facts : BootFacts) (items : List HistoryItem) (old new : State)
     → attempt_number new ≡ attempt_number old → AreAsked facts items new
-    → AreAsked facts (items ++ orders_after facts old new) new
+    → AreAsked facts (items ++ new_submissions facts old new) new
 on_same facts items old new e asked =
-    subst (λ (xs : List Item). AreAsked facts xs new)
-    (sym (ap (λ (xs : List Item). items ++ xs) (owed_same facts old new e) ∙ append-nil items))
+    subst (λ (xs : List HistoryItem). AreAsked facts xs new)
+    (sym (ap (λ (xs : List HistoryItem). items ++ xs) (owed_same facts old new e)
+    ∙ append-nil items))
     asked
 
-on_new : (facts : BootFacts) (items : List Item) (entry : ℕ) (rest : List ℕ)
+on_new : (facts : BootFacts) (items : List HistoryItem) (entry : ℕ) (rest : List ℕ)
     (earlier : List RefusedEntry) (files : List (List PieceState)) (new : State)
     → IsNewFrom facts (length rest) (length earlier + 1) new
-    → AreAsked facts (items ++ orders_after facts (running entry rest earlier files) new) new
+    → AreAsked facts (items ++ new_submissions facts (running entry rest earlier files) new) new
 on_new facts items entry rest earlier files unstarted is = tt
 on_new facts items entry rest earlier files (running index others before piece_states) is =
     let low = is.0 in
     let other : (length before == length earlier) ≡ false = grind (arith, nat_tests) in
-    let owed : orders_after facts (running entry rest earlier files)
+    let owed : new_submissions facts (running entry rest earlier files)
     (running index others before piece_states)
-    ≡ orders facts (running index others before piece_states) =
-    ap (λ (b : Bool). if b then [] else orders facts (running index others before piece_states))
+    ≡ attempt_submissions facts (running index others before piece_states) =
+    ap (λ (b : Bool). if b then [] else attempt_submissions facts
+    (running index others before piece_states))
     other in
-    subst (λ (xs : List Item). AreAsked facts (items ++ xs)
+    subst (λ (xs : List HistoryItem). AreAsked facts (items ++ xs)
     (running index others before piece_states))
     (sym owed)
     (asked_new facts items (length rest) (length earlier + 1)
@@ -112,12 +116,12 @@ on_new facts items entry rest earlier files (none_left before) is = tt
 on_new facts items entry rest earlier files out_of_memory is = tt
 
 -- each step keeps it, once what it asks for was asked for
-pub asked_step : (facts : BootFacts) (items : List Item) (entry : ℕ) (rest : List ℕ)
+pub asked_step : (facts : BootFacts) (items : List HistoryItem) (entry : ℕ) (rest : List ℕ)
     (earlier : List RefusedEntry) (files : List (List PieceState)) (event : EventFacts)
     (new : State)
     → AreAsked facts items (running entry rest earlier files)
     → Steps facts (running entry rest earlier files) event new
-    → AreAsked facts (items ++ orders_after facts (running entry rest earlier files) new) new
+    → AreAsked facts (items ++ new_submissions facts (running entry rest earlier files) new) new
 asked_step facts items entry rest earlier files event new asked goes =
     elim (step_went facts entry rest earlier files event new goes) [
       | inl (e, same) ↦

@@ -6,13 +6,13 @@ use Rattle.bl_map.specs.MachineFacts.{MachineFacts}
 use Rattle.bl_load.specs.declared.entry.Entry.{Entry}
 use Rattle.bl_load.specs.declared.entry.Entry.TheVariants.{Multiboot2, Linux}
 use Rattle.bl_load.specs.declared.refusal.Refusal.{Refusal}
-use Rattle.bl_load.specs.Value.{EntryValue, value_of}
+use Rattle.bl_load.specs.EntryValue.{EntryValue, value_of}
 use Rattle.bl_stage.specs.Staged.{Staging, AreStaged, AllCame, staged_texts}
 use Rattle.bl_stage.specs.PieceStates.{PieceState, piece_states, came_bytes}
 use Rattle.bl_session.specs.AttemptResult.{AttemptResult, HasResult, size_refusal, known_lengths}
 use Rattle.bl_session.specs.Menu.{EntryFacts, facts_of, value_with}
-use Rattle.bl_session.specs.Pieces.{are_whole, awaited}
-use Rattle.bl_session.specs.PhasesKept.{IsFresh}
+use Rattle.bl_session.specs.Pieces.{are_whole, waiting_files}
+use Rattle.bl_session.specs.PhasesKept.{IsFreshStage}
 use Rattle.bl_session.specs.AttemptKept.{IsAttempt, IsAttemptBegun, IsRefusedFor}
 use Rattle.bl_session.specs.declared.attempt.Attempt.{Attempt}
 use Rattle.bl_session.proofs.WholeLemmas.{first_awaited, whole_came, whole_texts}
@@ -51,14 +51,14 @@ ends_by_piece_states facts entry bytes stage end kept came ends =
 -- an attempt whose stage was begun
 pub begun_staged : {A : Type 0} (facts : MachineFacts) (entry : EntryFacts)
     (sizes : List (Option ℕ)) (old new : List ℕ) (stage : Staging) (attempt : Attempt A)
-    → size_refusal facts sizes ≡ None → IsFresh facts sizes stage
+    → size_refusal facts sizes ≡ None → IsFreshStage facts sizes stage
     → IsAttempt facts entry (piece_states old stage) new attempt
     → IsAttemptBegun facts entry sizes new attempt
 begun_staged facts entry sizes old new stage attempt none begun is =
-    let same : piece_states old stage ≡ awaited (known_lengths sizes) =
+    let same : piece_states old stage ≡ waiting_files (known_lengths sizes) =
     ap (piece_states old) begun.1 ∙ first_awaited old facts.pool (known_lengths sizes) begun.0 in
     subst
     (λ (o : Option Refusal).
-    MatchOption o (IsAttempt facts entry (awaited (known_lengths sizes)) new attempt)
+    MatchOption o (IsAttempt facts entry (waiting_files (known_lengths sizes)) new attempt)
     (IsRefusedFor attempt)) (sym none)
     (subst (λ (files : List (List PieceState)). IsAttempt facts entry files new attempt) same is)

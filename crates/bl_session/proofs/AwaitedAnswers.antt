@@ -7,13 +7,14 @@ use Rattle.bl_stage.proofs.PieceStateLemmas.{piece_long}
 use Rattle.bl_session.specs.declared.ticket.Ticket.{Ticket}
 use Rattle.bl_session.specs.declared.outcome.RefusedEntry.{RefusedEntry}
 use Rattle.bl_session.specs.Pieces.{is_awaited, awaits, piece_state_of}
-use Rattle.bl_session.specs.Boot.{BootFacts, EventFacts, piece, fault, running, is_wanted}
-use Rattle.bl_session.specs.History.{Item, submitted, came, failed, nothing, is_same, file_under}
+use Rattle.bl_session.specs.BootSteps.{BootFacts, EventFacts, piece, fault, running, is_wanted}
+use Rattle.bl_session.specs.History.{HistoryItem, submitted, came, failed, nothing, is_same}
+use Rattle.bl_session.specs.History.{file_under}
 use Rattle.bl_session.specs.History.{IsPieceOf}
 use Rattle.bl_session.specs.Outcome.{File, size_of, AreToldFaults}
 use Rattle.bl_session.specs.Asked.{first_ticket}
 use Rattle.bl_session.specs.Run.{IsAnswer, IsMarked}
-use Rattle.bl_session.specs.Faithful.{asked, answered, HasPiece, IsFaithfulItem}
+use Rattle.bl_session.specs.Faithful.{times_asked, times_answered, HasPiece, IsFaithfulItem}
 use Rattle.bl_session.proofs.TicketLemmas.{both, IsAskedOnce, same_ticket, other_ticket}
 use Rattle.bl_session.proofs.AwaitedLemmas.{first_is_awaited, awaits_is_awaited}
 use Rattle.bl_session.proofs.SteadyLemmas.{file_at, Steady, text_at, awaited_piece}
@@ -27,7 +28,7 @@ module _ (earlier : List RefusedEntry) (piece_states : List (List PieceState)) w
 module _ (facts : BootFacts) (files : List File) (known : facts.sizes ≡ map size_of files)
     (entry : ℕ) (rest : List ℕ) (earlier : List RefusedEntry)
     (piece_states : List (List PieceState))
-    (given : List Item)
+    (given : List HistoryItem)
     (steady : Steady facts given (running entry rest earlier piece_states)) where
   pub once : (t : Ticket) → Awaited earlier piece_states t
       → IsAskedOnce (file_at facts entry t.file) given t
@@ -35,7 +36,7 @@ module _ (facts : BootFacts) (files : List File) (known : facts.sizes ≡ map si
 
   file_is : (t : Ticket) → Awaited earlier piece_states t
       → file_under given t ≡ Some (file_at facts entry t.file)
-  file_is t awaited = (once t awaited).2 None
+  file_is t waiting_files = (once t waiting_files).2 None
 
   piece_is : (t : Ticket) → Awaited earlier piece_states t
       → (4096 * t.piece < length (text_at facts files known entry t.file))
@@ -51,10 +52,10 @@ module _ (facts : BootFacts) (files : List File) (known : facts.sizes ≡ map si
   -- no fault comes of a piece that is awaited
   pub no_fault : (t : Ticket) → Awaited earlier piece_states t
       → IsFaithfulItem files given (failed t) → ⊥
-  no_fault t awaited (fewer, is) =
-      is (once t awaited).0
-      (subst (λ (file : Option ℕ). HasPiece files file t.piece) (sym (file_is t awaited))
-      (piece_is t awaited).0)
+  no_fault t waiting_files (fewer, is) =
+      is (once t waiting_files).0
+      (subst (λ (file : Option ℕ). HasPiece files file t.piece) (sym (file_is t waiting_files))
+      (piece_is t waiting_files).0)
 
   -- while a piece is awaited something is to come
   pub no_end : (t : Ticket) → first_ticket (length earlier) 0 piece_states ≡ Some t
@@ -68,7 +69,7 @@ module _ (facts : BootFacts) (files : List File) (known : facts.sizes ≡ map si
 
   pub marked : (t : Ticket) (count : ℕ) (genuine : Bool) → Awaited earlier piece_states t
       → IsFaithfulItem files given (came t count genuine) → genuine ≡ true
-  marked t count genuine awaited (fewer, is) = is (once t awaited).0
+  marked t count genuine waiting_files (fewer, is) = is (once t waiting_files).0
 
   same_count : (piece_state : PieceState) (size count : ℕ) → piece_state ≡ lacks size → count ≡ size
       → awaits piece_state count ≡ true
@@ -80,14 +81,14 @@ module _ (facts : BootFacts) (files : List File) (known : facts.sizes ≡ map si
   is_long : (t : Ticket) (bytes : List ℕ) → Awaited earlier piece_states t
       → IsPieceOf files (file_under given t) t.piece bytes
       → awaits (piece_state_of piece_states t.file t.piece) (length bytes) ≡ true
-  is_long t bytes awaited of_file =
+  is_long t bytes waiting_files of_file =
       let text = text_at facts files known entry t.file in
       let is : bytes ≡ piece_of text t.piece =
-      subst (λ (file : Option ℕ). IsPieceOf files file t.piece bytes) (file_is t awaited)
+      subst (λ (file : Option ℕ). IsPieceOf files file t.piece bytes) (file_is t waiting_files)
       of_file in
       same_count (piece_state_of piece_states t.file t.piece)
       (min 4096 (length text - 4096 * t.piece))
-      (length bytes) (piece_is t awaited).1 (ap length is ∙ piece_long text t.piece)
+      (length bytes) (piece_is t waiting_files).1 (ap length is ∙ piece_long text t.piece)
 
   right_attempt : (t : Ticket) → t.attempt ≡ length earlier → (t.attempt == length earlier) ≡ true
   right_attempt t a = grind (arith, nat_tests)
@@ -95,8 +96,8 @@ module _ (facts : BootFacts) (files : List File) (known : facts.sizes ≡ map si
   pub wants_piece : (t : Ticket) (bytes : List ℕ) → Awaited earlier piece_states t
       → IsPieceOf files (file_under given t) t.piece bytes
       → is_wanted earlier piece_states (piece t bytes) ≡ true
-  wants_piece t bytes awaited of_file =
-      rw (right_attempt t awaited.0, is_long t bytes awaited of_file) refl
+  wants_piece t bytes waiting_files of_file =
+      rw (right_attempt t waiting_files.0, is_long t bytes waiting_files of_file) refl
 
   attempt_is : (t : Ticket) → (t.attempt == length earlier) ≡ true → t.attempt ≡ length earlier
   attempt_is t e = grind (arith, nat_tests)
@@ -122,15 +123,17 @@ module _ (facts : BootFacts) (files : List File) (known : facts.sizes ≡ map si
       (attempt_is t parts.0, parts.1)
 
   -- no answer is to a ticket of a later attempt
-  pub is_no_later : (s t : Ticket) → answered given s < asked given s → length earlier < t.attempt
+  pub is_no_later : (s t : Ticket) → times_answered given s < times_asked given s
+      → length earlier < t.attempt
       → is_same s t ≡ false
   is_no_later s t fewer later = other_ticket s t (λ e.
-      let h : answered given t < asked given t =
-      subst (λ (x : Ticket). answered given x < asked given x) (same_ticket s t e) fewer in
+      let h : times_answered given t < times_asked given t =
+      subst (λ (x : Ticket). times_answered given x < times_asked given x) (same_ticket s t e)
+      fewer in
       let none = (steady.2 t later).0 in
       omega arith)
 
-  pub tell_true : (item : Item) (event : EventFacts) → IsFaithfulItem files given item
+  pub tell_true : (item : HistoryItem) (event : EventFacts) → IsFaithfulItem files given item
       → IsAnswer files given earlier piece_states item event
       → is_wanted earlier piece_states event ≡ true
       → IsMarked item × AreToldFaults (λ attempt. None) earlier piece_states event

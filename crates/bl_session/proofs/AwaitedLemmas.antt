@@ -5,30 +5,31 @@ use Rattle.std.proofs.Common.{arith}
 use Rattle.std.proofs.lemmas.Bool.{cases_lt}
 use Rattle.std.proofs.lemmas.List.{length-set, get_or-map, get_or_past, length-map}
 use Rattle.std.proofs.lemmas.List.FromFn.{get_or-map-range_with_len, length-map-range_with_len}
-use Rattle.bl_map.specs.Room.{frames_of}
+use Rattle.bl_map.specs.PoolFrames.{frames_of}
 use Rattle.bl_stage.specs.PieceStates.{PieceState, lacks, has, waiting_pieces}
 use Rattle.bl_session.specs.declared.ticket.Ticket.{Ticket}
 use Rattle.bl_session.specs.Asked.{ticket_of, first_awaited_piece, first_ticket, ticket_or}
-use Rattle.bl_session.specs.Pieces.{is_awaited, awaits, piece_state_of, with_piece, awaited}
+use Rattle.bl_session.specs.Pieces.{is_awaited, awaits, piece_state_of, with_piece, waiting_files}
 
 -- ---- a new attempt's
 
 -- a piece of these files, and how long it is
 pub record IsPiece (lengths : List ℕ) (file piece : ℕ) : Type 0 where
-  pub file_in : file < length (awaited lengths)
-  pub piece_in : piece < length (get_or (awaited lengths) file [])
+  pub file_in : file < length (waiting_files lengths)
+  pub piece_in : piece < length (get_or (waiting_files lengths) file [])
   pub inside : 4096 * piece < get_or lengths file 0
-  pub piece_state : piece_state_of (awaited lengths) file piece
+  pub piece_state : piece_state_of (waiting_files lengths) file piece
       ≡ lacks (min 4096 (get_or lengths file 0 - 4096 * piece))
 
 pub is_piece : (lengths : List ℕ) (file piece : ℕ)
-    → is_awaited (piece_state_of (awaited lengths) file piece) ≡ true → IsPiece lengths file piece
+    → is_awaited (piece_state_of (waiting_files lengths) file piece) ≡ true
+    → IsPiece lengths file piece
 is_piece lengths file piece e =
     let d : List PieceState = [] in
     elim (cases_lt file (length lengths)) [
       | inl h ↦
           let n = get_or lengths file 0 in
-          let at : get_or (awaited lengths) file d ≡ waiting_pieces n =
+          let at : get_or (waiting_files lengths) file d ≡ waiting_pieces n =
           get_or-map waiting_pieces lengths file 0 d h in
           let size : ℕ → PieceState = λ index. lacks (min 4096 (n - 4096 * index)) in
           let long = length-map-range_with_len size 0 (frames_of n) in
@@ -44,16 +45,16 @@ is_piece lengths file piece e =
                   (omega arith);
             }
             | inr past ↦
-                let none : piece_state_of (awaited lengths) file piece ≡ has [] =
+                let none : piece_state_of (waiting_files lengths) file piece ≡ has [] =
                 ap (λ (s : List PieceState). get_or s piece (has [])) at
                 ∙ get_or_past (waiting_pieces n) piece (has []) (omega arith) in
                 absurd (let f = ap is_awaited none in cc)
           ]
       | inr past ↦
           let many = length-map lengths waiting_pieces in
-          let none : piece_state_of (awaited lengths) file piece ≡ has [] =
+          let none : piece_state_of (waiting_files lengths) file piece ≡ has [] =
           ap (λ (s : List PieceState). get_or s piece (has []))
-          (get_or_past (awaited lengths) file d (omega arith)) in
+          (get_or_past (waiting_files lengths) file d (omega arith)) in
           absurd (let f = ap is_awaited none in cc)
     ]
 

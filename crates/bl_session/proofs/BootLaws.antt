@@ -8,10 +8,12 @@ use Rattle.bl_session.specs.declared.outcome.RefusedEntry.{RefusedEntry}
 use Rattle.bl_session.specs.AttemptResult.{AttemptResult, handed, refused, size_refusal}
 use Rattle.bl_session.specs.Menu.{entry_at, value_with}
 use Rattle.bl_session.specs.Pieces.{are_whole, with_piece}
-use Rattle.bl_session.specs.Boot.{BootFacts, EventFacts, piece, fault, State, unstarted, running}
-use Rattle.bl_session.specs.Boot.{handed_over, none_left, out_of_memory, sizes_of, fresh}
-use Rattle.bl_session.specs.Boot.{TextsHaveResult, AfterAttempt, Continues, BeginsUnless, Begins}
-use Rattle.bl_session.specs.Boot.{is_wanted, Takes, Steps, Starts}
+use Rattle.bl_session.specs.BootSteps.{BootFacts, EventFacts, piece, fault, State, unstarted}
+use Rattle.bl_session.specs.BootSteps.{running}
+use Rattle.bl_session.specs.BootSteps.{handed_over, none_left, out_of_memory, sizes_of, fresh}
+use Rattle.bl_session.specs.BootSteps.{TextsHaveResult, AfterAttempt, Continues, BeginsUnless}
+use Rattle.bl_session.specs.BootSteps.{Begins}
+use Rattle.bl_session.specs.BootSteps.{is_wanted, TakesEvent, Steps, Starts}
 use Rattle.bl_session.proofs.EndLaws.{one_end_in, some_end_in}
 
 abbrev pub IsOne : (State → Type 0) → Type 0
@@ -26,7 +28,8 @@ one_choice false P state one = λ a b p q. p ∙ sym q
 
 pub one_goes : (next : List RefusedEntry → State → Type 0) (entry : ℕ) (earlier : List RefusedEntry)
     (e f : AttemptResult) → ((r : List RefusedEntry) → IsOne (next r)) → e ≡ f
-    → (a b : State) → AfterAttempt next entry earlier e a → AfterAttempt next entry earlier f b → a ≡ b
+    → (a b : State) → AfterAttempt next entry earlier e a → AfterAttempt next entry earlier f b → a
+    ≡ b
 one_goes next entry earlier (handed h) (handed k) one same a b p q =
     p ∙ (let e : handed_over entry earlier h ≡ handed_over entry earlier k = cc in e) ∙ sym q
 one_goes next entry earlier (handed h) (refused s) one same a b p q = absurd cc
@@ -71,7 +74,7 @@ one_begins facts (entry ∷ rest) earlier =
 
 one_takes : (facts : BootFacts) (entry : ℕ) (rest : List ℕ) (earlier : List RefusedEntry)
     (files : List (List PieceState)) (event : EventFacts)
-    → IsOne (Takes facts entry rest earlier files event)
+    → IsOne (TakesEvent facts entry rest earlier files event)
 one_takes facts entry rest earlier files (piece ticket bytes) =
     one_continues facts (Begins facts rest) entry rest earlier
     (with_piece files ticket.file ticket.piece bytes) (one_begins facts rest)
@@ -83,7 +86,7 @@ one_takes facts entry rest earlier files (fault ticket) =
 pub one_step : (facts : BootFacts) (old : State) (event : EventFacts) (a b : State)
     → Steps facts old event a → Steps facts old event b → a ≡ b
 one_step facts (running entry rest earlier files) event =
-    one_choice (is_wanted earlier files event) (Takes facts entry rest earlier files event)
+    one_choice (is_wanted earlier files event) (TakesEvent facts entry rest earlier files event)
     (running entry rest earlier files) (one_takes facts entry rest earlier files event)
 one_step facts unstarted event = λ a b p q. p ∙ sym q
 one_step facts (handed_over entry earlier handover) event = λ a b p q. p ∙ sym q
@@ -152,7 +155,7 @@ some_begins facts (entry ∷ rest) earlier =
 
 some_takes : (facts : BootFacts) (entry : ℕ) (rest : List ℕ) (earlier : List RefusedEntry)
     (files : List (List PieceState)) (event : EventFacts)
-    → HasOne (Takes facts entry rest earlier files event)
+    → HasOne (TakesEvent facts entry rest earlier files event)
 some_takes facts entry rest earlier files (piece ticket bytes) =
     some_continues facts (Begins facts rest) entry rest earlier
     (with_piece files ticket.file ticket.piece bytes) (some_begins facts rest)
@@ -163,7 +166,7 @@ some_takes facts entry rest earlier files (fault ticket) =
 pub some_step : (facts : BootFacts) (old : State) (event : EventFacts)
     → (new : State) × Steps facts old event new
 some_step facts (running entry rest earlier files) event =
-    some_choice (is_wanted earlier files event) (Takes facts entry rest earlier files event)
+    some_choice (is_wanted earlier files event) (TakesEvent facts entry rest earlier files event)
     (running entry rest earlier files) (some_takes facts entry rest earlier files event)
 some_step facts unstarted event = (unstarted, refl)
 some_step facts (handed_over entry earlier handover) event =

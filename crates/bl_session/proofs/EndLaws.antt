@@ -3,23 +3,25 @@ use Rattle.std.proofs.Common.{◌≡◌, ℕ, List, Option, Some, None, ◌⊎�
 use Rattle.std.proofs.Common.{refl, option_map, arith, map, length}
 use Rattle.std.proofs.lemmas.Bool.{cases_lt}
 use Rattle.bl_map.specs.MachineFacts.{MachineFacts}
-use Rattle.bl_map.specs.Room.{frames_for, open_frames}
+use Rattle.bl_map.specs.PoolFrames.{frames_for, open_frames}
 use Rattle.bl_load.specs.declared.refusal.Refusal.{Refusal}
 use Rattle.bl_load.specs.declared.refusal.Refusal.TheVariants.{FileFault, NoPool}
-use Rattle.bl_load.specs.Value.{EntryValue}
+use Rattle.bl_load.specs.EntryValue.{EntryValue}
 use Rattle.bl_load.specs.Handover.{Handover}
 use Rattle.bl_load.proofs.HandoverLaws.{one_handover, one_refusal, not_both}
 use Rattle.bl_load.proofs.TotalLaws.{handover_or_refusal}
-use Rattle.bl_session.specs.AttemptResult.{AttemptResult, handed, refused, HasRoomBeside, LacksRoom}
+use Rattle.bl_session.specs.AttemptResult.{AttemptResult, handed, refused, HasFramesBeside}
+use Rattle.bl_session.specs.AttemptResult.{LacksFrames}
 use Rattle.bl_session.specs.AttemptResult.{HasResult, part_range, UnlessRefused, AttemptHasResult}
 use Rattle.bl_session.specs.AttemptResult.{size_refusal}
 
 -- an entry whose parts leave no room is not handed over
-no_room : (facts : MachineFacts) (value : EntryValue) (handover : Handover) → LacksRoom facts value
+no_room : (facts : MachineFacts) (value : EntryValue) (handover : Handover)
+    → LacksFrames facts value
     → HasResult facts value (handed handover) → ⊥
 no_room facts value handover lacks (is, room) =
     lacks.lacking
-    (subst (λ (h : Handover). HasRoomBeside facts value h)
+    (subst (λ (h : Handover). HasFramesBeside facts value h)
     (one_handover facts value handover lacks.handover is lacks.is) room)
 
 never_both : (facts : MachineFacts) (value : EntryValue) (handover : Handover) (refusal : Refusal)
@@ -58,7 +60,7 @@ some_end_in facts value =
     ]
   where
     room_or_none : (facts : MachineFacts) (value : EntryValue) (handover : Handover)
-        → HasRoomBeside facts value handover ⊎ (¬ HasRoomBeside facts value handover)
+        → HasFramesBeside facts value handover ⊎ (¬ HasFramesBeside facts value handover)
     room_or_none facts value handover =
         elim (cases_lt (open_frames facts.pool (map part_range handover.parts))
         (frames_for (map length value.files))) [

@@ -7,13 +7,13 @@ use Rattle.std.specs.Option.{option_or}
 use Rattle.bl_map.specs.MachineFacts.{MachineFacts}
 use Rattle.bl_load.specs.declared.refusal.Refusal.{Refusal}
 use Rattle.bl_load.specs.declared.refusal.Refusal.TheVariants.{FileFault, FileTooLong}
-use Rattle.bl_load.specs.Value.{EntryValue}
+use Rattle.bl_load.specs.EntryValue.{EntryValue}
 use Rattle.bl_stage.specs.PieceStates.{waiting_pieces}
 use Rattle.bl_session.specs.AttemptResult.{AttemptResult, refused, HasResult, AttemptHasResult}
 use Rattle.bl_session.specs.AttemptResult.{UnlessRefused, size_refusal, file_refusal, pool_refusal}
 use Rattle.bl_session.specs.AttemptResult.{known_lengths, file_limit}
 use Rattle.bl_session.specs.Menu.{entry_at}
-use Rattle.bl_session.specs.Boot.{BootFacts, sizes_of, fresh}
+use Rattle.bl_session.specs.BootSteps.{BootFacts, sizes_of, fresh}
 use Rattle.bl_session.specs.Outcome.{File, missing, too_long, whole, size_of, file_bytes, texts_of}
 use Rattle.bl_session.proofs.GatherLemmas.{FitAll, fits_first}
 
@@ -113,7 +113,8 @@ pub ends_by_size : (facts : MachineFacts) (sizes : List (Option ℕ)) (faulty : 
 ends_by_size facts sizes faulty value r e =
     subst
     (λ (x : Option Refusal).
-    UnlessRefused x (UnlessRefused (option_map FileFault faulty) (HasResult facts value)) (refused r))
+    UnlessRefused x (UnlessRefused (option_map FileFault faulty) (HasResult facts value))
+    (refused r))
     (sym e)
     refl
 
@@ -127,7 +128,8 @@ ends_by_fault facts sizes faulty value place e f =
     (refused (FileFault place))) (sym e)
     (subst
     (λ (x : Option ℕ).
-    UnlessRefused (option_map FileFault x) (HasResult facts value) (refused (FileFault place))) (sym f)
+    UnlessRefused (option_map FileFault x) (HasResult facts value) (refused (FileFault place)))
+    (sym f)
     refl)
 
 pub ends_whole : (facts : MachineFacts) (sizes : List (Option ℕ)) (faulty : Option ℕ)
@@ -136,7 +138,8 @@ pub ends_whole : (facts : MachineFacts) (sizes : List (Option ℕ)) (faulty : Op
 ends_whole facts sizes faulty value end e f in_value =
     subst
     (λ (x : Option Refusal).
-    UnlessRefused x (UnlessRefused (option_map FileFault faulty) (HasResult facts value)) end) (sym e)
+    UnlessRefused x (UnlessRefused (option_map FileFault faulty) (HasResult facts value)) end)
+    (sym e)
     (subst (λ (x : Option ℕ). UnlessRefused (option_map FileFault x) (HasResult facts value) end)
     (sym f)
     in_value)

@@ -2,11 +2,12 @@
 use Rattle.std.proofs.Common.{◌≡◌, List, [], ◌∷◌, ◌++◌, map, None, refl, sym, ap, subst, ◌∙◌, inl}
 use Rattle.std.proofs.Common.{inr, length, append_assoc}
 use Rattle.std.proofs.lemmas.List.{append-nil}
-use Rattle.bl_session.specs.Boot.{BootFacts, EventFacts, State, unstarted, running, handed_over}
-use Rattle.bl_session.specs.Boot.{none_left, out_of_memory, StepsOrFails, StartsOrFails}
-use Rattle.bl_session.specs.History.{Item}
+use Rattle.bl_session.specs.BootSteps.{BootFacts, EventFacts, State, unstarted, running}
+use Rattle.bl_session.specs.BootSteps.{handed_over}
+use Rattle.bl_session.specs.BootSteps.{none_left, out_of_memory, StepsOrFails, StartsOrFails}
+use Rattle.bl_session.specs.History.{HistoryItem}
 use Rattle.bl_session.specs.Outcome.{File, size_of}
-use Rattle.bl_session.specs.Asked.{orders, orders_after}
+use Rattle.bl_session.specs.Asked.{attempt_submissions, new_submissions}
 use Rattle.bl_session.specs.Run.{RunState, IsEventOf, IsGenuineItem, IsGenuineRun, EachAnswerIs}
 use Rattle.bl_session.specs.Faithful.{IsFaithfulItem, IsFaithfulAfter, IsFaithful}
 use Rattle.bl_session.proofs.SteadyLemmas.{Steady, steady_new}
@@ -15,7 +16,7 @@ use Rattle.bl_session.proofs.AwaitedAnswers.{tell_true}
 use Rattle.bl_session.proofs.HeardLemmas.{hear_any}
 
 module _ (facts : BootFacts) (files : List File) (known : facts.sizes ≡ map size_of files) where
-  genuine_one : (state : State) (given : List Item) (item : Item) (event : EventFacts)
+  genuine_one : (state : State) (given : List HistoryItem) (item : HistoryItem) (event : EventFacts)
       → Steady facts given state → IsFaithfulItem files given item
       → IsEventOf files given state item event → IsGenuineItem (λ attempt. None) state item event
   genuine_one (running entry rest earlier piece_states) given item event steady faithful is =
@@ -26,10 +27,11 @@ module _ (facts : BootFacts) (files : List File) (known : facts.sizes ≡ map si
   genuine_one (none_left earlier) given item event steady faithful is = tt
   genuine_one out_of_memory given item event steady faithful is = tt
 
-  steady_one : (state : State) (given : List Item) (item : Item) (event : EventFacts) (new : State)
+  steady_one : (state : State) (given : List HistoryItem) (item : HistoryItem) (event : EventFacts)
+      (new : State)
       → Steady facts given state → IsFaithfulItem files given item
       → IsEventOf files given state item event → StepsOrFails facts state event new
-      → Steady facts ((given ++ item ∷ []) ++ orders_after facts state new) new
+      → Steady facts ((given ++ item ∷ []) ++ new_submissions facts state new) new
   steady_one (running entry rest earlier piece_states) given item event new steady faithful is
       goes =
       hear_any facts files known entry rest earlier piece_states given steady item event new
@@ -41,7 +43,7 @@ module _ (facts : BootFacts) (files : List File) (known : facts.sizes ≡ map si
   steady_one (none_left earlier) given item event new steady faithful is goes = absurd is
   steady_one out_of_memory given item event new steady faithful is goes = absurd is
 
-  genuine_all : (items given : List Item) (state : State) (owed : List Item)
+  genuine_all : (items given : List HistoryItem) (state : State) (owed : List HistoryItem)
       → Steady facts (given ++ owed) state → IsFaithfulAfter files given items
       → EachAnswerIs facts files (IsGenuineItem (λ attempt. None)) given
       (record { state = state; owed = owed }) items
@@ -50,7 +52,7 @@ module _ (facts : BootFacts) (files : List File) (known : facts.sizes ≡ map si
     (λ event none is. absurd (cc)),
     λ next (same, at).
         let all : (given ++ item ∷ []) ++ owed ≡ given ++ order ∷ owed =
-        append_assoc given (item ∷ []) owed ∙ ap (λ (x : Item). given ++ x ∷ owed) same in
+        append_assoc given (item ∷ []) owed ∙ ap (λ (x : HistoryItem). given ++ x ∷ owed) same in
         let holds : Steady facts ((given ++ item ∷ []) ++ owed) state = rw all steady in
         subst (λ (w : RunState).
         EachAnswerIs facts files (IsGenuineItem (λ attempt. None)) (given ++ item ∷ []) w items)
@@ -66,17 +68,17 @@ module _ (facts : BootFacts) (files : List File) (known : facts.sizes ≡ map si
       )
 
   begin_any : (begun_as : State) → StartsOrFails facts unstarted begun_as
-      → Steady facts ([] ++ orders facts begun_as) begun_as
+      → Steady facts ([] ++ attempt_submissions facts begun_as) begun_as
   begin_any state (inl goes) =
       steady_new facts [] (length facts.menu.attempts) 0 state
       (new_begins facts facts.menu.attempts [] state goes)
       (λ t l. (refl, refl, λ found. refl))
   begin_any state (inr (lacks, first)) =
-      subst (λ (s : State). Steady facts ([] ++ orders facts s) s) (sym lacks) tt
+      subst (λ (s : State). Steady facts ([] ++ attempt_submissions facts s) s) (sym lacks) tt
 
-  pub faithful_is_genuine : (new : List Item) → IsFaithful files new
+  pub faithful_is_genuine : (new : List HistoryItem) → IsFaithful files new
       → IsGenuineRun facts files (λ attempt. None) [] new
   faithful_is_genuine new faithful = λ gained state same starts.
       let read : IsFaithfulAfter files [] gained =
-      subst (λ (items : List Item). IsFaithfulAfter files [] items) same faithful in
-      genuine_all gained [] state (orders facts state) (begin_any state starts) read
+      subst (λ (items : List HistoryItem). IsFaithfulAfter files [] items) same faithful in
+      genuine_all gained [] state (attempt_submissions facts state) (begin_any state starts) read

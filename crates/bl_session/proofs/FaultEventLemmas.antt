@@ -3,12 +3,14 @@ use Rattle.std.proofs.Common.{◌≡◌, ℕ, ◌+◌, ◌≤◌, Bool, true, fa
 use Rattle.std.proofs.Common.{length, refl, sym, ap, subst, ◌∙◌, inl, inr, arith}
 use Rattle.bl_stage.specs.PieceStates.{PieceState}
 use Rattle.bl_session.specs.declared.outcome.RefusedEntry.{RefusedEntry}
-use Rattle.bl_session.specs.Boot.{BootFacts, EventFacts, State, unstarted, running, handed_over}
-use Rattle.bl_session.specs.Boot.{none_left, out_of_memory, is_wanted, Takes, Steps}
+use Rattle.bl_session.specs.BootSteps.{BootFacts, EventFacts, State, unstarted, running}
+use Rattle.bl_session.specs.BootSteps.{handed_over}
+use Rattle.bl_session.specs.BootSteps.{none_left, out_of_memory, is_wanted, TakesEvent, Steps}
 use Rattle.bl_session.specs.Outcome.{File, Faults, AreToldFaults}
-use Rattle.bl_session.specs.History.{Item}
-use Rattle.bl_session.specs.Asked.{orders_after}
-use Rattle.bl_session.specs.Run.{IsAnswer, RunState, Delivers, IsMarked, IsGenuineItem, EachAnswerIs}
+use Rattle.bl_session.specs.History.{HistoryItem}
+use Rattle.bl_session.specs.Asked.{new_submissions}
+use Rattle.bl_session.specs.Run.{IsAnswer, RunState, Delivers, IsMarked, IsGenuineItem}
+use Rattle.bl_session.specs.Run.{EachAnswerIs}
 use Rattle.bl_session.proofs.BootLaws.{one_step}
 use Rattle.bl_session.proofs.WentLemmas.{IsNewFrom}
 use Rattle.bl_session.proofs.LostLemmas.{LacksMemory, lost_step, hears_nothing}
@@ -36,7 +38,7 @@ module _ (facts : BootFacts) (files : List File) where
   from_new count number out_of_memory n is from = absurd from
 
   -- some faults, which count only from the attempt that runs, make these items genuine
-  abbrev pub Fits : List Item → RunState → List Item → Type 0
+  abbrev pub Fits : List HistoryItem → RunState → List HistoryItem → Type 0
   Fits given run_state items =
       (faults : Faults)
       × ((others : Faults) → ((n : ℕ) → IsFrom run_state.state n → others n ≡ faults n)
@@ -44,7 +46,8 @@ module _ (facts : BootFacts) (files : List File) where
 
   -- ---- want of memory
 
-  pub lost_genuine : (others : Faults) (items given : List Item) (run_state : RunState) → LacksMemory run_state
+  pub lost_genuine : (others : Faults) (items given : List HistoryItem) (run_state : RunState)
+      → LacksMemory run_state
       → EachAnswerIs facts files (IsGenuineItem others) given run_state items
   lost_genuine others [] given run_state lost = tt
   lost_genuine others (item ∷ items) given run_state lost = (
@@ -54,8 +57,8 @@ module _ (facts : BootFacts) (files : List File) where
 
   -- ---- one answer of an attempt that runs
 
-  module _ (given : List Item) (entry : ℕ) (rest : List ℕ) (earlier : List RefusedEntry)
-      (piece_states : List (List PieceState)) (item : Item)
+  module _ (given : List HistoryItem) (entry : ℕ) (rest : List ℕ) (earlier : List RefusedEntry)
+      (piece_states : List (List PieceState)) (item : HistoryItem)
       (marked : (event : EventFacts) → IsAnswer files given earlier piece_states item event
       → is_wanted earlier piece_states event ≡ true → IsMarked item) where
     abbrev here : State
@@ -82,15 +85,17 @@ module _ (facts : BootFacts) (files : List File) where
     )
 
     -- each other state of the run that is reached is the same, or lacks memory
-    other_world : (others : Faults) (event : EventFacts) (next run_state : RunState) (items : List Item)
+    other_world : (others : Faults) (event : EventFacts) (next run_state : RunState)
+        (items : List HistoryItem)
         → IsAnswer files given earlier piece_states item event → Steps facts here event next.state
-        → next.owed ≡ orders_after facts here next.state
+        → next.owed ≡ new_submissions facts here next.state
         → Delivers facts files given here [] item run_state
         → EachAnswerIs facts files (IsGenuineItem others) (given ++ item ∷ []) next items
         → EachAnswerIs facts files (IsGenuineItem others) (given ++ item ∷ []) run_state items
     other_world others event next run_state items p goes left (other, q, inr (lost, ends), owed)
         genuine =
-        lost_genuine others items (given ++ item ∷ []) run_state (lost_step facts here run_state lost owed)
+        lost_genuine others items (given ++ item ∷ []) run_state
+        (lost_step facts here run_state lost owed)
     other_world others event next run_state items p goes left (other, q, inl steps, owed) genuine =
         let state : next.state ≡ run_state.state =
         same_state (is_wanted earlier piece_states other) (is_wanted earlier piece_states event)
@@ -98,17 +103,17 @@ module _ (facts : BootFacts) (files : List File) where
         steps goes in
         let same : next ≡ run_state =
         ap (λ (s : State). record { state = s; owed = next.owed }) state
-        ∙ ap (λ (o : List Item). record { state = run_state.state; owed = o })
-        (left ∙ ap (orders_after facts here) state ∙ sym owed) in
+        ∙ ap (λ (o : List HistoryItem). record { state = run_state.state; owed = o })
+        (left ∙ ap (new_submissions facts here) state ∙ sym owed) in
         subst (λ (w : RunState).
         EachAnswerIs facts files (IsGenuineItem others) (given ++ item ∷ []) w items) same
         genuine
       where
         same_state : (a b : Bool) → is_wanted earlier piece_states other ≡ a
             → is_wanted earlier piece_states event ≡ b
-            → MatchBool a (Takes facts entry rest earlier piece_states other run_state.state)
+            → MatchBool a (TakesEvent facts entry rest earlier piece_states other run_state.state)
             (run_state.state ≡ here)
-            → MatchBool b (Takes facts entry rest earlier piece_states event next.state)
+            → MatchBool b (TakesEvent facts entry rest earlier piece_states event next.state)
             (next.state ≡ here)
             → next.state ≡ run_state.state
         same_state true b e f takes other_takes =
@@ -122,9 +127,9 @@ module _ (facts : BootFacts) (files : List File) where
         same_state false false e f stays other_stays = other_stays ∙ sym stays
 
     -- the faults after it, and that of this attempt if it ended
-    pub taken : (event : EventFacts) (next : RunState) (items : List Item)
+    pub taken : (event : EventFacts) (next : RunState) (items : List HistoryItem)
         → IsAnswer files given earlier piece_states item event → Steps facts here event next.state
-        → next.owed ≡ orders_after facts here next.state
+        → next.owed ≡ new_submissions facts here next.state
         → Fits (given ++ item ∷ []) next items
         → Fits given (record { state = here; owed = [] }) (item ∷ items)
     taken event next items p goes left (faults, more) =
@@ -149,7 +154,7 @@ module _ (facts : BootFacts) (files : List File) where
         )
 
         ended : (last : Bool) → is_last piece_states event ≡ last
-            → Takes facts entry rest earlier piece_states event next.state
+            → TakesEvent facts entry rest earlier piece_states event next.state
             → Fits given (record { state = here; owed = [] }) (item ∷ items)
         ended true e takes =
             let new = last_new facts entry rest earlier piece_states event next.state e takes in (
@@ -175,7 +180,7 @@ module _ (facts : BootFacts) (files : List File) where
             )
 
         wanted : (b : Bool) → is_wanted earlier piece_states event ≡ b
-            → MatchBool b (Takes facts entry rest earlier piece_states event next.state)
+            → MatchBool b (TakesEvent facts entry rest earlier piece_states event next.state)
             (next.state ≡ here) → Fits given (record { state = here; owed = [] }) (item ∷ items)
         wanted true e takes = ended (is_last piece_states event) refl takes
         wanted false e stays = (

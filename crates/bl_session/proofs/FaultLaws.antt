@@ -1,11 +1,13 @@
 -- A history whose wanted pieces are marked is genuine, with the faults that came of it.
 use Rattle.std.proofs.Common.{◌≡◌, List, [], ◌∷◌, ◌++◌, None, refl, sym, ap, subst, ◌∙◌, inl, inr}
-use Rattle.bl_session.specs.Boot.{BootFacts, EventFacts, State, unstarted, running, handed_over}
-use Rattle.bl_session.specs.Boot.{none_left, out_of_memory, StartsOrFails}
+use Rattle.bl_session.specs.BootSteps.{BootFacts, EventFacts, State, unstarted, running}
+use Rattle.bl_session.specs.BootSteps.{handed_over}
+use Rattle.bl_session.specs.BootSteps.{none_left, out_of_memory, StartsOrFails}
 use Rattle.bl_session.specs.Outcome.{File, Faults}
-use Rattle.bl_session.specs.History.{Item}
-use Rattle.bl_session.specs.Asked.{orders}
-use Rattle.bl_session.specs.Run.{IsEventOf, RunState, run_state_of, Delivers, Reads, IsRun, IsGenuineRun}
+use Rattle.bl_session.specs.History.{HistoryItem}
+use Rattle.bl_session.specs.Asked.{attempt_submissions}
+use Rattle.bl_session.specs.Run.{IsEventOf, RunState, run_state_of, Delivers, Reads, IsRun}
+use Rattle.bl_session.specs.Run.{IsGenuineRun}
 use Rattle.bl_session.specs.Run.{EachAnswerIs, IsMarkedItem, IsMarkedRun, IsGenuineItem}
 use Rattle.bl_session.proofs.BootLaws.{one_start}
 use Rattle.bl_session.proofs.LostLemmas.{lost_step, reads_nothing}
@@ -14,8 +16,9 @@ use Rattle.bl_session.proofs.FaultEventLemmas.{IsFrom, Fits, lost_genuine, taken
 module _ (facts : BootFacts) (files : List File) where
   -- ---- the whole history
 
-  one_item : (items : List Item) (item : Item) (given : List Item) (state : State)
-      (owed : List Item) (next : RunState) (end : State)
+  one_item : (items : List HistoryItem) (item : HistoryItem) (given : List HistoryItem)
+      (state : State)
+      (owed : List HistoryItem) (next : RunState) (end : State)
       → ((event : EventFacts) → owed ≡ [] → IsEventOf files given state item event
       → IsMarkedItem state item event)
       → Delivers facts files given state owed item next
@@ -48,7 +51,7 @@ module _ (facts : BootFacts) (files : List File) where
       reads_nothing facts files (given ++ item ∷ []) next items end
       (lost_step facts (running entry rest earlier piece_states) next lost left) reads in
       subst
-      (λ (rest_of : List Item).
+      (λ (rest_of : List HistoryItem).
       Fits facts files given (record { state = running entry rest earlier piece_states; owed = [] })
       (item ∷ rest_of)) (sym none)
       (lost_last facts files given entry rest earlier piece_states item
@@ -61,7 +64,7 @@ module _ (facts : BootFacts) (files : List File) where
   one_item items item given out_of_memory [] next end marked (event, is, goes, left) reads more =
       absurd is
 
-  fits : (items given : List Item) (run_state : RunState) (end : State)
+  fits : (items given : List HistoryItem) (run_state : RunState) (end : State)
       → EachAnswerIs facts files IsMarkedItem given run_state items
       → Reads facts files given run_state items end
       → Fits facts files given run_state items
@@ -72,12 +75,12 @@ module _ (facts : BootFacts) (files : List File) where
 
   -- ---- a run
 
-  same_rest : (old a b : List Item) → old ++ a ≡ old ++ b → a ≡ b
+  same_rest : (old a b : List HistoryItem) → old ++ a ≡ old ++ b → a ≡ b
   same_rest [] a b e = e
   same_rest (item ∷ old) a b e = same_rest old a b cc
 
   -- a boot that began so, as it is told, or one that lacks memory from the first
-  begun_alike : (old gained : List Item) (a b : State) (end : State)
+  begun_alike : (old gained : List HistoryItem) (a b : State) (end : State)
       → StartsOrFails facts unstarted a → Reads facts files old (run_state_of facts a) gained end
       → (faults : Faults)
       → EachAnswerIs facts files (IsGenuineItem faults) old (run_state_of facts a) gained
@@ -88,16 +91,18 @@ module _ (facts : BootFacts) (files : List File) where
       EachAnswerIs facts files (IsGenuineItem faults) old (run_state_of facts s) gained)
       (one_start facts unstarted a b p q) genuine
   begun_alike old gained a b end p reads faults genuine (inr (lost, is)) =
-      lost_genuine facts files faults gained old (run_state_of facts b) (lost, ap (orders facts) lost)
+      lost_genuine facts files faults gained old (run_state_of facts b)
+      (lost, ap (attempt_submissions facts) lost)
   begun_alike old gained a b end (inr (lost, is)) reads faults genuine (inl q) =
       let none =
-      reads_nothing facts files old (run_state_of facts a) gained end (lost, ap (orders facts) lost)
+      reads_nothing facts files old (run_state_of facts a) gained end
+      (lost, ap (attempt_submissions facts) lost)
       reads in
-      subst (λ (items : List Item).
+      subst (λ (items : List HistoryItem).
       EachAnswerIs facts files (IsGenuineItem faults) old (run_state_of facts b) items)
       (sym none) tt
 
-  pub some_faults : (old new : List Item) (end : State) → IsRun facts files old new end
+  pub some_faults : (old new : List HistoryItem) (end : State) → IsRun facts files old new end
       → IsMarkedRun facts files old new
       → (faults : Faults) × IsGenuineRun facts files faults old new
   some_faults old new end run marked =
@@ -109,8 +114,9 @@ module _ (facts : BootFacts) (files : List File) where
             let same : run.gained ≡ gained =
             same_rest old run.gained gained (sym run.given ∙ given) in
             subst
-            (λ (items : List Item).
-            EachAnswerIs facts files (IsGenuineItem found.0) old (run_state_of facts begun) items) same
+            (λ (items : List HistoryItem).
+            EachAnswerIs facts files (IsGenuineItem found.0) old (run_state_of facts begun) items)
+            same
             (begun_alike old run.gained run.begun begun end run.begins run.reads found.0
             (found.1 found.0 (λ n from. refl)) begins),
       )

@@ -8,10 +8,11 @@ use Rattle.bl_stage.specs.PieceStates.{PieceState, came_bytes}
 use Rattle.bl_session.specs.declared.outcome.RefusedEntry.{RefusedEntry}
 use Rattle.bl_session.specs.AttemptResult.{AttemptResult, refused}
 use Rattle.bl_session.specs.Pieces.{are_whole, with_piece}
-use Rattle.bl_session.specs.Boot.{BootFacts, EventFacts, piece, fault, State, running}
-use Rattle.bl_session.specs.Boot.{TextsHaveResult, AfterAttempt, Begins, Takes}
+use Rattle.bl_session.specs.BootSteps.{BootFacts, EventFacts, piece, fault, State, running}
+use Rattle.bl_session.specs.BootSteps.{TextsHaveResult, AfterAttempt, Begins, TakesEvent}
 use Rattle.bl_session.specs.Outcome.{File, Faults, AreToldFaults}
-use Rattle.bl_session.specs.History.{Item, submitted, came, failed, nothing, file_under, IsPieceOf}
+use Rattle.bl_session.specs.History.{HistoryItem, submitted, came, failed, nothing, file_under}
+use Rattle.bl_session.specs.History.{IsPieceOf}
 use Rattle.bl_session.specs.Run.{IsAnswer, IsMarked}
 use Rattle.bl_session.proofs.WentLemmas.{IsNewFrom, new_begins, new_goes}
 
@@ -22,8 +23,8 @@ one_piece : (files : List File) (under : Option ℕ) (index : ℕ) (a b : List �
 one_piece files None index a b p q = absurd p
 one_piece files (Some file) index a b p q = p ∙ sym q
 
-pub one_event : (files : List File) (given : List Item) (earlier : List RefusedEntry)
-    (piece_states : List (List PieceState)) (item : Item) (a b : EventFacts) → IsMarked item
+pub one_event : (files : List File) (given : List HistoryItem) (earlier : List RefusedEntry)
+    (piece_states : List (List PieceState)) (item : HistoryItem) (a b : EventFacts) → IsMarked item
     → IsAnswer files given earlier piece_states item a
     → IsAnswer files given earlier piece_states item b → a ≡ b
 one_event files given earlier piece_states (submitted file ticket) a b marked p q = absurd p
@@ -81,7 +82,7 @@ past_fault number place faults n h =
 pub last_new : (facts : BootFacts) (entry : ℕ) (rest : List ℕ) (earlier : List RefusedEntry)
     (piece_states : List (List PieceState)) (event : EventFacts) (new : State)
     → is_last piece_states event ≡ true
-    → Takes facts entry rest earlier piece_states event new
+    → TakesEvent facts entry rest earlier piece_states event new
     → IsNewFrom facts (length rest) (length earlier + 1) new
 last_new facts entry rest earlier piece_states (piece ticket bytes) new last takes =
     let after = with_piece piece_states ticket.file ticket.piece bytes in
@@ -101,7 +102,7 @@ last_new facts entry rest earlier piece_states (fault ticket) new last takes =
 pub goes_on : (facts : BootFacts) (entry : ℕ) (rest : List ℕ) (earlier : List RefusedEntry)
     (piece_states : List (List PieceState)) (event : EventFacts) (new : State)
     → is_last piece_states event ≡ false
-    → Takes facts entry rest earlier piece_states event new
+    → TakesEvent facts entry rest earlier piece_states event new
     → (after : List (List PieceState)) × (new ≡ running entry rest earlier after)
 goes_on facts entry rest earlier piece_states (piece ticket bytes) new last takes =
     let after = with_piece piece_states ticket.file ticket.piece bytes in (

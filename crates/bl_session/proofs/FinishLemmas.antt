@@ -1,7 +1,7 @@
 -- What an attempt ends in, by its plan and the room beside it.
 use Rattle.std.proofs.Common.{◌≡◌, ℕ, List, map, refl, inl, inr, All}
 use Rattle.bl_map.specs.MachineFacts.{MachineFacts}
-use Rattle.bl_map.specs.Room.{HasRoomFor}
+use Rattle.bl_map.specs.PoolFrames.{HasFramesFor}
 use Rattle.bl_plan.specs.Placed.{place_range}
 use Rattle.bl_load.specs.declared.entry.Entry.{Entry}
 use Rattle.bl_load.specs.declared.entry.Entry.TheVariants.{Multiboot2, Linux}
@@ -12,8 +12,8 @@ use Rattle.bl_load.specs.declared.refusal.Refusal.TheVariants.{NoPool}
 use Rattle.bl_load.specs.Loadable.{lengths_of, IsBacked}
 use Rattle.bl_load.specs.Parts.{IsHandover, IsPrepFault}
 use Rattle.bl_load.specs.PlanFacts.{handover_by, places_of}
-use Rattle.bl_load.specs.Value.{EntryValue, value_of}
-use Rattle.bl_session.specs.AttemptResult.{HasResult, HasRoomBeside, refused}
+use Rattle.bl_load.specs.EntryValue.{EntryValue, value_of}
+use Rattle.bl_session.specs.AttemptResult.{HasResult, HasFramesBeside, refused}
 use Rattle.bl_stage.specs.Staged.{Staging}
 use Rattle.bl_session.specs.Finished.{IsNotHandedOver, IsStageAfterFault}
 use Rattle.bl_session.proofs.AfterLemmas.{ranges_are}
@@ -37,11 +37,11 @@ files_are texts (Linux kernel line initrd wide) = refl
 module _ {A : Type 0} (facts : MachineFacts) (texts : List (List ℕ)) (entry : Entry A)
     (plan : Plan A) (is : IsHandover facts (value_of texts entry) (handover_by texts plan))
     (backed : All (IsBacked (lengths_of texts)) plan.parts.items) where
-  pub has_room : HasRoomFor facts.pool (map place_range (places_of plan)) texts
-      → HasRoomBeside facts (value_of texts entry) (handover_by texts plan)
+  pub has_room : HasFramesFor facts.pool (map place_range (places_of plan)) texts
+      → HasFramesBeside facts (value_of texts entry) (handover_by texts plan)
   has_room room = rw (files_are texts entry, ranges_are texts plan.parts.items backed) room
 
-  pub lacks_room : ¬ HasRoomFor facts.pool (map place_range (places_of plan)) texts
+  pub lacks_room : ¬ HasFramesFor facts.pool (map place_range (places_of plan)) texts
       → HasResult facts (value_of texts entry) (refused NoPool)
   lacks_room full =
       inr (

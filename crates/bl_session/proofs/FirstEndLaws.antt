@@ -7,10 +7,12 @@ use Rattle.bl_stage.specs.PieceStates.{PieceState, came_bytes}
 use Rattle.bl_session.specs.declared.outcome.RefusedEntry.{RefusedEntry}
 use Rattle.bl_session.specs.AttemptResult.{AttemptResult, handed, refused, HasResult, size_refusal}
 use Rattle.bl_session.specs.Pieces.{are_whole, with_piece}
-use Rattle.bl_session.specs.Boot.{BootFacts, EventFacts, piece, fault, State, unstarted, running}
-use Rattle.bl_session.specs.Boot.{handed_over, none_left, out_of_memory, sizes_of, fresh}
-use Rattle.bl_session.specs.Boot.{TextsHaveResult, AfterAttempt, BeginsUnless, Begins, is_wanted}
-use Rattle.bl_session.specs.Boot.{Takes, Steps, LeadsTo}
+use Rattle.bl_session.specs.BootSteps.{BootFacts, EventFacts, piece, fault, State, unstarted}
+use Rattle.bl_session.specs.BootSteps.{running}
+use Rattle.bl_session.specs.BootSteps.{handed_over, none_left, out_of_memory, sizes_of, fresh}
+use Rattle.bl_session.specs.BootSteps.{TextsHaveResult, AfterAttempt, BeginsUnless, Begins}
+use Rattle.bl_session.specs.BootSteps.{is_wanted}
+use Rattle.bl_session.specs.BootSteps.{TakesEvent, Steps, LeadsTo}
 use Rattle.bl_session.specs.Outcome.{File, size_of, texts_of, entry_value_in, faulty_file, IsTrueOf}
 use Rattle.bl_session.specs.Outcome.{IsGenuineAt, IsGenuine, EntryHasResult, IsFirst, IsOutcome}
 use Rattle.bl_session.specs.Outcome.{HasEnded}
@@ -99,7 +101,8 @@ module _ (facts : BootFacts) (files : List File) (faults : ℕ → Option ℕ)
       → Follows (entry ∷ rest) earlier new
   follows_unless entry rest earlier (Some r) new more sized goes =
       follows_end entry rest earlier (refused r) new more
-      (ends_by_size facts.machine (sizes_of facts entry) _ (entry_value_in facts files entry) r sized)
+      (ends_by_size facts.machine (sizes_of facts entry) _ (entry_value_in facts files entry) r
+      sized)
       goes
   follows_unless entry rest earlier None new more sized goes =
       follows_pieces entry rest earlier (fresh facts entry) (are_whole (fresh facts entry)) new more
@@ -130,7 +133,7 @@ module _ (facts : BootFacts) (files : List File) (faults : ℕ → Option ℕ)
       (piece_states : List (List PieceState))
       (event : EventFacts) (new : State) → Holds (running entry rest earlier piece_states)
       → IsTrueOf facts files faults entry earlier piece_states event
-      → Takes facts entry rest earlier piece_states event new
+      → TakesEvent facts entry rest earlier piece_states event new
       → Keeps (running entry rest earlier piece_states) new
   keeps_taken entry rest earlier piece_states (piece ticket bytes) new (sized, some, fit) (is, last)
       goes =
@@ -141,14 +144,15 @@ module _ (facts : BootFacts) (files : List File) (faults : ℕ → Option ℕ)
       (λ e. some) (λ e. has_none entry (faults (length earlier)) some (last e)) refl goes
   keeps_taken entry rest earlier piece_states (fault ticket) new (sized, some, fit) told goes =
       follows_end entry rest earlier (refused (FileFault ticket.file)) new (follows_begins rest)
-      (ends_by_fault facts.machine (sizes_of facts entry) _ (entry_value_in facts files entry) ticket.file
+      (ends_by_fault facts.machine (sizes_of facts entry) _ (entry_value_in facts files entry)
+      ticket.file
       sized (has_fault entry (faults (length earlier)) ticket.file some told)) goes
 
   keeps_choice : (entry : ℕ) (rest : List ℕ) (earlier : List RefusedEntry)
       (piece_states : List (List PieceState)) (event : EventFacts) (wanted : Bool) (new : State)
       → Holds (running entry rest earlier piece_states)
       → (wanted ≡ true → IsTrueOf facts files faults entry earlier piece_states event)
-      → MatchBool wanted (Takes facts entry rest earlier piece_states event new)
+      → MatchBool wanted (TakesEvent facts entry rest earlier piece_states event new)
       (new ≡ running entry rest earlier piece_states)
       → Keeps (running entry rest earlier piece_states) new
   keeps_choice entry rest earlier piece_states event true new holds is goes =

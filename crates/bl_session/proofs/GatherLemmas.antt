@@ -4,7 +4,7 @@ use Rattle.std.proofs.Common.{List, [], ◌∷◌, length, take, drop, set, get_
 use Rattle.std.proofs.Common.{ap, ◌∙◌, arith, length-drop}
 use Rattle.std.specs.List.{list_all, range_with_len}
 use Rattle.std.proofs.lemmas.List.{take-append-drop, drop-drop}
-use Rattle.bl_map.specs.Room.{frames_of}
+use Rattle.bl_map.specs.PoolFrames.{frames_of}
 use Rattle.bl_stage.specs.PieceStates.{PieceState, lacks, has, waiting_pieces, piece_of, came_bytes}
 use Rattle.bl_session.specs.Pieces.{is_awaited, are_whole, with_piece}
 

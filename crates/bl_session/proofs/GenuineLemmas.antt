@@ -9,9 +9,10 @@ use Rattle.bl_session.specs.declared.outcome.RefusedEntry.{RefusedEntry}
 use Rattle.bl_session.specs.declared.ticket.Ticket.{Ticket}
 use Rattle.bl_session.specs.Menu.{entry_at}
 use Rattle.bl_session.specs.Pieces.{awaits, piece_state_of}
-use Rattle.bl_session.specs.Boot.{BootFacts, EventFacts, piece, running, is_wanted}
+use Rattle.bl_session.specs.BootSteps.{BootFacts, EventFacts, piece, running, is_wanted}
 use Rattle.bl_session.specs.Outcome.{File, missing, file_bytes, texts_of, IsTrueOf, AreToldFaults}
-use Rattle.bl_session.specs.History.{Item, submitted, came, failed, nothing, file_under, IsPieceOf}
+use Rattle.bl_session.specs.History.{HistoryItem, submitted, came, failed, nothing, file_under}
+use Rattle.bl_session.specs.History.{IsPieceOf}
 use Rattle.bl_session.specs.Run.{IsEventOf, IsGenuineItem}
 use Rattle.bl_session.proofs.TicketLemmas.{both, file_both}
 use Rattle.bl_session.proofs.AskedLemmas.{AreAsked}
@@ -51,7 +52,7 @@ awaited_file files file index h =
 
 module _ (facts : BootFacts) (files : List File) (faults : ℕ → Option ℕ) where
   -- a piece that is wanted, and marked as that of the file under its ticket, is its own file's
-  true_piece : (given : List Item) (entry : ℕ) (rest : List ℕ) (earlier : List RefusedEntry)
+  true_piece : (given : List HistoryItem) (entry : ℕ) (rest : List ℕ) (earlier : List RefusedEntry)
       (piece_states : List (List PieceState)) (ticket : Ticket) (bytes : List ℕ)
       → AreAsked facts given (running entry rest earlier piece_states)
       → is_wanted earlier piece_states (piece ticket bytes) ≡ true
@@ -79,8 +80,9 @@ module _ (facts : BootFacts) (files : List File) (faults : ℕ → Option ℕ) w
       subst (λ (f : Option ℕ). IsPieceOf files f ticket.piece bytes) same is
       ∙ ap (λ (t : List ℕ). piece_of t ticket.piece) (sym text)
 
-  pub genuine_event : (given : List Item) (entry : ℕ) (rest : List ℕ) (earlier : List RefusedEntry)
-      (piece_states : List (List PieceState)) (item : Item) (event : EventFacts)
+  pub genuine_event : (given : List HistoryItem) (entry : ℕ) (rest : List ℕ)
+      (earlier : List RefusedEntry)
+      (piece_states : List (List PieceState)) (item : HistoryItem) (event : EventFacts)
       → AreAsked facts given (running entry rest earlier piece_states)
       → IsEventOf files given (running entry rest earlier piece_states) item event
       → IsGenuineItem faults (running entry rest earlier piece_states) item event
@@ -112,8 +114,9 @@ module _ (facts : BootFacts) (files : List File) (faults : ℕ → Option ℕ) w
       (genuine wanted).1)
 
   -- an answer asks for nothing
-  pub same_under : (given : List Item) (entry : ℕ) (rest : List ℕ) (earlier : List RefusedEntry)
-      (piece_states : List (List PieceState)) (item : Item) (event : EventFacts)
+  pub same_under : (given : List HistoryItem) (entry : ℕ) (rest : List ℕ)
+      (earlier : List RefusedEntry)
+      (piece_states : List (List PieceState)) (item : HistoryItem) (event : EventFacts)
       → IsEventOf files given (running entry rest earlier piece_states) item event
       → (ticket : Ticket) → file_under (given ++ item ∷ []) ticket ≡ file_under given ticket
   same_under given entry rest earlier piece_states (submitted file t) event is ticket = absurd is

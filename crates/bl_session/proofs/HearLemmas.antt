@@ -6,8 +6,9 @@ use Rattle.bl_stage.specs.PieceStates.{PieceState, piece_states}
 use Rattle.bl_session.specs.declared.outcome.Progress.{Progress}
 use Rattle.bl_session.specs.declared.outcome.Progress.TheVariants.{Waiting}
 use Rattle.bl_session.specs.declared.outcome.RefusedEntry.{RefusedEntry}
-use Rattle.bl_session.specs.Boot.{BootFacts, EventFacts, unstarted, running, is_taken, StepsOrFails}
-use Rattle.bl_session.specs.Boot.{attempt_number, progress}
+use Rattle.bl_session.specs.BootSteps.{BootFacts, EventFacts, unstarted, running, is_taken}
+use Rattle.bl_session.specs.BootSteps.{StepsOrFails}
+use Rattle.bl_session.specs.BootSteps.{attempt_number, progress}
 use Rattle.bl_session.specs.Memory.{IsMemoryAt}
 use Rattle.bl_session.specs.Phases.{PhaseFacts, not_started, waits, hands_over, has_none}
 use Rattle.bl_session.specs.Phases.{lacks_memory, state_at, is_waiting}

@@ -7,11 +7,13 @@ use Rattle.bl_stage.specs.PieceStates.{PieceState}
 use Rattle.bl_session.specs.declared.ticket.Ticket.{Ticket}
 use Rattle.bl_session.specs.declared.outcome.RefusedEntry.{RefusedEntry}
 use Rattle.bl_session.specs.Pieces.{is_awaited, piece_state_of, with_piece}
-use Rattle.bl_session.specs.Boot.{BootFacts, EventFacts, piece, fault, State, unstarted, running}
-use Rattle.bl_session.specs.Boot.{handed_over, none_left, out_of_memory, Steps, StepsOrFails}
-use Rattle.bl_session.specs.History.{Item, submitted, came, failed, nothing, file_under, IsPieceOf}
+use Rattle.bl_session.specs.BootSteps.{BootFacts, EventFacts, piece, fault, State, unstarted}
+use Rattle.bl_session.specs.BootSteps.{running}
+use Rattle.bl_session.specs.BootSteps.{handed_over, none_left, out_of_memory, Steps, StepsOrFails}
+use Rattle.bl_session.specs.History.{HistoryItem, submitted, came, failed, nothing, file_under}
+use Rattle.bl_session.specs.History.{IsPieceOf}
 use Rattle.bl_session.specs.Outcome.{File, size_of}
-use Rattle.bl_session.specs.Asked.{orders, orders_after}
+use Rattle.bl_session.specs.Asked.{attempt_submissions, new_submissions}
 use Rattle.bl_session.specs.Run.{IsAnswer}
 use Rattle.bl_session.specs.Faithful.{IsFaithfulItem}
 use Rattle.bl_session.proofs.TicketLemmas.{IsUntouched, same_ticket, other_ticket, untouched_both}
@@ -26,17 +28,18 @@ use Rattle.bl_session.proofs.AwaitedAnswers.{wanted_fault, is_no_later}
 module _ (facts : BootFacts) (files : List File) (known : facts.sizes ≡ map size_of files)
     (entry : ℕ) (rest : List ℕ) (earlier : List RefusedEntry)
     (piece_states : List (List PieceState))
-    (given : List Item)
+    (given : List HistoryItem)
     (steady : Steady facts given (running entry rest earlier piece_states)) where
   -- ---- the state after it
 
-  abbrev Next : Item → State → Type 0
+  abbrev Next : HistoryItem → State → Type 0
   Next item new =
       Steady facts
-      ((given ++ item ∷ []) ++ orders_after facts (running entry rest earlier piece_states) new) new
+      ((given ++ item ∷ []) ++ new_submissions facts (running entry rest earlier piece_states) new)
+      new
 
   -- the attempt goes on with these pieces
-  stays : (item : Item) (left : List (List PieceState)) (new : State)
+  stays : (item : HistoryItem) (left : List (List PieceState)) (new : State)
       → ((file index : ℕ) → is_awaited (piece_state_of left file index) ≡ true
       → piece_state_of left file index ≡ piece_state_of piece_states file index)
       → ((t : Ticket) → length earlier < t.attempt → IsUntouched (item ∷ []) t)
@@ -60,7 +63,7 @@ module _ (facts : BootFacts) (files : List File) (known : facts.sizes ≡ map si
       subst (λ (s : State). Next item s) (sym goes) holds
 
   -- it ended, and one that has just begun runs
-  renews : (item : Item) (new : State)
+  renews : (item : HistoryItem) (new : State)
       → ((t : Ticket) → length earlier < t.attempt → IsUntouched (item ∷ []) t)
       → IsNewFrom facts (length rest) (length earlier + 1) new → Next item new
   renews item new later is =
@@ -71,7 +74,7 @@ module _ (facts : BootFacts) (files : List File) (known : facts.sizes ≡ map si
       (later t (omega arith))))
     where
       by_state : (new : State) → IsNewFrom facts (length rest) (length earlier + 1) new
-          → Steady facts ((given ++ item ∷ []) ++ orders facts new) new → Next item new
+          → Steady facts ((given ++ item ∷ []) ++ attempt_submissions facts new) new → Next item new
       by_state (running index others more left) is holds =
           let low = is.0 in
           let another : (length more == length earlier) ≡ false = grind (arith, nat_tests) in
@@ -97,7 +100,7 @@ module _ (facts : BootFacts) (files : List File) (known : facts.sizes ≡ map si
       goes
 
   -- an answer that is not wanted is to a ticket that is not awaited
-  stays_so : (item : Item) (new : State)
+  stays_so : (item : HistoryItem) (new : State)
       → ((t : Ticket) → length earlier < t.attempt → IsUntouched (item ∷ []) t)
       → ((t : Ticket) → Awaited earlier piece_states t → IsUntouched (item ∷ []) t)
       → new ≡ running entry rest earlier piece_states → Next item new
@@ -119,9 +122,9 @@ module _ (facts : BootFacts) (files : List File) (known : facts.sizes ≡ map si
       elim (step_went facts entry rest earlier piece_states (piece t bytes) new goes) [
         | inl (unwanted, same) ↦
             stays_so (came t count genuine) new later
-            (λ s awaited. untouched_piece t s count genuine (other_ticket t s (λ is.
+            (λ s waiting_files. untouched_piece t s count genuine (other_ticket t s (λ is.
             let here : Awaited earlier piece_states t =
-            subst (Awaited earlier piece_states) (sym (same_ticket t s is)) awaited in
+            subst (Awaited earlier piece_states) (sym (same_ticket t s is)) waiting_files in
             let wanted =
             wants_piece facts files known entry rest earlier piece_states given steady t bytes here
             (of_file
@@ -155,12 +158,12 @@ module _ (facts : BootFacts) (files : List File) (known : facts.sizes ≡ map si
             untouched_fault t s
             (is_no_later facts files known entry rest earlier piece_states given steady t s
             faithful.0 l))
-            (λ s awaited.
+            (λ s waiting_files.
             untouched_fault t s
             (other_ticket t s
             (λ is.
             no_fault facts files known entry rest earlier piece_states given steady t
-            (subst (Awaited earlier piece_states) (sym (same_ticket t s is)) awaited)
+            (subst (Awaited earlier piece_states) (sym (same_ticket t s is)) waiting_files)
             faithful)))
             same
         | inr (wanted, how) ↦
@@ -172,7 +175,7 @@ module _ (facts : BootFacts) (files : List File) (known : facts.sizes ≡ map si
 
   -- ---- any answer
 
-  hear : (item : Item) (event : EventFacts) (new : State) → IsFaithfulItem files given item
+  hear : (item : HistoryItem) (event : EventFacts) (new : State) → IsFaithfulItem files given item
       → IsAnswer files given earlier piece_states item event
       → Steps facts (running entry rest earlier piece_states) event new → Next item new
   hear (submitted file t) event new faithful is goes = absurd is
@@ -188,7 +191,8 @@ module _ (facts : BootFacts) (files : List File) (known : facts.sizes ≡ map si
       absurd (no_end facts files known entry rest earlier piece_states given steady t first
       faithful)
 
-  pub hear_any : (item : Item) (event : EventFacts) (new : State) → IsFaithfulItem files given item
+  pub hear_any : (item : HistoryItem) (event : EventFacts) (new : State)
+      → IsFaithfulItem files given item
       → IsAnswer files given earlier piece_states item event
       → StepsOrFails facts (running entry rest earlier piece_states) event new → Next item new
   hear_any item event new faithful is (inl goes) = hear item event new faithful is goes

@@ -9,7 +9,8 @@ use Rattle.bl_mem.specs.Memory.{IsIn, KeepsSizeAndRoom}
 use Rattle.bl_load.specs.After.{IsAfter}
 use Rattle.bl_load.specs.Handover.{Part}
 use Rattle.bl_stage.specs.Ranges.{IsSameOutside, scrubbed}
-use Rattle.bl_session.specs.Boot.{State, running, handed_over, none_left, unstarted, out_of_memory}
+use Rattle.bl_session.specs.BootSteps.{State, running, handed_over, none_left, unstarted}
+use Rattle.bl_session.specs.BootSteps.{out_of_memory}
 use Rattle.bl_session.specs.Memory.{IsMemoryAt}
 
 -- ---- memory

@@ -1,6 +1,8 @@
 -- A ledger, as the submission at a place is answered.
-use Rattle.std.proofs.Common.{◌≡◌, ℕ, ◌+◌, ◌<◌, List, [], ◌∷◌, ◌++◌, length, take, drop, Option, Some}
-use Rattle.std.proofs.Common.{Result, Ok, Err, IfOk, OnOk, OnErr, suc, get_or, refl, sym, ap, subst, ◌∙◌}
+use Rattle.std.proofs.Common.{◌≡◌, ℕ, ◌+◌, ◌<◌, List, [], ◌∷◌, ◌++◌, length, take, drop, Option}
+use Rattle.std.proofs.Common.{Some}
+use Rattle.std.proofs.Common.{Result, Ok, Err, IfOk, OnOk, OnErr, suc, get_or, refl, sym, ap, subst}
+use Rattle.std.proofs.Common.{◌∙◌}
 use Rattle.std.proofs.Common.{arith}
 use Rattle.std.proofs.lemmas.Option.{slice_get-get_or}
 use Rattle.std.proofs.Math.Seq.{split_at, take-nil, drop-nil}
@@ -8,9 +10,9 @@ use Rattle.std.proofs.Math.Numerals.{add-one}
 use Rattle.std.specs.Prelude.{slice_get, option_map}
 use Rattle.bl_session.specs.declared.store.Completion.{Completion}
 use Rattle.bl_session.specs.declared.submission.Submission.{Submission}
-use Rattle.bl_session.specs.Boot.{EventFacts}
+use Rattle.bl_session.specs.BootSteps.{EventFacts}
 use Rattle.bl_session.specs.Outcome.{File}
-use Rattle.bl_session.specs.History.{Item}
+use Rattle.bl_session.specs.History.{HistoryItem}
 use Rattle.bl_session.specs.Stores.{event_of, answer_to, item_of_event, item_of_told, without_index}
 use Rattle.bl_session.specs.StoresKept.{item_of, AreKept}
 use Rattle.bl_session.specs.Ledger.{LedgerFacts, pending_answer, ledger_answered}
@@ -22,7 +24,7 @@ use Rattle.bl_session.proofs.ToldLemmas.{Tells, tells_taken}
 without_any : (place : ℕ) → without_index {T = Submission} [] place ≡ []
 without_any place = rw (take-nil {A = Submission} place, drop-nil {A = Submission} (place + 1)) refl
 
-kept_place : (files : List File) (pending : List Submission) (place : ℕ) (given : List Item)
+kept_place : (files : List File) (pending : List Submission) (place : ℕ) (given : List HistoryItem)
     (told : Option EventFacts) → (0 < length pending → place < length pending)
     → told ≡ option_map (answer_to files) (slice_get pending place) → AreKept files pending given
     → AreKept files (without_index pending place) (given ++ item_of_told files given told ∷ [])
@@ -54,7 +56,7 @@ kept_place files (first ∷ others) place given told within is kept =
     (kept_answer files (take place pending) (drop (suc place) pending) given submission at))
 
 pub kept_at : {A : Type 0} (files : List File) (pending : List Submission) (place : ℕ)
-    (given : List Item) (answer : Option (Completion A))
+    (given : List HistoryItem) (answer : Option (Completion A))
     → (0 < length pending → place < length pending)
     → option_map event_of answer ≡ option_map (answer_to files) (slice_get pending place)
     → AreKept files pending given

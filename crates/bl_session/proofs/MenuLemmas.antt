@@ -8,15 +8,16 @@ use Rattle.bl_load.specs.declared.entry.Entry.{Entry}
 use Rattle.bl_load.specs.Offered.{IsOfferedEntry, IsOffered}
 use Rattle.bl_load.specs.declared.entry.Entry.TheVariants.{Multiboot2, Linux}
 use Rattle.bl_load.specs.declared.entry.Module.{Module}
-use Rattle.bl_load.specs.Value.{IsWithinLimits, file_count, lines_of}
+use Rattle.bl_load.specs.EntryValue.{IsWithinLimits, file_count, lines_of}
 use Rattle.bl_session.specs.Menu.{EntryFacts, value_with, files_of, facts_of, entry_at, no_entry}
-use Rattle.bl_session.specs.Boot.{BootFacts}
+use Rattle.bl_session.specs.BootSteps.{BootFacts}
 use Rattle.bl_session.specs.Outcome.{File, entry_value_in}
 
 -- ---- entries as contracts see them
 
 pub offered_entries : {A : Type 0} (entries : List (Entry A))
-    → All IsOfferedEntry entries → All (λ (e : EntryFacts). IsOffered e.blank) (map facts_of entries)
+    → All IsOfferedEntry entries
+    → All (λ (e : EntryFacts). IsOffered e.blank) (map facts_of entries)
 unfolding IsOfferedEntry
 offered_entries entries all = All-map (λ (e : EntryFacts). IsOffered e.blank) facts_of entries all
 

@@ -5,13 +5,13 @@ use Rattle.std.proofs.Common.{arith}
 use Rattle.std.specs.List.{list_all}
 use Rattle.std.proofs.lemmas.List.{drop_more, drop_all}
 use Rattle.std.proofs.lemmas.Bool.Decides.{nat_tests}
-use Rattle.bl_map.specs.Room.{frames_of}
+use Rattle.bl_map.specs.PoolFrames.{frames_of}
 use Rattle.bl_stage.specs.Staged.{Staging}
 use Rattle.bl_stage.specs.PieceStates.{PieceState, lacks, has, piece_states}
 use Rattle.bl_session.specs.declared.ticket.Ticket.{Ticket}
 use Rattle.bl_session.specs.declared.outcome.RefusedEntry.{RefusedEntry}
 use Rattle.bl_session.specs.Pieces.{is_awaited, piece_state_of, are_whole}
-use Rattle.bl_session.specs.Boot.{fault, is_wanted}
+use Rattle.bl_session.specs.BootSteps.{fault, is_wanted}
 use Rattle.bl_session.specs.Asked.{ticket_of, first_awaited_piece, first_ticket, ticket_or}
 use Rattle.bl_session.proofs.PieceStateLemmas.{length-piece_states_of, length-piece_states}
 use Rattle.bl_session.proofs.PieceStateLemmas.{file_piece_states}
@@ -172,5 +172,6 @@ first_wanted earlier files ticket e =
     let number = found.2 in
     let test : (ticket.attempt == length earlier) ≡ true = grind (arith, nat_tests) in
     let at : found.0 ≡ ticket.file = (let q = found.1 in omega arith) in
-    let awaited = subst (λ n. is_awaited (piece_state_of files n ticket.piece) ≡ true) at found.3 in
-    rw (test, awaited) refl
+    let waiting_files =
+    subst (λ n. is_awaited (piece_state_of files n ticket.piece) ≡ true) at found.3 in
+    rw (test, waiting_files) refl

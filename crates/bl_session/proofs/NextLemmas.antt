@@ -12,9 +12,10 @@ use Rattle.bl_session.specs.declared.outcome.RefusedEntry.{RefusedEntry}
 use Rattle.bl_session.specs.declared.outcome.Progress.TheVariants.{Waiting, Next}
 use Rattle.bl_session.specs.AttemptResult.{refused}
 use Rattle.bl_session.specs.Pieces.{with_piece}
-use Rattle.bl_session.specs.Boot.{BootFacts, EventFacts, fault, State, unstarted, running}
-use Rattle.bl_session.specs.Boot.{handed_over, none_left, out_of_memory, is_wanted, is_taken, Takes}
-use Rattle.bl_session.specs.Boot.{StepsOrFails, progress}
+use Rattle.bl_session.specs.BootSteps.{BootFacts, EventFacts, fault, State, unstarted, running}
+use Rattle.bl_session.specs.BootSteps.{handed_over, none_left, out_of_memory, is_wanted, is_taken}
+use Rattle.bl_session.specs.BootSteps.{TakesEvent}
+use Rattle.bl_session.specs.BootSteps.{StepsOrFails, progress}
 use Rattle.bl_session.specs.Asked.{first_ticket}
 use Rattle.bl_session.specs.Memory.{IsMemoryAt}
 use Rattle.bl_session.specs.TurnsKept.{attempts_left}
@@ -95,7 +96,7 @@ lost_ends facts entry rest earlier files ticket state first (inl steps) =
     let takes =
     subst
     (λ (b : Bool).
-    MatchBool b (Takes facts entry rest earlier files (fault ticket) state)
+    MatchBool b (TakesEvent facts entry rest earlier files (fault ticket) state)
     (state ≡ running entry rest earlier files)) wanted steps in
     later_ended facts (length rest) (length earlier) state
     (new_goes facts rest entry earlier (refused (FileFault ticket.file)) state
@@ -118,7 +119,7 @@ memory_if pool facts entry rest earlier files event state old new false is (inl 
     let stays =
     subst
     (λ (b : Bool).
-    MatchBool b (Takes facts entry rest earlier files event state)
+    MatchBool b (TakesEvent facts entry rest earlier files event state)
     (state ≡ running entry rest earlier files)) is steps in
     subst (λ (s : State). IsMemoryAt pool s old new) (sym stays)
     (subst (λ (m : List ℕ). IsSameOutside pool old m) (sym same) (λ a outside. refl))

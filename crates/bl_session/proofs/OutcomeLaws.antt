@@ -4,14 +4,14 @@ use Rattle.std.proofs.Common.{sym, subst, ◌∙◌}
 use Rattle.bl_map.specs.MachineFacts.{MachineFacts}
 use Rattle.bl_load.specs.declared.refusal.Refusal.{Refusal}
 use Rattle.bl_load.specs.declared.refusal.Refusal.TheVariants.{FileFault}
-use Rattle.bl_load.specs.Value.{EntryValue}
+use Rattle.bl_load.specs.EntryValue.{EntryValue}
 use Rattle.bl_load.specs.Handover.{Handover}
 use Rattle.bl_load.specs.Parts.{IsHandover}
 use Rattle.bl_load.proofs.HandoverLaws.{one_handover}
 use Rattle.bl_session.specs.declared.outcome.RefusedEntry.{RefusedEntry}
 use Rattle.bl_session.specs.AttemptResult.{AttemptResult, handed, refused, HasResult}
 use Rattle.bl_session.specs.AttemptResult.{AttemptHasResult, UnlessRefused, size_refusal}
-use Rattle.bl_session.specs.Boot.{BootFacts, State, handed_over, sizes_of}
+use Rattle.bl_session.specs.BootSteps.{BootFacts, State, handed_over, sizes_of}
 use Rattle.bl_session.specs.Outcome.{File, entry_value_in, faulty_file, IsFirst, IsOutcome}
 use Rattle.bl_session.proofs.EndLaws.{one_end}
 use Rattle.bl_session.proofs.BootLaws.{one_goes}
@@ -40,7 +40,8 @@ first_handed facts files faults (e ∷ rest) before earlier entry h (handed k, e
     let same : entry ≡ e = cc in
     let handover : h ≡ k = cc in
     subst (λ (x : ℕ). IsHandover facts.machine (entry_value_in facts files x) h) (sym same)
-    (subst (λ (x : Handover). IsHandover facts.machine (entry_value_in facts files e) x) (sym handover)
+    (subst (λ (x : Handover). IsHandover facts.machine (entry_value_in facts files e) x)
+    (sym handover)
     (handed_value facts.machine (sizes_of facts e) _ (entry_value_in facts files e) k ends))
 first_handed facts files faults (e ∷ rest) before earlier entry h (refused r, ends, goes) =
     first_handed facts files faults rest (before ++ record { entry = e; refusal = r } ∷ []) earlier
@@ -57,7 +58,8 @@ is_handover facts files faults entry earlier h is =
 pub same_handover : (facts other : BootFacts) (files those : List File)
     (faults fails : ℕ → Option ℕ) (entry index : ℕ) (earlier before : List RefusedEntry)
     (h k : Handover)
-    → facts.machine ≡ other.machine → entry_value_in facts files entry ≡ entry_value_in other those index
+    → facts.machine ≡ other.machine → entry_value_in facts files entry
+    ≡ entry_value_in other those index
     → IsOutcome facts files faults (handed_over entry earlier h)
     → IsOutcome other those fails (handed_over index before k) → h ≡ k
 same_handover facts other files those faults fails entry index earlier before h k machine value a
@@ -79,7 +81,8 @@ one_first : (facts : BootFacts) (files : List File) (faults : ℕ → Option ℕ
 one_first facts files faults [] earlier a b p q = p ∙ sym q
 one_first facts files faults (entry ∷ rest) earlier a b (e, p, x) (f, q, y) =
     one_goes (IsFirst facts files faults rest) entry earlier e f (one_first facts files faults rest)
-    (one_end facts.machine (sizes_of facts entry) (faulty_file facts entry (faults (length earlier)))
+    (one_end facts.machine (sizes_of facts entry)
+    (faulty_file facts entry (faults (length earlier)))
     (entry_value_in facts files entry) e f p q) a b x y
 
 pub one_outcome : (facts : BootFacts) (files : List File) (faults : ℕ → Option ℕ) (a b : State)

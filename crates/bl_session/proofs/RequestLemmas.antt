@@ -1,10 +1,11 @@
 -- The pieces that an attempt awaits, one after the other.
 use Rattle.std.proofs.Common.{◌≡◌, ℕ, ◌+◌, ◌-◌, ◌*◌, ◌<◌, ◌≤◌, ◌&&◌, Bool, true, false, not, nat_lt}
-use Rattle.std.proofs.Common.{min, List, [], length, drop, get_or, Option, None, Some, refl, sym, ap}
+use Rattle.std.proofs.Common.{min, List, [], length, drop, get_or, Option, None, Some, refl, sym}
+use Rattle.std.proofs.Common.{ap}
 use Rattle.std.proofs.Common.{◌∙◌, arith, subst, option_map}
 use Rattle.std.proofs.lemmas.List.{drop_all, get_or_past}
 use Rattle.std.proofs.lemmas.Bool.Decides.{nat_tests}
-use Rattle.bl_map.specs.Room.{frames_of}
+use Rattle.bl_map.specs.PoolFrames.{frames_of}
 use Rattle.bl_stage.specs.Staged.{Staging, staged_file}
 use Rattle.bl_stage.specs.Pieces.{is_missing, slot_in}
 use Rattle.bl_stage.specs.PieceStates as stage
@@ -12,7 +13,7 @@ use Rattle.bl_stage.specs.PieceStates.{PieceState, piece_states, piece_of}
 use Rattle.bl_session.specs.declared.outcome.RefusedEntry.{RefusedEntry}
 use Rattle.bl_session.specs.declared.ticket.Request.{Request}
 use Rattle.bl_session.specs.declared.ticket.Ticket.{Ticket}
-use Rattle.bl_session.specs.Boot.{BootFacts}
+use Rattle.bl_session.specs.BootSteps.{BootFacts}
 use Rattle.bl_session.specs.Menu.{entry_at}
 use Rattle.bl_session.specs.Phases.{PhaseFacts, waits, state_at}
 use Rattle.bl_session.specs.Pieces.{piece_state_of}
@@ -33,7 +34,8 @@ pub missing_named : (stage : Staging) (file index : ℕ) → is_missing stage fi
 missing_named stage file index e =
     let size = get_or stage.sizes file 0 in
     let came = get_or stage.came (slot_in stage file index) false in
-    let first = both (nat_lt file (length stage.sizes)) (nat_lt index (frames_of size) && not came) e
+    let first =
+    both (nat_lt file (length stage.sizes)) (nat_lt index (frames_of size) && not came) e
     in
     let second = both (nat_lt index (frames_of size)) (not came) first.1 in
     let file_is = first.0 in
@@ -54,7 +56,8 @@ pub missing_length : (bytes : List ℕ) (stage : Staging) (file index : ℕ)
 missing_length bytes stage file index e =
     let size = get_or stage.sizes file 0 in
     let came = get_or stage.came (slot_in stage file index) false in
-    let first = both (nat_lt file (length stage.sizes)) (nat_lt index (frames_of size) && not came) e
+    let first =
+    both (nat_lt file (length stage.sizes)) (nat_lt index (frames_of size) && not came) e
     in
     let second = both (nat_lt index (frames_of size)) (not came) first.1 in
     ap length_awaited (piece_state_named bytes stage file index (missing_named stage file index e))

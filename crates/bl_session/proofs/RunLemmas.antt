@@ -6,14 +6,14 @@ use Rattle.std.specs.List.{range_with_len}
 use Rattle.std.specs.declared.ops.Range.{Range}
 use Rattle.bl_map.specs.MachineFacts.{MachineFacts}
 use Rattle.bl_mem.specs.Memory.{HasRoom, KeepsRoom}
-use Rattle.bl_session.specs.Boot.{BootFacts, State, unstarted, out_of_memory, is_running}
-use Rattle.bl_session.specs.Boot.{StartsOrFails}
+use Rattle.bl_session.specs.BootSteps.{BootFacts, State, unstarted, out_of_memory, is_running}
+use Rattle.bl_session.specs.BootSteps.{StartsOrFails}
 use Rattle.bl_session.specs.Outcome.{File, missing, size_of}
-use Rattle.bl_session.specs.Attempts.{files_named}
+use Rattle.bl_session.specs.Attempts.{named_file_count}
 use Rattle.bl_session.specs.Menu.{MenuFacts}
-use Rattle.bl_session.specs.History.{Item}
+use Rattle.bl_session.specs.History.{HistoryItem}
 use Rattle.bl_session.specs.Memory.{IsMemoryAt}
-use Rattle.bl_session.specs.Asked.{orders}
+use Rattle.bl_session.specs.Asked.{attempt_submissions}
 use Rattle.bl_session.specs.Phases.{PhaseFacts, not_started, state_at, is_waiting, boot_facts}
 use Rattle.bl_session.specs.Run.{RunState, run_state_of, IsRun}
 use Rattle.bl_session.specs.TurnsKept.{IsAsked, IsHeard}
@@ -26,9 +26,10 @@ use Rattle.bl_session.proofs.AnswerLemmas.{at, waiting_memory}
 -- ---- one attempt more
 
 pub heard_attempt : (facts now : BootFacts) (files those those_next : List File)
-    (first mid asked last : List Item) (start : RunState) (old new : State) → now ≡ facts
+    (first mid asked last : List HistoryItem) (start : RunState) (old new : State) → now ≡ facts
     → those ≡ files → those_next ≡ files
-    → IsHeard facts files first mid start (run_state_of facts old) → asked ≡ mid ++ orders now old
+    → IsHeard facts files first mid start (run_state_of facts old) → asked ≡ mid
+    ++ attempt_submissions now old
     → IsHeard now those_next asked last (at old) (run_state_of now new)
     → IsHeard facts files first last start (run_state_of facts new)
 heard_attempt facts now files those those_next first mid asked last start old new e f f_next so_far
@@ -37,41 +38,46 @@ heard_attempt facts now files those those_next first mid asked last start old ne
     subst (λ (b : BootFacts). IsHeard b files asked last (at old) (run_state_of b new)) e
     (subst (λ (fs : List File). IsHeard now fs asked last (at old) (run_state_of now new)) f_next
     more) in
-    let orders_given : asked ≡ mid ++ orders facts old =
-    given ∙ ap (λ (b : BootFacts). mid ++ orders b old) e in
+    let orders_given : asked ≡ mid ++ attempt_submissions facts old =
+    given ∙ ap (λ (b : BootFacts). mid ++ attempt_submissions b old) e in
     heard_on facts files first asked last start (at old) (run_state_of facts new)
     (heard_on facts files first mid asked start (run_state_of facts old) (at old) so_far
     (heard_orders facts files mid asked old orders_given)) mine
 
 -- memory ran out while the attempt asked
-pub lacks_orders : (facts now : BootFacts) (files : List File) (first mid asked : List Item)
+pub lacks_orders : (facts now : BootFacts) (files : List File) (first mid asked : List HistoryItem)
     (start : RunState) (old : State) → now ≡ facts
     → IsHeard facts files first mid start (run_state_of facts old)
-    → (rest : List Item) × IsAsked (orders now old) rest mid asked
+    → (rest : List HistoryItem) × IsAsked (attempt_submissions now old) rest mid asked
     → is_running old ≡ true
     → (run_state : RunState) × IsHeard facts files first asked start run_state
     × (is_running run_state.state ≡ true)
 lacks_orders facts now files first mid asked start old e so_far part runs =
-    let mine = subst (λ (b : BootFacts). IsAsked (orders b old) part.0 mid asked) e part.1 in
+    let mine =
+    subst (λ (b : BootFacts). IsAsked (attempt_submissions b old) part.0 mid asked) e part.1 in
     let end : RunState = record { state = old; owed = part.0 } in (
       end,
       heard_on facts files first mid asked start (run_state_of facts old) end so_far
-          (heard_asked facts files mid asked old (orders facts old) part.0 mine),
+          (heard_asked facts files mid asked old (attempt_submissions facts old) part.0 mine),
       runs,
     )
 
 -- memory ran out while it took answers
 pub lacks_answers : (facts now : BootFacts) (files those : List File)
-    (first mid asked last : List Item) (start : RunState) (old : State) → now ≡ facts → those ≡ files
-    → IsHeard facts files first mid start (run_state_of facts old) → asked ≡ mid ++ orders now old
-    → (run_state : RunState) × IsHeard now those asked last (at old) run_state × (is_running run_state.state ≡ true)
-    → (run_state : RunState) × IsHeard facts files first last start run_state × (is_running run_state.state ≡ true)
+    (first mid asked last : List HistoryItem) (start : RunState) (old : State) → now ≡ facts → those
+    ≡ files
+    → IsHeard facts files first mid start (run_state_of facts old) → asked ≡ mid
+    ++ attempt_submissions now old
+    → (run_state : RunState) × IsHeard now those asked last (at old) run_state
+    × (is_running run_state.state ≡ true)
+    → (run_state : RunState) × IsHeard facts files first last start run_state
+    × (is_running run_state.state ≡ true)
 lacks_answers facts now files those first mid asked last start old e f so_far given more =
     let mine : IsHeard facts files asked last (at old) more.0 =
     subst (λ (b : BootFacts). IsHeard b files asked last (at old) more.0) e
     (subst (λ (fs : List File). IsHeard now fs asked last (at old) more.0) f more.1) in
-    let orders_given : asked ≡ mid ++ orders facts old =
-    given ∙ ap (λ (b : BootFacts). mid ++ orders b old) e in (
+    let orders_given : asked ≡ mid ++ attempt_submissions facts old =
+    given ∙ ap (λ (b : BootFacts). mid ++ attempt_submissions b old) e in (
       more.0,
       heard_on facts files first asked last start (at old) more.0
           (heard_on facts files first mid asked start (run_state_of facts old) (at old) so_far
@@ -81,7 +87,7 @@ lacks_answers facts now files those first mid asked last start old e f so_far gi
 
 -- ---- the whole
 
-pub is_run : (facts now : BootFacts) (files those : List File) (old new : List Item)
+pub is_run : (facts now : BootFacts) (files those : List File) (old new : List HistoryItem)
     (begun end : State) (run_state : RunState) → now ≡ facts → those ≡ files
     → StartsOrFails facts unstarted begun
     → IsHeard now those old new (run_state_of now begun) run_state
@@ -90,22 +96,24 @@ pub is_run : (facts now : BootFacts) (files those : List File) (old new : List I
 is_run facts now files those old new begun end run_state e f starts heard is =
     let mine : IsHeard facts files old new (run_state_of facts begun) run_state =
     subst (λ (b : BootFacts). IsHeard b files old new (run_state_of b begun) run_state) e
-    (subst (λ (fs : List File). IsHeard now fs old new (run_state_of now begun) run_state) f heard) in
+    (subst (λ (fs : List File). IsHeard now fs old new (run_state_of now begun) run_state) f
+    heard) in
     record {
       gained = mine.gained;
       given = mine.given;
       begun = begun;
       begins = starts;
-      reads = reads_to facts files old (run_state_of facts begun) run_state mine.gained end mine.leads is;
+      reads = reads_to facts files old (run_state_of facts begun) run_state mine.gained end
+          mine.leads is;
     }
 
 -- the sizes of all files, one by one
 pub run_started : (machine : MachineFacts) (menu : MenuFacts) (files : List File)
     (sizes : List (Option ℕ)) (boot now : BootFacts) (unbegun_phase begun : PhaseFacts)
-    (before after : List ℕ) (old new : List Item) (run_state : RunState) (end : State)
+    (before after : List ℕ) (old new : List HistoryItem) (run_state : RunState) (end : State)
     → sizes
     ≡ map (λ file. size_of (slice_index_or files file missing))
-    (range_with_len 0 (files_named menu.entries))
+    (range_with_len 0 (named_file_count menu.entries))
     → boot ≡ boot_facts machine menu sizes → unbegun_phase ≡ not_started → now ≡ boot
     → StartsOrFails boot (state_at before unbegun_phase) (state_at after begun)
     → IsHeard now files old new (run_state_of now (state_at after begun)) run_state
@@ -120,11 +128,12 @@ run_started machine menu files sizes boot now unbegun_phase begun before after o
     first starts) in
     run_alike own (boot_facts machine menu (map size_of files))
     (alike_listed machine menu files sizes asked) files old new end
-    (is_run own now files files old new (state_at after begun) end run_state (same ∙ e) refl own_starts
+    (is_run own now files files old new (state_at after begun) end run_state (same ∙ e) refl
+    own_starts
     heard is)
 
 -- memory ran out before the start
-pub unbegun : (facts : BootFacts) (files : List File) (old new : List Item) → new ≡ old
+pub unbegun : (facts : BootFacts) (files : List File) (old new : List HistoryItem) → new ≡ old
     → IsRun facts files old new out_of_memory
 unbegun facts files old new e = record {
   gained = [];

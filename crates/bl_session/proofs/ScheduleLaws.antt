@@ -2,12 +2,15 @@
 use Rattle.std.proofs.Common.{◌≡◌, ℕ, List, [], ◌∷◌, ◌++◌, length, map, Option, refl, sym, ap}
 use Rattle.std.proofs.Common.{subst, ◌∙◌, ◌⊎◌, inl, inr, append_assoc}
 use Rattle.std.proofs.lemmas.List.{append-nil}
-use Rattle.bl_session.specs.Boot.{BootFacts, EventFacts, State, unstarted, running, handed_over}
-use Rattle.bl_session.specs.Boot.{none_left, out_of_memory, Begins, Steps, StartsOrFails, LeadsTo}
+use Rattle.bl_session.specs.BootSteps.{BootFacts, EventFacts, State, unstarted, running}
+use Rattle.bl_session.specs.BootSteps.{handed_over}
+use Rattle.bl_session.specs.BootSteps.{none_left, out_of_memory, Begins, Steps, StartsOrFails}
+use Rattle.bl_session.specs.BootSteps.{LeadsTo}
 use Rattle.bl_session.specs.Outcome.{File, size_of, IsGenuineAt, IsGenuine, IsOutcome, HasEnded}
-use Rattle.bl_session.specs.History.{Item}
-use Rattle.bl_session.specs.Asked.{orders}
-use Rattle.bl_session.specs.Run.{IsEventOf, RunState, run_state_of, Delivers, Reads, IsRun, IsGenuineItem}
+use Rattle.bl_session.specs.History.{HistoryItem}
+use Rattle.bl_session.specs.Asked.{attempt_submissions}
+use Rattle.bl_session.specs.Run.{IsEventOf, RunState, run_state_of, Delivers, Reads, IsRun}
+use Rattle.bl_session.specs.Run.{IsGenuineItem}
 use Rattle.bl_session.specs.Run.{IsGenuineRun, EachAnswerIs}
 use Rattle.bl_session.proofs.BootLaws.{one_step}
 use Rattle.bl_session.proofs.FirstEndLaws.{first_ended}
@@ -21,14 +24,15 @@ module _ (facts : BootFacts) (files : List File) (faults : ℕ → Option ℕ) w
   -- ---- one item
 
   -- an item is asked for, and the state stays; or it is an event of the schedule
-  abbrev Heard : List Item → State → RunState → Type 0
+  abbrev Heard : List HistoryItem → State → RunState → Type 0
   Heard given state next =
       AreAsked facts (given ++ next.owed) next.state
       × ((next.state ≡ state)
       ⊎ ((event : EventFacts) × IsGenuineAt facts files faults state event
       × Steps facts state event next.state))
 
-  heard : (given : List Item) (state : State) (owed : List Item) (item : Item) (next : RunState)
+  heard : (given : List HistoryItem) (state : State) (owed : List HistoryItem) (item : HistoryItem)
+      (next : RunState)
       → AreAsked facts (given ++ owed) state
       → ((event : EventFacts) → owed ≡ [] → IsEventOf files given state item event
       → IsGenuineItem faults state item event) → Delivers facts files given state owed item next
@@ -39,7 +43,7 @@ module _ (facts : BootFacts) (files : List File) (faults : ℕ → Option ℕ) w
       let list : given ++ order ∷ owed ≡ (given ++ item ∷ []) ++ next.owed =
       rw (is, left) (sym (append_assoc given (order ∷ []) owed)) in
       inl (
-        subst (λ (xs : List Item). AreAsked facts xs next.state) list
+        subst (λ (xs : List HistoryItem). AreAsked facts xs next.state) list
             (subst (AreAsked facts (given ++ order ∷ owed)) (sym stays) asked),
         inl stays,
       )
@@ -47,7 +51,7 @@ module _ (facts : BootFacts) (files : List File) (faults : ℕ → Option ℕ) w
   heard given (running entry rest earlier piece_states) [] item next asked genuine
       (event, is, inl goes, left) =
       let now : AreAsked facts given (running entry rest earlier piece_states) =
-      subst (λ (xs : List Item). AreAsked facts xs (running entry rest earlier piece_states))
+      subst (λ (xs : List HistoryItem). AreAsked facts xs (running entry rest earlier piece_states))
       (append-nil given) asked in
       let more =
       asked_same facts given (given ++ item ∷ []) (running entry rest earlier piece_states)
@@ -56,7 +60,7 @@ module _ (facts : BootFacts) (files : List File) (faults : ℕ → Option ℕ) w
       asked_step facts (given ++ item ∷ []) entry rest earlier piece_states event next.state more
       goes in
       inl (
-        subst (λ (xs : List Item). AreAsked facts ((given ++ item ∷ []) ++ xs) next.state)
+        subst (λ (xs : List HistoryItem). AreAsked facts ((given ++ item ∷ []) ++ xs) next.state)
             (sym left) behind,
         inr (
           event,
@@ -79,7 +83,8 @@ module _ (facts : BootFacts) (files : List File) (faults : ℕ → Option ℕ) w
   ended_not end is ended = subst HasEnded is ended
 
   -- a boot does not end after want of memory
-  lost_not : (given : List Item) (run_state : RunState) (items : List Item) (end : State)
+  lost_not : (given : List HistoryItem) (run_state : RunState) (items : List HistoryItem)
+      (end : State)
       → LacksMemory run_state → Reads facts files given run_state items end → HasEnded end → ⊥
   lost_not given run_state [] end (is, none) (inl same) ended = ended_not end (same ∙ is) ended
   lost_not given run_state [] end (is, none) (inr (lost, runs)) ended = ended_not end lost ended
@@ -106,7 +111,7 @@ module _ (facts : BootFacts) (files : List File) (faults : ℕ → Option ℕ) w
     (next, goes, leads),
   )
 
-  schedule : (items given : List Item) (run_state : RunState) (end : State)
+  schedule : (items given : List HistoryItem) (run_state : RunState) (end : State)
       → AreAsked facts (given ++ run_state.owed) run_state.state
       → EachAnswerIs facts files (IsGenuineItem faults) given run_state items
       → Reads facts files given run_state items end
@@ -129,7 +134,7 @@ module _ (facts : BootFacts) (files : List File) (faults : ℕ → Option ℕ) w
       ]
 
   -- the history of a boot that ended
-  pub run_schedule : (old new : List Item) (end : State) → IsRun facts files old new end
+  pub run_schedule : (old new : List HistoryItem) (end : State) → IsRun facts files old new end
       → IsGenuineRun facts files faults old new → HasEnded end
       → (begun : State) × Begins facts facts.menu.attempts [] begun × IsScheduled begun end
   run_schedule old new end run genuine ended = go run.begins
@@ -146,10 +151,11 @@ module _ (facts : BootFacts) (files : List File) (faults : ℕ → Option ℕ) w
       )
       go (inr (lost, is)) =
           absurd
-          (lost_not old (run_state_of facts run.begun) run.gained end (lost, ap (orders facts) lost)
+          (lost_not old (run_state_of facts run.begun) run.gained end
+          (lost, ap (attempt_submissions facts) lost)
           run.reads ended)
 
-  pub run_ended : facts.sizes ≡ map size_of files → (old new : List Item) (end : State)
+  pub run_ended : facts.sizes ≡ map size_of files → (old new : List HistoryItem) (end : State)
       → IsRun facts files old new end → IsGenuineRun facts files faults old new → HasEnded end
       → IsOutcome facts files faults end
   run_ended known old new end run genuine ended =
@@ -159,7 +165,7 @@ module _ (facts : BootFacts) (files : List File) (faults : ℕ → Option ℕ) w
 
   -- two histories with the same faults end alike
   pub runs_alike : facts.sizes ≡ map size_of files
-      → (old new before after : List Item) (a b : State) → IsRun facts files old new a
+      → (old new before after : List HistoryItem) (a b : State) → IsRun facts files old new a
       → IsGenuineRun facts files faults old new → HasEnded a
       → IsRun facts files before after b → IsGenuineRun facts files faults before after → HasEnded b
       → a ≡ b

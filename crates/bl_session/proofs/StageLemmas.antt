@@ -9,8 +9,8 @@ use Rattle.std.proofs.lemmas.List.Folds.{list_all_at}
 use Rattle.std.proofs.lemmas.List.FromFn.{length-map-range_with_len, get_or-map-range_with_len}
 use Rattle.std.proofs.lemmas.List.{ext_get_or}
 use Rattle.std.proofs.lemmas.Simd.{map-map}
-use Rattle.bl_map.specs.Room.{frames_of, is_beside, is_open, frames_for}
-use Rattle.bl_mem.specs.Files.{AreBelow, AllBeside}
+use Rattle.bl_map.specs.PoolFrames.{frames_of, misses_frame, is_open, frames_for}
+use Rattle.bl_mem.specs.Files.{AreAddressesBelow, AllBeside}
 use Rattle.bl_mem.specs.Memory.{IsIn}
 use Rattle.bl_stage.specs.Ranges.{meets}
 use Rattle.bl_stage.specs.Staged.{Staging, AreStaged, HasPool, IsStagedOn, staged_file, table_of}
@@ -26,7 +26,8 @@ lengths_are : (bytes : List ℕ) (stage : Staging)
 lengths_are bytes stage =
     let n = length stage.sizes in
     let size : ℕ → ℕ = λ file. length (staged_file bytes stage file) in
-    map-map (λ (text : List ℕ). length text) (λ file. staged_file bytes stage file) (range_with_len 0 n)
+    map-map (λ (text : List ℕ). length text) (λ file. staged_file bytes stage file)
+    (range_with_len 0 n)
     ∙ ext_get_or 0 (map size (range_with_len 0 n)) stage.sizes (length-map-range_with_len size 0 n)
     (λ k h.
     let below : k < n = let e = length-map-range_with_len size 0 n in omega arith in
@@ -54,7 +55,7 @@ frame_of stage a kept on =
 
 -- memory has all of their addresses if it has the pool
 pub files_below : (stage : Staging) (bytes : List ℕ) → AreStaged stage → HasPool bytes stage.pool
-    → AreBelow (λ a. IsStagedOn stage a) (length bytes)
+    → AreAddressesBelow (λ a. IsStagedOn stage a) (length bytes)
 files_below stage bytes kept pool a on =
     let (k, within, low, high) = frame_of stage a kept on in
     let start = kept.low k within in
@@ -64,7 +65,7 @@ files_below stage bytes kept pool a on =
 
 -- a range that has an address of a frame meets the frame
 meets_range : (r : Range ℕ) (frame a : ℕ) → frame ≤ a → a < frame + 4096 → IsIn r a
-    → is_beside r frame ≡ false
+    → misses_frame r frame ≡ false
 meets_range r frame a low high here = grind (arith, nat_tests)
 
 -- they lie beside ranges that meet none of their frames
@@ -75,7 +76,7 @@ files_beside stage ranges kept clear i d within a low high on =
     let (k, among, from, to) = frame_of stage a kept on in
     let frame = get_or stage.frames k 0 in
     let shut : is_open ranges (4096 * frame) ≡ false =
-    list_all_at (λ r. is_beside r (4096 * frame)) ranges i d within
+    list_all_at (λ r. misses_frame r (4096 * frame)) ranges i d within
     (meets_range (get_or ranges i d) (4096 * frame) a from to (low, high)) in
     let met : meets ranges frame ≡ true = rw shut refl in
     false≢true (sym (clear k among) ∙ met)

@@ -7,11 +7,11 @@ use Rattle.bl_session.specs.declared.ticket.Ticket.{Ticket}
 use Rattle.bl_session.specs.AttemptResult.{size_refusal, known_lengths}
 use Rattle.bl_session.specs.Menu.{entry_at}
 use Rattle.bl_session.specs.Pieces.{is_awaited, piece_state_of}
-use Rattle.bl_session.specs.Boot.{BootFacts, State, unstarted, running, handed_over, none_left}
-use Rattle.bl_session.specs.Boot.{out_of_memory, sizes_of, fresh}
-use Rattle.bl_session.specs.History.{Item}
+use Rattle.bl_session.specs.BootSteps.{BootFacts, State, unstarted, running, handed_over, none_left}
+use Rattle.bl_session.specs.BootSteps.{out_of_memory, sizes_of, fresh}
+use Rattle.bl_session.specs.History.{HistoryItem}
 use Rattle.bl_session.specs.Outcome.{File, missing, size_of, file_bytes, texts_of}
-use Rattle.bl_session.specs.Asked.{orders, orders_of_files}
+use Rattle.bl_session.specs.Asked.{attempt_submissions, file_submissions}
 use Rattle.bl_session.proofs.EntryEndLemmas.{are_read, length_read}
 use Rattle.bl_session.proofs.TicketLemmas.{IsUntouched, IsAskedOnce, untouched_both, once_last}
 use Rattle.bl_session.proofs.OrderLemmas.{untouched_files, once_files}
@@ -27,7 +27,7 @@ module _ (facts : BootFacts) where
 
   -- tickets of later attempts are not in it; one whose piece is awaited is asked for once, and not
   -- answered
-  abbrev pub Steady : List Item → State → Type 0
+  abbrev pub Steady : List HistoryItem → State → Type 0
   Steady all (running entry rest earlier piece_states) =
       (size_refusal facts.machine (sizes_of facts entry) ≡ None)
       × ((file piece : ℕ) → is_awaited (piece_state_of piece_states file piece) ≡ true
@@ -44,10 +44,10 @@ module _ (facts : BootFacts) where
   -- ---- an attempt that begins
 
   -- its orders are to be asked for, and none of its tickets was
-  pub steady_new : (given : List Item) (count number : ℕ) (new : State)
+  pub steady_new : (given : List HistoryItem) (count number : ℕ) (new : State)
       → IsNewFrom facts count number new
       → ((t : Ticket) → number ≤ t.attempt → IsUntouched given t)
-      → Steady (given ++ orders facts new) new
+      → Steady (given ++ attempt_submissions facts new) new
   steady_new given count number unstarted is apart = tt
   steady_new given count number (handed_over entry later handover) is apart = tt
   steady_new given count number (none_left later) is apart = tt
@@ -55,14 +55,15 @@ module _ (facts : BootFacts) where
   steady_new given count number (running entry rest later piece_states) (long, few, sized, first)
       apart =
       let indices = (entry_at facts.menu entry).files in
-      let asked_for = orders_of_files (length later) 0 indices piece_states in (
+      let asked_for = file_submissions (length later) 0 indices piece_states in (
         sized,
         λ file piece e. rw first refl,
         λ t l.
             untouched_both given asked_for t (apart t (omega arith))
             (untouched_files (length later) 0 indices piece_states t (λ (a, p). omega arith)),
         λ t a e.
-            let one = is_piece (known_lengths (sizes_of facts entry)) t.file t.piece (rw first at e) in
+            let one =
+            is_piece (known_lengths (sizes_of facts entry)) t.file t.piece (rw first at e) in
             let many = fresh_length facts entry in
             let file_in : t.file < length piece_states = rw first one.file_in in
             let piece_in : t.piece < length (get_or piece_states t.file []) =

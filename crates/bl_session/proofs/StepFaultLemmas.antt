@@ -8,9 +8,11 @@ use Rattle.bl_stage.specs.PieceStates.{PieceState}
 use Rattle.bl_session.specs.declared.outcome.RefusedEntry.{RefusedEntry}
 use Rattle.bl_session.specs.declared.ticket.Ticket.{Ticket}
 use Rattle.bl_session.specs.Pieces.{with_piece, are_whole}
-use Rattle.bl_session.specs.Boot.{BootFacts, EventFacts, piece, fault, State, unstarted, running}
-use Rattle.bl_session.specs.Boot.{handed_over, none_left, out_of_memory, Begins, Steps, is_wanted}
-use Rattle.bl_session.specs.Boot.{is_taken, ends_attempt}
+use Rattle.bl_session.specs.BootSteps.{BootFacts, EventFacts, piece, fault, State, unstarted}
+use Rattle.bl_session.specs.BootSteps.{running}
+use Rattle.bl_session.specs.BootSteps.{handed_over, none_left, out_of_memory, Begins, Steps}
+use Rattle.bl_session.specs.BootSteps.{is_wanted}
+use Rattle.bl_session.specs.BootSteps.{is_taken, ends_attempt}
 use Rattle.bl_session.specs.Memory.{IsMemoryAt}
 use Rattle.bl_session.proofs.StepLemmas.{by_test}
 

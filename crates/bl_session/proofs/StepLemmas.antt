@@ -14,8 +14,9 @@ use Rattle.bl_stage.specs.PieceStates.{PieceState, piece_states, put_piece_state
 use Rattle.bl_session.specs.declared.outcome.RefusedEntry.{RefusedEntry}
 use Rattle.bl_session.specs.declared.ticket.Ticket.{Ticket}
 use Rattle.bl_session.specs.Pieces.{awaits, piece_state_of, with_piece, are_whole}
-use Rattle.bl_session.specs.Boot.{BootFacts, EventFacts, piece, State, running, Begins, Continues}
-use Rattle.bl_session.specs.Boot.{Steps, is_wanted, ends_attempt}
+use Rattle.bl_session.specs.BootSteps.{BootFacts, EventFacts, piece, State, running, Begins}
+use Rattle.bl_session.specs.BootSteps.{Continues}
+use Rattle.bl_session.specs.BootSteps.{Steps, is_wanted, ends_attempt}
 use Rattle.bl_session.specs.Memory.{IsMemoryAt}
 use Rattle.bl_session.proofs.KeptMemoryLemmas.{memory_on, same_on}
 use Rattle.bl_session.proofs.StoredLemmas.{stored, not_stored, put_with}

@@ -9,10 +9,10 @@ use Rattle.bl_session.specs.declared.ticket.Ticket.{Ticket}
 use Rattle.bl_session.specs.declared.submission.Submission.{Submission}
 use Rattle.bl_session.specs.declared.order.Order.{Order}
 use Rattle.bl_session.specs.declared.order.Order.TheVariants.{Forward, Reverse}
-use Rattle.bl_session.specs.Boot.{EventFacts, piece, fault}
+use Rattle.bl_session.specs.BootSteps.{EventFacts, piece, fault}
 use Rattle.bl_session.specs.Outcome.{File, missing, file_bytes}
-use Rattle.bl_session.specs.History.{Item, failed, nothing, is_same, file_under, IsPieceOf}
-use Rattle.bl_session.specs.Faithful.{asked, answered, HasPiece, IsFaithfulItem}
+use Rattle.bl_session.specs.History.{HistoryItem, failed, nothing, is_same, file_under, IsPieceOf}
+use Rattle.bl_session.specs.Faithful.{times_asked, times_answered, HasPiece, IsFaithfulItem}
 use Rattle.bl_session.specs.Stores.{item_of_event, answer_to, next_place}
 use Rattle.bl_session.specs.StoresKept.{count_of, WasAsked, AreAskedFor, AreKept}
 use Rattle.bl_session.proofs.TicketLemmas.{is_same_self, asked_both, answered_both, file_both}
@@ -20,22 +20,24 @@ use Rattle.bl_session.proofs.SubmissionLemmas.{marks, faithful_more, count_appen
 use Rattle.bl_session.proofs.SubmissionLemmas.{asked_apart}
 
 -- an answer leaves what was asked for
-nothing_asked : (files : List File) (given : List Item) (event : EventFacts) (ticket : Ticket)
-    → asked (given ++ item_of_event files given event ∷ []) ticket ≡ asked given ticket
+nothing_asked : (files : List File) (given : List HistoryItem) (event : EventFacts)
+    (ticket : Ticket)
+    → times_asked (given ++ item_of_event files given event ∷ []) ticket ≡ times_asked given ticket
 nothing_asked files given (piece t bytes) ticket =
-    let item : Item =
+    let item : HistoryItem =
     item_of_event files given (piece t bytes) in
     omega (arith, asked_both given (item ∷ []) ticket)
 nothing_asked files given (fault t) ticket =
     omega (arith, asked_both given ((failed t) ∷ []) ticket)
 
-same_under : (files : List File) (given : List Item) (event : EventFacts) (ticket : Ticket)
+same_under : (files : List File) (given : List HistoryItem) (event : EventFacts) (ticket : Ticket)
     → file_under (given ++ item_of_event files given event ∷ []) ticket ≡ file_under given ticket
 same_under files given (piece t bytes) ticket =
     file_both None given ((item_of_event files given (piece t bytes)) ∷ []) ticket
 same_under files given (fault t) ticket = file_both None given ((failed t) ∷ []) ticket
 
-same_asked : (files : List File) (given : List Item) (event : EventFacts) (submissions : List Submission)
+same_asked : (files : List File) (given : List HistoryItem) (event : EventFacts)
+    (submissions : List Submission)
     → AreAskedFor given submissions
     → AreAskedFor (given ++ item_of_event files given event ∷ []) submissions
 same_asked files given event [] h = tt
@@ -51,17 +53,18 @@ same_asked files given event (submission ∷ submissions) (first, others) = (
 abbrev answer_if : Bool → List ℕ → Ticket → EventFacts
 answer_if has text ticket = if has then piece ticket (piece_of text ticket.piece) else fault ticket
 
-if_answered : (files : List File) (given : List Item) (has : Bool) (text : List ℕ)
+if_answered : (files : List File) (given : List HistoryItem) (has : Bool) (text : List ℕ)
     (t ticket : Ticket)
-    → answered (item_of_event files given (answer_if has text t) ∷ []) ticket
+    → times_answered (item_of_event files given (answer_if has text t) ∷ []) ticket
     ≡ (if is_same t ticket then 1 else 0)
 if_answered files given true text t ticket = omega arith
 if_answered files given false text t ticket = omega arith
 
-if_faithful : (files : List File) (given : List Item) (submission : Submission) (has : Bool)
+if_faithful : (files : List File) (given : List HistoryItem) (submission : Submission) (has : Bool)
     → nat_lt (4096 * submission.ticket.piece)
     (length (file_bytes (slice_index_or files submission.file missing))) ≡ has
-    → WasAsked given submission → answered given submission.ticket < asked given submission.ticket
+    → WasAsked given submission
+    → times_answered given submission.ticket < times_asked given submission.ticket
     → IsFaithfulItem files given
     (item_of_event files given
     (answer_if has (file_bytes (slice_index_or files submission.file missing)) submission.ticket))
@@ -77,7 +80,8 @@ if_faithful files given submission false e (some, under) fewer =
       fewer,
       λ one has.
           not_from_Decides
-          (nat_lt (4096 * index) (length (file_bytes (slice_index_or files submission.file missing))))
+          (nat_lt (4096 * index)
+          (length (file_bytes (slice_index_or files submission.file missing))))
           (Decides-ltb (4096 * index)
           (length (file_bytes (slice_index_or files submission.file missing)))) e
           (subst (λ (file : Option ℕ). HasPiece files file index) (under one) has),
@@ -92,17 +96,17 @@ still front back submission =
     rw (count_append front (submission ∷ back) submission.ticket, is_same_self submission.ticket)
     (omega arith)
 
-pub kept_answer : (files : List File) (front back : List Submission) (given : List Item)
+pub kept_answer : (files : List File) (front back : List Submission) (given : List HistoryItem)
     (submission : Submission) → AreKept files (front ++ submission ∷ back) given
     → AreKept files (front ++ back)
     (given ++ item_of_event files given (answer_to files submission) ∷ [])
 kept_answer files front back given submission kept =
     let text = file_bytes (slice_index_or files submission.file missing) in
     let has = nat_lt (4096 * submission.ticket.piece) (length text) in
-    let item : Item = item_of_event files given (answer_to files submission) in
+    let item : HistoryItem = item_of_event files given (answer_to files submission) in
     let apart : AreAskedFor given front × AreAskedFor given (submission ∷ back) =
     asked_apart given front (submission ∷ back) kept.asked_for in
-    let fewer : answered given submission.ticket < asked given submission.ticket =
+    let fewer : times_answered given submission.ticket < times_asked given submission.ticket =
     omega (arith, kept.counts submission.ticket, still front back submission) in
     record {
       faithful =
@@ -124,7 +128,7 @@ kept_answer files front back given submission kept =
           (asked_append given front back apart.0 apart.1.1);
     }
 
-pub kept_nothing : (files : List File) (given : List Item) → AreKept files [] given
+pub kept_nothing : (files : List File) (given : List HistoryItem) → AreKept files [] given
     → AreKept files [] (given ++ nothing ∷ [])
 kept_nothing files given kept = record {
   faithful =

@@ -4,7 +4,7 @@ use Rattle.std.proofs.Common.{if◌then◌else◌, nat_lt, List, [], length, min
 use Rattle.std.proofs.Common.{refl, sym, ap, ◌∙◌, inl, inr}
 use Rattle.std.proofs.lemmas.Bool.{cases_lt}
 use Rattle.std.proofs.lemmas.Bool.Decides.{nat_tests}
-use Rattle.bl_map.specs.Room.{frames_of}
+use Rattle.bl_map.specs.PoolFrames.{frames_of}
 use Rattle.bl_stage.specs.Staged.{Staging, staged_file, table_of}
 use Rattle.bl_stage.specs.Pieces.{is_piece, slot_in, put_answer, is_missing}
 use Rattle.bl_stage.specs.declared.stage.putting.Put.{Put}
@@ -71,7 +71,8 @@ awaits_named bytes stage file index len named =
     (same_length len (min 4096 (size - 4096 * index)) (min (size - 4096 * index) 4096)
     (omega arith)) in
     ap (λ (s : PieceState). awaits s len) (piece_state_named bytes stage file index named)
-    ∙ awaits_if came (piece_of (staged_file bytes stage file) index) (min 4096 (size - 4096 * index))
+    ∙ awaits_if came (piece_of (staged_file bytes stage file) index)
+    (min 4096 (size - 4096 * index))
     len (piece_size bytes stage file index)
     ∙ ap (λ (b : Bool). not came && b) (sym test)
   where

@@ -12,8 +12,9 @@ use Rattle.bl_session.specs.declared.store.Completion.{Completion}
 use Rattle.bl_session.specs.declared.store.Completion.TheVariants.{Piece, Fault}
 use Rattle.bl_session.specs.declared.submission.Submission.{Submission}
 use Rattle.bl_session.specs.Outcome.{File, missing, file_bytes}
-use Rattle.bl_session.specs.History.{Item, submitted, is_same, file_under, IsPieceOf, IsItemOf}
-use Rattle.bl_session.specs.Faithful.{asked, IsFaithfulItem, IsFaithfulAfter}
+use Rattle.bl_session.specs.History.{HistoryItem, submitted, is_same, file_under, IsPieceOf}
+use Rattle.bl_session.specs.History.{IsItemOfAnswer}
+use Rattle.bl_session.specs.Faithful.{times_asked, IsFaithfulItem, IsFaithfulAfter}
 use Rattle.bl_session.specs.Stores.{are_equal, is_piece_of}
 use Rattle.bl_session.specs.StoresKept.{item_of, count_of, WasAsked, AreAskedFor, AreKept}
 use Rattle.bl_session.proofs.TicketLemmas.{is_same_self, asked_both, answered_both, file_both}
@@ -36,8 +37,9 @@ marks files None index bytes = (λ h. cc, λ h. absurd h)
 marks files (Some file) index bytes =
     equal_decides bytes (piece_of (file_bytes (slice_index_or files file missing)) index)
 
-pub item_is : {A : Type 0} (files : List File) (given : List Item) (answer : Option (Completion A))
-    → IsItemOf files given answer (item_of files given answer)
+pub item_is : {A : Type 0} (files : List File) (given : List HistoryItem)
+    (answer : Option (Completion A))
+    → IsItemOfAnswer files given answer (item_of files given answer)
 item_is files given None = refl
 item_is files given (Some (Fault ticket)) = refl
 item_is files given (Some (Piece ticket bytes)) = (
@@ -48,15 +50,15 @@ item_is files given (Some (Piece ticket bytes)) = (
 
 -- ---- one item more
 
-pub faithful_more : (files : List File) (given items : List Item) (item : Item)
+pub faithful_more : (files : List File) (given items : List HistoryItem) (item : HistoryItem)
     → IsFaithfulAfter files given items → IsFaithfulItem files (given ++ items) item
     → IsFaithfulAfter files given (items ++ item ∷ [])
 faithful_more files given [] item old new =
-    (subst (λ (g : List Item). IsFaithfulItem files g item) (append-nil given) new, tt)
+    (subst (λ (g : List HistoryItem). IsFaithfulItem files g item) (append-nil given) new, tt)
 faithful_more files given (x ∷ items) item old new = (
   old.0,
   faithful_more files (given ++ x ∷ []) items item old.1
-      (subst (λ (g : List Item). IsFaithfulItem files g item)
+      (subst (λ (g : List HistoryItem). IsFaithfulItem files g item)
       (sym (append_assoc given (x ∷ []) items)) new),
 )
 
@@ -74,30 +76,32 @@ one_case : (b : Bool) (n : ℕ) (old new : Option ℕ) (file : ℕ) → 1 ≤ n 
 one_case true n old new file some under = (omega arith, λ e. absurd (omega arith))
 one_case false n old new file some under = (omega arith, λ e. under (omega arith))
 
-one_asked : (given : List Item) (new submission : Submission) → WasAsked given submission
+one_asked : (given : List HistoryItem) (new submission : Submission) → WasAsked given submission
     → WasAsked (given ++ submitted new.file new.ticket ∷ []) submission
 one_asked given new submission (some, under) =
-    let item : Item = submitted new.file new.ticket in
+    let item : HistoryItem = submitted new.file new.ticket in
     rw (
       asked_both given (item ∷ []) submission.ticket,
       file_both None given (item ∷ []) submission.ticket,
     )
-    (one_case (is_same new.ticket submission.ticket) (asked given submission.ticket)
+    (one_case (is_same new.ticket submission.ticket) (times_asked given submission.ticket)
     (file_under given submission.ticket) (Some new.file) submission.file some under)
 
-all_asked : (given : List Item) (new : Submission) (submissions : List Submission)
+all_asked : (given : List HistoryItem) (new : Submission) (submissions : List Submission)
     → AreAskedFor given submissions
     → AreAskedFor (given ++ submitted new.file new.ticket ∷ []) submissions
 all_asked given new [] asked_for = tt
 all_asked given new (submission ∷ submissions) (first, others) =
     (one_asked given new submission first, all_asked given new submissions others)
 
-pub asked_append : (given : List Item) (front back : List Submission) → AreAskedFor given front
+pub asked_append : (given : List HistoryItem) (front back : List Submission)
+    → AreAskedFor given front
     → AreAskedFor given back → AreAskedFor given (front ++ back)
 asked_append given [] back f b = b
-asked_append given (submission ∷ front) back (first, f) b = (first, asked_append given front back f b)
+asked_append given (submission ∷ front) back (first, f) b =
+    (first, asked_append given front back f b)
 
-pub asked_apart : (given : List Item) (front back : List Submission)
+pub asked_apart : (given : List HistoryItem) (front back : List Submission)
     → AreAskedFor given (front ++ back)
     → AreAskedFor given front × AreAskedFor given back
 asked_apart given [] back h = (tt, h)
@@ -106,10 +110,10 @@ asked_apart given (submission ∷ front) back (first, h) =
     asked_apart given front back h in ((first, apart.0), apart.1)
 
 -- the new submission itself
-new_asked : (given : List Item) (new : Submission)
+new_asked : (given : List HistoryItem) (new : Submission)
     → WasAsked (given ++ submitted new.file new.ticket ∷ []) new
 new_asked given new =
-    let item : Item = submitted new.file new.ticket in
+    let item : HistoryItem = submitted new.file new.ticket in
     rw (
       asked_both given (item ∷ []) new.ticket,
       file_both None given (item ∷ []) new.ticket,
@@ -118,7 +122,8 @@ new_asked given new =
 
 -- ---- what a store keeps
 
-pub kept_submission : (files : List File) (pending : List Submission) (given : List Item) (new : Submission)
+pub kept_submission : (files : List File) (pending : List Submission) (given : List HistoryItem)
+    (new : Submission)
     → AreKept files pending given
     → AreKept files (pending ++ new ∷ []) (given ++ submitted new.file new.ticket ∷ [])
 kept_submission files pending given new kept = record {

@@ -3,9 +3,10 @@ use Rattle.std.proofs.Common.{◌≡◌, ℕ, ◌+◌, ◌==◌, ◌&&◌, Bool,
 use Rattle.std.proofs.Common.{◌∷◌, ◌++◌, Option, Some, refl, ap, ◌∙◌, arith}
 use Rattle.std.proofs.lemmas.Bool.Decides.{nat_tests}
 use Rattle.bl_session.specs.declared.ticket.Ticket.{Ticket}
-use Rattle.bl_session.specs.History.{Item, submitted, came, failed, nothing, is_same, last_submitted_file}
+use Rattle.bl_session.specs.History.{HistoryItem, submitted, came, failed, nothing, is_same}
+use Rattle.bl_session.specs.History.{last_submitted_file}
 use Rattle.bl_session.specs.Asked.{ticket_of}
-use Rattle.bl_session.specs.Faithful.{asked, answered}
+use Rattle.bl_session.specs.Faithful.{times_asked, times_answered}
 
 -- ---- tickets
 
@@ -47,33 +48,35 @@ other_ticket s t differs = decided (is_same s t) differs
 
 -- ---- a ticket in a list of items
 
-abbrev pub IsUntouched : List Item → Ticket → Type 0
+abbrev pub IsUntouched : List HistoryItem → Ticket → Type 0
 IsUntouched items t =
-    (asked items t ≡ 0) × (answered items t ≡ 0)
+    (times_asked items t ≡ 0) × (times_answered items t ≡ 0)
     × ((found : Option ℕ) → last_submitted_file found items t ≡ found)
 
-abbrev pub IsAskedOnce : ℕ → List Item → Ticket → Type 0
+abbrev pub IsAskedOnce : ℕ → List HistoryItem → Ticket → Type 0
 IsAskedOnce file items t =
-    (asked items t ≡ 1) × (answered items t ≡ 0)
+    (times_asked items t ≡ 1) × (times_answered items t ≡ 0)
     × ((found : Option ℕ) → last_submitted_file found items t ≡ Some file)
 
-pub asked_both : (xs ys : List Item) (t : Ticket) → asked (xs ++ ys) t ≡ asked xs t + asked ys t
+pub asked_both : (xs ys : List HistoryItem) (t : Ticket) → times_asked (xs ++ ys) t
+    ≡ times_asked xs t + times_asked ys t
 asked_both [] ys t = omega arith
 asked_both (submitted file s ∷ xs) ys t = let more = asked_both xs ys t in omega arith
 asked_both (came s count genuine ∷ xs) ys t = asked_both xs ys t
 asked_both (failed s ∷ xs) ys t = asked_both xs ys t
 asked_both (nothing ∷ xs) ys t = asked_both xs ys t
 
-pub answered_both : (xs ys : List Item) (t : Ticket)
-    → answered (xs ++ ys) t ≡ answered xs t + answered ys t
+pub answered_both : (xs ys : List HistoryItem) (t : Ticket)
+    → times_answered (xs ++ ys) t ≡ times_answered xs t + times_answered ys t
 answered_both [] ys t = omega arith
 answered_both (submitted file s ∷ xs) ys t = answered_both xs ys t
 answered_both (came s count genuine ∷ xs) ys t = let more = answered_both xs ys t in omega arith
 answered_both (failed s ∷ xs) ys t = let more = answered_both xs ys t in omega arith
 answered_both (nothing ∷ xs) ys t = answered_both xs ys t
 
-pub file_both : (found : Option ℕ) (xs ys : List Item) (t : Ticket)
-    → last_submitted_file found (xs ++ ys) t ≡ last_submitted_file (last_submitted_file found xs t) ys t
+pub file_both : (found : Option ℕ) (xs ys : List HistoryItem) (t : Ticket)
+    → last_submitted_file found (xs ++ ys) t
+    ≡ last_submitted_file (last_submitted_file found xs t) ys t
 file_both found [] ys t = refl
 file_both found (submitted file s ∷ xs) ys t =
     file_both (if is_same s t then Some file else found) xs ys t
@@ -81,15 +84,16 @@ file_both found (came s count genuine ∷ xs) ys t = file_both found xs ys t
 file_both found (failed s ∷ xs) ys t = file_both found xs ys t
 file_both found (nothing ∷ xs) ys t = file_both found xs ys t
 
-pub untouched_both : (xs ys : List Item) (t : Ticket) → IsUntouched xs t → IsUntouched ys t
+pub untouched_both : (xs ys : List HistoryItem) (t : Ticket) → IsUntouched xs t → IsUntouched ys t
     → IsUntouched (xs ++ ys) t
 untouched_both xs ys t (a, b, f) (c, d, g) = (
   (let e = asked_both xs ys t in omega arith),
   (let e = answered_both xs ys t in omega arith),
-  λ found. file_both found xs ys t ∙ ap (λ (x : Option ℕ). last_submitted_file x ys t) (f found) ∙ g found,
+  λ found. file_both found xs ys t ∙ ap (λ (x : Option ℕ). last_submitted_file x ys t) (f found)
+      ∙ g found,
 )
 
-pub once_first : (file : ℕ) (xs ys : List Item) (t : Ticket) → IsAskedOnce file xs t
+pub once_first : (file : ℕ) (xs ys : List HistoryItem) (t : Ticket) → IsAskedOnce file xs t
     → IsUntouched ys t → IsAskedOnce file (xs ++ ys) t
 once_first file xs ys t (a, b, f) (c, d, g) = (
   (let e = asked_both xs ys t in omega arith),
@@ -97,7 +101,7 @@ once_first file xs ys t (a, b, f) (c, d, g) = (
   λ found. file_both found xs ys t ∙ g (last_submitted_file found xs t) ∙ f found,
 )
 
-pub once_last : (file : ℕ) (xs ys : List Item) (t : Ticket) → IsUntouched xs t
+pub once_last : (file : ℕ) (xs ys : List HistoryItem) (t : Ticket) → IsUntouched xs t
     → IsAskedOnce file ys t → IsAskedOnce file (xs ++ ys) t
 once_last file xs ys t (a, b, f) (c, d, g) = (
   (let e = asked_both xs ys t in omega arith),

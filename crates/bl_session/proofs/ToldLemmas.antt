@@ -7,9 +7,9 @@ use Rattle.std.proofs.lemmas.Option.{slice_get-get_or}
 use Rattle.bl_session.specs.declared.store.Completion.{Completion}
 use Rattle.bl_session.specs.declared.submission.Submission.{Submission}
 use Rattle.bl_session.specs.declared.order.Order.{Order}
-use Rattle.bl_session.specs.Boot.{EventFacts}
+use Rattle.bl_session.specs.BootSteps.{EventFacts}
 use Rattle.bl_session.specs.Outcome.{File}
-use Rattle.bl_session.specs.History.{Item, IsItemOf}
+use Rattle.bl_session.specs.History.{HistoryItem, IsItemOfAnswer}
 use Rattle.bl_session.specs.Stores.{FileStoreFacts, event_of, answer_to, next_event}
 use Rattle.bl_session.specs.Stores.{next_place, without_index, after_answer}
 use Rattle.bl_session.specs.StoresKept.{item_of}
@@ -49,12 +49,13 @@ fewer_left event (first ∷ others) place (Some completion) within is =
     length_without (first ∷ others) place (within (omega arith))
 
 -- what the contract says of an answer
-pub record Tells {A E : Type 0} (files1 files2 : List File) (given1 given2 : List Item)
+pub record Tells {A E : Type 0} (files1 files2 : List File) (given1 given2 : List HistoryItem)
     (left1 left2 : ℕ) (result : Result (Option (Completion A)) E) : Type 0 where
   pub files : files2 ≡ files1
   pub given : IfOk result
       (λ answer.
-      (item : Item) × IsItemOf files1 given1 answer item × (given2 ≡ given1 ++ item ∷ []))
+      (item : HistoryItem) × IsItemOfAnswer files1 given1 answer item
+      × (given2 ≡ given1 ++ item ∷ []))
   pub none : IfOk result (λ answer. IsNone answer ↔ (left1 ≡ 0))
   pub fewer : IfOk result (λ answer. IfSome answer (λ completion. left2 + 1 ≡ left1))
   pub as_many : IfOk result (λ answer. IsNone answer → left2 ≡ left1)
@@ -62,7 +63,7 @@ pub record Tells {A E : Type 0} (files1 files2 : List File) (given1 given2 : Lis
 
 -- an answer that takes what stands at a place
 pub tells_taken : {A E R : Type 0} (event : R → EventFacts) (files1 files2 : List File)
-    (given1 given2 : List Item) (pending1 pending2 : List R) (place : ℕ)
+    (given1 given2 : List HistoryItem) (pending1 pending2 : List R) (place : ℕ)
     (answer : Option (Completion A)) → (0 < length pending1 → place < length pending1)
     → option_map event_of answer ≡ option_map event (slice_get pending1 place)
     → files2 ≡ files1 → given2 ≡ given1 ++ item_of files1 given1 answer ∷ []
@@ -119,7 +120,8 @@ pub script_store_tells : {A E : Type 0} (old new : ScriptStoreFacts)
     → OnErr result (new ≡ old)
     → Tells old.files new.files old.given new.given (length old.pending) (length new.pending) result
 script_store_tells old new (Ok answer) is ok err =
-    tells_taken (event_of_reply old.files) old.files new.files old.given new.given old.pending new.pending
+    tells_taken (event_of_reply old.files) old.files new.files old.given new.given old.pending
+    new.pending
     (picked_place old) answer (picked_within old) is
     (ap (λ (s : ScriptStoreFacts). s.files) ok) (ap (λ (s : ScriptStoreFacts). s.given) ok)
     (ap (λ (s : ScriptStoreFacts). s.pending) ok)

@@ -12,10 +12,12 @@ use Rattle.bl_session.specs.AttemptResult.{AttemptResult, handed, refused, size_
 use Rattle.bl_session.specs.AttemptResult.{known_lengths}
 use Rattle.bl_session.specs.Menu.{entry_at}
 use Rattle.bl_session.specs.Pieces.{are_whole, with_piece}
-use Rattle.bl_session.specs.Boot.{BootFacts, EventFacts, piece, fault, State, unstarted, running}
-use Rattle.bl_session.specs.Boot.{handed_over, none_left, out_of_memory, sizes_of, fresh}
-use Rattle.bl_session.specs.Boot.{TextsHaveResult, AfterAttempt, Continues, BeginsUnless, Begins}
-use Rattle.bl_session.specs.Boot.{is_wanted, Takes, Steps}
+use Rattle.bl_session.specs.BootSteps.{BootFacts, EventFacts, piece, fault, State, unstarted}
+use Rattle.bl_session.specs.BootSteps.{running}
+use Rattle.bl_session.specs.BootSteps.{handed_over, none_left, out_of_memory, sizes_of, fresh}
+use Rattle.bl_session.specs.BootSteps.{TextsHaveResult, AfterAttempt, Continues, BeginsUnless}
+use Rattle.bl_session.specs.BootSteps.{Begins}
+use Rattle.bl_session.specs.BootSteps.{is_wanted, TakesEvent, Steps}
 
 -- the boot has ended; or an attempt has just begun, with at least this many refusals before it and
 -- fewer than so many attempts after it
@@ -119,7 +121,7 @@ pub step_went : (facts : BootFacts) (entry : ℕ) (rest : List ℕ) (earlier : L
 step_went facts entry rest earlier files event new goes =
     choice (is_wanted earlier files event) refl goes
   where
-    taken : (event : EventFacts) → Takes facts entry rest earlier files event new
+    taken : (event : EventFacts) → TakesEvent facts entry rest earlier files event new
         → ((ticket : Ticket) × (bytes : List ℕ) × (event ≡ piece ticket bytes)
         × (new ≡ running entry rest earlier (with_piece files ticket.file ticket.piece bytes)))
         ⊎ IsNewFrom facts (length rest) (length earlier + 1) new
@@ -135,7 +137,7 @@ step_went facts entry rest earlier files event new goes =
         (new_begins facts rest) goes)
 
     choice : (b : Bool) → is_wanted earlier files event ≡ b
-        → MatchBool b (Takes facts entry rest earlier files event new)
+        → MatchBool b (TakesEvent facts entry rest earlier files event new)
         (new ≡ running entry rest earlier files) → Went facts entry rest earlier files event new
     choice true e takes = inr (e, taken event takes)
     choice false e same = inl (e, same)

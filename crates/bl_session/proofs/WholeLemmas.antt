@@ -8,8 +8,9 @@ use Rattle.std.proofs.lemmas.Bool.{cases_lt}
 use Rattle.std.proofs.lemmas.List.{get_or_default, get_or-map, length-map, ext_get_or}
 use Rattle.std.proofs.lemmas.List.Sums.{sum_by-cons}
 use Rattle.std.proofs.lemmas.List.FromFn.{length-map-range_with_len, get_or-map-range_with_len}
-use Rattle.bl_map.specs.Room.{frames_of, frames_for}
-use Rattle.bl_stage.specs.Staged.{Staging, AreStaged, AllCame, staged_file, staged_texts, empty_stage}
+use Rattle.bl_map.specs.PoolFrames.{frames_of, frames_for}
+use Rattle.bl_stage.specs.Staged.{Staging, AreStaged, AllCame, staged_file, staged_texts}
+use Rattle.bl_stage.specs.Staged.{empty_stage}
 use Rattle.bl_stage.specs.Staged.{first_of}
 use Rattle.bl_stage.specs.Pieces.{slot_in}
 use Rattle.bl_stage.specs.PieceStates as stage
@@ -18,13 +19,13 @@ use Rattle.bl_stage.specs.PieceStates.{piece_of, waiting_pieces, came_bytes}
 use Rattle.bl_stage.specs.StagedFileLaws.{same_firsts}
 use Rattle.bl_stage.proofs.FileLemmas.{file_within}
 use Rattle.bl_stage.proofs.PieceStateLaws.{complete_piece_states, fresh_piece_states}
-use Rattle.bl_session.specs.Pieces.{is_awaited, are_whole, awaited}
+use Rattle.bl_session.specs.Pieces.{is_awaited, are_whole, waiting_files}
 
 -- ---- at first
 
 each_size : (sizes : List ℕ)
     → map (λ file. waiting_pieces (get_or sizes file 0)) (range_with_len 0 (length sizes))
-    ≡ awaited sizes
+    ≡ waiting_files sizes
 each_size sizes =
     let d : List PieceState = [] in
     let f : ℕ → List PieceState = λ file. waiting_pieces (get_or sizes file 0) in
@@ -34,7 +35,7 @@ each_size sizes =
     ∙ sym (get_or-map waiting_pieces sizes k 0 d (omega arith)))
 
 pub first_awaited : (bytes : List ℕ) (pool : Range ℕ) (sizes frames : List ℕ)
-    → piece_states bytes (empty_stage pool sizes frames) ≡ awaited sizes
+    → piece_states bytes (empty_stage pool sizes frames) ≡ waiting_files sizes
 first_awaited bytes pool sizes frames = fresh_piece_states bytes pool sizes frames ∙ each_size sizes
 
 -- ---- each came
@@ -98,7 +99,8 @@ came_whole bytes stage kept came =
     (λ k m i.
     rw (came_slot stage file k kept came (omega arith) (omega arith)) refl))
 
-flag_of : (came : Bool) (piece : List ℕ) → not (is_awaited (stage.piece_state_if_came came piece)) ≡ true
+flag_of : (came : Bool) (piece : List ℕ) → not (is_awaited (stage.piece_state_if_came came piece))
+    ≡ true
     → came ≡ true
 flag_of true piece e = refl
 flag_of false piece e = absurd cc

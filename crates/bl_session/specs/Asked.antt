@@ -5,38 +5,39 @@ use Rattle.std.specs.List.{range_with_len}
 use Rattle.bl_stage.specs.PieceStates.{PieceState, lacks, has}
 use Rattle.bl_session.specs.declared.ticket.Ticket.{Ticket}
 use Rattle.bl_session.specs.Menu.{entry_at}
-use Rattle.bl_session.specs.Boot.{BootFacts, State, attempt_number, on_running}
-use Rattle.bl_session.specs.History.{Item, submitted}
+use Rattle.bl_session.specs.BootSteps.{BootFacts, State, attempt_number, on_running}
+use Rattle.bl_session.specs.History.{HistoryItem, submitted}
 
 -- the ticket of a piece of the file at this place of an entry
 abbrev pub ticket_of : (attempt place piece : ℕ) → Ticket
 ticket_of attempt place piece = record { attempt = attempt; file = place; piece = piece }
 
 -- a file of so many pieces is asked for, one piece after the other
-abbrev pub piece_orders : (attempt place file count : ℕ) → List Item
-piece_orders attempt place file count =
+abbrev pub piece_submissions : (attempt place file count : ℕ) → List HistoryItem
+piece_submissions attempt place file count =
     map (λ piece. submitted file (ticket_of attempt place piece)) (range_with_len 0 count)
 
 -- the files of an entry, by their index, from this place on, the one with the first of these
 -- pieces, and so on
-abbrev pub orders_of_files : (attempt place : ℕ) → List ℕ → List (List PieceState) → List Item
-orders_of_files attempt place [] files = []
-orders_of_files attempt place (index ∷ indices) [] = []
-orders_of_files attempt place (index ∷ indices) (piece_states ∷ files) =
-    piece_orders attempt place index (length piece_states)
-    ++ orders_of_files attempt (place + 1) indices files
+abbrev pub file_submissions : (attempt place : ℕ) → List ℕ → List (List PieceState)
+    → List HistoryItem
+file_submissions attempt place [] files = []
+file_submissions attempt place (index ∷ indices) [] = []
+file_submissions attempt place (index ∷ indices) (piece_states ∷ files) =
+    piece_submissions attempt place index (length piece_states)
+    ++ file_submissions attempt (place + 1) indices files
 
 -- each piece of the attempt that runs: files ascending, and in each of them pieces ascending
-abbrev pub orders : BootFacts → State → List Item
-orders facts state =
+abbrev pub attempt_submissions : BootFacts → State → List HistoryItem
+attempt_submissions facts state =
     on_running state [] (λ entry rest earlier files.
-    orders_of_files (length earlier) 0 (entry_at facts.menu entry).files files)
+    file_submissions (length earlier) 0 (entry_at facts.menu entry).files files)
 
 -- what is to be asked for after a step from one state to another: nothing more if the attempt goes
 -- on, else each piece of the attempt that runs now
-abbrev pub orders_after : BootFacts → (old new : State) → List Item
-orders_after facts old new =
-    if attempt_number new == attempt_number old then [] else orders facts new
+abbrev pub new_submissions : BootFacts → (old new : State) → List HistoryItem
+new_submissions facts old new =
+    if attempt_number new == attempt_number old then [] else attempt_submissions facts new
 
 -- ---- the first piece that is awaited: files ascending, and in each of them pieces ascending
 

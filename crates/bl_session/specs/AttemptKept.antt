@@ -14,7 +14,7 @@ use Rattle.bl_session.specs.declared.attempt.AttemptEnd.{AttemptEnd}
 use Rattle.bl_session.specs.declared.attempt.AttemptEnd.TheVariants.{HandedOver, Refused}
 use Rattle.bl_session.specs.AttemptResult.{handed, refused, HasResult, size_refusal, known_lengths}
 use Rattle.bl_session.specs.Menu.{EntryFacts, value_with}
-use Rattle.bl_session.specs.Pieces.{are_whole, awaited}
+use Rattle.bl_session.specs.Pieces.{are_whole, waiting_files}
 use Rattle.bl_session.specs.Phases.{handover_held, LiesWithin}
 use Rattle.bl_session.specs.PhasesKept.{HasSmallFiles, LacksPiece}
 
@@ -49,7 +49,7 @@ abbrev pub IsAttemptBegun :
     → Type 0
 IsAttemptBegun facts entry sizes bytes attempt =
     MatchOption (size_refusal facts sizes)
-    (IsAttempt facts entry (awaited (known_lengths sizes)) bytes attempt)
+    (IsAttempt facts entry (waiting_files (known_lengths sizes)) bytes attempt)
     (IsRefusedFor attempt)
 
 -- the stage that it waits with is one of so many files, and lacks a piece; each part that it hands

@@ -4,11 +4,11 @@ use Rattle.std.specs.Prelude.{unwrap_or, if◌then◌else◌, nat_lt}
 use Rattle.std.specs.Option.{option_or}
 use Rattle.std.specs.declared.ops.Range.{Range}
 use Rattle.bl_map.specs.MachineFacts.{MachineFacts}
-use Rattle.bl_map.specs.Room.{frames_in, HasRoomFor, frames_for}
+use Rattle.bl_map.specs.PoolFrames.{frames_in, HasFramesFor, frames_for}
 use Rattle.bl_load.specs.declared.refusal.Refusal.{Refusal}
 use Rattle.bl_load.specs.declared.refusal.Refusal.TheVariants.{NoFile, FileFault, FileTooLong}
 use Rattle.bl_load.specs.declared.refusal.Refusal.TheVariants.{NoPool}
-use Rattle.bl_load.specs.Value.{EntryValue}
+use Rattle.bl_load.specs.EntryValue.{EntryValue}
 use Rattle.bl_load.specs.Handover.{Part, Handover, end_of}
 use Rattle.bl_load.specs.Parts.{IsHandover, IsRefusal}
 
@@ -49,22 +49,22 @@ abbrev pub part_range : Part → Range ℕ
 part_range part = record { start = part.address; end = end_of part }
 
 -- beside the parts the pool has frames enough for the files, each file in frames of its own
-abbrev pub HasRoomBeside : MachineFacts → EntryValue → Handover → Type 0
-HasRoomBeside facts value handover =
-    HasRoomFor facts.pool (map part_range handover.parts) value.files
+abbrev pub HasFramesBeside : MachineFacts → EntryValue → Handover → Type 0
+HasFramesBeside facts value handover =
+    HasFramesFor facts.pool (map part_range handover.parts) value.files
 
--- the entry could be handed over, but there is no room beside its parts
-pub record LacksRoom (facts : MachineFacts) (value : EntryValue) : Type 0 where
+-- the entry could be handed over, but the pool has too few frames beside its parts
+pub record LacksFrames (facts : MachineFacts) (value : EntryValue) : Type 0 where
   pub handover : Handover
   pub is : IsHandover facts value handover
-  pub lacking : ¬ HasRoomBeside facts value handover
+  pub lacking : ¬ HasFramesBeside facts value handover
 
 -- the result of an attempt whose files are whole
 abbrev pub HasResult : MachineFacts → EntryValue → AttemptResult → Type 0
 HasResult facts value (handed handover) =
-    IsHandover facts value handover × HasRoomBeside facts value handover
+    IsHandover facts value handover × HasFramesBeside facts value handover
 HasResult facts value (refused refusal) =
-    IsRefusal facts value refusal ⊎ (LacksRoom facts value × (refusal ≡ NoPool))
+    IsRefusal facts value refusal ⊎ (LacksFrames facts value × (refusal ≡ NoPool))
 
 -- ---- a whole attempt
 

@@ -2,9 +2,9 @@
 use Rattle.std.specs.Prelude.{ℕ, ◌+◌, ◌<◌, ◌≤◌, ◌==◌, Bool, max, List, [], ◌∷◌, ◌++◌, length, All}
 use Rattle.std.specs.Prelude.{if◌then◌else◌}
 use Rattle.std.specs.List.{list_any}
-use Rattle.bl_plan.specs.Limits.{max_entries}
+use Rattle.bl_plan.specs.MenuLimits.{max_entries}
 use Rattle.bl_load.specs.declared.entry.Entry.{Entry}
-use Rattle.bl_load.specs.Value.{IsWithinLimits}
+use Rattle.bl_load.specs.EntryValue.{IsWithinLimits}
 use Rattle.bl_session.specs.Menu.{EntryFacts}
 use Rattle.bl_session.specs.declared.menu.fault.MenuFault.{MenuFault}
 use Rattle.bl_session.specs.declared.menu.fault.MenuFault.TheVariants.{BadIndex, TooMany, NoMemory}
@@ -27,16 +27,16 @@ AreWithinLimits entries =
     (length entries ≤ max_entries) × All IsWithinLimits entries
 
 -- each index names one of so many entries
-abbrev pub NameEntries : ℕ → ℕ → List ℕ → Type 0
-NameEntries count default fallbacks = (default < count) × All (λ index. index < count) fallbacks
+abbrev pub AreEntryIndices : ℕ → ℕ → List ℕ → Type 0
+AreEntryIndices count default fallbacks = (default < count) × All (λ index. index < count) fallbacks
 
 -- the first fault of a menu, in the order of these lines; memory may run out if it has none
 abbrev pub HasMenuFault : {A : Type 0} → List (Entry A) → ℕ → List ℕ → MenuFault → Type 0
 HasMenuFault entries default fallbacks TooMany = ¬ AreWithinLimits entries
 HasMenuFault entries default fallbacks BadIndex =
-    AreWithinLimits entries × (¬ NameEntries (length entries) default fallbacks)
+    AreWithinLimits entries × (¬ AreEntryIndices (length entries) default fallbacks)
 HasMenuFault entries default fallbacks NoMemory =
-    AreWithinLimits entries × NameEntries (length entries) default fallbacks
+    AreWithinLimits entries × AreEntryIndices (length entries) default fallbacks
 
 -- the number of why there is no menu
 abbrev pub menu_fault_number : MenuFault → ℕ
@@ -50,6 +50,6 @@ count_to [] = 0
 count_to (index ∷ indices) = max (index + 1) (count_to indices)
 
 -- how many files entries name, up to the greatest index
-abbrev pub files_named : List EntryFacts → ℕ
-files_named [] = 0
-files_named (entry ∷ entries) = max (count_to entry.files) (files_named entries)
+abbrev pub named_file_count : List EntryFacts → ℕ
+named_file_count [] = 0
+named_file_count (entry ∷ entries) = max (count_to entry.files) (named_file_count entries)

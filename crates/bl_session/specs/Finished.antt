@@ -7,7 +7,7 @@ use Rattle.bl_load.specs.After.{IsAfter}
 use Rattle.bl_load.specs.HandoffFacts.{HandoffFacts}
 use Rattle.bl_load.specs.Handover.{Handover}
 use Rattle.bl_load.specs.PlanFacts.{handover_in}
-use Rattle.bl_load.specs.Value.{EntryValue}
+use Rattle.bl_load.specs.EntryValue.{EntryValue}
 use Rattle.bl_load.specs.declared.refusal.PrepFault.{PrepFault}
 use Rattle.bl_load.specs.declared.refusal.PrepFault.TheVariants.{Refused, NoMemory}
 use Rattle.bl_session.specs.AttemptResult.{HasResult, handed, refused}

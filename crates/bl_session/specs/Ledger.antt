@@ -1,9 +1,9 @@
 -- What a ledger keeps of a store, what it answers, and what an answer leaves. Own.
 use Rattle.std.specs.Prelude.{ℕ, List, [], ◌∷◌, ◌++◌, slice_get, Option, None, Some, option_map}
 use Rattle.bl_session.specs.declared.submission.Submission.{Submission}
-use Rattle.bl_session.specs.Boot.{EventFacts}
+use Rattle.bl_session.specs.BootSteps.{EventFacts}
 use Rattle.bl_session.specs.Outcome.{File, missing, whole}
-use Rattle.bl_session.specs.History.{Item, submitted}
+use Rattle.bl_session.specs.History.{HistoryItem, submitted}
 use Rattle.bl_session.specs.Stores.{answer_to, item_of_told, without_index}
 
 -- a file in a slice, or none
@@ -15,7 +15,7 @@ sliced_file (Some bytes) = whole bytes
 pub record LedgerFacts : Type 0 where
   pub files : List File
   pub pending : List Submission
-  pub given : List Item
+  pub given : List HistoryItem
 
 -- the answer to the submission at a place
 abbrev pub pending_answer : LedgerFacts → ℕ → Option EventFacts

@@ -3,7 +3,8 @@ use Rattle.std.specs.Prelude.{ℕ, List, []}
 use Rattle.std.specs.declared.ops.Range.{Range}
 use Rattle.bl_load.specs.After.{IsAfter}
 use Rattle.bl_stage.specs.Ranges.{IsSameOutside}
-use Rattle.bl_session.specs.Boot.{State, unstarted, running, handed_over, none_left, out_of_memory}
+use Rattle.bl_session.specs.BootSteps.{State, unstarted, running, handed_over, none_left}
+use Rattle.bl_session.specs.BootSteps.{out_of_memory}
 
 -- after a handover the parts, 0 elsewhere in the pool, and each other byte as before; where no
 -- entry is left the same with no parts; else no byte outside the pool changed

@@ -2,7 +2,7 @@
 use Rattle.std.specs.Prelude.{ℕ, List, [], ◌∷◌, map, slice_index_or, None, option_to_list}
 use Rattle.bl_load.specs.declared.entry.Entry.{Entry}
 use Rattle.bl_load.specs.declared.entry.Entry.TheVariants.{Multiboot2, Linux}
-use Rattle.bl_load.specs.Value.{EntryValue, value_of, multiboot2_value}
+use Rattle.bl_load.specs.EntryValue.{EntryValue, value_of, multiboot2_value}
 
 -- an entry: the indices of its files, the kernel's first, and its value with no files yet
 pub record EntryFacts : Type 0 where

@@ -18,8 +18,9 @@ use Rattle.bl_session.specs.declared.phase.Running.{Running}
 use Rattle.bl_session.specs.declared.phase.Phase.{Phase}
 use Rattle.bl_session.specs.declared.phase.Phase.TheVariants.{Unstarted, Waits, HandedOver, Failed}
 use Rattle.bl_session.specs.Menu.{MenuFacts}
-use Rattle.bl_session.specs.Boot.{BootFacts, EventFacts, piece, fault, State, unstarted, running}
-use Rattle.bl_session.specs.Boot.{handed_over, none_left, out_of_memory}
+use Rattle.bl_session.specs.BootSteps.{BootFacts, EventFacts, piece, fault, State, unstarted}
+use Rattle.bl_session.specs.BootSteps.{running}
+use Rattle.bl_session.specs.BootSteps.{handed_over, none_left, out_of_memory}
 
 -- what memory of these bytes hands over
 abbrev pub handover_held : List ℕ → HandoffFacts → Handover

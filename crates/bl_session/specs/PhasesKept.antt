@@ -10,7 +10,7 @@ use Rattle.bl_session.specs.declared.phase.Phase.{Phase}
 use Rattle.bl_session.specs.declared.phase.Phase.TheVariants.{Unstarted, Waits, HandedOver, Failed}
 use Rattle.bl_session.specs.AttemptResult.{file_limit, file_refusal, size_refusal, known_lengths}
 use Rattle.bl_session.specs.Menu.{MenuFacts, entry_at}
-use Rattle.bl_session.specs.Boot.{BootFacts, State}
+use Rattle.bl_session.specs.BootSteps.{BootFacts, State}
 use Rattle.bl_session.specs.Phases.{state_at, running_facts, phase_facts, boot_facts, LiesWithin}
 
 abbrev pub running_state : {A : Type 0} → (attempts bytes : List ℕ) → Running A → State
@@ -30,8 +30,8 @@ IsSizeFault facts sizes (prep_fault.Refused refusal) = size_refusal facts sizes 
 IsSizeFault facts sizes prep_fault.NoMemory = Unit {0}
 
 -- a stage to which no piece came, for files of these sizes
-abbrev pub IsFresh : MachineFacts → List (Option ℕ) → Staging → Type 0
-IsFresh facts sizes stage =
+abbrev pub IsFreshStage : MachineFacts → List (Option ℕ) → Staging → Type 0
+IsFreshStage facts sizes stage =
     (frames : List ℕ) × (stage ≡ empty_stage facts.pool (known_lengths sizes) frames)
 
 abbrev pub facts_of_boot : {A : Type 0} → Boot A → BootFacts

@@ -28,5 +28,5 @@ are_whole files =
     list_all (λ states. list_all (λ state. not (is_awaited state)) states) files
 
 -- files of these lengths of which no piece came
-abbrev pub awaited : List ℕ → List (List PieceState)
-awaited lengths = map waiting_pieces lengths
+abbrev pub waiting_files : List ℕ → List (List PieceState)
+waiting_files lengths = map waiting_pieces lengths

@@ -7,7 +7,7 @@ use Rattle.bl_session.specs.declared.ticket.Ticket.{Ticket}
 use Rattle.bl_session.specs.declared.ticket.Request.{Request}
 use Rattle.bl_session.specs.Menu.{entry_at}
 use Rattle.bl_session.specs.Pieces.{piece_state_of}
-use Rattle.bl_session.specs.Boot.{BootFacts, State, on_running}
+use Rattle.bl_session.specs.BootSteps.{BootFacts, State, on_running}
 use Rattle.bl_session.specs.Asked.{first_awaited_piece, first_ticket, ticket_or}
 
 -- how many bytes a piece has that is awaited

@@ -6,12 +6,14 @@ use Rattle.bl_session.specs.declared.ticket.Ticket.{Ticket}
 use Rattle.bl_session.specs.declared.outcome.RefusedEntry.{RefusedEntry}
 use Rattle.bl_session.specs.declared.outcome.BootFault.{BootFault}
 use Rattle.bl_session.specs.declared.outcome.Outcome.{Outcome}
-use Rattle.bl_session.specs.Boot.{BootFacts, EventFacts, piece, fault, State, unstarted}
-use Rattle.bl_session.specs.Boot.{out_of_memory, is_running, is_wanted, StartsOrFails, StepsOrFails}
-use Rattle.bl_session.specs.Boot.{on_running}
+use Rattle.bl_session.specs.BootSteps.{BootFacts, EventFacts, piece, fault, State, unstarted}
+use Rattle.bl_session.specs.BootSteps.{out_of_memory, is_running, is_wanted, StartsOrFails}
+use Rattle.bl_session.specs.BootSteps.{StepsOrFails}
+use Rattle.bl_session.specs.BootSteps.{on_running}
 use Rattle.bl_session.specs.Outcome.{File, Faults, AreToldFaults}
-use Rattle.bl_session.specs.History.{Item, submitted, came, failed, nothing, file_under, IsPieceOf}
-use Rattle.bl_session.specs.Asked.{orders, orders_after, first_ticket}
+use Rattle.bl_session.specs.History.{HistoryItem, submitted, came, failed, nothing, file_under}
+use Rattle.bl_session.specs.History.{IsPieceOf}
+use Rattle.bl_session.specs.Asked.{attempt_submissions, new_submissions, first_ticket}
 use Rattle.bl_session.specs.Phases.{PhaseFacts, outcome_facts, fault_facts}
 
 -- ---- answers as events
@@ -20,7 +22,8 @@ use Rattle.bl_session.specs.Phases.{PhaseFacts, outcome_facts, fault_facts}
 -- many bytes as were told, and they are its file's exactly if they are marked so; with nothing more
 -- to come, it is a fault of the first piece that is awaited
 abbrev pub IsAnswer :
-    List File → List Item → List RefusedEntry → List (List PieceState) → Item → EventFacts → Type 0
+    List File → List HistoryItem → List RefusedEntry → List (List PieceState) → HistoryItem
+    → EventFacts → Type 0
 IsAnswer files given earlier piece_states (submitted file ticket) event = ⊥
 IsAnswer files given earlier piece_states (came ticket count genuine) event =
     (bytes : List ℕ) × (event ≡ piece ticket bytes) × (length bytes ≡ count)
@@ -31,7 +34,7 @@ IsAnswer files given earlier piece_states nothing event =
     × (event ≡ fault ticket)
 
 -- only an attempt that runs takes answers
-abbrev pub IsEventOf : List File → List Item → State → Item → EventFacts → Type 0
+abbrev pub IsEventOf : List File → List HistoryItem → State → HistoryItem → EventFacts → Type 0
 IsEventOf files given state item event =
     on_running state ⊥
     (λ entry rest earlier piece_states. IsAnswer files given earlier piece_states item event)
@@ -39,26 +42,28 @@ IsEventOf files given state item event =
 -- where a boot stands, and what it is still to ask for
 pub record RunState : Type 0 where
   pub state : State
-  pub owed : List Item
+  pub owed : List HistoryItem
 
 -- one that begins its first attempt
 abbrev pub run_state_of : BootFacts → State → RunState
-run_state_of facts state = record { state = state; owed = orders facts state }
+run_state_of facts state = record { state = state; owed = attempt_submissions facts state }
 
 -- one item after this history: the first that is to be asked for; with none it is an answer, the
 -- next event
-abbrev pub Delivers : BootFacts → List File → List Item → State → List Item → Item → RunState
+abbrev pub Delivers : BootFacts → List File → List HistoryItem → State → List HistoryItem
+    → HistoryItem → RunState
     → Type 0
 Delivers facts files given state (order ∷ owed) item new =
     (item ≡ order) × (new ≡ record { state = state; owed = owed })
 Delivers facts files given state [] item new =
     (event : EventFacts) × IsEventOf files given state item event
     × StepsOrFails facts state event new.state
-    × (new.owed ≡ orders_after facts state new.state)
+    × (new.owed ≡ new_submissions facts state new.state)
 
 -- these items, after this history, lead from a state of a run to a state; while an attempt runs,
 -- memory may run out after the last
-abbrev pub Reads : BootFacts → List File → List Item → RunState → List Item → State → Type 0
+abbrev pub Reads : BootFacts → List File → List HistoryItem → RunState → List HistoryItem → State
+    → Type 0
 Reads facts files given old [] new =
     (new ≡ old.state) ⊎ ((new ≡ out_of_memory) × (is_running old.state ≡ true))
 Reads facts files given old (item ∷ items) new =
@@ -66,9 +71,9 @@ Reads facts files given old (item ∷ items) new =
     × Reads facts files (given ++ item ∷ []) next items new
 
 -- a boot that made its store's history grow so came to this state
-pub record IsRun (facts : BootFacts) (files : List File) (old new : List Item)
+pub record IsRun (facts : BootFacts) (files : List File) (old new : List HistoryItem)
     (end : State) : Type 0 where
-  pub gained : List Item
+  pub gained : List HistoryItem
   pub given : new ≡ old ++ gained
   pub begun : State
   pub begins : StartsOrFails facts unstarted begun
@@ -77,20 +82,20 @@ pub record IsRun (facts : BootFacts) (files : List File) (old new : List Item)
 -- ---- genuine histories
 
 -- a piece is marked as its file's
-abbrev pub IsMarked : Item → Type 0
+abbrev pub IsMarked : HistoryItem → Type 0
 IsMarked (submitted file ticket) = Unit {0}
 IsMarked (came ticket count genuine) = genuine ≡ true
 IsMarked (failed ticket) = Unit {0}
 IsMarked nothing = Unit {0}
 
 -- an event that is wanted is marked, whatever faults come; one that is not may be anything
-abbrev pub IsMarkedItem : State → Item → EventFacts → Type 0
+abbrev pub IsMarkedItem : State → HistoryItem → EventFacts → Type 0
 IsMarkedItem state item event =
     on_running state (Unit {0})
     (λ entry rest earlier piece_states. is_wanted earlier piece_states event ≡ true → IsMarked item)
 
 -- an event that is wanted is marked, and its faults are these; one that is not may be anything
-abbrev pub IsGenuineItem : Faults → State → Item → EventFacts → Type 0
+abbrev pub IsGenuineItem : Faults → State → HistoryItem → EventFacts → Type 0
 IsGenuineItem faults state item event =
     on_running state (Unit {0}) (λ entry rest earlier piece_states. is_wanted earlier piece_states
     event ≡ true
@@ -98,7 +103,8 @@ IsGenuineItem faults state item event =
 
 -- of these items, after this history, each answer is so where it comes
 abbrev pub EachAnswerIs :
-    BootFacts → List File → (State → Item → EventFacts → Type 0) → List Item → RunState → List Item
+    BootFacts → List File → (State → HistoryItem → EventFacts → Type 0) → List HistoryItem
+    → RunState → List HistoryItem
     → Type 0
 EachAnswerIs facts files IsSo given run_state [] = Unit {0}
 EachAnswerIs facts files IsSo given run_state (item ∷ items) =
@@ -109,17 +115,19 @@ EachAnswerIs facts files IsSo given run_state (item ∷ items) =
 
 -- of what a history gained in a boot each answer is so where it comes
 abbrev pub AllGained :
-    BootFacts → List File → (State → Item → EventFacts → Type 0) → (old new : List Item) → Type 0
+    BootFacts → List File → (State → HistoryItem → EventFacts → Type 0)
+    → (old new : List HistoryItem) → Type 0
 AllGained facts files IsSo old new =
-    (gained : List Item) (begun : State) → new ≡ old ++ gained → StartsOrFails facts unstarted begun
+    (gained : List HistoryItem) (begun : State) → new ≡ old ++ gained
+    → StartsOrFails facts unstarted begun
     → EachAnswerIs facts files IsSo old (run_state_of facts begun) gained
 
 -- the pieces that were wanted are their files', whatever faults came
-abbrev pub IsMarkedRun : BootFacts → List File → (old new : List Item) → Type 0
+abbrev pub IsMarkedRun : BootFacts → List File → (old new : List HistoryItem) → Type 0
 IsMarkedRun facts files old new = AllGained facts files IsMarkedItem old new
 
 -- the pieces that were wanted are their files', and these faults came
-abbrev pub IsGenuineRun : BootFacts → List File → Faults → (old new : List Item) → Type 0
+abbrev pub IsGenuineRun : BootFacts → List File → Faults → (old new : List HistoryItem) → Type 0
 IsGenuineRun facts files faults old new = AllGained facts files (IsGenuineItem faults) old new
 
 -- ---- the end of a boot

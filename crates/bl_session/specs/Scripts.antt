@@ -7,9 +7,9 @@ use Rattle.bl_session.specs.declared.ticket.Ticket.{Ticket}
 use Rattle.bl_session.specs.declared.submission.Submission.{Submission}
 use Rattle.bl_session.specs.declared.script_reply.ScriptReply.{ScriptReply}
 use Rattle.bl_session.specs.declared.script_reply.ScriptReply.TheVariants.{Answer, Altered, Fault}
-use Rattle.bl_session.specs.Boot.{EventFacts, piece, fault}
+use Rattle.bl_session.specs.BootSteps.{EventFacts, piece, fault}
 use Rattle.bl_session.specs.Outcome.{File}
-use Rattle.bl_session.specs.History.{Item, submitted, is_same}
+use Rattle.bl_session.specs.History.{HistoryItem, submitted, is_same}
 use Rattle.bl_session.specs.Stores.{answer_to, item_of_told, without_index}
 
 -- each byte of a piece exclusive-or 0xFF
@@ -42,7 +42,7 @@ pub record ScriptStoreFacts : Type 0 where
   pub fail : List Ticket
   pub picks : List ℕ
   pub pending : List ScriptReply
-  pub given : List Item
+  pub given : List HistoryItem
 
 -- the place that is answered next: the first that is told, modulo the list's length, 0 if none is
 abbrev pub picked_place : ScriptStoreFacts → ℕ

@@ -12,9 +12,9 @@ use Rattle.bl_session.specs.declared.submission.Submission.{Submission}
 use Rattle.bl_session.specs.declared.order.Order.{Order}
 use Rattle.bl_session.specs.declared.order.Order.TheVariants.{Forward, Reverse}
 use Rattle.bl_session.specs.AttemptResult.{file_limit}
-use Rattle.bl_session.specs.Boot.{EventFacts, piece, fault}
+use Rattle.bl_session.specs.BootSteps.{EventFacts, piece, fault}
 use Rattle.bl_session.specs.Outcome.{File, missing, too_long, whole, file_bytes}
-use Rattle.bl_session.specs.History.{Item, submitted, came, failed, nothing, file_under}
+use Rattle.bl_session.specs.History.{HistoryItem, submitted, came, failed, nothing, file_under}
 
 -- ---- files
 
@@ -58,13 +58,13 @@ is_piece_of files None index bytes = false
 is_piece_of files (Some file) index bytes =
     are_equal bytes (piece_of (file_bytes (slice_index_or files file missing)) index)
 
-abbrev pub item_of_event : List File → List Item → EventFacts → Item
+abbrev pub item_of_event : List File → List HistoryItem → EventFacts → HistoryItem
 item_of_event files given (piece ticket bytes) =
     came ticket (length bytes) (is_piece_of files (file_under given ticket) ticket.piece bytes)
 item_of_event files given (fault ticket) = failed ticket
 
 -- what an answer adds to the history so far
-abbrev pub item_of_told : List File → List Item → Option EventFacts → Item
+abbrev pub item_of_told : List File → List HistoryItem → Option EventFacts → HistoryItem
 item_of_told files given None = nothing
 item_of_told files given (Some event) = item_of_event files given event
 
@@ -85,7 +85,7 @@ pub record FileStoreFacts : Type 0 where
   pub files : List File
   pub order : Order
   pub pending : List Submission
-  pub given : List Item
+  pub given : List HistoryItem
 
 -- the answer that is next
 abbrev pub next_event : FileStoreFacts → Option EventFacts

@@ -4,8 +4,8 @@ use Rattle.std.specs.Prelude.{option_map}
 use Rattle.bl_session.specs.declared.ticket.Ticket.{Ticket}
 use Rattle.bl_session.specs.declared.submission.Submission.{Submission}
 use Rattle.bl_session.specs.Outcome.{File}
-use Rattle.bl_session.specs.History.{Item, is_same, file_under}
-use Rattle.bl_session.specs.Faithful.{IsFaithful, asked, answered}
+use Rattle.bl_session.specs.History.{HistoryItem, is_same, file_under}
+use Rattle.bl_session.specs.Faithful.{IsFaithful, times_asked, times_answered}
 use Rattle.bl_session.specs.declared.store.Completion.{Completion}
 use Rattle.bl_session.specs.Stores.{event_of, item_of_told}
 
@@ -16,24 +16,26 @@ count_of (submission ∷ submissions) ticket =
     (if is_same submission.ticket ticket then 1 else 0) + count_of submissions ticket
 
 -- it was asked for; if its ticket was asked for once, under that ticket
-abbrev pub WasAsked : List Item → Submission → Type 0
+abbrev pub WasAsked : List HistoryItem → Submission → Type 0
 WasAsked given submission =
-    (1 ≤ asked given submission.ticket)
-    × (asked given submission.ticket ≡ 1
+    (1 ≤ times_asked given submission.ticket)
+    × (times_asked given submission.ticket ≡ 1
     → file_under given submission.ticket ≡ Some submission.file)
 
-abbrev pub AreAskedFor : List Item → List Submission → Type 0
+abbrev pub AreAskedFor : List HistoryItem → List Submission → Type 0
 AreAskedFor given [] = Unit {0}
 AreAskedFor given (submission ∷ submissions) =
     WasAsked given submission × AreAskedFor given submissions
 
-pub record AreKept (files : List File) (pending : List Submission) (given : List Item)
+pub record AreKept (files : List File) (pending : List Submission) (given : List HistoryItem)
     : Type 0 where
   pub faithful : IsFaithful files given
   pub counts :
-      (ticket : Ticket) → answered given ticket + count_of pending ticket ≡ asked given ticket
+      (ticket : Ticket) → times_answered given ticket + count_of pending ticket
+      ≡ times_asked given ticket
   pub asked_for : AreAskedFor given pending
 
 -- what a completion adds to the history so far
-abbrev pub item_of : {A : Type 0} → List File → List Item → Option (Completion A) → Item
+abbrev pub item_of : {A : Type 0} → List File → List HistoryItem → Option (Completion A)
+    → HistoryItem
 item_of files given answer = item_of_told files given (option_map event_of answer)

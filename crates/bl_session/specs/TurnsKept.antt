@@ -1,30 +1,30 @@
 -- Parts of a run: what a history gained leads from one state of a run to another. Own.
 use Rattle.std.specs.Prelude.{◌≡◌, ℕ, ◌+◌, List, [], ◌∷◌, ◌++◌, length, Option, None}
 use Rattle.bl_session.specs.declared.ticket.Ticket.{Ticket}
-use Rattle.bl_session.specs.Boot.{BootFacts, State, on_running}
+use Rattle.bl_session.specs.BootSteps.{BootFacts, State, on_running}
 use Rattle.bl_session.specs.Outcome.{File}
-use Rattle.bl_session.specs.History.{Item}
+use Rattle.bl_session.specs.History.{HistoryItem}
 use Rattle.bl_session.specs.Asked.{first_ticket}
 use Rattle.bl_session.specs.Run.{RunState, Delivers}
 
 -- of these orders, in order, all but the rest were asked for
-pub record IsAsked (orders rest old new : List Item) : Type 0 where
-  pub asked : List Item
-  pub all : orders ≡ asked ++ rest
+pub record IsAsked (attempt_submissions rest old new : List HistoryItem) : Type 0 where
+  pub asked : List HistoryItem
+  pub all : attempt_submissions ≡ asked ++ rest
   pub given : new ≡ old ++ asked
 
 -- these items, after this history, lead from one state of a run to another
 abbrev pub LeadsOn :
-    BootFacts → List File → List Item → RunState → List Item → RunState → Type 0
+    BootFacts → List File → List HistoryItem → RunState → List HistoryItem → RunState → Type 0
 LeadsOn facts files given old [] new = new ≡ old
 LeadsOn facts files given old (item ∷ items) new =
     (next : RunState) × Delivers facts files given old.state old.owed item next
     × LeadsOn facts files (given ++ item ∷ []) next items new
 
 -- a history that grew so leads from one state of a run to another
-pub record IsHeard (facts : BootFacts) (files : List File) (old new : List Item)
+pub record IsHeard (facts : BootFacts) (files : List File) (old new : List HistoryItem)
     (start end : RunState) : Type 0 where
-  pub gained : List Item
+  pub gained : List HistoryItem
   pub given : new ≡ old ++ gained
   pub leads : LeadsOn facts files old start gained end
 

@@ -1,11 +1,11 @@
 //! What an attempt asks a store for.
 ghost use Rattle.std.specs.Prelude.{◌≡◌, ◌<◌, ◌^◌, ◌++◌, ℕ, List, OnOk, OnErr, length};
 ghost use Rattle.std.specs.Prelude.{slice_index, slice_index_or};
-ghost use Rattle.bl_map.specs.Room as room;
+ghost use Rattle.bl_map.specs.PoolFrames as room;
 ghost use Rattle.bl_stage.specs.PieceStates.{piece_states};
-ghost use Rattle.bl_session.specs.History.{Item};
+ghost use Rattle.bl_session.specs.History.{HistoryItem};
 ghost use Rattle.bl_session.specs.Menu.{files_of};
-ghost use Rattle.bl_session.specs.Asked.{piece_orders, orders_of_files};
+ghost use Rattle.bl_session.specs.Asked.{piece_submissions, file_submissions};
 ghost use Rattle.bl_session.specs.PhasesKept.{HasSmallFiles};
 ghost use Rattle.bl_session.specs.TurnsKept.{IsAsked};
 
@@ -58,9 +58,9 @@ fn submit_file<S: Store>(
     count: u32,
 ) -> Result<(), AllocError>
     ensures ok { OnOk result
-        (S.given store.new ≡ S.given store.old ++ piece_orders attempt place file count) }
-    ensures err { OnErr result ((rest : List Item) × IsAsked
-        (piece_orders attempt place file count) rest (S.given store.old) (S.given store.new)) }
+        (S.given store.new ≡ S.given store.old ++ piece_submissions attempt place file count) }
+    ensures err { OnErr result ((rest : List HistoryItem) × IsAsked
+        (piece_submissions attempt place file count) rest (S.given store.old) (S.given store.new)) }
     ensures files { S.files store.new ≡ S.files store.old }
 {
     for piece in 0..count {
@@ -89,9 +89,9 @@ pub fn submit_files<S: Store, A: Allocator>(
     requires small { HasSmallFiles stage.now }
     ensures ok { OnOk result ((bytes : List ℕ) → S.given store.new
         ≡ S.given store.old
-        ++ orders_of_files attempt 0 (files_of entry.now) (piece_states bytes stage.now)) }
-    ensures err { OnErr result ((bytes : List ℕ) → (rest : List Item) × IsAsked
-        (orders_of_files attempt 0 (files_of entry.now) (piece_states bytes stage.now)) rest
+        ++ file_submissions attempt 0 (files_of entry.now) (piece_states bytes stage.now)) }
+    ensures err { OnErr result ((bytes : List ℕ) → (rest : List HistoryItem) × IsAsked
+        (file_submissions attempt 0 (files_of entry.now) (piece_states bytes stage.now)) rest
         (S.given store.old) (S.given store.new)) }
     ensures files { S.files store.new ≡ S.files store.old }
 {

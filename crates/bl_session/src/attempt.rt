@@ -1,7 +1,7 @@
 //! One attempt: it begins, and ends once each piece of its files came.
 ghost use Rattle.std.specs.Prelude.{◌≡◌, None, IfOk, OnErr, length, map, slice_index_or, true};
 ghost use Rattle.bl_mem.specs.Memory.{HasRoom, KeepsSizeAndRoom};
-ghost use Rattle.bl_load.specs.Value.{IsWithinLimits};
+ghost use Rattle.bl_load.specs.EntryValue.{IsWithinLimits};
 ghost use Rattle.bl_stage.specs.Ranges.{IsSameOutside};
 ghost use Rattle.bl_stage.specs.PieceStates.{piece_states};
 ghost use Rattle.bl_session.specs.AttemptKept.{IsAttempt, IsAttemptBegun, IsMemoryOf, KeepsAttempt};
@@ -10,8 +10,8 @@ ghost use Rattle.bl_session.specs.Menu.{facts_of, files_of};
 ghost use Rattle.bl_session.specs.PhasesKept.{HasSmallFiles};
 ghost use Rattle.bl_session.specs.Pieces.{are_whole};
 
-use crate::handing_over::finish;
-use crate::stage_files::begin_stage;
+use crate::handing_over::finish_attempt;
+use crate::stage_beginning::begin_stage;
 use bl_load::{Entry, Handoff, PrepFault, Refusal};
 use bl_map::Machine;
 use bl_mem::PhysMem;
@@ -72,7 +72,7 @@ pub fn end_attempt<M: PhysMem, A: Allocator + Copy>(
     if !stage.complete() {
         return Ok(None);
     }
-    match finish(alloc, machine, memory, entry, stage) {
+    match finish_attempt(alloc, machine, memory, entry, stage) {
         Ok(handoff) => Ok(Some(AttemptEnd::HandedOver(handoff))),
         Err(PrepFault::Refused(refusal)) => Ok(Some(AttemptEnd::Refused(refusal))),
         Err(PrepFault::NoMemory) => Err(AllocError),

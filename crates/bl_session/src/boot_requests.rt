@@ -1,7 +1,7 @@
 //! What a boot awaits at a phase, and what it asks a store for.
 ghost use Rattle.std.specs.Prelude.{◌≡◌, ◌++◌, ℕ, List, Some, true, OnOk, OnErr};
-ghost use Rattle.bl_session.specs.History.{Item};
-ghost use Rattle.bl_session.specs.Asked.{orders};
+ghost use Rattle.bl_session.specs.History.{HistoryItem};
+ghost use Rattle.bl_session.specs.Asked.{attempt_submissions};
 ghost use Rattle.bl_session.specs.Phases.{phase_facts, is_waiting};
 ghost use Rattle.bl_session.specs.PhasesKept.{IsPhaseKept, facts_of_boot, state_in};
 ghost use Rattle.bl_session.specs.Requests.{first_request, request_after};
@@ -20,10 +20,10 @@ impl<'a, A: Allocator + Copy> Boot<'a, A> {
         requires standing { IsPhaseKept self.now.machine.now self.now.menu.now phase.now }
         requires waiting { is_waiting (phase_facts self.now.menu.now.attempts phase.now) ≡ true }
         ensures ok { OnOk result ((bytes : List ℕ) → S.given store.new
-            ≡ S.given store.old ++ orders (facts_of_boot self.now)
+            ≡ S.given store.old ++ attempt_submissions (facts_of_boot self.now)
             (state_in self.now bytes phase.now)) }
-        ensures err { OnErr result ((bytes : List ℕ) → (rest : List Item) × IsAsked
-            (orders (facts_of_boot self.now) (state_in self.now bytes phase.now)) rest
+        ensures err { OnErr result ((bytes : List ℕ) → (rest : List HistoryItem) × IsAsked
+            (attempt_submissions (facts_of_boot self.now) (state_in self.now bytes phase.now)) rest
             (S.given store.old) (S.given store.new)) }
         ensures files { S.files store.new ≡ S.files store.old }
     {

@@ -5,7 +5,7 @@ ghost use Rattle.bl_stage.specs.PieceStates.{piece_of};
 ghost use Rattle.bl_session.specs.Outcome.{missing, size_of, file_bytes};
 ghost use Rattle.bl_session.specs.Stores.{file_of, stored_files};
 
-use crate::stage_files::FILE_LIMIT;
+use crate::stage_beginning::FILE_LIMIT;
 use crate::stored_files::StoredFiles;
 use bl_mem::Bytes;
 use std::alloc::Allocator;

@@ -1,8 +1,8 @@
 //! An attempt ends, once each piece of its files came.
 ghost use Rattle.std.specs.Prelude.{◌≡◌, ◌+◌, ◌≤◌, ◌<◌, ◌^◌, IfErr, IfOk, OnErr, OnOk, All};
 ghost use Rattle.std.specs.Prelude.{length, map};
-ghost use Rattle.bl_map.specs.Room.{HasRoomFor};
-ghost use Rattle.bl_mem.specs.Files.{AreBelow, AllBeside};
+ghost use Rattle.bl_map.specs.PoolFrames.{HasFramesFor};
+ghost use Rattle.bl_mem.specs.Files.{AreAddressesBelow, AllBeside};
 ghost use Rattle.bl_mem.specs.Memory.{HasRoom, AllHaveRoom, KeepsSizeAndRoom};
 ghost use Rattle.bl_plan.specs.Placed.{place_range};
 ghost use Rattle.bl_stage.specs.Ranges.{IsSameOutside};
@@ -12,7 +12,7 @@ ghost use Rattle.bl_load.specs.After.{IsAfter};
 ghost use Rattle.bl_load.specs.Loadable.{lengths_of, IsLoadable};
 ghost use Rattle.bl_load.specs.Parts.{IsHandover, IsPrepFault};
 ghost use Rattle.bl_load.specs.PlanFacts.{handover_by, handover_in, places_of};
-ghost use Rattle.bl_load.specs.Value.{value_of, file_count, IsWithinLimits};
+ghost use Rattle.bl_load.specs.EntryValue.{value_of, file_count, IsWithinLimits};
 ghost use Rattle.bl_session.specs.Finished.{IsHandedOver, IsNotHandedOver, IsStageAfterFault};
 
 use bl_load::{Entry, Handoff, Plan, PrepFault, Refusal, load, prepare};
@@ -77,9 +77,9 @@ fn evacuate_ranges<M: PhysMem, A: Allocator>(
     requires inside { HasPool (M.bytes memory.old) stage.old.pool }
     requires room { HasRoom (M.room memory.old) stage.old.pool.start stage.old.pool.end }
     ensures room { OnOk result
-        (HasRoomFor stage.old.pool ranges.now (staged_texts (M.bytes memory.old) stage.old)) }
+        (HasFramesFor stage.old.pool ranges.now (staged_texts (M.bytes memory.old) stage.old)) }
     ensures refused { IfErr result (λ refusal. (refusal ≡ Refusal.NoPool)
-        × ¬ HasRoomFor stage.old.pool ranges.now (staged_texts (M.bytes memory.old) stage.old)) }
+        × ¬ HasFramesFor stage.old.pool ranges.now (staged_texts (M.bytes memory.old) stage.old)) }
     ensures unchanged { OnErr result
         ((stage.new ≡ stage.old) × (M.bytes memory.new ≡ M.bytes memory.old)) }
     ensures stage { stage.new ≡ with_frames stage.old stage.new.frames }
@@ -87,7 +87,7 @@ fn evacuate_ranges<M: PhysMem, A: Allocator>(
         (staged_texts (M.bytes memory.new) stage.new
         ≡ staged_texts (M.bytes memory.old) stage.old) }
     ensures held { OnOk result
-        (AreBelow (λ a. IsStagedOn stage.new a) (length (M.bytes memory.new))) }
+        (AreAddressesBelow (λ a. IsStagedOn stage.new a) (length (M.bytes memory.new))) }
     ensures beside { OnOk result (AllBeside (λ a. IsStagedOn stage.new a) ranges.now) }
     ensures outside { IsSameOutside stage.old.pool (M.bytes memory.old) (M.bytes memory.new) }
     ensures kept { KeepsSizeAndRoom M.lender M.bytes M.room memory.old memory.new }
@@ -105,7 +105,7 @@ fn hand_over<M: PhysMem, A: Allocator>(
     stage: &Stage<A>,
     plan: Plan<A>,
 ) -> Handoff<A>
-    requires held { AreBelow (λ a. IsStagedOn stage.now a) (length (M.bytes memory.old)) }
+    requires held { AreAddressesBelow (λ a. IsStagedOn stage.now a) (length (M.bytes memory.old)) }
     requires loadable { IsLoadable (lengths_of (staged_texts (M.bytes memory.old) stage.now))
         (length (M.bytes memory.old)) plan }
     requires room { AllHaveRoom (M.room memory.old) (map place_range (places_of plan)) }
@@ -138,7 +138,7 @@ fn hand_over<M: PhysMem, A: Allocator>(
 /// loses its room.
 ///
 /// The stage is that of the machine's pool, and has one file for each file of the entry, in order.
-pub fn finish<M: PhysMem, A: Allocator + Copy>(
+pub fn finish_attempt<M: PhysMem, A: Allocator + Copy>(
     alloc: A,
     machine: &Machine<A>,
     memory: &mut M,

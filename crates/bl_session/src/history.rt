@@ -1,7 +1,7 @@
 //! What a store was asked and answered, for contracts alone.
 ghost use Rattle.std.specs.Prelude.{◌≡◌, List, [], ◌∷◌, ◌++◌};
 ghost use Rattle.std.specs.Borrow.{ftrue};
-ghost use Rattle.bl_session.specs.History.{Item};
+ghost use Rattle.bl_session.specs.History.{HistoryItem};
 
 use crate::store::Completion;
 use crate::stored_files::StoredFiles;
@@ -20,7 +20,7 @@ use std::marker::Model;
 /// `item_is` of `proofs/SubmissionLemmas.antt` then proves the clause `given` of `next`.
 #[derive(Drop)]
 pub struct History {
-    ghost items: { List Item },
+    ghost items: { List HistoryItem },
 }
 
 impl Model for History {

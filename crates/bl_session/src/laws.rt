@@ -2,10 +2,10 @@
 ghost use Rattle.std.specs.Prelude.{◌≡◌, ◌≤◌, ℕ, List, [], Option, map, length, All};
 ghost use Rattle.bl_map.specs.MachineFacts.{MachineFacts};
 ghost use Rattle.bl_load.specs.Offered.{IsOffered};
-ghost use Rattle.bl_load.specs.Value.{EntryValue};
+ghost use Rattle.bl_load.specs.EntryValue.{EntryValue};
 ghost use Rattle.bl_session.specs.AttemptResult.{AttemptResult, AttemptHasResult, HasResult};
-ghost use Rattle.bl_session.specs.Boot.{BootFacts, EventFacts, State, Starts, Steps};
-ghost use Rattle.bl_session.specs.Boot.{Begins, LeadsTo, handed_over};
+ghost use Rattle.bl_session.specs.BootSteps.{BootFacts, EventFacts, State, Starts, Steps};
+ghost use Rattle.bl_session.specs.BootSteps.{Begins, LeadsTo, handed_over};
 ghost use Rattle.bl_session.specs.Outcome.{File, size_of, entry_value_in, IsGenuine, IsOutcome};
 ghost use Rattle.bl_session.specs.Outcome.{HasEnded};
 ghost use Rattle.bl_session.specs.declared.outcome.RefusedEntry.{RefusedEntry};

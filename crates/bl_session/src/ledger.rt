@@ -72,7 +72,7 @@ impl<F: StoredFiles, A: Allocator + Copy> Ledger<F, A> {
     ghost use Rattle.std.specs.Prelude.{slice_get, slice_index_or, option_map};
     ghost use Rattle.std.specs.Prelude.{IfOk, OnOk, OnErr, IfSome, IsNone};
     ghost use Rattle.bl_session.specs.Outcome.{missing, size_of};
-    ghost use Rattle.bl_session.specs.History.{Item, submitted, IsItemOf};
+    ghost use Rattle.bl_session.specs.History.{HistoryItem, submitted, IsItemOfAnswer};
     ghost use Rattle.bl_session.specs.Faithful.{IsFaithful};
     ghost use Rattle.bl_session.specs.Stores.{event_of};
     ghost use Rattle.bl_session.specs.Ledger.{pending_answer, ledger_asked, ledger_answered};
@@ -159,8 +159,8 @@ impl<F: StoredFiles, A: Allocator + Copy> Ledger<F, A> {
         ensures ok { OnOk result (self.new ≡ ledger_answered self.old at) }
         ensures unchanged { OnErr result (self.new ≡ self.old) }
         ensures files { self.new.files ≡ self.old.files }
-        ensures given { IfOk result (λ answer. (item : Item)
-            × IsItemOf self.old.files self.old.given answer item
+        ensures given { IfOk result (λ answer. (item : HistoryItem)
+            × IsItemOfAnswer self.old.files self.old.given answer item
             × (self.new.given ≡ self.old.given ++ item ∷ [])) }
         ensures none { IfOk result (λ answer.
             IsNone answer ↔ (length self.old.pending ≡ 0)) }

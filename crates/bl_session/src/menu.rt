@@ -3,14 +3,14 @@ ghost use Rattle.std.specs.Prelude.{◌≡◌, ◌∷◌, ◌++◌, ◌==◌, �
 ghost use Rattle.std.specs.Prelude.{All, IfErr, IfOk, OnOk, slice_index_or, if◌then◌else◌};
 ghost use Rattle.std.specs.List.{list_any};
 ghost use Rattle.bl_load.specs.Offered.{IsOfferedEntry, IsOffered};
-ghost use Rattle.bl_load.specs.Value.{IsWithinLimits};
+ghost use Rattle.bl_load.specs.EntryValue.{IsWithinLimits};
 ghost use Rattle.bl_session.specs.Menu.{facts_of, entry_at};
-ghost use Rattle.bl_session.specs.Attempts.{attempt_order, AreWithinLimits, NameEntries};
+ghost use Rattle.bl_session.specs.Attempts.{attempt_order, AreWithinLimits, AreEntryIndices};
 ghost use Rattle.bl_session.specs.Attempts.{HasMenuFault};
 ghost use Rattle.bl_session.specs.Attempts as attempts;
 
-use crate::menu::fault::{is_small, name_entries};
-use crate::menu::naming::files_named;
+use crate::menu::fault::{are_entry_indices, is_small};
+use crate::menu::naming::named_file_count;
 use crate::menu::texts::learn_entries;
 use bl_load::Entry;
 use std::alloc::{AllocError, Allocator};
@@ -32,9 +32,9 @@ pub struct Menu<A: Allocator> {
 impl<A: Allocator> Model for Menu<A> {
     ghost use Rattle.std.specs.Prelude.{◌<◌, ◌≤◌, [], length, map, All};
     ghost use Rattle.bl_load.specs.Offered.{IsOfferedEntry};
-    ghost use Rattle.bl_load.specs.Value.{IsWithinLimits};
+    ghost use Rattle.bl_load.specs.EntryValue.{IsWithinLimits};
     ghost use Rattle.bl_session.specs.Menu.{MenuFacts, facts_of};
-    ghost use Rattle.bl_plan.specs.Limits.{max_entries};
+    ghost use Rattle.bl_plan.specs.MenuLimits.{max_entries};
 
     ghost Value = { MenuFacts };
 
@@ -108,7 +108,7 @@ impl<A: Allocator + Copy> Menu<A> {
           attempts = attempt_order default fallbacks.now;
         }) }
         ensures allowed { OnOk result (AreWithinLimits entries.items
-            × NameEntries (length entries.items) default fallbacks.now) }
+            × AreEntryIndices (length entries.items) default fallbacks.now) }
         ensures first_fault { IfErr result (HasMenuFault entries.items default fallbacks.now) }
         ensures offered { IfOk result (λ menu. All (λ entry. IsOffered entry.blank) menu.entries) }
     {
@@ -116,7 +116,7 @@ impl<A: Allocator + Copy> Menu<A> {
         if !is_small(offered) {
             return Err(MenuFault::TooMany);
         }
-        if !name_entries(offered.len(), default, fallbacks) {
+        if !are_entry_indices(offered.len(), default, fallbacks) {
             return Err(MenuFault::BadIndex);
         }
         learn_entries(offered);
@@ -130,10 +130,10 @@ impl<A: Allocator> Menu<A> {
     /// a file. At most 2^32. `run` asks for the size of each index below it, also of one that no
     /// entry names: number a menu's files without gaps.
     pub fn files(&self) -> usize
-        ensures count { result ≡ attempts.files_named self.now.entries }
+        ensures count { result ≡ attempts.named_file_count self.now.entries }
         ensures few { result ≤ 2 ^ 32 }
     {
-        files_named(&self.entries)
+        named_file_count(&self.entries)
     }
 
     /// How many attempts there are, at most 32.

@@ -2,8 +2,8 @@
 ghost use Rattle.std.specs.Prelude.{◌≡◌, ◌≢◌, ℕ, List, true, false, IfOk, IfSome, MatchBool};
 ghost use Rattle.std.specs.Prelude.{length, option_map};
 ghost use Rattle.bl_mem.specs.Memory.{HasRoom, KeepsSizeAndRoom};
-ghost use Rattle.bl_session.specs.Boot.{StepsOrFails, StartsOrFails, is_taken, attempt_number};
-ghost use Rattle.bl_session.specs.Boot as boot;
+ghost use Rattle.bl_session.specs.BootSteps.{StepsOrFails, StartsOrFails, is_taken, attempt_number};
+ghost use Rattle.bl_session.specs.BootSteps as boot;
 ghost use Rattle.bl_session.specs.Memory.{IsMemoryAt};
 ghost use Rattle.bl_session.specs.Phases.{boot_facts, event_facts, state_at, is_waiting};
 ghost use Rattle.bl_session.specs.Phases.{end_facts, told_end, not_started, LiesWithin};

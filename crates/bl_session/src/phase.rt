@@ -1,7 +1,7 @@
 //! Where a session stands, and what its calls share.
 ghost use Rattle.std.specs.Prelude.{◌≡◌, ℕ, List};
-ghost use Rattle.bl_session.specs.Boot.{attempt_number};
-ghost use Rattle.bl_session.specs.Boot as boot;
+ghost use Rattle.bl_session.specs.BootSteps.{attempt_number};
+ghost use Rattle.bl_session.specs.BootSteps as boot;
 ghost use Rattle.bl_session.specs.Phases.{phase_facts, is_waiting};
 ghost use Rattle.bl_session.specs.PhasesKept.{state_of, IsPhaseKept};
 

@@ -1,8 +1,8 @@
 //! Laws of a boot over a store.
 ghost use Rattle.std.specs.Prelude.{◌≡◌, List, [], map, None};
-ghost use Rattle.bl_session.specs.Boot.{BootFacts, EventFacts, State, Begins, LeadsTo};
+ghost use Rattle.bl_session.specs.BootSteps.{BootFacts, EventFacts, State, Begins, LeadsTo};
 ghost use Rattle.bl_session.specs.Outcome.{File, Faults, size_of, IsGenuine, IsOutcome, HasEnded};
-ghost use Rattle.bl_session.specs.History.{Item};
+ghost use Rattle.bl_session.specs.History.{HistoryItem};
 ghost use Rattle.bl_session.specs.Run.{IsRun, IsMarkedRun, IsGenuineRun};
 ghost use Rattle.bl_session.specs.Faithful.{IsFaithful};
 
@@ -15,17 +15,17 @@ ghost use Rattle.bl_session.specs.Faithful.{IsFaithful};
 /// nor what the store was asked before. Of several wanted faults of an attempt the first decides.
 pub fn runs_end_with_the_first_entry_not_refused()
     ensures schedule { (facts : BootFacts) (files : List File) (faults : Faults)
-        (old new : List Item) (end : State)
+        (old new : List HistoryItem) (end : State)
         → IsRun facts files old new end → IsGenuineRun facts files faults old new → HasEnded end
         → (begun : State) × Begins facts facts.menu.attempts [] begun
         × ((events : List EventFacts) × IsGenuine facts files faults begun events
         × LeadsTo facts begun events end) }
     ensures exact { (facts : BootFacts) (files : List File) (faults : Faults)
-        (old new : List Item) (end : State) → facts.sizes ≡ map size_of files
+        (old new : List HistoryItem) (end : State) → facts.sizes ≡ map size_of files
         → IsRun facts files old new end → IsGenuineRun facts files faults old new → HasEnded end
         → IsOutcome facts files faults end }
     ensures same { (facts : BootFacts) (files : List File) (faults : Faults)
-        (old new before after : List Item) (a b : State) → facts.sizes ≡ map size_of files
+        (old new before after : List HistoryItem) (a b : State) → facts.sizes ≡ map size_of files
         → IsRun facts files old new a → IsGenuineRun facts files faults old new → HasEnded a
         → IsRun facts files before after b → IsGenuineRun facts files faults before after
         → HasEnded b → a ≡ b }
@@ -34,7 +34,7 @@ pub fn runs_end_with_the_first_entry_not_refused()
 /// What a boot over a store hears is genuine, for the faults that came, as soon as each piece that
 /// it waits for is marked as its file's. So the law above speaks of each such history.
 pub fn marked_histories_are_genuine()
-    ensures { (facts : BootFacts) (files : List File) (old new : List Item) (end : State)
+    ensures { (facts : BootFacts) (files : List File) (old new : List HistoryItem) (end : State)
         → IsRun facts files old new end → IsMarkedRun facts files old new
         → (faults : Faults) × IsGenuineRun facts files faults old new }
 {}
@@ -44,10 +44,10 @@ pub fn marked_histories_are_genuine()
 /// for none under a ticket of another attempt. So if it comes to an end, the files alone decide
 /// it.
 pub fn faithful_stores_boot_by_their_files()
-    ensures genuine { (facts : BootFacts) (files : List File) (new : List Item)
+    ensures genuine { (facts : BootFacts) (files : List File) (new : List HistoryItem)
         → facts.sizes ≡ map size_of files → IsFaithful files new
         → IsGenuineRun facts files (λ _. None) [] new }
-    ensures exact { (facts : BootFacts) (files : List File) (new : List Item) (end : State)
+    ensures exact { (facts : BootFacts) (files : List File) (new : List HistoryItem) (end : State)
         → facts.sizes ≡ map size_of files → IsFaithful files new
         → IsRun facts files [] new end → HasEnded end
         → IsOutcome facts files (λ _. None) end }

@@ -5,7 +5,7 @@ ghost use Rattle.std.specs.Prelude.{slice_index_or};
 ghost use Rattle.std.specs.List.{range_with_len};
 ghost use Rattle.bl_mem.specs.Memory.{KeepsSizeAndRoom};
 ghost use Rattle.bl_stage.specs.Ranges.{IsSameOutside};
-ghost use Rattle.bl_session.specs.Boot.{out_of_memory};
+ghost use Rattle.bl_session.specs.BootSteps.{out_of_memory};
 ghost use Rattle.bl_session.specs.Memory.{IsMemoryAt};
 ghost use Rattle.bl_session.specs.Faithful.{IsFaithful};
 ghost use Rattle.bl_session.specs.Outcome.{Faults, IsOutcome, HasEnded, missing};

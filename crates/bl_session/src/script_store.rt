@@ -1,7 +1,7 @@
 //! A store for tests, whose answers are told beforehand.
 use crate::fetched::{Fetched, size_in};
 use crate::history::History;
-use crate::picks::Picks;
+use crate::script::Script;
 use crate::script_reply::{ScriptReply, completion_of, push_replies};
 use crate::store::{Completion, Store};
 use crate::submission::Submission;
@@ -17,7 +17,7 @@ pub struct ScriptStore<A: Allocator + Copy> {
     files: Vec<Fetched<A>, A>,
     twice: Vec<Ticket, A>,
     fail: Vec<Ticket, A>,
-    picks: Picks<A>,
+    picks: Script<A>,
     replies: Vec<ScriptReply, A>,
     history: History,
 }
@@ -70,7 +70,7 @@ impl<A: Allocator + Copy> ScriptStore<A> {
             files,
             twice,
             fail,
-            picks: Picks::new(picks),
+            picks: Script::new(picks),
             replies: Vec::new(alloc),
             history: History::new(),
         }

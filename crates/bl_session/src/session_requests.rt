@@ -1,7 +1,7 @@
 //! What a session awaits, and what it asks a store for.
 ghost use Rattle.std.specs.Prelude.{◌≡◌, ◌++◌, ℕ, List, Some, true, OnOk, OnErr};
-ghost use Rattle.bl_session.specs.History.{Item};
-ghost use Rattle.bl_session.specs.Asked.{orders};
+ghost use Rattle.bl_session.specs.History.{HistoryItem};
+ghost use Rattle.bl_session.specs.Asked.{attempt_submissions};
 ghost use Rattle.bl_session.specs.Phases.{state_at, is_waiting};
 ghost use Rattle.bl_session.specs.Requests.{first_request, request_after};
 ghost use Rattle.bl_session.specs.TurnsKept.{IsAsked, first_awaited_ticket};
@@ -24,9 +24,10 @@ impl<'a, A: Allocator + Copy> Session<'a, A> {
     pub(crate) fn submit<S: Store>(&self, store: &mut S) -> Result<(), AllocError>
         requires { is_waiting self.now.phase ≡ true }
         ensures ok { OnOk result ((bytes : List ℕ) → S.given store.new
-            ≡ S.given store.old ++ orders self.now.boot (state_at bytes self.now.phase)) }
-        ensures err { OnErr result ((bytes : List ℕ) → (rest : List Item) × IsAsked
-            (orders self.now.boot (state_at bytes self.now.phase)) rest
+            ≡ S.given store.old
+            ++ attempt_submissions self.now.boot (state_at bytes self.now.phase)) }
+        ensures err { OnErr result ((bytes : List ℕ) → (rest : List HistoryItem) × IsAsked
+            (attempt_submissions self.now.boot (state_at bytes self.now.phase)) rest
             (S.given store.old) (S.given store.new)) }
         ensures files { S.files store.new ≡ S.files store.old }
     {

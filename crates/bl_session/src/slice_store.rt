@@ -49,7 +49,7 @@ impl<'a, A: Allocator + Copy> SliceStore<'a, A> {
 impl<'a, A: Allocator + Copy> Store for SliceStore<'a, A> {
     ghost use Rattle.std.specs.Prelude.{◌≡◌, ◌↔◌, ◌+◌, ◌≤◌, [], ◌∷◌, ◌++◌, length, option_map};
     ghost use Rattle.std.specs.Prelude.{IsOk, IfOk, OnOk, OnErr, IfSome, IsNone, slice_index_or};
-    ghost use Rattle.bl_session.specs.History.{Item, submitted, IsItemOf};
+    ghost use Rattle.bl_session.specs.History.{HistoryItem, submitted, IsItemOfAnswer};
     ghost use Rattle.bl_session.specs.Outcome.{missing, size_of};
     ghost use Rattle.bl_session.specs.Stores.{event_of, next_place};
     ghost use Rattle.bl_session.specs.Ledger.{pending_answer, ledger_asked, ledger_answered};
@@ -102,8 +102,8 @@ impl<'a, A: Allocator + Copy> Store for SliceStore<'a, A> {
         ensures err { OnErr result ((self.new.ledger.given ≡ self.old.ledger.given)
             × (length self.new.ledger.pending ≡ length self.old.ledger.pending)) }
         ensures files { self.new.ledger.files ≡ self.old.ledger.files }
-        ensures given { IfOk result (λ answer. (item : Item)
-            × IsItemOf self.old.ledger.files self.old.ledger.given answer item
+        ensures given { IfOk result (λ answer. (item : HistoryItem)
+            × IsItemOfAnswer self.old.ledger.files self.old.ledger.given answer item
             × (self.new.ledger.given ≡ self.old.ledger.given ++ item ∷ [])) }
         ensures none { IfOk result (λ answer.
             IsNone answer ↔ (length self.old.ledger.pending ≡ 0)) }

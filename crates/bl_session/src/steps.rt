@@ -3,9 +3,9 @@ ghost use Rattle.std.specs.Prelude.{◌≡◌, ◌≢◌, [], true, false, IfOk,
 ghost use Rattle.std.specs.Prelude.{length};
 ghost use Rattle.bl_mem.specs.Memory.{HasRoom, KeepsSizeAndRoom};
 ghost use Rattle.bl_stage.specs.Ranges.{IsSameOutside};
-ghost use Rattle.bl_session.specs.Boot.{is_taken, attempt_number, Begins};
-ghost use Rattle.bl_session.specs.Boot.{StepsOrFails, StartsOrFails};
-ghost use Rattle.bl_session.specs.Boot as boot_specs;
+ghost use Rattle.bl_session.specs.BootSteps.{is_taken, attempt_number, Begins};
+ghost use Rattle.bl_session.specs.BootSteps.{StepsOrFails, StartsOrFails};
+ghost use Rattle.bl_session.specs.BootSteps as boot_specs;
 ghost use Rattle.bl_session.specs.Memory.{IsMemoryAt};
 ghost use Rattle.bl_session.specs.Phases.{event_facts, phase_facts};
 ghost use Rattle.bl_session.specs.Phases.{is_waiting, not_started};

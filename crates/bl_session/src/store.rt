@@ -1,7 +1,7 @@
 //! Where pieces come from, and what is answered.
 ghost use Rattle.std.specs.Prelude.{◌≡◌, ◌↔◌, ℕ, ◌+◌, ◌≤◌, List, [], ◌∷◌, ◌++◌, IfOk, OnOk, OnErr};
 ghost use Rattle.std.specs.Prelude.{IfSome, IsNone, slice_index_or};
-ghost use Rattle.bl_session.specs.History.{Item, submitted, IsItemOf};
+ghost use Rattle.bl_session.specs.History.{HistoryItem, submitted, IsItemOfAnswer};
 ghost use Rattle.bl_session.specs.Outcome.{File, missing, size_of};
 
 use crate::ticket::{Event, Ticket};
@@ -40,7 +40,7 @@ pub trait Store {
     ghost files: { Self → List File };
 
     /// What was asked and answered, in order.
-    ghost given: { Self → List Item };
+    ghost given: { Self → List HistoryItem };
 
     /// How many completions are still to come.
     ghost left: { Self → ℕ };
@@ -66,8 +66,8 @@ pub trait Store {
     /// The next completion; `None` exactly if none is to come.
     fn next(&mut self) -> Result<Option<Completion<Self::Alloc>>, AllocError>
         ensures files { files self.new ≡ files self.old }
-        ensures given { IfOk result (λ answer. (item : Item)
-            × IsItemOf (files self.old) (given self.old) answer item
+        ensures given { IfOk result (λ answer. (item : HistoryItem)
+            × IsItemOfAnswer (files self.old) (given self.old) answer item
             × (given self.new ≡ given self.old ++ item ∷ [])) }
         ensures none { IfOk result (λ answer. IsNone answer ↔ (left self.old ≡ 0)) }
         ensures fewer { IfOk result (λ answer.

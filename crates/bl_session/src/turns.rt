@@ -3,10 +3,10 @@ ghost use Rattle.std.specs.Prelude.{◌≡◌, ◌≢◌, ◌<◌, [], ℕ, List
 ghost use Rattle.std.specs.Prelude.{IfOk, OnOk, OnErr};
 ghost use Rattle.bl_mem.specs.Memory.{HasRoom, KeepsSizeAndRoom};
 ghost use Rattle.bl_stage.specs.Ranges.{IsSameOutside};
-ghost use Rattle.bl_session.specs.Boot.{StepsOrFails, attempt_number, is_running};
-ghost use Rattle.bl_session.specs.Boot as boot;
+ghost use Rattle.bl_session.specs.BootSteps.{StepsOrFails, attempt_number, is_running};
+ghost use Rattle.bl_session.specs.BootSteps as boot;
 ghost use Rattle.bl_session.specs.Memory.{IsMemoryAt};
-ghost use Rattle.bl_session.specs.Asked.{orders_after};
+ghost use Rattle.bl_session.specs.Asked.{new_submissions};
 ghost use Rattle.bl_session.specs.Phases.{event_facts, state_at, is_waiting, not_started};
 ghost use Rattle.bl_session.specs.Run.{RunState, run_state_of};
 ghost use Rattle.bl_session.specs.TurnsKept.{IsHeard, attempts_left};
@@ -67,7 +67,7 @@ fn answer<M: PhysMem, S: Store, A: Allocator + Copy>(
         (record { state = state_at (M.bytes memory.old) session.old.phase; owed = [] })
         (record {
           state = state_at (M.bytes memory.new) session.new.phase;
-          owed = orders_after session.old.boot
+          owed = new_submissions session.old.boot
               (state_at (M.bytes memory.old) session.old.phase)
               (state_at (M.bytes memory.new) session.new.phase);
         })) }

@@ -9,7 +9,7 @@ use Rattle.bl_mem.specs.Memory.{overwrite}
 use Rattle.bl_mem.proofs.Overwrites.{length-overwrite, get_or-overwrite_in, get_or-overwrite_below}
 use Rattle.bl_mem.proofs.Overwrites.{get_or-overwrite_above}
 use Rattle.bl_mem.proofs.ValueLemmas.{values, length-values, get_or-values}
-use Rattle.bl_map.specs.Room.{frames_of}
+use Rattle.bl_map.specs.PoolFrames.{frames_of}
 use Rattle.bl_stage.specs.Staged.{AreInside, place_of, staged, first_of, AreApart}
 use Rattle.bl_stage.proofs.FrameLemmas.{same_below}
 

@@ -8,7 +8,7 @@ use Rattle.std.specs.Bool.{IsTrue}
 use Rattle.std.proofs.lemmas.Bool.Decides.{nat_tests}
 use Rattle.std.proofs.lemmas.List.Sums.{get_or-le-sum_by, sum_by-cons}
 use Rattle.bl_mem.specs.Memory.{overwrite}
-use Rattle.bl_map.specs.Room.{frames_of}
+use Rattle.bl_map.specs.PoolFrames.{frames_of}
 use Rattle.bl_stage.specs.Cells.{cell_at, ReadAlike}
 use Rattle.bl_stage.specs.Staged.{AreInside, place_of, staged, first_of, Staging, AreStaged}
 use Rattle.bl_stage.specs.Staged.{staged_file, HasPool, with_frames}
@@ -97,7 +97,8 @@ module _ (stage : Staging) (staged_ : AreStaged stage) (bytes piece : List ℕ) 
 
   -- and the others are as before
   pub piece_in_others : (other : ℕ) → other < length stage.sizes → other ≢ file
-      → staged_file (overwrite bytes (4096 * get_or stage.frames (slot_in stage file index) 0) piece)
+      → staged_file
+      (overwrite bytes (4096 * get_or stage.frames (slot_in stage file index) 0) piece)
       stage other ≡ staged_file bytes stage other
   piece_in_others other h differ =
       let size = get_or stage.sizes other 0 in
@@ -135,7 +136,8 @@ found_piece true n slot e = (refl, cc)
 found_piece false n slot e = cc
 
 -- a file reads as before if each frame does
-file_moved : (old new old_frames frames : List ℕ) (a n size : ℕ) → ReadAlike old old_frames new frames
+file_moved : (old new old_frames frames : List ℕ) (a n size : ℕ)
+    → ReadAlike old old_frames new frames
     → length frames ≡ length old_frames → a + n ≤ length old_frames → size ≤ 4096 * n
     → staged new (slice_range frames a (a + n)) size
     ≡ staged old (slice_range old_frames a (a + n)) size

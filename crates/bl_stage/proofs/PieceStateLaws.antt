@@ -9,7 +9,7 @@ use Rattle.std.proofs.lemmas.Bool.{cases_lt}
 use Rattle.std.proofs.lemmas.List.{take_all, append_assoc, append-nil, get_or-replicate}
 use Rattle.std.proofs.lemmas.List.{length-replicate, get_or_past}
 use Rattle.std.proofs.lemmas.List.FromFn.{map-range_with_len_more}
-use Rattle.bl_map.specs.Room.{frames_of}
+use Rattle.bl_map.specs.PoolFrames.{frames_of}
 use Rattle.bl_stage.specs.Cells.{ReadAlike}
 use Rattle.bl_stage.specs.Staged.{Staging, AreStaged, AllCame, staged_file, empty_stage, table_of}
 use Rattle.bl_stage.specs.Pieces.{slot_in}

@@ -2,8 +2,8 @@
 use Rattle.std.proofs.Common.{◌≡◌, ℕ, ◌+◌, ◌*◌, ◌<◌, List, [], length, get_or, arith, rules}
 use Rattle.std.proofs.lemmas.List.{places}
 use Rattle.std.proofs.lemmas.List.FromFn.{length-map-range_with_len, get_or-map-range_with_len}
-use Rattle.bl_map.specs.Room.{frames_of}
-use Rattle.bl_mem.specs.Files.{AreBelow, nth_file}
+use Rattle.bl_map.specs.PoolFrames.{frames_of}
+use Rattle.bl_mem.specs.Files.{AreAddressesBelow, nth_file}
 use Rattle.bl_stage.specs.Staged.{AreInside, Staging, AreStaged, HasPool, staged_file, table_of}
 use Rattle.bl_stage.specs.Staged.{first_of, staged_texts, IsStagedOn}
 use Rattle.bl_stage.proofs.FileLemmas.{file_within, read_part}
@@ -34,7 +34,7 @@ table_in_pool stage file bytes kept h pool k hk =
 
 -- and if it has the addresses of the files
 pub table_below : (stage : Staging) (file size : ℕ) → AreStaged stage → file < length stage.sizes
-    → AreBelow (IsStagedOn stage) size → AreInside (table_of stage file) size
+    → AreAddressesBelow (IsStagedOn stage) size → AreInside (table_of stage file) size
 table_below stage file size kept h below k hk =
     let long = table_long stage file kept h in
     let last = below (4096 * get_or (table_of stage file) k 0 + 4095) (record {
@@ -50,7 +50,8 @@ table_below stage file size kept h below k hk =
 -- a file of the texts
 pub staged_text : (stage : Staging) (bytes : List ℕ) (file : ℕ)
     → file < length (staged_texts bytes stage)
-    → (file < length stage.sizes) × (nth_file (staged_texts bytes stage) file ≡ staged_file bytes stage file)
+    → (file < length stage.sizes)
+    × (nth_file (staged_texts bytes stage) file ≡ staged_file bytes stage file)
 staged_text stage bytes file h =
     let below : file < length stage.sizes =
     let e =

@@ -6,7 +6,7 @@ use Rattle.std.specs.List.{count_by}
 use Rattle.std.specs.declared.ops.Range.{Range}
 use Rattle.std.proofs.lemmas.List.Sums.{sum_by-cons, sum_by_more}
 use Rattle.bl_stage.specs.declared.cell.Cell.{Cell}
-use Rattle.bl_map.specs.Room.{is_beside, is_open, open_among, frames_in}
+use Rattle.bl_map.specs.PoolFrames.{misses_frame, is_open, open_among, frames_in}
 use Rattle.bl_stage.specs.Ranges.{meets, IsSameOutside}
 use Rattle.bl_stage.specs.Cells.{is_open_cell, is_held_cell, no_cell, cell_at, frames_range}
 use Rattle.bl_stage.specs.Cells.{AreHeld}
@@ -72,17 +72,17 @@ open_count ranges cells base (suc n) same within =
 -- one more range
 pub meets_more : (ranges : List (Range ℕ)) (k frame : ℕ) (d : Range ℕ) → k < length ranges
     → meets (take (k + 1) ranges) frame
-    ≡ (meets (take k ranges) frame || not (is_beside (get_or ranges k d) (4096 * frame)))
+    ≡ (meets (take k ranges) frame || not (misses_frame (get_or ranges k d) (4096 * frame)))
 meets_more [] k frame d h = absurd (omega arith)
-meets_more (r ∷ rs) zero frame d h = first (is_beside r (4096 * frame))
+meets_more (r ∷ rs) zero frame d h = first (misses_frame r (4096 * frame))
   where
     first : (b : Bool) → not (b && true) ≡ (false || not b)
     first true = refl
     first false = refl
 meets_more (r ∷ rs) (suc k) frame d h =
     ap (λ m. meets (take m (r ∷ rs)) frame) (let e : suc k + 1 ≡ suc (k + 1) = omega arith in e)
-    ∙ later (is_beside r (4096 * frame)) (is_open (take (k + 1) rs) (4096 * frame))
-    (is_open (take k rs) (4096 * frame)) (not (is_beside (get_or rs k d) (4096 * frame)))
+    ∙ later (misses_frame r (4096 * frame)) (is_open (take (k + 1) rs) (4096 * frame))
+    (is_open (take k rs) (4096 * frame)) (not (misses_frame (get_or rs k d) (4096 * frame)))
     (meets_more rs k frame d (omega arith))
   where
     later : (b rest before here : Bool) → not rest ≡ (not before || here)

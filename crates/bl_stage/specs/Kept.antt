@@ -5,7 +5,7 @@ use Rattle.std.specs.declared.ops.Range.{Range}
 use Rattle.bl_stage.specs.declared.cell.Cell.{Cell}
 use Rattle.bl_stage.specs.Cells.{AreHeld}
 use Rattle.bl_stage.specs.Staged.{first_of}
-use Rattle.bl_map.specs.Room.{frames_for}
+use Rattle.bl_map.specs.PoolFrames.{frames_for}
 
 pub record KeepsTables (base : ℕ) (pool : Range ℕ) (sizes starts frames : List ℕ) (came : List Bool)
     (cells : List Cell) (waiting : ℕ) : Type 0 where

@@ -3,6 +3,6 @@ pub mod Pieces
 pub mod PieceStates
 pub mod Ranges
 pub mod Cells
-pub mod CellGroups
+pub mod PackedCells
 pub mod Kept
 pub mod StagedFileLaws

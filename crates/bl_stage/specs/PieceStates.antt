@@ -2,7 +2,7 @@
 use Rattle.std.specs.Prelude.{ℕ, ◌*◌, ◌-◌, ◌++◌, min, List, [], ◌∷◌, length, take, drop, map}
 use Rattle.std.specs.Prelude.{slice_index, slice_index_or, slice_set, Bool, true, false}
 use Rattle.std.specs.List.{range_with_len}
-use Rattle.bl_map.specs.Room.{frames_of}
+use Rattle.bl_map.specs.PoolFrames.{frames_of}
 use Rattle.bl_stage.specs.Staged.{Staging, staged_file}
 use Rattle.bl_stage.specs.Pieces.{slot_in}
 

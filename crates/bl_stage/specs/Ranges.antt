@@ -3,7 +3,7 @@ use Rattle.std.specs.Prelude.{◌≡◌, ℕ, ◌*◌, ◌<◌, ◌≤◌, ◌�
 use Rattle.std.specs.Prelude.{slice_index, if◌then◌else◌}
 use Rattle.std.specs.List.{list_any}
 use Rattle.std.specs.declared.ops.Range.{Range}
-use Rattle.bl_map.specs.Room.{is_open}
+use Rattle.bl_map.specs.PoolFrames.{is_open}
 
 -- some byte of the frame lies in one of the ranges
 abbrev pub meets : List (Range ℕ) → ℕ → Bool

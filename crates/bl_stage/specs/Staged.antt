@@ -4,7 +4,7 @@ use Rattle.std.specs.Prelude.{◌≡◌, ℕ, ◌+◌, ◌*◌, ◌/◌, ◌%◌
 use Rattle.std.specs.Prelude.{slice_index, slice_range, replicate, Bool, true, false, All}
 use Rattle.std.specs.List.{range_with_len}
 use Rattle.std.specs.declared.ops.Range.{Range}
-use Rattle.bl_map.specs.Room.{frames_of, frames_for}
+use Rattle.bl_map.specs.PoolFrames.{frames_of, frames_for}
 
 -- the address of a file's byte i, if these are the numbers of its frames
 abbrev pub place_of : List ℕ → ℕ → ℕ

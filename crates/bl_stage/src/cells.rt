@@ -1,7 +1,7 @@
 //! The cells of all frames of the pool, kept so that they take little memory.
 ghost use Rattle.std.specs.Prelude.{◌≡◌, ◌<◌, IfOk, IfSome, length, replicate, slice_set};
 ghost use Rattle.bl_stage.specs.Cells.{no_cell, cell_at};
-ghost use Rattle.bl_stage.specs.CellGroups.{no_holder};
+ghost use Rattle.bl_stage.specs.PackedCells.{no_holder};
 
 use crate::cell::Cell;
 use std::alloc::{AllocError, Allocator};
@@ -34,7 +34,7 @@ impl<A: Allocator> Model for Cells<A> {
 
     ghost Value = { List Cell };
 
-    ghost use Rattle.bl_stage.specs.CellGroups.{cells_of};
+    ghost use Rattle.bl_stage.specs.PackedCells.{cells_of};
 
     ghost view = { λ cells. cells_of cells.groups.items cells.count };
 
@@ -80,7 +80,7 @@ impl<A: Allocator> Cells<A> {
     }
 
     /// Writes the cell at a place.
-    pub fn put(&mut self, at: usize, cell: Cell)
+    pub fn set(&mut self, at: usize, cell: Cell)
         requires at { at < length self.old }
         requires named { IfSome cell.holder (λ slot. slot < no_holder) }
         ensures { self.new ≡ slice_set self.old at cell }

@@ -1,7 +1,7 @@
 //! Which frames of the pool ranges meet.
 ghost use Rattle.std.specs.Prelude.{◌≡◌, ℕ, ◌+◌, ◌*◌, ◌<◌, ◌^◌, ◌||◌, length, false, not};
 ghost use Rattle.std.specs.List.{count_by};
-ghost use Rattle.bl_map.specs.Room.{is_beside};
+ghost use Rattle.bl_map.specs.PoolFrames.{misses_frame};
 ghost use Rattle.bl_stage.specs.Cells.{is_open_cell, cell_at};
 ghost use Rattle.bl_stage.specs.Ranges.{meets};
 
@@ -27,7 +27,7 @@ fn shut_range<A: Allocator>(cells: &mut Cells<A>, base: u64, range: &Range<u64>)
     ensures wide { length cells.new ≡ length cells.old }
     ensures holders { (j : ℕ) → (cell_at cells.new j).holder ≡ (cell_at cells.old j).holder }
     ensures shut { (j : ℕ) → j < length cells.old → (cell_at cells.new j).shut
-        ≡ ((cell_at cells.old j).shut || not (is_beside range.now (4096 * (base + j)))) }
+        ≡ ((cell_at cells.old j).shut || not (misses_frame range.now (4096 * (base + j)))) }
 {
     if range.start < range.end {
         let first = (range.start / FRAME_SIZE).max(base) - base;

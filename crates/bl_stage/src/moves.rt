@@ -3,11 +3,11 @@ ghost use Rattle.std.specs.Prelude.{◌≡◌, ◌+◌, ◌*◌, ◌<◌, ◌≤
 ghost use Rattle.std.specs.Prelude.{slice_range, slice_set, true, false, Some, None};
 ghost use Rattle.std.specs.List.{count_by};
 ghost use Rattle.std.specs.Bool.{OnTrue, OnFalse};
-ghost use Rattle.bl_map.specs.Room.{open_among};
+ghost use Rattle.bl_map.specs.PoolFrames.{open_among};
 ghost use Rattle.bl_mem.specs.Memory.{overwrite, HasRoom, KeepsSizeAndRoom};
 ghost use Rattle.bl_stage.specs.Cells.{is_open_cell, is_spare_cell, cell_at, AreHeld, Moved};
 ghost use Rattle.bl_stage.specs.Cells.{MadeWay, AreFramesInMemory};
-ghost use Rattle.bl_stage.specs.CellGroups.{no_holder};
+ghost use Rattle.bl_stage.specs.PackedCells.{no_holder};
 
 use crate::cell::Cell;
 use crate::cells::Cells;
@@ -73,12 +73,12 @@ fn move_slot<A: Allocator>(
         holder: None,
         shut: true,
     };
-    cells.put(from, left);
+    cells.set(from, left);
     let taken = Cell {
         holder: Some(slot),
         shut: false,
     };
-    cells.put(to, taken);
+    cells.set(to, taken);
 }
 
 /// Moves each frame of a file whose cell is shut into a spare one, in one pass over the cells.

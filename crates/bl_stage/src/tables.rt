@@ -3,7 +3,7 @@ ghost use Rattle.std.specs.Prelude.{◌≡◌, ℕ, ◌+◌, ◌/◌, ◌<◌, �
 ghost use Rattle.std.specs.Prelude.{length, slice_index, None, map};
 ghost use Rattle.bl_stage.specs.Cells.{cell_at, AreHeld};
 ghost use Rattle.bl_stage.specs.Staged.{first_of, AreApart};
-ghost use Rattle.bl_map.specs.Room.{frames_for};
+ghost use Rattle.bl_map.specs.PoolFrames.{frames_for};
 
 use crate::cell::Cell;
 use crate::cells::Cells;
@@ -59,7 +59,7 @@ pub fn hold_all<A: Allocator>(cells: &mut Cells<A>, base: u64, frames: &[u64])
             holder: Some(slot as u32),
             shut: cells.get(at).shut,
         };
-        cells.put(at, cell);
+        cells.set(at, cell);
     }
 }
 

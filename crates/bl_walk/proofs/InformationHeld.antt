@@ -15,14 +15,14 @@ use Rattle.bl_plan.specs.declared.part.Role.TheVariants.{Kernel, Module, Informa
 use Rattle.bl_plan.specs.declared.part.Row.{Row}
 use Rattle.bl_load.specs.Addresses.{address_of}
 use Rattle.bl_load.specs.Handover.{Part, Handover, end_of}
-use Rattle.bl_load.specs.Kernel.{KernelFacts, IsKernel}
+use Rattle.bl_load.specs.Kernel.{Multiboot2KernelFacts, IsKernel}
 use Rattle.bl_load.specs.Offered.{IsOffered}
 use Rattle.bl_load.specs.Parts.{content_of, handover_of}
 use Rattle.bl_load.specs.PlacingKept.{tags_size}
 use Rattle.bl_load.specs.Reading.{multiboot2}
 use Rattle.bl_load.specs.Rows.{rows_of, kernel_rows, module_rows, information_row, information_of}
-use Rattle.bl_load.specs.Value.{EntryValue, kernel_file, module_file, line_fault, lines_fault}
-use Rattle.bl_load.specs.Value.{lines_of}
+use Rattle.bl_load.specs.EntryValue.{EntryValue, kernel_file, module_file, line_fault, lines_fault}
+use Rattle.bl_load.specs.EntryValue.{lines_of}
 use Rattle.bl_load.proofs.EntryLemmas.{small_address}
 use Rattle.bl_load.proofs.InformationLemmas.{info_size_is, tags_small, told_below}
 use Rattle.bl_load.proofs.LineLemmas.{sound_text, sound_short, first_sound}
@@ -36,7 +36,7 @@ use Rattle.bl_walk.proofs.PartLemmas.{is_of, held_front}
 use Rattle.bl_walk.proofs.InformationLemmas.{row_held, behind, before, module_row, modules_fit}
 use Rattle.bl_walk.proofs.TextLemmas.{lines_short, base_fits}
 
-module _ (facts : MachineFacts) (value : EntryValue) (kernel : KernelFacts)
+module _ (facts : MachineFacts) (value : EntryValue) (kernel : Multiboot2KernelFacts)
     (places : List Place) where
   abbrev pub content : Role → ℕ → List ℕ
   content = content_of facts value (multiboot2 kernel) places
@@ -56,7 +56,8 @@ module _ (facts : MachineFacts) (value : EntryValue) (kernel : KernelFacts)
   abbrev pub text : List ℕ
   text = info_spelling (codes "bootcore") told
 
-module _ (facts : MachineFacts) (value : EntryValue) (kernel : KernelFacts) (places : List Place)
+module _ (facts : MachineFacts) (value : EntryValue) (kernel : Multiboot2KernelFacts)
+    (places : List Place)
     (machine : IsWellFormedMachine facts) (offered : IsOffered value)
     (lines : lines_fault (lines_of value) ≡ None)
     (is_kernel : IsKernel (kernel_file value) kernel)

@@ -12,16 +12,16 @@ use Rattle.bl_plan.specs.declared.protocol.Protocol.TheVariants.{Multiboot2}
 use Rattle.bl_plan.specs.declared.part.Role.TheVariants.{Kernel, Module, Information}
 use Rattle.bl_load.specs.Addresses.{address_of}
 use Rattle.bl_load.specs.Handover.{end_of}
-use Rattle.bl_load.specs.Kernel.{KernelFacts, IsKernel}
+use Rattle.bl_load.specs.Kernel.{Multiboot2KernelFacts, IsKernel}
 use Rattle.bl_load.specs.Offered.{IsOffered}
 use Rattle.bl_load.specs.Parts.{handover_of, entered_at, kernel_entry_base}
 use Rattle.bl_load.specs.Reading.{multiboot2}
 use Rattle.bl_load.specs.Registers.{entry_in, information_in}
 use Rattle.bl_load.specs.Rows.{rows_of, kernel_rows, module_rows}
-use Rattle.bl_load.specs.Value.{EntryValue, kernel_file, module_file, lines_fault, lines_of}
+use Rattle.bl_load.specs.EntryValue.{EntryValue, kernel_file, module_file, lines_fault, lines_of}
 use Rattle.bl_walk.specs.Seen.{HasTotalSize, IsInformation, HasInformation, InformationShows}
 use Rattle.bl_walk.specs.Seen.{IsSeen}
-use Rattle.bl_walk.specs.Kept.{seen_alone}
+use Rattle.bl_walk.specs.Kept.{seen_without_files}
 use Rattle.bl_walk.specs.SeenFacts.{SeenFacts}
 use Rattle.bl_walk.specs.Shown.{ShowsSegments, ShowsKernel, ShowsModules, ShowsFiles, ShowsEntry}
 use Rattle.bl_walk.specs.State.{IsEntered}
@@ -39,7 +39,8 @@ use Rattle.bl_walk.proofs.TextLemmas.{name_is, modules_other}
 use Rattle.bl_walk.proofs.InformationHeld.{content, parts, told, last, held, information_held}
 use Rattle.bl_walk.proofs.InformationHeld.{module_held, fits, size_is, handover, text, long}
 
-module _ (facts : MachineFacts) (value : EntryValue) (kernel : KernelFacts) (places : List Place)
+module _ (facts : MachineFacts) (value : EntryValue) (kernel : Multiboot2KernelFacts)
+    (places : List Place)
     (machine : IsWellFormedMachine facts) (offered : IsOffered value)
     (lines : lines_fault (lines_of value) ≡ None)
     (is_kernel : IsKernel (kernel_file value) kernel)
@@ -104,7 +105,7 @@ module _ (facts : MachineFacts) (value : EntryValue) (kernel : KernelFacts) (pla
     }
 
     abbrev pub seen : SeenFacts
-    seen = record (seen_alone (handover facts value kernel places) value.line facts.runs) {
+    seen = record (seen_without_files (handover facts value kernel places) value.line facts.runs) {
       modules = shown_modules value.files places 0 value.module_lines;
       rsdp_old = value.rsdp_old;
       rsdp_new = value.rsdp_new;

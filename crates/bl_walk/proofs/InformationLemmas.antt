@@ -24,7 +24,7 @@ use Rattle.bl_plan.specs.declared.part.Row.{Row}
 use Rattle.bl_load.specs.Addresses.{address_of}
 use Rattle.bl_load.specs.Handover.{Part}
 use Rattle.bl_load.specs.Rows.{module_rows, told_modules}
-use Rattle.bl_load.specs.Value.{module_file, line_fault, lines_fault}
+use Rattle.bl_load.specs.EntryValue.{module_file, line_fault, lines_fault}
 use Rattle.bl_load.proofs.LineLemmas.{sound_text, first_sound}
 use Rattle.bl_walk.specs.Inside.{bytes_in}
 use Rattle.bl_walk.specs.Seen.{AreSeenModules}
@@ -106,7 +106,8 @@ first_word name facts small =
 pub modules_fit : (files : List (List ℕ)) (places : List Place) (k : ℕ) (lines : List (List ℕ))
     → ((i : ℕ) → k ≤ i → i < k + length lines
     → address_of Module i places + length (module_file files i) ≤ 0xFFFFF000)
-    → lines_fault lines ≡ None → All AreBytes lines → All IsModule (told_modules files places k lines)
+    → lines_fault lines ≡ None → All AreBytes lines
+    → All IsModule (told_modules files places k lines)
 modules_fit files places k [] ends sound bytes = All-nil IsModule
 modules_fit files places k (line ∷ lines) ends sound bytes =
     let split = first_sound (line_fault line) (lines_fault lines) sound in

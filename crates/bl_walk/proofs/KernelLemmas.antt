@@ -8,7 +8,7 @@ use Rattle.std.proofs.lemmas.List.{length-replicate}
 use Rattle.std.proofs.lemmas.List.Elements.{All-head, All-tail}
 use Rattle.std.specs.declared.ops.Range.{Range}
 use Rattle.bl_map.specs.MachineFacts.{MachineFacts}
-use Rattle.bl_plan.specs.Order.{put, in_order, in_order_among, place_key}
+use Rattle.bl_plan.specs.Order.{insert_sorted, in_order, in_order_among, place_key}
 use Rattle.bl_plan.specs.Placed.{ArePlaced, place_range}
 use Rattle.bl_plan.specs.PlannerFacts.{put_in}
 use Rattle.bl_plan.specs.Roles.{role_number}
@@ -22,7 +22,7 @@ use Rattle.bl_load.specs.Parts.{content_of, handover_of}
 use Rattle.bl_load.specs.PlacingKept.{IsRowed}
 use Rattle.bl_load.specs.Reading.{Reading, IsRead}
 use Rattle.bl_load.specs.Rows.{rows_of}
-use Rattle.bl_load.specs.Value.{EntryValue, lines_fault, lines_of}
+use Rattle.bl_load.specs.EntryValue.{EntryValue, lines_fault, lines_of}
 use Rattle.bl_load.proofs.ReadingLaws.{reading_rowed, reading_short}
 use Rattle.bl_load.proofs.RowPlaceLemmas.{Anywhere, each_place}
 use Rattle.bl_walk.specs.Seen.{kernel_in}
@@ -95,10 +95,11 @@ module _ (facts : MachineFacts) (value : EntryValue) (reading : Reading) (places
 -- ---- the kernel's places come first among the rows
 
 put_other : (p : Place) (places : List Place) → IsOther p
-    → filter is_kernel_place (put place_key p places) ≡ filter is_kernel_place places
+    → filter is_kernel_place (insert_sorted place_key p places) ≡ filter is_kernel_place places
 put_other p [] other = rw other
 put_other p (next ∷ places) other =
-    cond_both (nat_lt p.address next.address) (p ∷ next ∷ places) (next ∷ put place_key p places)
+    cond_both (nat_lt p.address next.address) (p ∷ next ∷ places)
+    (next ∷ insert_sorted place_key p places)
     (λ ys. filter is_kernel_place ys ≡ filter is_kernel_place (next ∷ places))
     (λ e. rw other refl)
     (λ e.
@@ -110,14 +111,14 @@ among_others : (sorted others : List Place) → All IsOther others
     ≡ filter is_kernel_place sorted
 among_others sorted [] all = refl
 among_others sorted (p ∷ others) all =
-    among_others (put place_key p sorted) others (All-tail IsOther p others all)
+    among_others (insert_sorted place_key p sorted) others (All-tail IsOther p others all)
     ∙ put_other p sorted (All-head IsOther p others all)
 
 among_both : (sorted first others : List Place)
     → in_order_among place_key sorted (first ++ others)
     ≡ in_order_among place_key (in_order_among place_key sorted first) others
 among_both sorted [] others = refl
-among_both sorted (p ∷ first) others = among_both (put place_key p sorted) first others
+among_both sorted (p ∷ first) others = among_both (insert_sorted place_key p sorted) first others
 
 all_of_kernel : (places : List Place) → All IsOfKernel places
     → filter is_kernel_place places ≡ places

@@ -8,7 +8,7 @@ use Rattle.bl_load.specs.Offered.{IsOffered}
 use Rattle.bl_load.specs.Parts.{IsHandover, handover_of}
 use Rattle.bl_load.specs.Reading.{Reading, multiboot2, linux, IsRead}
 use Rattle.bl_load.specs.Rows.{rows_of}
-use Rattle.bl_load.specs.Value.{EntryValue, lines_fault, lines_of}
+use Rattle.bl_load.specs.EntryValue.{EntryValue, lines_fault, lines_of}
 use Rattle.bl_load.proofs.PartLaws.{all_apart}
 use Rattle.bl_image.specs.declared.version.Version.{Version}
 use Rattle.bl_image.specs.Image.{spelling}

@@ -1,5 +1,5 @@
 -- What an image tells is one: its information, its parameters and their modules.
-use Rattle.std.proofs.Common.{◌≡◌, ◌-◌, ◌<◌, ◌^◌, ℕ, zero, suc, List, [], ◌∷◌, length, get_or}
+use Rattle.std.proofs.Common.{◌≡◌, ◌-◌, ◌<◌, ℕ, zero, suc, List, [], ◌∷◌, length, get_or}
 use Rattle.std.proofs.Common.{Option, Some, None, Result, Ok, true, sym, ap, ◌∙◌, arith, subst}
 use Rattle.bl_mem.specs.LittleEndian.{u32_at}
 use Rattle.bl_mbi.specs.declared.fault.InfoFault.{InfoFault}
@@ -19,7 +19,7 @@ use Rattle.bl_walk.specs.Inside.{bytes_in}
 use Rattle.bl_walk.specs.Seen.{HasTotalSize, IsInformation, HasInformation, AreSeenModules}
 use Rattle.bl_walk.specs.Seen.{AreParameters, HasParameters}
 use Rattle.bl_walk.specs.SeenFacts.{SeenModuleFacts}
-use Rattle.bl_walk.proofs.LengthLemmas.{same_some, length_in}
+use Rattle.bl_walk.proofs.LengthLemmas.{same_some}
 
 pub not_none : {A : Type 0} (found : Option A) (x : A) → found ≡ Some x → found ≡ None → ⊥
 not_none found x some none = cc

@@ -30,8 +30,8 @@ use Rattle.bl_load.specs.Protocols.{has_params}
 use Rattle.bl_load.specs.Reading.{linux}
 use Rattle.bl_load.specs.Registers.{params_in}
 use Rattle.bl_load.specs.Rows.{rows_of}
-use Rattle.bl_load.specs.Value.{EntryValue, kernel_file, initrd_file, line_fault, lines_fault}
-use Rattle.bl_load.specs.Value.{lines_of}
+use Rattle.bl_load.specs.EntryValue.{EntryValue, kernel_file, initrd_file, line_fault, lines_fault}
+use Rattle.bl_load.specs.EntryValue.{lines_of}
 use Rattle.bl_load.proofs.EntryLemmas.{small_address}
 use Rattle.bl_load.proofs.LineLemmas.{sound_text, sound_short, first_sound}
 use Rattle.bl_load.proofs.LinuxKernelLemmas.{setup_is, few_runs}
@@ -96,7 +96,9 @@ module _ (facts : MachineFacts) (value : EntryValue) (setup : Setup) (places : L
       record {
         code32_start = omega arith;
         ramdisk_image = omega arith;
-        ramdisk_size = initrd_fits facts value.protocol setup (initrd facts value setup places) places placed low;
+        ramdisk_size =
+            initrd_fits facts value.protocol setup (initrd facts value setup places) places placed
+            low;
         cmd_line_ptr = omega arith;
       }
 

@@ -1,5 +1,6 @@
 -- The image of a Linux entry's handover shows the entry.
-use Rattle.std.proofs.Common.{◌≡◌, ◌≤◌, ◌+◌, ◌∷◌, ℕ, List, [], map, Some, None, refl, sym, ap, ◌∙◌, inr}
+use Rattle.std.proofs.Common.{◌≡◌, ◌≤◌, ◌+◌, ◌∷◌, ℕ, List, [], map, Some, None, refl, sym, ap, ◌∙◌}
+use Rattle.std.proofs.Common.{inr}
 use Rattle.std.proofs.Common.{arith, length, take, true, AllPairs}
 use Rattle.std.proofs.Math.Seq.{take-length}
 use Rattle.bl_map.specs.MachineFacts.{MachineFacts, IsWellFormedMachine}
@@ -21,11 +22,11 @@ use Rattle.bl_load.specs.Parts.{handover_of}
 use Rattle.bl_load.specs.Protocols.{has_params}
 use Rattle.bl_load.specs.Reading.{linux}
 use Rattle.bl_load.specs.Rows.{rows_of}
-use Rattle.bl_load.specs.Value.{EntryValue, kernel_file, lines_fault, lines_of}
+use Rattle.bl_load.specs.EntryValue.{EntryValue, kernel_file, lines_fault, lines_of}
 use Rattle.bl_load.proofs.LinuxKernelLemmas.{setup_is}
 use Rattle.bl_load.proofs.PageTablesLemmas.{tables_fit}
 use Rattle.bl_walk.specs.declared.seen.SeenPart.{SeenPart}
-use Rattle.bl_walk.specs.Kept.{seen_alone}
+use Rattle.bl_walk.specs.Kept.{seen_without_files}
 use Rattle.bl_walk.specs.Seen.{ParametersShow, IsSeen}
 use Rattle.bl_walk.specs.SeenFacts.{SeenFacts}
 use Rattle.bl_walk.specs.Shown.{ShowsEntry, ShowsKernel, ShowsFiles, ShowsPayload, ShowsRamdisk}
@@ -49,7 +50,7 @@ module _ (facts : MachineFacts) (value : EntryValue) (setup : Setup) (places : L
   -- ---- all of it
 
   abbrev pub seen : SeenFacts
-  seen = record (seen_alone (handover facts value setup places) value.line facts.runs) {
+  seen = record (seen_without_files (handover facts value setup places) value.line facts.runs) {
     initrd =
         (ramdisk facts value setup places machine offered lines handed is_kernel placed apart
         (initrd facts value setup places) refl).0;
@@ -91,7 +92,8 @@ module _ (facts : MachineFacts) (value : EntryValue) (setup : Setup) (places : L
       ∙ ap (map seen_place)
       (first_places facts (linux_kernel_row setup ∷ [])
       (params_rows value.protocol setup (initrd facts value setup places)) places split
-      (kernel_of_kernel setup) (params_other value.protocol setup (initrd facts value setup places)))
+      (kernel_of_kernel setup)
+      (params_other value.protocol setup (initrd facts value setup places)))
       ∙ payload_at facts setup split.places_first split.places_rest split.placed_first
       ∙ ap
       (λ (ps : List Place).

@@ -10,7 +10,7 @@ use Rattle.bl_map.specs.declared.region.Region.{Region}
 use Rattle.bl_map.specs.Limits.{max_size}
 use Rattle.bl_bzimage.specs.declared.setup.Setup.{Setup}
 use Rattle.bl_plan.specs.Order.{in_order}
-use Rattle.bl_plan.specs.Placed.{ArePlaced, place_at}
+use Rattle.bl_plan.specs.Placed.{ArePlaced, row_place}
 use Rattle.bl_plan.specs.declared.part.Place.{Place}
 use Rattle.bl_plan.specs.declared.part.Role.TheVariants.{Kernel, BootParams, CommandLine, Gdt}
 use Rattle.bl_plan.specs.declared.part.Role.TheVariants.{Initrd, PageTables}
@@ -19,7 +19,8 @@ use Rattle.bl_plan.specs.declared.protocol.Protocol.TheVariants as protocols
 use Rattle.bl_plan.specs.declared.part.Row.{Row}
 use Rattle.bl_load.specs.Addresses.{address_of}
 use Rattle.bl_load.specs.Linux.{IsLinuxKernel}
-use Rattle.bl_load.specs.LinuxRows.{fixed_row, moved_row, linux_kernel_row, frame_row, line_limit}
+use Rattle.bl_load.specs.LinuxRows.{fixed_kernel_row, moved_row, linux_kernel_row, frame_row}
+use Rattle.bl_load.specs.LinuxRows.{line_limit}
 use Rattle.bl_load.specs.LinuxRows.{paging_row, initrd_rows, linux_rows}
 use Rattle.bl_load.specs.Protocols.{is_wide}
 use Rattle.bl_load.proofs.LinuxKernelLemmas.{setup_is, entering_is, entry_loaded}
@@ -41,7 +42,7 @@ params_rows protocol setup initrd =
 pub kernel_of_kernel : (setup : Setup) → All (Anywhere IsOfKernel) (linux_kernel_row setup ∷ [])
 kernel_of_kernel setup =
     All-cons (Anywhere IsOfKernel) (linux_kernel_row setup) []
-    (cond_both (nat_eq setup.relocatable_kernel 0) (fixed_row setup) (moved_row setup)
+    (cond_both (nat_eq setup.relocatable_kernel 0) (fixed_kernel_row setup) (moved_row setup)
     (Anywhere IsOfKernel) (λ _ a. refl) (λ _ a. refl))
     (All-nil (Anywhere IsOfKernel))
 
@@ -94,12 +95,13 @@ tables_row protocols.Linux64 setup initrd wide = refl
 kernel_named : (setup : Setup)
     → ((linux_kernel_row setup).role ≡ Kernel) × ((linux_kernel_row setup).index ≡ 0)
 kernel_named setup =
-    cond_both (nat_eq setup.relocatable_kernel 0) (fixed_row setup) (moved_row setup)
+    cond_both (nat_eq setup.relocatable_kernel 0) (fixed_kernel_row setup) (moved_row setup)
     (λ (row : Row). (row.role ≡ Kernel) × (row.index ≡ 0))
     (λ _. (refl, refl)) (λ _. (refl, refl))
 
 first_address : (setup : Setup) (p : Place) (others : List Place)
-    → p ≡ place_at (linux_kernel_row setup) p.address → address_of Kernel 0 (p ∷ others) ≡ p.address
+    → p ≡ row_place (linux_kernel_row setup) p.address → address_of Kernel 0 (p ∷ others)
+    ≡ p.address
 first_address setup p others is =
     let named = kernel_named setup in
     let role : p.role ≡ Kernel = ap (λ (q : Place). q.role) is ∙ named.0 in

@@ -3,7 +3,7 @@ use Rattle.std.proofs.Common.{◌≤◌, List, Result, Ok, Err, sym, subst, All,
 use Rattle.std.specs.Prelude.{IfOk}
 use Rattle.bl_map.specs.declared.region.Region.{Region}
 use Rattle.bl_map.specs.NormalMap.{region_end}
-use Rattle.bl_map.specs.Limits.{region_limit}
+use Rattle.bl_map.specs.Limits.{max_region_end}
 use Rattle.bl_params.proofs.RunLemmas as params
 use Rattle.bl_load.specs.Handover.{Handover}
 use Rattle.bl_walk.specs.Seen.{InformationShows, ParametersShow, IsSeen}
@@ -11,7 +11,7 @@ use Rattle.bl_walk.specs.SeenFacts.{SeenFacts}
 use Rattle.bl_walk.specs.Shown.{RunsEndLow}
 
 abbrev AllEndLow : List Region → Type 0
-AllEndLow runs = All (λ run. region_end run ≤ region_limit) runs
+AllEndLow runs = All (λ run. region_end run ≤ max_region_end) runs
 
 by_information : (h : Handover) (seen : SeenFacts) → InformationShows h seen → RunsEndLow seen
 by_information h seen shown = subst AllEndLow (sym shown.runs) shown.says.spelling.facts.runs

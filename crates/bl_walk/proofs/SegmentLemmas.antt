@@ -6,7 +6,7 @@ use Rattle.std.specs.declared.ops.Range.{Range}
 use Rattle.bl_map.specs.MachineFacts.{MachineFacts}
 use Rattle.bl_mb2head.specs.declared.relocation.Relocation.{Relocation}
 use Rattle.bl_mem.specs.declared.segment.Segment.{Segment}
-use Rattle.bl_plan.specs.Order.{put, in_order, in_order_among, in_order_by, ascending}
+use Rattle.bl_plan.specs.Order.{insert_sorted, in_order, in_order_among, in_order_by, ascending}
 use Rattle.bl_plan.specs.Placed.{ArePlaced, place_range}
 use Rattle.bl_plan.specs.PlannerFacts.{put_in}
 use Rattle.bl_plan.specs.declared.part.Place.{Place}
@@ -27,13 +27,13 @@ seen_key : SeenPart → ℕ
 seen_key part = part.address
 
 put_seen : {X : Type 0} (g : X → SeenPart) (x : X) (xs : List X)
-    → map g (put (λ y. (g y).address) x xs) ≡ put seen_key (g x) (map g xs)
+    → map g (insert_sorted (λ y. (g y).address) x xs) ≡ insert_sorted seen_key (g x) (map g xs)
 unfolding seen_key
 put_seen g x [] = refl
 put_seen {X = X} g x (next ∷ xs) =
     elim (nat_lt (g x).address (g next).address) as (λ b.
-    map g (cond b (x ∷ next ∷ xs) (next ∷ put (λ (y : X). (g y).address) x xs))
-    ≡ cond b (g x ∷ g next ∷ map g xs) (g next ∷ put seen_key (g x) (map g xs))) [
+    map g (cond b (x ∷ next ∷ xs) (next ∷ insert_sorted (λ (y : X). (g y).address) x xs))
+    ≡ cond b (g x ∷ g next ∷ map g xs) (g next ∷ insert_sorted seen_key (g x) (map g xs))) [
       | true ↦ refl
       | false ↦ ap (λ (rest : List SeenPart). g next ∷ rest) (put_seen g x xs)
     ]
@@ -43,7 +43,7 @@ among_seen : {X : Type 0} (g : X → SeenPart) (sorted xs : List X)
     ≡ in_order_among seen_key (map g sorted) (map g xs)
 among_seen g sorted [] = refl
 among_seen {X = X} g sorted (x ∷ xs) =
-    among_seen g (put (λ (y : X). (g y).address) x sorted) xs
+    among_seen g (insert_sorted (λ (y : X). (g y).address) x sorted) xs
     ∙ ap (λ (s : List SeenPart). in_order_among seen_key s (map g xs)) (put_seen g x sorted)
 
 in_order_seen : (places : List Place) (segments : List Segment)

@@ -9,7 +9,7 @@ use Rattle.bl_map.specs.MachineFacts.{MachineFacts}
 use Rattle.bl_mb2head.specs.declared.relocation.Relocation.{Relocation}
 use Rattle.bl_mbi.specs.InformationFacts.{IsText}
 use Rattle.bl_load.specs.Rows.{module_rows, information_row}
-use Rattle.bl_load.specs.Value.{EntryValue, line_fault, lines_fault}
+use Rattle.bl_load.specs.EntryValue.{EntryValue, line_fault, lines_fault}
 use Rattle.bl_load.proofs.LineLemmas.{sound_short, first_sound}
 use Rattle.bl_load.proofs.RowPlaceLemmas.{Anywhere}
 use Rattle.bl_walk.proofs.KernelLemmas.{IsOther}

@@ -23,7 +23,7 @@ use Rattle.bl_walk.specs.State.{entry_registers, is_in_kernel}
 use Rattle.bl_walk.specs.Seen.{HasTotalSize, IsInformation, HasInformation, AreParameters}
 use Rattle.bl_walk.specs.Seen.{HasParameters, text_to_zero}
 use Rattle.bl_mbi.specs.Size.{min_info_size}
-use Rattle.bl_params.specs.Numbers.{params_size, tables_size, page_size, low_pages}
+use Rattle.bl_params.specs.SizesAndOffsets.{params_size, tables_size, page_size, low_pages}
 
 abbrev pub walk_fault_number : WalkFault → ℕ
 walk_fault_number OutsideImage = 81

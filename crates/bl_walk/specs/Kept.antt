@@ -19,8 +19,8 @@ begins_upto address part = nat_le part.address address
 
 -- what a kernel sees that is told this line and these runs, and of no file and no copy of an RSDP
 -- beside them
-abbrev pub seen_alone : Handover → List ℕ → List Region → SeenFacts
-seen_alone h line runs = record {
+abbrev pub seen_without_files : Handover → List ℕ → List Region → SeenFacts
+seen_without_files h line runs = record {
   protocol = h.protocol;
   entry = entry_in h.registers;
   line = line;

@@ -18,7 +18,7 @@ use Rattle.bl_walk.specs.Inside.{bytes_in, rest_in}
 use Rattle.bl_walk.specs.State.{is_kernel}
 use Rattle.bl_walk.specs.SeenFacts.{SeenModuleFacts, SeenFileFacts, SeenFacts}
 use Rattle.bl_mbi.specs.Size.{min_info_size}
-use Rattle.bl_params.specs.Numbers.{params_size}
+use Rattle.bl_params.specs.SizesAndOffsets.{params_size}
 
 -- the parts of the kernel, by address and length
 abbrev pub kernel_in : List Part → List SeenPart

@@ -3,7 +3,7 @@ use Rattle.std.specs.Prelude.{◌≡◌, ◌<◌, ◌≤◌, ◌+◌, ℕ, List,
 use Rattle.std.specs.Prelude.{All, Option, Some, None, option_map}
 use Rattle.bl_mem.specs.declared.segment.Segment.{Segment}
 use Rattle.bl_map.specs.NormalMap.{region_end}
-use Rattle.bl_map.specs.Limits.{region_limit}
+use Rattle.bl_map.specs.Limits.{max_region_end}
 use Rattle.bl_map.specs.MachineFacts.{MachineFacts}
 use Rattle.bl_mb2head.specs.declared.relocation.Relocation.{Relocation}
 use Rattle.bl_bzimage.specs.declared.setup.Setup.{Setup}
@@ -12,11 +12,11 @@ use Rattle.bl_plan.specs.Order.{ascending}
 use Rattle.bl_plan.specs.declared.protocol.Protocol.{Protocol}
 use Rattle.bl_plan.specs.declared.protocol.Protocol.TheVariants.{Multiboot2, Linux, Linux64}
 use Rattle.bl_load.specs.Blocks.{span_of}
-use Rattle.bl_load.specs.Kernel.{KernelFacts, IsKernel}
+use Rattle.bl_load.specs.Kernel.{Multiboot2KernelFacts, IsKernel}
 use Rattle.bl_load.specs.Linux.{entry_64}
 use Rattle.bl_load.specs.LinuxRows.{linux_kernel_row}
 use Rattle.bl_load.specs.Parts.{entered_at}
-use Rattle.bl_load.specs.Value.{EntryValue, kernel_file, module_file, initrd_file}
+use Rattle.bl_load.specs.EntryValue.{EntryValue, kernel_file, module_file, initrd_file}
 use Rattle.bl_walk.specs.SeenFacts.{SeenFacts}
 use Rattle.bl_walk.specs.declared.seen.SeenPart.{SeenPart}
 
@@ -44,7 +44,7 @@ pub record ShowsPayload (offset : ℕ) (setup : Setup) (seen : SeenFacts) : Type
 
 abbrev pub ShowsKernel : EntryValue → SeenFacts → Protocol → Type 0
 ShowsKernel value seen Multiboot2 =
-    (kernel : KernelFacts) × IsKernel (kernel_file value) kernel
+    (kernel : Multiboot2KernelFacts) × IsKernel (kernel_file value) kernel
     × ShowsSegments kernel.segments kernel.entry kernel.relocation seen
 ShowsKernel value seen Linux =
     (setup : Setup) × IsSetup (kernel_file value) setup × ShowsPayload 0 setup seen
@@ -92,4 +92,4 @@ pub record ShowsEntry (facts : MachineFacts) (value : EntryValue) (seen : SeenFa
 
 -- each run of the memory map that is seen ends at most at 2^52
 abbrev pub RunsEndLow : SeenFacts → Type 0
-RunsEndLow seen = All (λ run. region_end run ≤ region_limit) seen.map
+RunsEndLow seen = All (λ run. region_end run ≤ max_region_end) seen.map

@@ -14,7 +14,7 @@ use Rattle.bl_load.specs.Registers.{multiboot2_registers, linux_registers, linux
 use Rattle.bl_load.specs.Registers.{entry_in, information_in, params_in, gdt_in, tables_in}
 use Rattle.bl_load.specs.Handover.{Part, Handover}
 use Rattle.bl_walk.specs.Inside.{part_with, bytes_in}
-use Rattle.bl_params.specs.Numbers.{tables_size}
+use Rattle.bl_params.specs.SizesAndOffsets.{tables_size}
 
 -- the registers that a kernel is entered with, where the ones that hold addresses hold those of `r`
 abbrev pub entry_registers : Protocol → Registers → Registers

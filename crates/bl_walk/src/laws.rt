@@ -5,7 +5,7 @@ ghost use Rattle.bl_map.specs.MachineFacts.{MachineFacts, IsWellFormedMachine};
 ghost use Rattle.bl_load.specs.Handover.{Handover, Part, end_of};
 ghost use Rattle.bl_load.specs.Offered.{IsOffered};
 ghost use Rattle.bl_load.specs.Parts.{IsHandover};
-ghost use Rattle.bl_load.specs.Value.{EntryValue};
+ghost use Rattle.bl_load.specs.EntryValue.{EntryValue};
 ghost use Rattle.bl_image.specs.Image.{spelling};
 ghost use Rattle.bl_image.specs.ImageParts.{IsImage, IsKeptByImages};
 ghost use Rattle.bl_image.specs.declared.version.Version.{Version};

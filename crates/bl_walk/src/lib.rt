@@ -5,7 +5,7 @@ mod fault;
 mod follow;
 mod information;
 mod inside;
-mod kernel;
+mod kernel_parts;
 mod laws;
 mod module;
 mod parameters;

@@ -1,5 +1,5 @@
 //! What a kernel sees in an image.
-use crate::kernel::kernel_of;
+use crate::kernel_parts::kernel_of;
 use bl_image::Image;
 use bl_load::Protocol;
 use bl_map::Region;
@@ -92,7 +92,7 @@ impl<'a, A: Allocator> Model for Seen<'a, A> {
 
 impl<'a, A: Allocator + Copy> Seen<'a, A> {
     ghost use Rattle.std.specs.Prelude.{◌≡◌, IfOk};
-    ghost use Rattle.bl_walk.specs.Kept.{seen_alone};
+    ghost use Rattle.bl_walk.specs.Kept.{seen_without_files};
 
     /// What a kernel sees in an image that is told this line and these runs, and of no file and no
     /// copy of an RSDP beside them: what else it is told of is put in its place.
@@ -102,11 +102,11 @@ impl<'a, A: Allocator + Copy> Seen<'a, A> {
         line: Bytes<A>,
         map: Vec<Region, A>,
     ) -> Result<Seen<'a, A>, AllocError>
-        ensures { IfOk result (λ seen. seen ≡ seen_alone image.now line map.items) }
+        ensures { IfOk result (λ seen. seen ≡ seen_without_files image.now line map.items) }
     {
         Ok(Seen {
             protocol: image.protocol(),
-            entry: image.registers().entry(),
+            entry: image.registers().entry_point(),
             line,
             kernel: kernel_of(alloc, image)?,
             modules: Vec::new(alloc),

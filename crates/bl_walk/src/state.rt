@@ -8,7 +8,7 @@ ghost use Rattle.bl_walk.specs.Faults.{HasWalkFault};
 ghost use Rattle.bl_walk.specs.Inside.{bytes_in};
 ghost use Rattle.bl_walk.specs.State as state;
 ghost use Rattle.bl_walk.specs.State.{IsEntered};
-ghost use Rattle.bl_params.specs.Numbers.{tables_size, page_size, low_pages};
+ghost use Rattle.bl_params.specs.SizesAndOffsets.{tables_size, page_size, low_pages};
 
 use crate::fault::WalkFault;
 use crate::follow::follow;
@@ -72,7 +72,7 @@ fn check_entry<A: Allocator>(image: &Image<A>) -> Result<(), WalkFault>
         (state.is_in_kernel image.now.parts (entry_in image.now.registers) ≡ true) }
     ensures fault { IfErr result (HasWalkFault image.now) }
 {
-    if !is_in_kernel(image, image.registers().entry()) {
+    if !is_in_kernel(image, image.registers().entry_point()) {
         return Err(WalkFault::OutsideImage);
     }
     Ok(())

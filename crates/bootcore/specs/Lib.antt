@@ -1,3 +1,3 @@
 pub mod ImageFileFacts
-pub mod Statuses
+pub mod StatusMessages
 pub mod PathFilesFacts

@@ -103,7 +103,7 @@ impl<R: rt::Files + Eprint> Files for PathFiles<'_, R> {
     ghost asked = { λ f. f.asked };
 
     fn fetch<A: Allocator>(&mut self, alloc: A, name: &str) -> Result<Fetched<A>, AllocError> {
-        self.asked = self.asked.and(name.as_bytes());
+        self.asked = self.asked.with_name(name.as_bytes());
         match read_file(self.rt, alloc, name, FILE_LIMIT) {
             Ok(file) => Ok(file),
             Err(error) if error.kind() == io::ErrorKind::OutOfMemory => Err(AllocError),

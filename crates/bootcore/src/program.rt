@@ -1,6 +1,6 @@
 //! The program's jobs, on real files.
 ghost use Rattle.std.specs.Prelude.{◌≡◌, ◌⊎◌, ◌≤◌, option_map, IfErr};
-ghost use Rattle.bootcore.specs.Statuses as statuses;
+ghost use Rattle.bootcore.specs.StatusMessages as statuses;
 
 use crate::image_file::ImageFile;
 use crate::image_jobs::{convert_path, walk_path};

@@ -2,7 +2,7 @@
 ghost use Rattle.std.specs.Prelude.{◌≡◌, ℕ, List, [], None, Err, Result};
 ghost use Rattle.std.specs.Option.{MatchOption};
 ghost use Rattle.bl_session.specs.declared.outcome.Progress.{Progress};
-ghost use Rattle.bl_session.specs.Boot.{piece, fault};
+ghost use Rattle.bl_session.specs.BootSteps.{piece, fault};
 ghost use Rattle.bl_session.specs.Phases.{SessionFacts, state_at};
 ghost use Rattle.bl_session.specs.Requests.{first_request, request_after};
 ghost use Rattle.bl_abi.specs.BootTold.{Telling};

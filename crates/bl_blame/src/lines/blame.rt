@@ -2,8 +2,8 @@
 ghost use Rattle.std.specs.Prelude.{◌≡◌, ◌++◌, None, OnErr, OnOk, Some};
 ghost use Rattle.bl_desc.specs.Views.{view};
 ghost use Rattle.bl_blame.specs.declared.told.blame.Blame.TheVariants.{BadMachine};
-ghost use Rattle.bl_blame.specs.BlameHints as hints;
-ghost use Rattle.bl_blame.specs.BlameLines as blames;
+ghost use Rattle.bl_blame.specs.BlameLines as hints;
+ghost use Rattle.bl_blame.specs.BlameLine as blames;
 
 use crate::lines::bad_key::say_bad_key;
 use crate::lines::pieces::say_number;

@@ -10,9 +10,9 @@ use std::alloc::{AllocError, Allocator};
 use toml::Value;
 
 /// Appends a text, or how long it is.
-#[tactic(auto, unfolding(crate::specs::KeyWords::text_words))]
+#[tactic(auto, unfolding(crate::specs::KeyWords::held_text_words))]
 fn say_text<A: Allocator + Copy>(out: &mut Vec<u8, A>, text: &str) -> Result<(), AllocError>
-    ensures { OnOk result (out.new.items ≡ out.old.items ++ words.text_words text.now) }
+    ensures { OnOk result (out.new.items ≡ out.old.items ++ words.held_text_words text.now) }
 {
     if text.len() <= 64 {
         out.extend_from_slice(b"\"")?;

@@ -5,7 +5,7 @@ ghost use Rattle.toml.specs.View.{view};
 ghost use Rattle.bl_desc.specs.Allowed.{keys_of_set};
 ghost use Rattle.bl_blame.specs.WordHints as hints;
 
-use crate::lines::near::is_near;
+use crate::lines::edit_distance::is_one_edit_away;
 use bl_desc::{Allowed, KeyFault, KeySet};
 use std::alloc::{AllocError, Allocator};
 use toml::Value;
@@ -31,7 +31,7 @@ fn say_near<A: Allocator + Copy>(
     match words {
         [] => Ok(()),
         [word, rest @ ..] => {
-            if is_near(held.as_bytes(), word.as_bytes()) {
+            if is_one_edit_away(held.as_bytes(), word.as_bytes()) {
                 return say_meant(out, word);
             }
             say_near(out, rest, held)

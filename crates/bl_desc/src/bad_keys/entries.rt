@@ -3,11 +3,11 @@ ghost use Rattle.std.specs.Prelude.{◌≡◌, true, MatchOption};
 ghost use Rattle.toml.specs.View.{view, table_view, items_view};
 ghost use Rattle.bl_desc.specs.BadKeys.{BreaksAnyOf};
 ghost use Rattle.bl_desc.specs.BadKeysKept as tests;
-ghost use Rattle.bl_desc.specs.DescriptionKept as kept;
+ghost use Rattle.bl_desc.specs.EntriesKept as kept;
 
 use crate::bad_key::{Allowed, BadKey, KeyFault, KeySet, TablePlace};
 use crate::bad_keys::items::{Listed, bad_among, items_at};
-use crate::bad_keys::rules::{broken_rules, may, must, unknown_key};
+use crate::bad_keys::rules::{broken_rules, optional_key, required_key, unknown_key};
 use crate::keys::at_key;
 use bl_plan::Protocol;
 use toml::{Table, Value};
@@ -32,9 +32,9 @@ fn bad_texts<'a>(table: &'a Table, place: TablePlace) -> Option<BadKey<'a>>
         (λ bad. (bad.table ≡ place)
         × BreaksAnyOf kept.common_rules (table_view table.now) bad.fault) }
 {
-    let title = must("title", Allowed::Title);
-    let kernel = must("kernel", Allowed::AnyText);
-    let line = may("line", Allowed::AnyText);
+    let title = required_key("title", Allowed::Title);
+    let kernel = required_key("kernel", Allowed::AnyText);
+    let line = optional_key("line", Allowed::AnyText);
     broken_rules(table, place, &[title, kernel, line])
 }
 
@@ -60,7 +60,7 @@ fn bad_module_key<'a>(table: &'a Table, i: usize) -> Option<BadKey<'a>>
     broken_rules(
         table,
         TablePlace::Entry(i),
-        &[may("module", Allowed::ModuleTables)],
+        &[optional_key("module", Allowed::ModuleTables)],
     )
 }
 
@@ -82,8 +82,8 @@ fn bad_copies<'a>(table: &'a Table, i: usize) -> Option<BadKey<'a>>
         (λ bad. (bad.table ≡ TablePlace.Entry i)
         × BreaksAnyOf kept.copy_rules (table_view table.now) bad.fault) }
 {
-    let old = may("rsdp_old", Allowed::CopyText);
-    let new = may("rsdp_new", Allowed::CopyText);
+    let old = optional_key("rsdp_old", Allowed::CopyText);
+    let new = optional_key("rsdp_new", Allowed::CopyText);
     broken_rules(table, TablePlace::Entry(i), &[old, new])
 }
 
@@ -111,7 +111,7 @@ fn bad_initrd<'a>(table: &'a Table, i: usize) -> Option<BadKey<'a>>
     broken_rules(
         table,
         TablePlace::Entry(i),
-        &[may("initrd", Allowed::AnyText)],
+        &[optional_key("initrd", Allowed::AnyText)],
     )
 }
 
@@ -134,7 +134,7 @@ fn bad_protocol<'a>(table: &'a Table, i: usize) -> Option<BadKey<'a>>
         (λ bad. (bad.table ≡ TablePlace.Entry i)
         × BreaksAnyOf kept.protocol_rules (table_view table.now) bad.fault) }
 {
-    let protocol = must("protocol", Allowed::ProtocolName);
+    let protocol = required_key("protocol", Allowed::ProtocolName);
     broken_rules(table, TablePlace::Entry(i), &[protocol])
 }
 

@@ -7,7 +7,7 @@ ghost use Rattle.bl_desc.specs.BadKeys.{BreaksAnyOf, IsItemFault, IsKeyFault};
 ghost use Rattle.bl_desc.specs.BadKeysKept as kept;
 
 use crate::bad_key::{Allowed, BadKey, KeyFault, KeySet, TablePlace};
-use crate::bad_keys::rules::{broken_rules, may, must, unknown_key};
+use crate::bad_keys::rules::{broken_rules, optional_key, required_key, unknown_key};
 use crate::bad_keys::values::allows;
 use crate::keys::at_key;
 use toml::{Table, Value};
@@ -63,19 +63,19 @@ fn broken_in<'a>(table: &'a Table, place: TablePlace, listed: Listed) -> Option<
 {
     match listed {
         Listed::Regions => {
-            let base = must("base", Allowed::Number);
-            let length = must("length", Allowed::Number);
-            let kind = must("kind", Allowed::KindName);
+            let base = required_key("base", Allowed::Number);
+            let length = required_key("length", Allowed::Number);
+            let kind = required_key("kind", Allowed::KindName);
             broken_rules(table, place, &[base, length, kind])
         }
         Listed::Files => {
-            let name = must("name", Allowed::AnyText);
-            let hex = must("hex", Allowed::HexText);
+            let name = required_key("name", Allowed::AnyText);
+            let hex = required_key("hex", Allowed::HexText);
             broken_rules(table, place, &[name, hex])
         }
         Listed::Modules(_) => {
-            let file = must("file", Allowed::AnyText);
-            let line = may("line", Allowed::AnyText);
+            let file = required_key("file", Allowed::AnyText);
+            let line = optional_key("line", Allowed::AnyText);
             broken_rules(table, place, &[file, line])
         }
     }

@@ -22,7 +22,7 @@ pub struct Rule {
 }
 
 /// A key that must stand.
-pub fn must(key: &'static str, allowed: Allowed) -> Rule
+pub fn required_key(key: &'static str, allowed: Allowed) -> Rule
     ensures { result ≡ record { key = key.entry; required = true; allowed = allowed } }
 {
     Rule {
@@ -33,7 +33,7 @@ pub fn must(key: &'static str, allowed: Allowed) -> Rule
 }
 
 /// A key that may be left out.
-pub fn may(key: &'static str, allowed: Allowed) -> Rule
+pub fn optional_key(key: &'static str, allowed: Allowed) -> Rule
     ensures { result ≡ record { key = key.entry; required = false; allowed = allowed } }
 {
     Rule {

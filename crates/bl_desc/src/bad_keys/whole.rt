@@ -10,7 +10,7 @@ ghost use Rattle.bl_desc.specs.DescriptionKept as kept;
 use crate::bad_key::{Allowed, BadKey, KeyFault, KeySet, TablePlace};
 use crate::bad_keys::entries::bad_among_entries;
 use crate::bad_keys::items::{Listed, bad_among, bad_number, items_at};
-use crate::bad_keys::rules::{broken_rules, may, must, unknown_key};
+use crate::bad_keys::rules::{broken_rules, optional_key, required_key, unknown_key};
 use crate::bad_keys::same_names::{name_value, same_name};
 use std::alloc::{AllocError, Global};
 use toml::{Table, Value};
@@ -22,8 +22,8 @@ fn bad_size<'a>(table: &'a Table) -> Option<BadKey<'a>>
         (λ bad. (bad.table ≡ TablePlace.Description)
         × BreaksAnyOf kept.machine_rules (table_view table.now) bad.fault) }
 {
-    let size = must("size", Allowed::Number);
-    let pool = must("pool", Allowed::TwoNumbers);
+    let size = required_key("size", Allowed::Number);
+    let pool = required_key("pool", Allowed::TwoNumbers);
     broken_rules(table, TablePlace::Description, &[size, pool])
 }
 
@@ -33,7 +33,7 @@ fn bad_fill<'a>(table: &'a Table) -> Option<BadKey<'a>>
         (λ bad. (bad.table ≡ TablePlace.Description)
         × BreaksAnyOf kept.fill_rules (table_view table.now) bad.fault) }
 {
-    let rule = may("fill", Allowed::Byte);
+    let rule = optional_key("fill", Allowed::Byte);
     broken_rules(table, TablePlace::Description, &[rule])
 }
 
@@ -43,7 +43,7 @@ fn bad_region_key<'a>(table: &'a Table) -> Option<BadKey<'a>>
         (λ bad. (bad.table ≡ TablePlace.Description)
         × BreaksAnyOf kept.region_rules (table_view table.now) bad.fault) }
 {
-    let rule = may("region", Allowed::Tables);
+    let rule = optional_key("region", Allowed::Tables);
     broken_rules(table, TablePlace::Description, &[rule])
 }
 
@@ -53,7 +53,7 @@ fn bad_file_key<'a>(table: &'a Table) -> Option<BadKey<'a>>
         (λ bad. (bad.table ≡ TablePlace.Description)
         × BreaksAnyOf kept.file_rules (table_view table.now) bad.fault) }
 {
-    let rule = may("file", Allowed::Tables);
+    let rule = optional_key("file", Allowed::Tables);
     broken_rules(table, TablePlace::Description, &[rule])
 }
 
@@ -63,7 +63,7 @@ fn bad_entry_key<'a>(table: &'a Table) -> Option<BadKey<'a>>
         (λ bad. (bad.table ≡ TablePlace.Description)
         × BreaksAnyOf kept.entry_rules (table_view table.now) bad.fault) }
 {
-    let rule = must("entry", Allowed::EntryTables);
+    let rule = required_key("entry", Allowed::EntryTables);
     broken_rules(table, TablePlace::Description, &[rule])
 }
 
@@ -74,8 +74,8 @@ fn bad_index_keys<'a>(table: &'a Table, count: u64) -> Option<BadKey<'a>>
         (λ bad. (bad.table ≡ TablePlace.Description)
         × BreaksAnyOf (kept.index_rules count) (table_view table.now) bad.fault) }
 {
-    let default = may("default", Allowed::IndexBelow(count));
-    let fallback = may("fallback", Allowed::Indices);
+    let default = optional_key("default", Allowed::IndexBelow(count));
+    let fallback = optional_key("fallback", Allowed::Indices);
     broken_rules(table, TablePlace::Description, &[default, fallback])
 }
 

@@ -3,7 +3,7 @@ ghost use Rattle.std.specs.Prelude.{◌≡◌, ◌≤◌, ◌<◌, ◌^◌, [], 
 ghost use Rattle.bl_params.specs.BootParams as params;
 ghost use Rattle.bl_params.specs.Paging.{paging};
 ghost use Rattle.bl_plan.specs.declared.part.Role.TheVariants as role;
-ghost use Rattle.bl_load.specs.Value.{initrd_file};
+ghost use Rattle.bl_load.specs.EntryValue.{initrd_file};
 ghost use Rattle.bl_load.specs.Addresses as addresses;
 ghost use Rattle.bl_load.specs.LinuxRows as table;
 ghost use Rattle.bl_load.specs.Protocols as protocols;
@@ -22,7 +22,7 @@ use crate::addresses::address_of;
 use crate::checked_entry::CheckedEntry;
 use crate::linux::rows::initrd_size;
 use crate::plan::Content;
-use crate::protocols::descriptors_of;
+use crate::segment_descriptors::descriptors_of;
 use bl_bzimage::Setup;
 use bl_map::{FRAME_SIZE, Machine};
 use bl_mem::{ByteView, Bytes};

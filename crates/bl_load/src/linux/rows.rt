@@ -3,7 +3,7 @@ ghost use Rattle.std.specs.Prelude.{◌≡◌, ◌≤◌, ◌<◌, ◌+◌, ◌^
 ghost use Rattle.bl_plan.specs.declared.part.Role.TheVariants as role;
 ghost use Rattle.bl_load.specs.LinuxRows as table;
 ghost use Rattle.bl_load.specs.PlacingKept as kept;
-ghost use Rattle.bl_load.specs.Value.{initrd_file};
+ghost use Rattle.bl_load.specs.EntryValue.{initrd_file};
 ghost use Rattle.bl_map.specs.Limits.{high_start};
 
 use crate::lengths::capped_length;
@@ -39,10 +39,10 @@ fn moved_row(setup: &Setup) -> Row
 
 /// The row of a kernel that lies at 1 MiB and runs at `pref_address`. What it needs is told from
 /// 1 MiB on, so that no sum wraps.
-fn fixed_row(setup: &Setup) -> Row
+fn fixed_kernel_row(setup: &Setup) -> Row
     requires from { high_start ≤ setup.now.pref_address }
     requires upto { setup.now.pref_address < 2 ^ 32 }
-    ensures { result ≡ table.fixed_row setup.now }
+    ensures { result ≡ table.fixed_kernel_row setup.now }
 {
     let needed = setup.pref_address - HIGH_START + setup.init_size as u64;
     Row {
@@ -60,7 +60,7 @@ fn kernel_row(setup: &Setup) -> Row
     ensures { result ≡ table.linux_kernel_row setup.now }
 {
     if setup.relocatable_kernel == 0 {
-        fixed_row(setup)
+        fixed_kernel_row(setup)
     } else {
         moved_row(setup)
     }

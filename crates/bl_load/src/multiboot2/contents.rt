@@ -1,6 +1,6 @@
 //! The contents of a Multiboot2 entry's parts, at their places.
 ghost use Rattle.std.specs.Prelude.{◌≡◌, ◌≤◌, ◌<◌, ◌^◌, ◌+◌, All, IfOk, length, map};
-ghost use Rattle.bl_load.specs.Value.{module_file};
+ghost use Rattle.bl_load.specs.EntryValue.{module_file};
 ghost use Rattle.bl_load.specs.Reading.{multiboot2};
 ghost use Rattle.bl_load.specs.KernelKept.{AreLoadable, kernel_by};
 ghost use Rattle.bl_plan.specs.declared.part.Role.TheVariants as role;

@@ -3,7 +3,7 @@ ghost use Rattle.std.specs.Prelude.{◌≡◌, Some, None, IfOk};
 ghost use Rattle.std.specs.Prelude.{IfErr, MatchResult};
 ghost use Rattle.std.specs.List.{list_any};
 ghost use Rattle.bl_load.specs.Kernel as kernel;
-ghost use Rattle.bl_mem.specs.Contents.{holds_at};
+ghost use Rattle.bl_mem.specs.Contents.{is_in_segment};
 ghost use Rattle.bl_load.specs.Kernel.{IsKernel, IsLoadedBy, entry_fault};
 ghost use Rattle.bl_load.specs.KernelKept.{IsElfFault, IsElfRefusal, IsKernelFault, AreLoadable};
 ghost use Rattle.bl_load.specs.KernelKept.{executable_facts, kernel_by};
@@ -112,7 +112,7 @@ fn read_executable<A: Allocator + Copy, V: ByteView>(
 
 /// Whether one of the segments holds an address.
 fn is_held(segments: &[Segment], a: u64) -> bool
-    ensures { result ≡ list_any (holds_at a) segments.now }
+    ensures { result ≡ list_any (is_in_segment a) segments.now }
 {
     segments.iter().any(|segment| segment.holds(a))
 }

@@ -7,7 +7,7 @@ ghost use Rattle.bl_load.specs.Kept.{lines_by};
 ghost use Rattle.bl_load.specs.PlacingKept as kept;
 ghost use Rattle.bl_load.specs.KernelKept.{kernel_by, max_segments};
 ghost use Rattle.bl_load.specs.CheckedEntryKept.{value_of_files};
-ghost use Rattle.bl_plan.specs.Limits.{max_line, max_modules};
+ghost use Rattle.bl_plan.specs.MenuLimits.{max_line, max_modules};
 
 use crate::checked_entry::CheckedEntry;
 use crate::entry::Module;

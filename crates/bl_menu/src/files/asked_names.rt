@@ -24,7 +24,7 @@ impl AskedNames {
     }
 
     /// This name was asked for too.
-    pub fn and(&self, _name: &[u8]) -> AskedNames
+    pub fn with_name(&self, _name: &[u8]) -> AskedNames
         ensures { result.names ≡ self.now.names ++ _name.now ∷ [] }
     {
         AskedNames {}

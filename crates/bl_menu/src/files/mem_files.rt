@@ -55,7 +55,7 @@ impl<A: Allocator> Files for MemFiles<A> {
     ghost asked = { λ f. f.asked };
 
     fn fetch<B: Allocator>(&mut self, alloc: B, name: &str) -> Result<Fetched<B>, AllocError> {
-        self.asked = self.asked.and(name.as_bytes());
+        self.asked = self.asked.with_name(name.as_bytes());
         let Some(bytes) = file_named(name, &self.rows) else {
             self.faults += 1;
             return Ok(Fetched::Missing);

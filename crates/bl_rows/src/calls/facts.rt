@@ -1,7 +1,6 @@
 //! `facts ADDRESS .. START..END ..`: the machine's size and pool, the kind at an address,
 //! whether a range is usable.
 
-use crate::calls::machine::kind_name;
 use crate::row::Row;
 use bl_map::Machine;
 use bl_refusing::Refusing;
@@ -22,7 +21,7 @@ fn say_kind(row: &mut Row<'_>, machine: &Machine<&Refusing>, word: &str) {
     let address = row.number_of(word);
     row.say("; ");
     row.say(match machine.kind_at(address) {
-        Some(kind) => kind_name(kind),
+        Some(kind) => kind.name(),
         None => "none",
     });
 }

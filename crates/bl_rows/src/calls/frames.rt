@@ -1,7 +1,7 @@
 //! `frames for LENGTH`, `frames whole LENGTH`, `frames in START..END`,
 //! `frames open START..END RANGE ..`: counts of frames.
 ghost use Rattle.std.specs.Prelude.{IsTrue, All, ◌≤◌};
-ghost use Rattle.bl_map.specs.Room.{AreAscending};
+ghost use Rattle.bl_map.specs.PoolFrames.{AreAscending};
 
 use crate::row::Row;
 use bl_map::{frames_in, frames_of, open_frames, round_up_to_frames};

@@ -14,7 +14,9 @@ use crate::row::Row;
 use bl_bzimage::{Setup, SetupFault, read_setup};
 use bl_map::Region;
 use bl_mem::SliceView;
-use bl_params::{ParamFault, Params, ParamsToWrite, gdt, read_params, write_params};
+use bl_params::{
+    MAX_E820_ENTRIES, ParamFault, Params, ParamsToWrite, gdt, read_params, write_params,
+};
 use bl_refusing::Refusing;
 
 fn say_setup_fault(row: &mut Row<'_>, fault: SetupFault) {
@@ -111,7 +113,7 @@ pub fn answer_write(row: &mut Row<'_>) {
     let Ok(setup) = read_setup(&SliceView::new(row.bytes)) else {
         return row.refuse();
     };
-    if runs.len() > 128 || !are_low(runs.as_slice()) {
+    if runs.len() > MAX_E820_ENTRIES as usize || !are_low(runs.as_slice()) {
         return row.refuse();
     }
     let facts = ParamsToWrite {

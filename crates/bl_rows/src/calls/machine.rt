@@ -9,26 +9,14 @@ use crate::row::Row;
 use bl_map::{Kind, Machine, MapFault, Region};
 use bl_refusing::Refusing;
 
-/// The word for a kind.
-pub fn kind_name(kind: Kind) -> &'static str {
-    match kind {
-        Kind::Usable => "usable",
-        Kind::Reserved => "reserved",
-        Kind::Acpi => "acpi",
-        Kind::Nvs => "nvs",
-        Kind::Bad => "bad",
-    }
-}
-
 fn kind_of(row: &mut Row<'_>, word: &str) -> Kind {
-    let kinds = [
-        ("usable", Kind::Usable),
-        ("reserved", Kind::Reserved),
-        ("acpi", Kind::Acpi),
-        ("nvs", Kind::Nvs),
-        ("bad", Kind::Bad),
-    ];
-    row.pick(&kinds, word, Kind::Bad)
+    match Kind::from_name(word) {
+        Some(kind) => kind,
+        None => {
+            row.refuse();
+            Kind::Bad
+        }
+    }
 }
 
 impl Row<'_> {
@@ -47,7 +35,7 @@ impl Row<'_> {
     pub fn say_region(&mut self, before: &str, region: &Region) {
         self.say_numbers(&[(before, region.base), ("+", region.length)]);
         self.say(":");
-        self.say(kind_name(region.kind));
+        self.say(region.kind.name());
     }
 }
 

@@ -4,7 +4,7 @@
 //! `sparse_stage ..` keeps only the frames which have room.
 ghost use Rattle.std.specs.Prelude.{All, IsTrue, ◌≡◌, ◌≤◌, ◌<◌, ◌%◌, length};
 ghost use Rattle.bl_stage.specs.Staged.{AreApart};
-ghost use Rattle.bl_map.specs.Room.{frames_for};
+ghost use Rattle.bl_map.specs.PoolFrames.{frames_for};
 
 use crate::calls::staging::{fault_text, make_steps};
 use crate::row::Row;

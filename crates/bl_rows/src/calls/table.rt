@@ -1,6 +1,5 @@
 //! `numbers`: the numbers of kinds, roles and protocols. `kind N`: the kind of a number.
 
-use crate::calls::machine::kind_name;
 use crate::row::Row;
 use bl_map::Kind;
 use bl_plan::{Protocol, Role};
@@ -50,7 +49,7 @@ pub fn answer(row: &mut Row<'_>) {
 /// The kind's name, or `none`.
 pub fn answer_kind(row: &mut Row<'_>) {
     let name = match Kind::from_number(row.number32()) {
-        Some(kind) => kind_name(kind),
+        Some(kind) => kind.name(),
         None => "none",
     };
     row.say(name);

@@ -2,7 +2,7 @@
 ghost use Rattle.std.specs.Prelude.{◌≡◌, ◌++◌, OnOk, map};
 ghost use Rattle.std.specs.List.{flat_map};
 ghost use Rattle.bl_say.specs.AttemptLines as told_words;
-ghost use Rattle.bl_say.specs.AttemptLines.{attempt_lines, refused_attempt_lines, row_lines};
+ghost use Rattle.bl_say.specs.AttemptLines.{attempt_lines, refused_attempt_lines, entry_lines};
 ghost use Rattle.bl_say.specs.AttemptLines.{told_refusal_lines};
 ghost use Rattle.bl_desc.specs.Views.{entry_view};
 
@@ -34,7 +34,7 @@ fn say_row<A: Allocator + Copy, B: Allocator>(
     entry: &EntryRow<B>,
 ) -> Result<(), AllocError>
     ensures { OnOk result
-        (out.new.items ≡ out.old.items ++ row_lines sought.now index (entry_view entry.now)) }
+        (out.new.items ≡ out.old.items ++ entry_lines sought.now index (entry_view entry.now)) }
 {
     say_title(out, index, entry.title.as_str())?;
     say_entry_files(out, sought, entry)

@@ -1,10 +1,10 @@
 //! The frames of the pool that an entry's files take, in a line.
 ghost use Rattle.std.specs.Prelude.{◌≡◌, ◌*◌, ◌≤◌, ◌^◌, ◌++◌, OnOk, length, map};
-ghost use Rattle.bl_map.specs.Room as room;
+ghost use Rattle.bl_map.specs.PoolFrames as room;
 ghost use Rattle.bl_plan.specs.Placed.{place_range};
 ghost use Rattle.bl_desc.specs.EntryNames.{file_names, names_beside};
 ghost use Rattle.bl_say.specs.Frames.{number_between, frames_line, frames_wanted, length_found};
-ghost use Rattle.bl_say.specs.Frames.{names_at, room_line};
+ghost use Rattle.bl_say.specs.Frames.{names_at, sought_frames_line};
 ghost use Rattle.bl_desc.specs.Views.{entry_view, form_view, module_view};
 
 use crate::told::Sought;
@@ -117,7 +117,7 @@ pub fn say_room<A: Allocator + Copy, B: Allocator>(
     outcome: &Outcome<B>,
 ) -> Result<(), AllocError>
     ensures { OnOk result (out.new.items ≡ out.old.items
-        ++ room_line sought.now (names_at (map entry_view entries.now) outcome.now.entry)
+        ++ sought_frames_line sought.now (names_at (map entry_view entries.now) outcome.now.entry)
         machine.now.pool (map place_range outcome.now.handoff.places)) }
 {
     let wanted = frames_at(entries, sought, outcome.entry);

@@ -1,6 +1,6 @@
 //! What was found for the names that are looked for.
 
-use bl_desc::index_of;
+use bl_desc::file_index;
 use bl_session::Fetched;
 use std::alloc::Allocator;
 use std::marker::Model;
@@ -46,7 +46,7 @@ impl<'a, A: Allocator> Sought<'a, A> {
     pub fn size(&self, name: &str) -> Option<u64>
         ensures { result ≡ size_found self.now name.now }
     {
-        match self.files.get(index_of(self.names, name)) {
+        match self.files.get(file_index(self.names, name)) {
             Some(file) => file.size(),
             None => None,
         }
@@ -66,7 +66,7 @@ impl<'a, A: Allocator> Sought<'a, A> {
     pub fn bytes(&self, name: &str) -> &[u8]
         ensures { result.now ≡ bytes_found self.now name.now }
     {
-        match self.files.get(index_of(self.names, name)) {
+        match self.files.get(file_index(self.names, name)) {
             Some(Fetched::Bytes(bytes)) => bytes.as_slice(),
             _ => &[],
         }

@@ -1,7 +1,7 @@
 //! Why there is no menu.
 ghost use Rattle.std.specs.Prelude.{◌≡◌, ◌↔◌, All, IsTrue};
-ghost use Rattle.bl_load.specs.Value.{IsWithinLimits};
-ghost use Rattle.bl_session.specs.Attempts.{AreWithinLimits, NameEntries};
+ghost use Rattle.bl_load.specs.EntryValue.{IsWithinLimits};
+ghost use Rattle.bl_session.specs.Attempts.{AreWithinLimits, AreEntryIndices};
 ghost use Rattle.bl_session.specs.declared.menu.fault.MenuFault.TheVariants.{NoMemory};
 
 use bl_load::Entry;
@@ -69,8 +69,8 @@ pub(crate) fn is_small<A: Allocator>(entries: &[Entry<A>]) -> bool
 }
 
 /// Whether each index names one of so many entries.
-pub(crate) fn name_entries(count: usize, default: u32, fallbacks: &[u32]) -> bool
-    ensures { IsTrue result ↔ NameEntries count default fallbacks.now }
+pub(crate) fn are_entry_indices(count: usize, default: u32, fallbacks: &[u32]) -> bool
+    ensures { IsTrue result ↔ AreEntryIndices count default fallbacks.now }
 {
     (default as usize) < count && fallbacks.iter().all(|index| (*index as usize) < count)
 }

@@ -37,12 +37,12 @@ fn entry_files<A: Allocator>(entry: &Entry<A>) -> usize
 }
 
 /// The greatest index of a file of entries plus 1, or 0 if there is none.
-pub(crate) fn files_named<A: Allocator>(entries: &[Entry<A>]) -> usize
-    ensures count { result ≡ attempts.files_named (map facts_of entries.now) }
+pub(crate) fn named_file_count<A: Allocator>(entries: &[Entry<A>]) -> usize
+    ensures count { result ≡ attempts.named_file_count (map facts_of entries.now) }
     ensures few { result ≤ 2 ^ 32 }
 {
     match entries {
         [] => 0,
-        [entry, rest @ ..] => entry_files(entry).max(files_named(rest)),
+        [entry, rest @ ..] => entry_files(entry).max(named_file_count(rest)),
     }
 }

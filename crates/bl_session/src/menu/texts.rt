@@ -2,7 +2,7 @@
 //! here is done but to learn this: whoever walks what is booted needs it of each entry.
 ghost use Rattle.std.specs.Prelude.{◌<◌, [], All, IfSome, map};
 ghost use Rattle.bl_load.specs.Offered.{IsOfferedEntry};
-ghost use Rattle.bl_load.specs.Value.{IsWithinLimits};
+ghost use Rattle.bl_load.specs.EntryValue.{IsWithinLimits};
 
 use bl_load::{Entry, Module};
 use bl_mem::Bytes;

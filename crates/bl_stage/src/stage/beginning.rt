@@ -1,9 +1,9 @@
 //! A stage is begun: its tables, and the frames of its files.
 ghost use Rattle.std.specs.Prelude.{◌≡◌, ℕ, ◌+◌, ◌*◌, ◌<◌, ◌≤◌, ◌↔◌, length, slice_index, IfErr};
 ghost use Rattle.std.specs.Prelude.{◌/◌, ◌%◌, ◌^◌, IfOk, All, List, Err, map};
-ghost use Rattle.bl_map.specs.Room as room;
+ghost use Rattle.bl_map.specs.PoolFrames as room;
 ghost use Rattle.bl_stage.specs.Staged.{AreStaged, empty_stage, AreApart};
-ghost use Rattle.bl_map.specs.Room.{frames_for};
+ghost use Rattle.bl_map.specs.PoolFrames.{frames_for};
 
 use crate::cells::Cells;
 use crate::fault::StageFault;

@@ -2,9 +2,9 @@
 ghost use Rattle.std.specs.Prelude.{◌≡◌, ℕ, ◌<◌, ◌↔◌, length, slice_index, IsErr, IfErr, OnErr};
 ghost use Rattle.std.specs.Prelude.{OnOk, false};
 ghost use Rattle.bl_mem.specs.Memory.{HasRoom, KeepsSizeAndRoom};
-ghost use Rattle.bl_map.specs.Room as room;
+ghost use Rattle.bl_map.specs.PoolFrames as room;
 ghost use Rattle.bl_stage.specs.Staged.{staged_file, with_frames, AreStaged, HasPool};
-ghost use Rattle.bl_map.specs.Room.{frames_for};
+ghost use Rattle.bl_map.specs.PoolFrames.{frames_for};
 ghost use Rattle.bl_stage.specs.PieceStates.{piece_states};
 ghost use Rattle.bl_stage.specs.Ranges.{meets, IsSameOutside};
 

@@ -1,5 +1,5 @@
 use Rattle.std.proofs.Common.{subst, sym}
-use Rattle.bl_session.specs.Attempts.{NameEntries}
+use Rattle.bl_session.specs.Attempts.{AreEntryIndices}
 use Rattle.bl_abi.specs.Boot.{IsNoMenu, is_short}
 use Rattle.bl_abi.proofs.BootLemmas.{entry_count, few_given, no_menu_is}
 use Rattle.bl_abi.proofs.menus.menu_made.Goals as goal
@@ -14,7 +14,7 @@ returns-in-Ok-new-clause-few g c =
 
 pub returns-in-Ok-new-clause-named : goal.returns-in-Ok-new-clause-named
 returns-in-Ok-new-clause-named g c =
-    subst (λ n. NameEntries n c.args.default c.args.fallbacks.now)
+    subst (λ n. AreEntryIndices n c.args.default c.args.fallbacks.now)
     (entry_count c.args.given.now c.args.entries.now c.in-Ok.typed.items c.in-Ok.ensures)
     c.in-Ok-new.ensures.allowed.1
 
@@ -22,6 +22,7 @@ pub returns-in-Err-clause-fault : goal.returns-in-Err-clause-fault
 returns-in-Err-clause-fault g c =
     let given = c.args.given.now in
     let rows = c.args.entries.now in
-    subst (IsNoMenu given rows c.args.default c.args.fallbacks.now) (sym c.given_fault_of_menu.ensures)
+    subst (IsNoMenu given rows c.args.default c.args.fallbacks.now)
+    (sym c.given_fault_of_menu.ensures)
     (no_menu_is given rows c.args.default c.args.fallbacks.now c.in-Ok.typed.items
     c.in-Err.fault c.in-Ok.ensures c.in-Err.ensures.first_fault)

@@ -3,7 +3,7 @@ use Rattle.std.proofs.lemmas.Bool.Decides.{nat_tests}
 use Rattle.std.proofs.lemmas.List.{length-map}
 use Rattle.std.proofs.lemmas.Result.{err_from_is_err_and}
 use Rattle.std.specs.Prelude.{nat_le}
-use Rattle.bl_plan.specs.Limits.{max_entries}
+use Rattle.bl_plan.specs.MenuLimits.{max_entries}
 use Rattle.toml.specs.View.{view}
 use Rattle.bl_desc.specs.Entries.{is_menu, menu_entry_in, toml_entries}
 use Rattle.bl_desc.specs.Views.{entry_view}

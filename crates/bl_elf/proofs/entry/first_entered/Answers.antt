@@ -1,7 +1,7 @@
 -- A program header that holds the entry is the first, and one that does not leaves those after it.
 use Rattle.std.proofs.Common.{◌≡◌, length, true, false, None, sym, ◌∙◌}
 use Rattle.bl_elf.specs.Program.{is_entered, program_header, program_fault}
-use Rattle.bl_elf.specs.Elf.{IsIndex}
+use Rattle.bl_elf.specs.Elf.{IsProgramHeaderIndex}
 use Rattle.bl_elf.proofs.ProgramLemmas.{find_here, find_behind, entered_below}
 use Rattle.bl_elf.proofs.entry.first_entered.Goals as goal
 
@@ -18,7 +18,8 @@ returns-then-is_entered-clause-first g c =
 pub returns-then-is_entered-clause-inside : goal.returns-then-is_entered-clause-inside
 returns-then-is_entered-clause-inside g c =
     let bytes = g.V.ByteView.bytes c.args.view.now in
-    let within : IsIndex bytes c.loop-i.i = rw (← c.requires.header.is) c.loop-i-test.true in
+    let within : IsProgramHeaderIndex bytes c.loop-i.i =
+    rw (← c.requires.header.is) c.loop-i-test.true in
     let sound : program_fault (length bytes) c.loop-i.i c.program_header-program.result ≡ None =
     rw c.program_header-program.ensures (c.requires.sound c.loop-i.i within) in
     let low =

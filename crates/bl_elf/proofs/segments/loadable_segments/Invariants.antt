@@ -1,5 +1,6 @@
 use Rattle.std.proofs.Common.{◌≡◌, ◌<◌, ◌-◌, ◌++◌, ℕ, None}
-use Rattle.bl_elf.specs.Program.{headers_from, program_headers, segments_of, program_fault_at}
+use Rattle.bl_elf.specs.Program.{program_headers_from, program_headers, segments_of}
+use Rattle.bl_elf.specs.Program.{program_fault_at}
 use Rattle.bl_elf.proofs.segments.loadable_segments.Given as goal
 
 -- no program header so far has a fault, and their segments are those before the rest
@@ -8,6 +9,6 @@ invariant-loop-i g l =
     let bytes = g.V.ByteView.bytes l.view in
     record {
       sound : (k : ℕ) → k < l.i → program_fault_at bytes k ≡ None;
-      so_far : l.segments.items ++ segments_of (headers_from bytes l.i (l.i-end - l.i))
+      so_far : l.segments.items ++ segments_of (program_headers_from bytes l.i (l.i-end - l.i))
           ≡ segments_of (program_headers bytes);
     }

@@ -1,6 +1,6 @@
 use Rattle.std.proofs.Common.{◌∙◌, ℕ, List, ap, arith, length}
 use Rattle.std.proofs.lemmas.List.{length-replicate}
-use Rattle.bl_session.specs.Boot.{BootFacts}
+use Rattle.bl_session.specs.BootSteps.{BootFacts}
 use Rattle.bl_session.specs.Phases.{SessionFacts}
 use Rattle.bl_examples.proofs.showing.show_by_hand.Goals as goal
 

@@ -1,7 +1,7 @@
 use Rattle.std.proofs.Common.{◌≡◌, ◌∙◌, length}
-use Rattle.bl_session.specs.Boot.{none_left}
+use Rattle.bl_session.specs.BootSteps.{none_left}
 use Rattle.bl_session.specs.Phases.{handover_held}
-use Rattle.bl_session.specs.Boot.{handed_over}
+use Rattle.bl_session.specs.BootSteps.{handed_over}
 use Rattle.bl_desc.specs.Views.{view}
 use Rattle.bl_explain.specs.Told.{sought_in}
 use Rattle.bl_explain.proofs.HeldLemmas.{told_booted}

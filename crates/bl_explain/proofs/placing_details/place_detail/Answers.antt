@@ -1,5 +1,5 @@
 use Rattle.std.proofs.Common.{map}
-use Rattle.bl_load.specs.Value.{value_of}
+use Rattle.bl_load.specs.EntryValue.{value_of}
 use Rattle.bl_explain.proofs.NoPlaceLemmas.{no_place_placed, no_place_read}
 use Rattle.bl_explain.proofs.placing_details.place_detail.Goals as goal
 

@@ -1,5 +1,5 @@
 use Rattle.std.proofs.Common.{IfOk, [], map, subst}
-use Rattle.bl_load.specs.Value.{EntryValue}
+use Rattle.bl_load.specs.EntryValue.{EntryValue}
 use Rattle.bl_desc.specs.Views.{entry_view}
 use Rattle.bl_explain.specs.Details.{IsFramesDetail}
 use Rattle.bl_explain.proofs.DetailLemmas.{value_found}

@@ -1,4 +1,4 @@
-use Rattle.std.proofs.Common.{◌≡◌, ◌+◌, ◌≤◌, arith, ◌∙◌}
+use Rattle.std.proofs.Common.{◌+◌, ◌≤◌, arith, ◌∙◌}
 use Rattle.bl_image.proofs.Ways.{way_as, way_goes_on, way_stops, on_err}
 use Rattle.bl_image.proofs.Spelled.{range-more}
 use Rattle.bl_image.proofs.parts.write_part.Goals as goal

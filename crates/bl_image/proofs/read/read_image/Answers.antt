@@ -2,7 +2,7 @@ use Rattle.std.proofs.Common.{Ok, ◌≡◌, ◌≤◌, ◌^◌, ℕ, Bool, All,
 use Rattle.std.proofs.lemmas.Result.{err_from_is_err_and}
 use Rattle.bl_image.specs.Image.{head, spelling}
 use Rattle.bl_image.specs.ImageParts.{IsKeptByImages}
-use Rattle.bl_image.specs.ImageFaults.{image_fault, parts_fault, none_before, end_fault}
+use Rattle.bl_image.specs.ImageFaults.{image_fault, parts_fault, no_records, end_fault}
 use Rattle.bl_image.specs.RecordsKept.{bytes_at}
 use Rattle.bl_plan.specs.declared.part.Place.{Place}
 use Rattle.bl_plan.specs.declared.protocol.Protocol.{Protocol}
@@ -13,7 +13,7 @@ use Rattle.bl_load.specs.Protocols.{is_wide}
 use Rattle.bl_image.specs.declared.version.Version.{Version}
 use Rattle.bl_image.specs.Layouts.{max_role}
 use Rattle.bl_image.specs.Source.{SourceFacts, Comes}
-use Rattle.bl_image.specs.Spellable.{FitsRegisters}
+use Rattle.bl_image.specs.Spellable.{AreRegistersOf}
 use Rattle.bl_image.specs.Versions.{HasProtocol}
 use Rattle.bl_image.proofs.Inputs.{comes_more, comes_as}
 use Rattle.bl_image.proofs.FieldLemmas.{Passed, passed_more, passed_refuses, cut_refuses}
@@ -26,17 +26,18 @@ use Rattle.bl_image.proofs.ImageLaws.{accepted_by}
 use Rattle.bl_image.proofs.read.read_image.Goals as goal
 
 -- a head came, and leaves the parts to be judged
-fronted : {old new : SourceFacts} (v : Version) (p : Protocol) (r : Registers) (count : ℕ) (wide : Bool)
-    → Comes old new (head v p r count) → HasProtocol v p → FitsRegisters p r → count ≤ 256
+fronted : {old new : SourceFacts} (v : Version) (p : Protocol) (r : Registers) (count : ℕ)
+    (wide : Bool)
+    → Comes old new (head v p r count) → HasProtocol v p → AreRegistersOf p r → count ≤ 256
     → wide ≡ is_wide p
-    → Passed image_fault old new (parts_fault (max_role wide) count none_before)
+    → Passed image_fault old new (parts_fault (max_role wide) count no_records)
 fronted v p r count wide comes has fit few same = record {
   done = _;
   comes = comes;
   on =
       λ bytes.
       head_front v p r count bytes has fit few
-      ∙ ap (λ (b : Bool). parts_fault (max_role b) count none_before bytes) (sym same);
+      ∙ ap (λ (b : Bool). parts_fault (max_role b) count no_records bytes) (sym same);
 }
 
 pub returns-in_err-head-clause-refused : goal.returns-in_err-head-clause-refused
@@ -52,7 +53,7 @@ returns-in_err-places-clause-refused g c =
     let head = c.in_ok-head.head in
     let wide = c.are_wide.ensures ∙ c.in_ok-head.ensures.fit.0 in
     let front : Passed image_fault _ _
-    (parts_fault (max_role c.are_wide.result) head.count none_before) =
+    (parts_fault (max_role c.are_wide.result) head.count no_records) =
     fronted head.version head.protocol head.registers head.count c.are_wide.result
     c.in_ok-head.ensures.ok c.in_ok-head.ensures.has c.in_ok-head.ensures.fit
     c.in_ok-head.ensures.few wide in
@@ -67,7 +68,7 @@ returns-in_err-parts-clause-refused g c =
     let places = c.in_ok-places.places.items in
     let wide = c.are_wide.ensures ∙ c.in_ok-head.ensures.fit.0 in
     let front : Passed image_fault _ _
-    (parts_fault (max_role c.are_wide.result) head.count none_before) =
+    (parts_fault (max_role c.are_wide.result) head.count no_records) =
     fronted head.version head.protocol head.registers head.count c.are_wide.result
     c.in_ok-head.ensures.ok c.in_ok-head.ensures.has c.in_ok-head.ensures.fit
     c.in_ok-head.ensures.few wide in
@@ -89,7 +90,7 @@ returns-in_err-read_end-clause-refused g c =
     let parts = c.in_ok-parts.parts.items in
     let wide = c.are_wide.ensures ∙ c.in_ok-head.ensures.fit.0 in
     let front : Passed image_fault _ _
-    (parts_fault (max_role c.are_wide.result) head.count none_before) =
+    (parts_fault (max_role c.are_wide.result) head.count no_records) =
     fronted head.version head.protocol head.registers head.count c.are_wide.result
     c.in_ok-head.ensures.ok c.in_ok-head.ensures.has c.in_ok-head.ensures.fit
     c.in_ok-head.ensures.few wide in
@@ -170,7 +171,8 @@ returns-in_err-places-clause-known g c =
 
 pub returns-in_err-places-clause-accepts : goal.returns-in_err-places-clause-accepts
 returns-in_err-places-clause-accepts g c bytes e =
-    accepted_by c.from_residual-in_err-places.result bytes (returns-in_err-places-clause-known g c bytes e)
+    accepted_by c.from_residual-in_err-places.result bytes
+    (returns-in_err-places-clause-known g c bytes e)
 
 pub returns-in_err-parts-clause-known : goal.returns-in_err-parts-clause-known
 returns-in_err-parts-clause-known g c =
@@ -179,7 +181,8 @@ returns-in_err-parts-clause-known g c =
 
 pub returns-in_err-parts-clause-accepts : goal.returns-in_err-parts-clause-accepts
 returns-in_err-parts-clause-accepts g c bytes e =
-    accepted_by c.from_residual-in_err-parts.result bytes (returns-in_err-parts-clause-known g c bytes e)
+    accepted_by c.from_residual-in_err-parts.result bytes
+    (returns-in_err-parts-clause-known g c bytes e)
 
 pub returns-in_err-read_end-clause-known : goal.returns-in_err-read_end-clause-known
 returns-in_err-read_end-clause-known g c =
@@ -188,7 +191,8 @@ returns-in_err-read_end-clause-known g c =
 
 pub returns-in_err-read_end-clause-accepts : goal.returns-in_err-read_end-clause-accepts
 returns-in_err-read_end-clause-accepts g c bytes e =
-    accepted_by c.from_residual-in_err-read_end.result bytes (returns-in_err-read_end-clause-known g c bytes e)
+    accepted_by c.from_residual-in_err-read_end.result bytes
+    (returns-in_err-read_end-clause-known g c bytes e)
 
 pub returns-clause-known : goal.returns-clause-known
 returns-clause-known g c =

@@ -6,7 +6,7 @@ use Rattle.bl_image.specs.RecordsKept.{place_record, AreSound, bytes_at}
 use Rattle.std.proofs.lemmas.Result.{err_from_is_err_and}
 use Rattle.bl_load.specs.HandoffFacts.{MayStand}
 use Rattle.bl_image.specs.Layouts.{max_role}
-use Rattle.bl_image.specs.ImageFaults.{parts_fault, none_before, Before}
+use Rattle.bl_image.specs.ImageFaults.{parts_fault, no_records, Before}
 use Rattle.bl_image.proofs.Inputs.{comes_more, comes_as}
 use Rattle.bl_image.proofs.FieldLemmas.{Passed, passed_refuses}
 use Rattle.bl_image.proofs.RecordLemmas.{record_refuses}
@@ -27,7 +27,7 @@ returns-in_err-place-clause-refused g c =
     } in
     let inside : part < count = omega arith in
     let left : count - part ≡ suc (count - (part + 1)) = omega arith in
-    let passed : Passed (parts_fault (max_role c.args.wide) count none_before) _ _
+    let passed : Passed (parts_fault (max_role c.args.wide) count no_records) _ _
     (parts_fault (max_role c.args.wide) (count - part) before) =
     record {
       done = _;
@@ -51,7 +51,7 @@ loop-part-preserved g c =
     let e : c.push.new.self.items ≡ old ++ place ∷ [] = c.in_ok-push.ensures.items in
     let longer : length (old ++ place ∷ []) ≡ length old + 1 = length-append old (place ∷ []) in
     let judged : (bytes : List ℕ)
-    → parts_fault (max_role c.args.wide) count none_before
+    → parts_fault (max_role c.args.wide) count no_records
     (flat_map place_record (old ++ place ∷ []) ++ bytes)
     ≡ parts_fault (max_role c.args.wide) (count - (part + 1))
     (so_far (part + 1) end (old ++ place ∷ [])) bytes =
@@ -70,7 +70,7 @@ loop-part-preserved g c =
       judged =
           subst
           (λ (ps : List Place). (bytes : List ℕ)
-          → parts_fault (max_role c.args.wide) count none_before
+          → parts_fault (max_role c.args.wide) count no_records
           (flat_map place_record ps ++ bytes)
           ≡ parts_fault (max_role c.args.wide) (count - (part + 1))
           (so_far (part + 1) end ps) bytes)

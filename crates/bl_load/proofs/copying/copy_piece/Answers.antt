@@ -1,7 +1,5 @@
-use Rattle.std.proofs.Common.{◌≡◌, ◌+◌, ◌≤◌, ℕ, List, length, slice_range, arith, rules, ap, ◌∙◌}
+use Rattle.std.proofs.Common.{◌≡◌, ◌+◌, ◌≤◌, ℕ, List, length, slice_range, rules}
 use Rattle.std.proofs.lemmas.List.{places}
-use Rattle.bl_mem.specs.Memory.{overwrite}
-use Rattle.bl_mem.proofs.Overwrites.{beside_write}
 use Rattle.bl_load.proofs.copying.copy_piece.Goals as goal
 
 -- the buffer stays as long as it is

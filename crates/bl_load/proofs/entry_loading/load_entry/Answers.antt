@@ -7,7 +7,7 @@ use Rattle.bl_plan.specs.Placed.{place_range}
 use Rattle.bl_load.specs.Handover.{Handover, written}
 use Rattle.bl_load.specs.Parts.{IsHandover}
 use Rattle.bl_load.specs.PlanFacts.{places_of}
-use Rattle.bl_load.specs.Value.{value_of}
+use Rattle.bl_load.specs.EntryValue.{value_of}
 use Rattle.bl_load.proofs.MemoryLemmas.{keeps_all, keeps_on}
 use Rattle.bl_load.proofs.entry_loading.load_entry.Goals as goal
 

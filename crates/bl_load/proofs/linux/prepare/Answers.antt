@@ -5,7 +5,7 @@ use Rattle.bl_load.specs.Linux.{IsLinuxKernel}
 use Rattle.bl_load.specs.PlanFacts.{handover_by}
 use Rattle.bl_load.specs.ReadKept.{IsLinuxFault}
 use Rattle.bl_load.specs.Reading.{linux}
-use Rattle.bl_load.specs.Value.{linux_value}
+use Rattle.bl_load.specs.EntryValue.{linux_value}
 use Rattle.bl_load.proofs.LineLemmas.{sound_short, one_sound}
 use Rattle.bl_load.proofs.PrepareLemmas.{first_text, prepared, refused_linux, refused_places}
 use Rattle.bl_load.proofs.linux.prepare.Goals as goal

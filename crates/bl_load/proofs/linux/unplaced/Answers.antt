@@ -4,7 +4,7 @@ use Rattle.std.proofs.lemmas.Result.{IfOk-weaker, IfErr-weaker, err_from_is_err_
 use Rattle.bl_load.specs.Linux.{IsLinuxKernel}
 use Rattle.bl_load.specs.ReadKept.{IsLinuxFault}
 use Rattle.bl_load.specs.Reading.{linux}
-use Rattle.bl_load.specs.Value.{linux_value}
+use Rattle.bl_load.specs.EntryValue.{linux_value}
 use Rattle.bl_load.proofs.LineLemmas.{sound_short, one_sound}
 use Rattle.bl_load.proofs.PrepareLemmas.{first_text}
 use Rattle.bl_load.proofs.UnplacedLemmas.{reading_linux, reading_no_memory, unplaced_read}

@@ -6,7 +6,7 @@ use Rattle.bl_load.specs.Kernel.{IsKernel}
 use Rattle.bl_load.specs.Kept.{lines_by}
 use Rattle.bl_load.specs.PlanFacts.{handover_by}
 use Rattle.bl_load.specs.Reading.{multiboot2}
-use Rattle.bl_load.specs.Value.{multiboot2_value, line_fault, lines_fault}
+use Rattle.bl_load.specs.EntryValue.{multiboot2_value, line_fault, lines_fault}
 use Rattle.bl_load.proofs.LineLemmas.{sound_short, first_sound, all_sound}
 use Rattle.bl_load.proofs.PrepareLemmas.{first_text, prepared, refused_multiboot2, refused_places}
 use Rattle.bl_load.proofs.multiboot2.prepare.Goals as goal

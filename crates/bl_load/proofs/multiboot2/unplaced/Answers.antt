@@ -5,7 +5,7 @@ use Rattle.bl_load.specs.KernelKept.{kernel_by, AreLoadable, IsKernelFault}
 use Rattle.bl_load.specs.Kernel.{IsKernel}
 use Rattle.bl_load.specs.Kept.{lines_by}
 use Rattle.bl_load.specs.Reading.{multiboot2}
-use Rattle.bl_load.specs.Value.{multiboot2_value, line_fault, lines_fault}
+use Rattle.bl_load.specs.EntryValue.{multiboot2_value, line_fault, lines_fault}
 use Rattle.bl_load.proofs.LineLemmas.{sound_short, first_sound, all_sound}
 use Rattle.bl_load.proofs.PrepareLemmas.{first_text}
 use Rattle.bl_load.proofs.UnplacedLemmas.{reading_multiboot2, reading_no_memory, unplaced_read}

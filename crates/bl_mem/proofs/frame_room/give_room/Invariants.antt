@@ -1,5 +1,5 @@
 use Rattle.std.proofs.Common.{◌-◌, ◌≤◌}
-use Rattle.bl_mem.specs.Kept.{AreOpened}
+use Rattle.bl_mem.specs.Kept.{AreGivenRoom}
 use Rattle.bl_mem.proofs.frame_room.give_room.Given as goal
 
 -- those so far have room
@@ -8,7 +8,7 @@ invariant-loop-at g l =
     record {
       from : l.first ≤ l.at;
       within : l.at ≤ l.end;
-      opened : AreOpened l.fn.table.items l.table.items l.first l.at l.fill l.opened;
+      opened : AreGivenRoom l.fn.table.items l.table.items l.first l.at l.fill l.opened;
     }
 
 abbrev pub decreases-loop-at : goal.decreases-loop-at

@@ -1,6 +1,6 @@
 use Rattle.std.proofs.Common.{map, arith}
 use Rattle.std.proofs.lemmas.List.{length-append, take_all}
-use Rattle.bl_load.specs.Value.{IsWithinLimits}
+use Rattle.bl_load.specs.EntryValue.{IsWithinLimits}
 use Rattle.bl_menu.proofs.MenuLemmas.{entries_more}
 use Rattle.bl_menu.proofs.ValueLemmas.{all_more}
 use Rattle.bl_menu.proofs.menu.entries_of.Goals as goal

@@ -1,5 +1,5 @@
 use Rattle.std.proofs.Common.{◌≡◌, All, length, map, take}
-use Rattle.bl_load.specs.Value.{IsWithinLimits}
+use Rattle.bl_load.specs.EntryValue.{IsWithinLimits}
 use Rattle.bl_session.specs.Menu.{facts_of}
 use Rattle.bl_desc.specs.Views.{entry_view}
 use Rattle.bl_menu.specs.Attempted.{entry_facts}

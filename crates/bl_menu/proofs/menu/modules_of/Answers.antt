@@ -1,6 +1,6 @@
 use Rattle.std.proofs.Common.{◌∙◌, ap, map}
 use Rattle.std.proofs.lemmas.List.{take_all}
-use Rattle.bl_desc.specs.EntryNames.{index_of}
+use Rattle.bl_desc.specs.EntryNames.{file_index}
 use Rattle.bl_menu.proofs.MenuLemmas.{modules_more}
 use Rattle.bl_menu.proofs.menu.modules_of.Goals as goal
 
@@ -9,7 +9,7 @@ loop-row-preserved g c =
     let names = map (λ n. n.now) c.args.names.now in
     modules_more names c.args.rows.now c.loop-row.row-index c.row-item.result
     c.loop-row.modules.items _ _ c.row-item.is c.loop-row-test.true c.in_ok-push.ensures.items
-    (c.index_of.ensures.index ∙ ap (index_of names) c.as_str.ensures)
+    (c.file_index.ensures.index ∙ ap (file_index names) c.as_str.ensures)
     (c.in_ok-copy.ensures.ok ∙ c.as_bytes.ensures.value ∙ c.as_str-in-loop-row.ensures)
     c.loop-row.invariant.0 c.loop-row.invariant.1 c.loop-row.invariant.2
 

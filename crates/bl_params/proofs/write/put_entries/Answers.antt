@@ -1,5 +1,5 @@
 use Rattle.std.proofs.Common.{◌∙◌, ℕ, List, arith, refl, sym, ap, slice_index}
-use Rattle.bl_params.specs.Fields.{byte_over}
+use Rattle.bl_params.specs.FieldBytes.{byte_over}
 use Rattle.bl_params.proofs.OverLemmas.{over_same, over_more, over_none}
 use Rattle.bl_params.proofs.EntryLemmas.{entries_more, entries_upto}
 use Rattle.bl_params.proofs.write.put_entries.Goals as goal

@@ -1,6 +1,6 @@
 use Rattle.std.proofs.Common.{◌≡◌, ◌+◌, ◌*◌, ℕ, take, slice_index}
 use Rattle.std.specs.List.{flat_map}
-use Rattle.bl_params.specs.Fields.{byte_over}
+use Rattle.bl_params.specs.FieldBytes.{byte_over}
 use Rattle.bl_params.specs.BootParams.{entry_bytes}
 use Rattle.bl_params.proofs.write.put_entries.Given as goal
 

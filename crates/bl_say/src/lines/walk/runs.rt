@@ -2,7 +2,7 @@
 ghost use Rattle.std.specs.Prelude.{◌≡◌, ◌≤◌, ◌++◌, OnOk, All};
 ghost use Rattle.std.specs.List.{flat_map};
 ghost use Rattle.bl_map.specs.NormalMap.{region_end};
-ghost use Rattle.bl_map.specs.Limits.{region_limit};
+ghost use Rattle.bl_map.specs.Limits.{max_region_end};
 ghost use Rattle.bl_say.specs.Says.{hex16};
 ghost use Rattle.bl_say.specs.WalkLines as says;
 ghost use Rattle.bl_say.specs.WalkLines.{seen_run_line};
@@ -38,7 +38,7 @@ fn say_kind<A: Allocator + Copy>(out: &mut Vec<u8, A>, kind: u32) -> Result<(), 
 }
 
 fn say_run<A: Allocator + Copy>(out: &mut Vec<u8, A>, run: &Region) -> Result<(), AllocError>
-    requires { region_end run.now ≤ region_limit }
+    requires { region_end run.now ≤ max_region_end }
     ensures { OnOk result (out.new.items ≡ out.old.items ++ says.seen_run_line run.now) }
 {
     say_start(out, run.base)?;
@@ -50,7 +50,7 @@ pub(crate) fn say_runs<A: Allocator + Copy>(
     out: &mut Vec<u8, A>,
     runs: &[Region],
 ) -> Result<(), AllocError>
-    requires { All (λ run. region_end run ≤ region_limit) runs.now }
+    requires { All (λ run. region_end run ≤ max_region_end) runs.now }
     ensures { OnOk result (out.new.items ≡ out.old.items ++ flat_map seen_run_line runs.now) }
 {
     for run in runs {

@@ -1,7 +1,7 @@
 use Rattle.std.proofs.Common.{◌∙◌, drop, refl, subst, sym, List, arith}
 use Rattle.std.proofs.lemmas.Result.{err_from_is_err_and}
-use Rattle.bl_session.specs.History.{Item}
-use Rattle.bl_session.specs.Asked.{piece_orders}
+use Rattle.bl_session.specs.History.{HistoryItem}
+use Rattle.bl_session.specs.Asked.{piece_submissions}
 use Rattle.bl_session.specs.TurnsKept.{IsAsked}
 use Rattle.bl_session.proofs.AskLemmas.{asked_none, asked_piece, asked_pieces}
 use Rattle.bl_session.proofs.asking.submit_file.Goals as goal
@@ -9,7 +9,7 @@ use Rattle.bl_session.proofs.asking.submit_file.Goals as goal
 pub loop-piece-init : goal.loop-piece-init
 loop-piece-init g c = record {
   asked =
-      asked_none (piece_orders c.args.attempt c.args.place c.args.file c.args.count)
+      asked_none (piece_submissions c.args.attempt c.args.place c.args.file c.args.count)
       (g.S.Store.given c.args.store.now);
   files = refl;
 }
@@ -26,13 +26,15 @@ loop-piece-preserved g c = record {
 
 pub returns-in_err-submit-clause-err : goal.returns-in_err-submit-clause-err
 returns-in_err-submit-clause-err g c =
-    let orders = piece_orders c.args.attempt c.args.place c.args.file c.args.count in
+    let attempt_submissions =
+    piece_submissions c.args.attempt c.args.place c.args.file c.args.count in
     let p = err_from_is_err_and c.from_residual.result c.from_residual.ensures.1 in
     rw p.1 (
-      drop c.loop-piece.piece orders,
+      drop c.loop-piece.piece attempt_submissions,
       subst
-          (λ (given : List Item).
-          IsAsked orders (drop c.loop-piece.piece orders) (g.S.Store.given c.args.store.now)
+          (λ (given : List HistoryItem).
+          IsAsked attempt_submissions (drop c.loop-piece.piece attempt_submissions)
+          (g.S.Store.given c.args.store.now)
           given) (sym c.in_err-submit.ensures.err.0) c.loop-piece.invariant.asked,
     )
 

@@ -4,7 +4,7 @@ use Rattle.bl_load.specs.Handover.{Handover}
 use Rattle.bl_load.specs.declared.refusal.PrepFault.{PrepFault}
 use Rattle.bl_load.specs.declared.refusal.PrepFault.TheVariants.{Refused, NoMemory}
 use Rattle.bl_load.specs.After.{IsAfter}
-use Rattle.bl_load.specs.Value.{value_of}
+use Rattle.bl_load.specs.EntryValue.{value_of}
 use Rattle.bl_stage.specs.Staged.{staged_texts}
 use Rattle.bl_session.specs.AttemptResult.{handed, refused, HasResult}
 use Rattle.bl_session.specs.Finished.{IsNotHandedOver}
@@ -40,24 +40,24 @@ returns-then-not-complete-clause-whole g c = tt
 pub returns-then-not-complete-clause-kept : goal.returns-then-not-complete-clause-kept
 returns-then-not-complete-clause-kept g c = keeps_same
 
-pub finish-requires-clause-complete : goal.finish-requires-clause-complete
-finish-requires-clause-complete g c = c.if-not-complete.ensures.exact.0 refl
+pub finish_attempt-requires-clause-complete : goal.finish_attempt-requires-clause-complete
+finish_attempt-requires-clause-complete g c = c.if-not-complete.ensures.exact.0 refl
 
-pub finish-requires-clause-limits : goal.finish-requires-clause-limits
-finish-requires-clause-limits g c = c.requires.limits
+pub finish_attempt-requires-clause-limits : goal.finish_attempt-requires-clause-limits
+finish_attempt-requires-clause-limits g c = c.requires.limits
 
-pub finish-requires-clause-pool : goal.finish-requires-clause-pool
-finish-requires-clause-pool g c = c.requires.pool
+pub finish_attempt-requires-clause-pool : goal.finish_attempt-requires-clause-pool
+finish_attempt-requires-clause-pool g c = c.requires.pool
 
-pub finish-requires-clause-size : goal.finish-requires-clause-size
-finish-requires-clause-size g c = c.requires.size
+pub finish_attempt-requires-clause-size : goal.finish_attempt-requires-clause-size
+finish_attempt-requires-clause-size g c = c.requires.size
 
-pub finish-requires-clause-room : goal.finish-requires-clause-room
-finish-requires-clause-room g c = c.requires.room
+pub finish_attempt-requires-clause-room : goal.finish_attempt-requires-clause-room
+finish_attempt-requires-clause-room g c = c.requires.room
 
 pub returns-in-Ok-clause-keeps : goal.returns-in-Ok-clause-keeps
 returns-in-Ok-clause-keeps g c =
-    let kept = c.finish.ensures.kept in
+    let kept = c.finish_attempt.ensures.kept in
     subst
     (λ (size : ℕ).
     All (λ place. place.address + place.length ≤ size) c.in-Ok.handoff.places)
@@ -69,7 +69,8 @@ returns-in-Ok-clause-memory g c =
     let told = c.in-Ok.ensures.ok in
     subst
     (λ (h : Handover).
-    IsAfter c.args.machine.now.pool h.parts (bytes c.args.memory.now) (bytes c.finish.new.memory))
+    IsAfter c.args.machine.now.pool h.parts (bytes c.args.memory.now)
+    (bytes c.finish_attempt.new.memory))
     (sym told.held) told.after
 
 pub returns-in-Ok-clause-err : goal.returns-in-Ok-clause-err
@@ -79,7 +80,7 @@ pub returns-in-Ok-clause-whole : goal.returns-in-Ok-clause-whole
 returns-in-Ok-clause-whole g c = tt
 
 pub returns-in-Ok-clause-kept : goal.returns-in-Ok-clause-kept
-returns-in-Ok-clause-kept g c = c.finish.ensures.kept
+returns-in-Ok-clause-kept g c = c.finish_attempt.ensures.kept
 
 pub returns-in-Err-Refused-clause-keeps : goal.returns-in-Err-Refused-clause-keeps
 returns-in-Err-Refused-clause-keeps g c = tt
@@ -88,7 +89,7 @@ pub returns-in-Err-Refused-clause-memory : goal.returns-in-Err-Refused-clause-me
 returns-in-Err-Refused-clause-memory g c =
     let bytes = g.M.PhysMem.bytes in
     let old = bytes c.args.memory.now in
-    let new = bytes c.finish.new.memory in
+    let new = bytes c.finish_attempt.new.memory in
     let value = value_of (staged_texts old c.args.stage.now) c.args.entry.now in
     let same : c.in-Err-Refused.field-0 ≡ Refused c.in-Err-Refused.refusal = cc in
     let told =
@@ -103,7 +104,7 @@ pub returns-in-Err-Refused-clause-whole : goal.returns-in-Err-Refused-clause-who
 returns-in-Err-Refused-clause-whole g c = tt
 
 pub returns-in-Err-Refused-clause-kept : goal.returns-in-Err-Refused-clause-kept
-returns-in-Err-Refused-clause-kept g c = c.finish.ensures.kept
+returns-in-Err-Refused-clause-kept g c = c.finish_attempt.ensures.kept
 
 pub returns-in-Err-NoMemory-clause-attempt : goal.returns-in-Err-NoMemory-clause-attempt
 returns-in-Err-NoMemory-clause-attempt g c = tt
@@ -118,14 +119,14 @@ pub returns-in-Err-NoMemory-clause-err : goal.returns-in-Err-NoMemory-clause-err
 returns-in-Err-NoMemory-clause-err g c =
     let bytes = g.M.PhysMem.bytes in
     let old = bytes c.args.memory.now in
-    let new = bytes c.finish.new.memory in
+    let new = bytes c.finish_attempt.new.memory in
     let value = value_of (staged_texts old c.args.stage.now) c.args.entry.now in
     let same : c.in-Err-NoMemory.field-0 ≡ NoMemory = cc in
     subst (λ (fault : PrepFault). IsNotHandedOver c.args.machine.now value fault old new) same
     c.in-Err-NoMemory.ensures.err
 
 pub returns-in-Err-NoMemory-clause-kept : goal.returns-in-Err-NoMemory-clause-kept
-returns-in-Err-NoMemory-clause-kept g c = c.finish.ensures.kept
+returns-in-Err-NoMemory-clause-kept g c = c.finish_attempt.ensures.kept
 
 pub returns-then-not-complete-clause-attempt : goal.returns-then-not-complete-clause-attempt
 returns-then-not-complete-clause-attempt g c =
@@ -138,7 +139,7 @@ returns-then-not-complete-clause-attempt g c =
 pub returns-in-Ok-clause-attempt : goal.returns-in-Ok-clause-attempt
 returns-in-Ok-clause-attempt g c =
     let bytes = g.M.PhysMem.bytes c.args.memory.now in
-    let new = g.M.PhysMem.bytes c.finish.new.memory in
+    let new = g.M.PhysMem.bytes c.finish_attempt.new.memory in
     let stage = c.args.stage.now in
     let facts = c.args.machine.now in
     let came = c.if-not-complete.ensures.exact.0 refl in
@@ -160,7 +161,7 @@ returns-in-Err-Refused-clause-attempt g c =
     let stage = c.args.stage.now in
     let came = c.if-not-complete.ensures.exact.0 refl in
     let kept = c.are_staged.ensures in
-    let new = g.M.PhysMem.bytes c.finish.new.memory in
+    let new = g.M.PhysMem.bytes c.finish_attempt.new.memory in
     let value = value_of (staged_texts bytes stage) c.args.entry.now in
     let same : c.in-Err-Refused.field-0 ≡ Refused c.in-Err-Refused.refusal = cc in
     let told =
@@ -176,5 +177,5 @@ returns-in-Err-NoMemory-clause-whole g c =
     came_whole (g.M.PhysMem.bytes c.args.memory.now) c.args.stage.now c.are_staged.ensures
     (c.if-not-complete.ensures.exact.0 refl)
 
-pub finish-requires-clause-files : goal.finish-requires-clause-files
-finish-requires-clause-files g c = grind (arith, common_steps)
+pub finish_attempt-requires-clause-files : goal.finish_attempt-requires-clause-files
+finish_attempt-requires-clause-files g c = grind (arith, common_steps)

@@ -2,7 +2,7 @@ use Rattle.std.proofs.Common.{◌≡◌, ◌<◌, ◌≤◌, ◌∙◌, [], leng
 use Rattle.std.proofs.Common.{subst}
 use Rattle.bl_session.specs.AttemptKept.{IsMemoryOf, KeepsAttempt}
 use Rattle.bl_session.specs.Menu.{EntryFacts, facts_of}
-use Rattle.bl_session.specs.Boot.{unstarted, handed_over}
+use Rattle.bl_session.specs.BootSteps.{unstarted, handed_over}
 use Rattle.bl_session.specs.Phases.{handover_held}
 use Rattle.bl_session.specs.PhasesKept.{facts_of_boot}
 use Rattle.bl_session.specs.declared.attempt.Attempt.{Attempt}

@@ -1,6 +1,6 @@
 use Rattle.std.proofs.Common.{◌≡◌, List, Some, drop, ap, refl, rules, subst}
 use Rattle.bl_session.specs.Menu.{facts_of}
-use Rattle.bl_session.specs.Boot.{unstarted, handed_over, Begins, Continues}
+use Rattle.bl_session.specs.BootSteps.{unstarted, handed_over, Begins, Continues}
 use Rattle.bl_session.specs.AttemptKept.{attempt_with}
 use Rattle.bl_stage.specs.PieceStates.{piece_states}
 use Rattle.bl_session.specs.PhasesKept.{facts_of_boot, state_of, phase_by}

@@ -2,7 +2,7 @@ use Rattle.std.proofs.Common.{◌∙◌, drop, arith, rules, subst, sym}
 use Rattle.bl_map.proofs.PoolLemmas.{pool_in_memory}
 use Rattle.bl_stage.specs.PieceStates.{piece_states}
 use Rattle.bl_stage.specs.Staged.{Staging}
-use Rattle.bl_session.specs.Boot.{piece, is_wanted}
+use Rattle.bl_session.specs.BootSteps.{piece, is_wanted}
 use Rattle.bl_session.specs.Phases.{boot_facts}
 use Rattle.bl_session.specs.PhasesKept.{state_of, phase_by, IsPhaseKept}
 use Rattle.bl_session.specs.declared.phase.Phase.TheVariants.{Waits}

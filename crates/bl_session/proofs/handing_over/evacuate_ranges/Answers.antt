@@ -1,6 +1,6 @@
 use Rattle.std.proofs.Common.{◌<◌, refl, ap, inl, inr, arith, rules}
 use Rattle.std.proofs.lemmas.Bool.{cases_lt}
-use Rattle.bl_map.specs.Room.{open_frames, frames_for}
+use Rattle.bl_map.specs.PoolFrames.{open_frames, frames_for}
 use Rattle.bl_stage.specs.Staged.{Staging}
 use Rattle.bl_session.proofs.StageLemmas.{texts_needed, files_below, files_beside}
 use Rattle.bl_session.proofs.handing_over.evacuate_ranges.Goals as goal

@@ -1,5 +1,5 @@
 use Rattle.std.proofs.Common.{List, [], None, map, refl, sym, subst}
-use Rattle.bl_session.specs.History.{Item}
+use Rattle.bl_session.specs.History.{HistoryItem}
 use Rattle.bl_session.specs.Outcome.{size_of}
 use Rattle.bl_session.specs.Phases.{PhaseFacts, boot_facts, state_at}
 use Rattle.bl_session.specs.Run.{IsRun, boot_end}
@@ -32,7 +32,8 @@ returns-in-Ok-clause-faithful g c = λ none faithful ended.
     subst (λ (p : PhaseFacts). IsRun facts files old new (state_at bytes p))
     (sym c.end_of.ensures.end) c.in-Ok.ensures.run in
     let from_none =
-    subst (λ (first : List Item). IsRun facts files first new (state_at bytes end)) none run in
+    subst (λ (first : List HistoryItem). IsRun facts files first new (state_at bytes end)) none
+    run in
     run_ended facts files (λ attempt. None) refl [] new (state_at bytes end) from_none
     (faithful_is_genuine facts files refl new faithful) ended
 

@@ -3,7 +3,7 @@ use Rattle.std.specs.List.{range_with_len}
 use Rattle.bl_mem.specs.Memory.{HasRoom}
 use Rattle.std.proofs.lemmas.Result.{err_from_is_err_and}
 use Rattle.bl_stage.specs.Ranges.{IsSameOutside}
-use Rattle.bl_session.specs.Boot.{BootFacts, out_of_memory}
+use Rattle.bl_session.specs.BootSteps.{BootFacts, out_of_memory}
 use Rattle.bl_session.specs.Memory.{IsMemoryAt}
 use Rattle.bl_session.specs.Outcome.{missing, size_of}
 use Rattle.bl_session.specs.Phases.{SessionFacts, boot_facts, state_at}

@@ -1,5 +1,5 @@
 use Rattle.std.proofs.Common.{◌<◌, ◌∙◌, subst}
-use Rattle.bl_session.specs.Boot.{BootFacts}
+use Rattle.bl_session.specs.BootSteps.{BootFacts}
 use Rattle.bl_session.specs.Memory.{IsMemoryAt}
 use Rattle.bl_session.specs.Phases.{state_at}
 use Rattle.bl_session.specs.TurnsKept.{attempts_left}
@@ -74,7 +74,8 @@ returns-in_default g c =
           heard_ended facts (files c.args.store.now) (given c.args.store.now)
           (given c.answer.new.store) (at first) old new c.in_ok-answer.field-0 told.progress
           c.in_default.not-Waiting more;
-      fewer = subst (λ n. attempts_left new < n) so_far.as_many (told.fewer c.in_default.not-Waiting);
+      fewer = subst (λ n. attempts_left new < n) so_far.as_many
+          (told.fewer c.in_default.not-Waiting);
       started = told.started;
       memory =
           memory_on facts.machine.pool new (bytes c.args.memory.now) (bytes c.answers.memory)

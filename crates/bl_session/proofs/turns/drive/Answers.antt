@@ -1,6 +1,6 @@
 use Rattle.std.proofs.Common.{◌∙◌, subst, sym}
 use Rattle.std.proofs.lemmas.Result.{err_from_is_err_and}
-use Rattle.bl_session.specs.Boot.{BootFacts}
+use Rattle.bl_session.specs.BootSteps.{BootFacts}
 use Rattle.bl_session.specs.Memory.{IsMemoryAt}
 use Rattle.bl_session.specs.Phases.{state_at}
 use Rattle.bl_session.specs.Run.{run_state_of}

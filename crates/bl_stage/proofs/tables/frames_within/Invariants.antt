@@ -1,5 +1,5 @@
 use Rattle.std.proofs.Common.{◌≡◌, ◌≤◌, take}
-use Rattle.bl_map.specs.Room.{frames_for}
+use Rattle.bl_map.specs.PoolFrames.{frames_for}
 use Rattle.bl_stage.proofs.tables.frames_within.Given as goal
 
 abbrev pub invariant-loop-size : goal.invariant-loop-size

@@ -1,7 +1,7 @@
 use Rattle.std.proofs.Common.{◌+◌, length, arith, ap, ◌∙◌}
 use Rattle.std.proofs.lemmas.List.{length_push}
 use Rattle.std.proofs.lemmas.List.Sums.{sum_by_more, sum_by_more_le}
-use Rattle.bl_map.specs.Room.{frames_of}
+use Rattle.bl_map.specs.PoolFrames.{frames_of}
 use Rattle.bl_stage.specs.Staged.{first_of}
 use Rattle.bl_stage.proofs.TableLemmas.{each_more}
 use Rattle.bl_stage.proofs.tables.starts_of.Goals as goal

@@ -1,6 +1,6 @@
 use Rattle.std.proofs.Common.{◌≡◌, ℕ, ◌<◌, take, length, get_or}
 use Rattle.bl_stage.specs.Staged.{first_of}
-use Rattle.bl_map.specs.Room.{frames_for}
+use Rattle.bl_map.specs.PoolFrames.{frames_for}
 use Rattle.bl_stage.proofs.tables.starts_of.Given as goal
 
 abbrev pub invariant-loop-size : goal.invariant-loop-size

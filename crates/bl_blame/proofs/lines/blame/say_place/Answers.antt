@@ -1,6 +1,6 @@
 use Rattle.std.proofs.Common.{rules, arith, ◌≡◌}
 use Rattle.std.proofs.lemmas.Grind.{common_steps}
-use Rattle.bl_blame.specs.BlameLines.{not_toml_words}
+use Rattle.bl_blame.specs.BlameLine.{not_toml_words}
 use Rattle.bl_blame.proofs.lines.blame.say_place.Goals as goal
 
 pub returns : goal.returns

@@ -1,7 +1,7 @@
 use Rattle.std.proofs.Common.{◌≡◌, drop}
 use Rattle.toml.specs.View.{items_view}
 use Rattle.bl_desc.specs.BadKeysKept.{all_items}
-use Rattle.bl_desc.specs.DescriptionKept.{entry_item_passes}
+use Rattle.bl_desc.specs.EntriesKept.{entry_item_passes}
 use Rattle.bl_desc.proofs.bad_keys.entries.bad_among_entries.Given as goal
 
 -- the entries so far pass

@@ -1,5 +1,5 @@
 use Rattle.bl_load.specs.CheckedEntryKept.{value_of_files}
-use Rattle.bl_load.specs.Value.{kernel_file}
+use Rattle.bl_load.specs.EntryValue.{kernel_file}
 use Rattle.bl_bzimage.proofs.CheckLaws.{fixed_preferred}
 use Rattle.bl_load.proofs.LinuxKernelLemmas.{setup_is}
 use Rattle.bl_load.proofs.linux.SetupReadKernel.rows.Goals as goal

@@ -3,7 +3,7 @@ use Rattle.bl_mbi.specs.InformationFacts.{info_size}
 use Rattle.bl_plan.specs.declared.part.Role.{Role}
 use Rattle.bl_load.specs.Reading.{multiboot2}
 use Rattle.bl_load.specs.KernelKept.{kernel_by}
-use Rattle.bl_map.specs.Room.{round_up_to_frames}
+use Rattle.bl_map.specs.PoolFrames.{round_up_to_frames}
 use Rattle.bl_load.specs.Rows.{information_of}
 use Rattle.bl_load.specs.PlacingKept.{HasLength}
 use Rattle.bl_load.specs.CheckedEntryKept.{value_of_files}

@@ -1,5 +1,5 @@
 use Rattle.std.proofs.Common.{◌≡◌, ◌<◌, ◌^◌, ℕ, [], length, ap, ◌∙◌, arith}
-use Rattle.bl_map.specs.Room.{round_up_to_frames}
+use Rattle.bl_map.specs.PoolFrames.{round_up_to_frames}
 use Rattle.bl_mbi.specs.InformationFacts.{info_size}
 use Rattle.bl_plan.specs.declared.part.Choice.TheVariants.{Lowest}
 use Rattle.bl_plan.specs.declared.part.Role.TheVariants.{Information}

@@ -1,5 +1,5 @@
 use Rattle.std.proofs.Common.{◌+◌, length, slice_range, ap, ◌∙◌, arith, rules, subst, ◌≡◌}
-use Rattle.bl_mem.specs.Frames.{frame_byte, AreBytesAt}
+use Rattle.bl_mem.specs.SparseFrames.{frame_byte, AreBytesAt}
 use Rattle.bl_mem.specs.Sparse.{bytes_of, SparseFacts}
 use Rattle.bl_mem.proofs.ValueLemmas.{values_range}
 use Rattle.bl_mem.proofs.sparse.Sparse.read_frame.Goals as goal

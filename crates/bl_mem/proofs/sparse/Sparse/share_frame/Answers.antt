@@ -1,5 +1,5 @@
 use Rattle.std.proofs.Common.{◌/◌, ap, subst}
-use Rattle.bl_mem.specs.Frames.{IsShared}
+use Rattle.bl_mem.specs.SparseFrames.{IsShared}
 use Rattle.bl_mem.specs.Sparse.{SparseFacts}
 use Rattle.bl_mem.proofs.SparseLemmas.{shared_bytes}
 use Rattle.bl_mem.proofs.sparse.Sparse.share_frame.Goals as goal

@@ -1,5 +1,5 @@
 use Rattle.std.proofs.Common.{ap, subst}
-use Rattle.bl_mem.specs.Frames.{frame_byte, IsWritten}
+use Rattle.bl_mem.specs.SparseFrames.{frame_byte, IsWritten}
 use Rattle.bl_mem.specs.Sparse.{SparseFacts}
 use Rattle.bl_mem.proofs.ValueLemmas.{values_overwritten}
 use Rattle.bl_mem.proofs.sparse.Sparse.write_frame.Goals as goal

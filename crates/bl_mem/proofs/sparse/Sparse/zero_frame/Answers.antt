@@ -1,6 +1,6 @@
 use Rattle.std.proofs.Common.{ap, replicate, subst}
 use Rattle.std.proofs.lemmas.List.{length-replicate}
-use Rattle.bl_mem.specs.Frames.{frame_byte, IsWritten}
+use Rattle.bl_mem.specs.SparseFrames.{frame_byte, IsWritten}
 use Rattle.bl_mem.specs.Sparse.{SparseFacts}
 use Rattle.bl_mem.proofs.ValueLemmas.{values_overwritten}
 use Rattle.bl_mem.proofs.sparse.Sparse.zero_frame.Goals as goal

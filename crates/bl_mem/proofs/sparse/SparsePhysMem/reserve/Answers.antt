@@ -3,7 +3,7 @@ use Rattle.std.specs.declared.ops.Range.{Range}
 use Rattle.std.proofs.lemmas.List.{take_all}
 use Rattle.std.proofs.lemmas.List.Elements.{All-more, All-same, All-weaker}
 use Rattle.bl_mem.specs.Memory.{HasRoom}
-use Rattle.bl_mem.specs.Frames.{IsHeld}
+use Rattle.bl_mem.specs.SparseFrames.{IsHeld}
 use Rattle.bl_mem.proofs.sparse.SparsePhysMem.reserve.Goals as goal
 
 pub loop-range-init : goal.loop-range-init

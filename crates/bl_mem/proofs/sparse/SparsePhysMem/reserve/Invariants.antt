@@ -1,7 +1,7 @@
 use Rattle.std.proofs.Common.{◌≡◌, take}
 use Rattle.bl_mem.specs.Memory.{KeepsRoom, AllHaveRoom}
 use Rattle.bl_mem.specs.Sparse.{bytes_of}
-use Rattle.bl_mem.specs.Frames.{IsHeld}
+use Rattle.bl_mem.specs.SparseFrames.{IsHeld}
 use Rattle.bl_mem.proofs.sparse.SparsePhysMem.reserve.Given as goal
 
 -- the ranges so far have room

@@ -1,7 +1,7 @@
 use Rattle.std.proofs.Common.{◌≡◌, ◌-◌, ◌≤◌, length, take}
 use Rattle.bl_mem.specs.Memory.{overwrite, KeepsRoom}
 use Rattle.bl_mem.specs.Sparse.{bytes_of}
-use Rattle.bl_mem.specs.Frames.{IsHeld}
+use Rattle.bl_mem.specs.SparseFrames.{IsHeld}
 use Rattle.bl_mem.proofs.sparse.SparsePhysMem.write.Given as goal
 
 -- what was written so far

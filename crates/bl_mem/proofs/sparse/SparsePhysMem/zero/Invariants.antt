@@ -1,7 +1,7 @@
 use Rattle.std.proofs.Common.{◌≡◌, ◌-◌, ◌≤◌, replicate}
 use Rattle.bl_mem.specs.Memory.{overwrite, KeepsRoom}
 use Rattle.bl_mem.specs.Sparse.{bytes_of}
-use Rattle.bl_mem.specs.Frames.{IsHeld}
+use Rattle.bl_mem.specs.SparseFrames.{IsHeld}
 use Rattle.bl_mem.proofs.sparse.SparsePhysMem.zero.Given as goal
 
 -- the zeros so far

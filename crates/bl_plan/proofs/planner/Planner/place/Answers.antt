@@ -1,12 +1,12 @@
 use Rattle.std.proofs.Common.{◌+◌, ℕ, List, ap, subst, ◌∙◌}
 use Rattle.std.specs.declared.ops.Range.{Range}
-use Rattle.bl_plan.specs.Permitted.{AllOpen}
+use Rattle.bl_plan.specs.Permitted.{AreUntaken}
 use Rattle.bl_plan.specs.PlannerFacts.{PlannerFacts}
 use Rattle.bl_plan.proofs.SearchLemmas.{at_side_permitted}
 use Rattle.bl_plan.proofs.planner.Planner.place.Goals as goal
 
 pub take-requires-clause-free : goal.take-requires-clause-free
 take-requires-clause-free g c =
-    subst (λ (xs : List (Range ℕ)). AllOpen xs c.in-Some.at (c.in-Some.at + c.args.length))
+    subst (λ (xs : List (Range ℕ)). AreUntaken xs c.in-Some.at (c.in-Some.at + c.args.length))
     (c.as_slice-taken.ensures.value ∙ ap (λ (p : PlannerFacts). p.taken) c.self.view_is)
     (at_side_permitted c.args.side _ _ c.in-Some.ensures).apart

@@ -2,13 +2,13 @@ use Rattle.std.proofs.Common.{arith}
 use Rattle.std.proofs.lemmas.Grind.{common_steps}
 use Rattle.std.proofs.Common.{◌+◌, ℕ, List, ap, subst, ◌∙◌}
 use Rattle.std.specs.declared.ops.Range.{Range}
-use Rattle.bl_plan.specs.Permitted.{AllOpen}
+use Rattle.bl_plan.specs.Permitted.{AreUntaken}
 use Rattle.bl_plan.specs.PlannerFacts.{PlannerFacts}
 use Rattle.bl_plan.proofs.planner.Planner.prefer.Goals as goal
 
 pub take-requires-clause-free : goal.take-requires-clause-free
 take-requires-clause-free g c =
-    subst (λ (xs : List (Range ℕ)). AllOpen xs c.args.at (c.args.at + c.args.length))
+    subst (λ (xs : List (Range ℕ)). AreUntaken xs c.args.at (c.args.at + c.args.length))
     (c.as_slice-taken.ensures.value ∙ ap (λ (p : PlannerFacts). p.taken) c.self.view_is)
     c.if-not-is_permitted.ensures.apart
 

@@ -1,14 +1,14 @@
 use Rattle.std.proofs.Common.{ℕ, List, ap, subst, ◌∙◌}
 use Rattle.std.specs.declared.ops.Range.{Range}
 use Rattle.bl_map.specs.MachineFacts.{AllUsable}
-use Rattle.bl_plan.specs.Permitted.{AllOpen}
+use Rattle.bl_plan.specs.Permitted.{AreUntaken}
 use Rattle.bl_plan.specs.PlannerFacts.{PlannerFacts}
 use Rattle.bl_plan.proofs.BlockLemmas.{not_all}
 use Rattle.bl_plan.proofs.planner.Planner.take_fixed.Goals as goal
 
 pub take-requires-clause-free : goal.take-requires-clause-free
 take-requires-clause-free g c =
-    subst (λ (xs : List (Range ℕ)). AllOpen xs c.args.range.start c.args.range.end)
+    subst (λ (xs : List (Range ℕ)). AreUntaken xs c.args.range.start c.args.range.end)
     (c.as_slice.ensures.value ∙ ap (λ (p : PlannerFacts). p.taken) c.self.view_is)
     c.in_default.ensures
 
@@ -17,7 +17,7 @@ returns-in-Some-clause-fault g c =
     let meets = not_all _ _ _ _ c.requires.filled c.in-Some.ensures in (
       subst (λ (p : PlannerFacts). AllUsable p.facts c.args.range.start c.args.range.end)
           c.self.view_is c.if-not-is_usable.ensures.usable,
-      subst (λ (xs : List (Range ℕ)). AllOpen xs c.args.range.start c.args.range.end → ⊥)
+      subst (λ (xs : List (Range ℕ)). AreUntaken xs c.args.range.start c.args.range.end → ⊥)
           (c.as_slice.ensures.value ∙ ap (λ (p : PlannerFacts). p.taken) c.self.view_is) meets,
     )
 
@@ -25,7 +25,7 @@ pub returns-clause-free : goal.returns-clause-free
 returns-clause-free g c = (
   subst (λ (p : PlannerFacts). AllUsable p.facts c.args.range.start c.args.range.end)
       c.self.view_is c.if-not-is_usable.ensures.usable,
-  subst (λ (xs : List (Range ℕ)). AllOpen xs c.args.range.start c.args.range.end)
+  subst (λ (xs : List (Range ℕ)). AreUntaken xs c.args.range.start c.args.range.end)
       (c.as_slice.ensures.value
       ∙ ap (λ (p : PlannerFacts). p.taken) c.self.view_is) c.in_default.ensures,
 )

@@ -1,5 +1,5 @@
 use Rattle.std.proofs.Common.{◌≡◌, ◌+◌, take, length}
-use Rattle.bl_map.specs.Room.{frames_for}
+use Rattle.bl_map.specs.PoolFrames.{frames_for}
 use Rattle.bl_rows.proofs.calls.stage.are_enough.Given as goal
 
 -- the frames of the sizes so far are taken off

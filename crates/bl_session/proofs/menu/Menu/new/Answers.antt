@@ -1,7 +1,7 @@
 use Rattle.std.proofs.Common.{◌≡◌, All, List, ◌≤◌, length, refl, sym, subst, arith, rules}
 use Rattle.bl_load.specs.Offered.{IsOfferedEntry}
 use Rattle.bl_load.specs.declared.entry.Entry.{Entry}
-use Rattle.bl_session.specs.Attempts.{NameEntries, AreWithinLimits, attempt_order}
+use Rattle.bl_session.specs.Attempts.{AreEntryIndices, AreWithinLimits, attempt_order}
 use Rattle.bl_session.proofs.MenuLemmas.{offered_entries}
 use Rattle.bl_session.proofs.OnceLemmas.{all_attempts, few_attempts}
 use Rattle.std.proofs.lemmas.Bool.{false≢true}
@@ -13,36 +13,40 @@ invariant_of-result g c =
     let entries = c.args.entries.items in
     let fallbacks = c.args.fallbacks.now in
     let same : c.as_slice-offered.result.now ≡ entries = search rules in
-    let named : NameEntries (length entries) c.args.default fallbacks =
-    subst (λ (es : List (Entry g.row.A.Denot)). NameEntries (length es) c.args.default fallbacks)
-    same (c.if-not-name_entries.ensures.0 refl) in
+    let named : AreEntryIndices (length entries) c.args.default fallbacks =
+    subst (λ (es : List (Entry g.row.A.Denot)). AreEntryIndices (length es) c.args.default
+    fallbacks)
+    same (c.if-not-are_entry_indices.ensures.0 refl) in
     let small : AreWithinLimits entries =
     subst (λ (es : List (Entry g.row.A.Denot)). AreWithinLimits es) same
     (c.if-not-is_small.ensures.0 refl) in
     let few = few_attempts (length entries) c.args.default fallbacks named.0 named.1 in
-    let most : length (attempt_order c.args.default fallbacks) ≤ 32 = omega (arith, few, small.0) in (
+    let most : length (attempt_order c.args.default fallbacks) ≤ 32 =
+    omega (arith, few, small.0) in (
       rw c.in_ok-attempts.ensures
           (all_attempts (length entries) c.args.default fallbacks named.0 named.1),
       small.1,
-      subst (λ (es : List (Entry g.row.A.Denot)). All IsOfferedEntry es) same c.learn_entries.ensures,
+      subst (λ (es : List (Entry g.row.A.Denot)). All IsOfferedEntry es) same
+          c.learn_entries.ensures,
       rw c.in_ok-attempts.ensures most,
     )
 
 pub returns-clause-offered : goal.returns-clause-offered
 returns-clause-offered g c =
     offered_entries c.args.entries.items
-    (subst (λ (es : List (Entry g.row.A.Denot)). All IsOfferedEntry es) c.as_slice-offered.ensures.value
+    (subst (λ (es : List (Entry g.row.A.Denot)). All IsOfferedEntry es)
+    c.as_slice-offered.ensures.value
     c.learn_entries.ensures)
 
-pub returns-then-not-name_entries-clause-first_fault :
-    goal.returns-then-not-name_entries-clause-first_fault
-returns-then-not-name_entries-clause-first_fault g c =
+pub returns-then-not-are_entry_indices-clause-first_fault :
+    goal.returns-then-not-are_entry_indices-clause-first_fault
+returns-then-not-are_entry_indices-clause-first_fault g c =
     let same = c.as_slice-offered.ensures.value in (
       subst (λ (es : List (Entry g.row.A.Denot)). AreWithinLimits es) same
           (c.if-not-is_small.ensures.0 refl),
-      λ named. false≢true (c.if-not-name_entries.ensures.1
+      λ named. false≢true (c.if-not-are_entry_indices.ensures.1
           (subst (λ (es : List (Entry g.row.A.Denot)).
-          NameEntries (length es) c.args.default c.args.fallbacks.now) (sym same) named)),
+          AreEntryIndices (length es) c.args.default c.args.fallbacks.now) (sym same) named)),
     )
 
 pub returns-in_err-attempts-clause-first_fault : goal.returns-in_err-attempts-clause-first_fault
@@ -53,8 +57,8 @@ returns-in_err-attempts-clause-first_fault g c =
       subst (λ (es : List (Entry g.row.A.Denot)). AreWithinLimits es) same
           (c.if-not-is_small.ensures.0 refl),
       subst (λ (es : List (Entry g.row.A.Denot)).
-          NameEntries (length es) c.args.default c.args.fallbacks.now) same
-          (c.if-not-name_entries.ensures.0 refl),
+          AreEntryIndices (length es) c.args.default c.args.fallbacks.now) same
+          (c.if-not-are_entry_indices.ensures.0 refl),
     )
 
 pub returns-clause-allowed : goal.returns-clause-allowed
@@ -64,6 +68,6 @@ returns-clause-allowed g c =
       subst (λ (es : List (Entry g.row.A.Denot)). AreWithinLimits es) same
           (c.if-not-is_small.ensures.0 refl),
       subst (λ (es : List (Entry g.row.A.Denot)).
-          NameEntries (length es) c.args.default c.args.fallbacks.now) same
-          (c.if-not-name_entries.ensures.0 refl),
+          AreEntryIndices (length es) c.args.default c.args.fallbacks.now) same
+          (c.if-not-are_entry_indices.ensures.0 refl),
     )

@@ -1,5 +1,5 @@
 use Rattle.std.proofs.Common.{refl}
-use Rattle.bl_load.specs.Value.{IsWithinLimits}
+use Rattle.bl_load.specs.EntryValue.{IsWithinLimits}
 use Rattle.bl_session.proofs.MenuLemmas.{all_by_first}
 use Rattle.bl_session.proofs.menu.fault.+are_within_limits.Goals as goal
 

@@ -1,7 +1,7 @@
 use Rattle.std.proofs.Common.{ℕ, List, subst}
 use Rattle.std.specs.Prelude.{OnErr}
-use Rattle.bl_session.specs.History.{Item}
-use Rattle.bl_session.specs.Asked.{orders}
+use Rattle.bl_session.specs.History.{HistoryItem}
+use Rattle.bl_session.specs.Asked.{attempt_submissions}
 use Rattle.bl_session.specs.Phases.{SessionFacts, state_at}
 use Rattle.bl_session.specs.TurnsKept.{IsAsked}
 use Rattle.bl_session.proofs.session.Session.submit.Goals as goal
@@ -11,6 +11,6 @@ returns-clause-err g c =
     let given = g.S.Store.given in
     subst
     (λ (s : SessionFacts). OnErr c.submit.result ((bytes : List ℕ)
-    → (rest : List Item) × IsAsked (orders s.boot (state_at bytes s.phase)) rest
+    → (rest : List HistoryItem) × IsAsked (attempt_submissions s.boot (state_at bytes s.phase)) rest
     (given c.args.store.now) (given c.submit.new.store)))
     c.self.view_is c.submit.ensures.err

@@ -1,5 +1,5 @@
 use Rattle.std.proofs.Common.{◌≤◌, ◌*◌, arith, ap, ◌∙◌}
-use Rattle.bl_stage.specs.CellGroups.{cells_of}
+use Rattle.bl_stage.specs.PackedCells.{cells_of}
 use Rattle.bl_stage.proofs.CellGroupLemmas.{cells_empty, cell_of_new}
 use Rattle.bl_stage.proofs.cells.Cells.empty.Goals as goal
 

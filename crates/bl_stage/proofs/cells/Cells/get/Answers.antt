@@ -1,7 +1,7 @@
 use Rattle.std.proofs.Common.{◌≡◌, ◌<◌, ◌/◌, ◌%◌, length, get_or, arith, rules, sym, ap, ◌∙◌}
 use Rattle.std.proofs.lemmas.List.{get_or_default}
 use Rattle.bl_stage.specs.Cells.{cell_at}
-use Rattle.bl_stage.specs.CellGroups.{no_group, holder_of, cell_in}
+use Rattle.bl_stage.specs.PackedCells.{no_group, holder_of, cell_in}
 use Rattle.bl_stage.proofs.CellGroupLemmas.{cells_length, cells_read}
 use Rattle.bl_stage.proofs.cells.Cells.get.Goals as goal
 use Rattle.bl_stage.proofs.cells.Cells.get.Goals.{then-holder, else-holder}

@@ -3,7 +3,7 @@ use Rattle.std.proofs.lemmas.List.{get_or_default}
 use Rattle.bl_stage.specs.declared.cell.Cell.{Cell}
 use Rattle.bl_stage.specs.declared.cells.CellGroup.{CellGroup}
 use Rattle.bl_stage.specs.Cells.{cell_at}
-use Rattle.bl_stage.specs.CellGroups.{no_group, cell_in}
+use Rattle.bl_stage.specs.PackedCells.{no_group, cell_in}
 use Rattle.bl_stage.proofs.CellGroupLemmas.{cells_length, cells_read, cells_put}
 use Rattle.bl_stage.proofs.CellGroupLemmas.{shut_here, shut_others}
 use Rattle.bl_stage.proofs.cells.Cells.set_shut.Goals as goal

@@ -1,9 +1,0 @@
-use Rattle.std.proofs.Common.{◌≡◌, drop}
-use Rattle.bl_load.specs.Kept.{lines_by}
-use Rattle.bl_load.specs.Value.{lines_fault}
-use Rattle.bl_load.proofs.lines.check_module_lines.Given as goal
-
--- the lines so far have no fault
-abbrev pub invariant-loop-module : goal.invariant-loop-module
-invariant-loop-module g l =
-    lines_fault (lines_by (drop l.module-index l.modules)) ≡ lines_fault (lines_by l.modules)

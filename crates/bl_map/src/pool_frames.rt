@@ -1,0 +1,64 @@
+//! Whether the pool has frames enough beside the parts.
+ghost use Rattle.std.specs.Prelude.{◌≡◌, ◌≤◌, ◌<◌, ◌+◌, ◌*◌, ◌^◌, length};
+ghost use Rattle.bl_map.specs.Kept.{AreMet};
+ghost use Rattle.bl_map.specs.PoolFrames as spec;
+
+use crate::limits::FRAME_SIZE;
+use std::ops::Range;
+
+/// How many frames a length of bytes needs.
+pub fn frames_of(length: u64) -> u64
+    ensures { result ≡ spec.frames_of length }
+{
+    length / FRAME_SIZE + if length % FRAME_SIZE == 0 { 0 } else { 1 }
+}
+
+/// A length of bytes, at most 2^64 - 4096, rounded up to whole frames, in bytes.
+pub fn round_up_to_frames(length: u64) -> u64
+    requires small { length + 4095 < 2 ^ 64 }
+    ensures { result ≡ spec.round_up_to_frames length }
+{
+    frames_of(length) * FRAME_SIZE
+}
+
+/// How many whole frames a pool has.
+pub fn frames_in(pool: &Range<u64>) -> u64
+    requires { pool.now.start ≤ pool.now.end }
+    ensures { result ≡ spec.frames_in pool.now }
+{
+    (pool.end - pool.start) / FRAME_SIZE
+}
+
+/// The frames of a pool that a range meets, by their numbers from 0 on. A range of no byte meets
+/// none.
+fn frames_met(pool: &Range<u64>, range: &Range<u64>) -> Range<u64>
+    requires pool { pool.now.start ≤ pool.now.end }
+    requires range { range.now.start ≤ range.now.end }
+    ensures { AreMet pool.now range.now result }
+{
+    let frames = frames_in(pool);
+    let first = (range.start.saturating_sub(pool.start) / FRAME_SIZE).min(frames);
+    if range.start == range.end {
+        return first..first;
+    }
+    let behind = frames_of(range.end.saturating_sub(pool.start)).min(frames);
+    first..behind
+}
+
+/// How many frames of a pool meet none of these ranges. One byte of a range meets a frame; a range
+/// of no byte meets none. The ranges ascend, so that one pass over them is enough, however many
+/// frames there are.
+pub fn open_frames(pool: &Range<u64>, ranges: &[Range<u64>]) -> u64
+    requires forward { pool.now.start ≤ pool.now.end }
+    requires ascending { spec.AreAscending ranges.now }
+    ensures { result ≡ spec.open_frames pool.now ranges.now }
+{
+    let mut open = 0;
+    let mut next = 0;
+    for range in ranges {
+        let met = frames_met(pool, range);
+        open += met.start.saturating_sub(next);
+        next = next.max(met.end);
+    }
+    open + (frames_in(pool) - next)
+}

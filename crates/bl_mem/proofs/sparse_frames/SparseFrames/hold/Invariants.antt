@@ -1,0 +1,19 @@
+use Rattle.std.proofs.Common.{◌-◌, ◌≤◌, length}
+use Rattle.bl_mem.specs.Memory.{KeepsRoom}
+use Rattle.bl_mem.specs.SparseFrames.{SameBytes, IsHeld, AreOpen}
+use Rattle.bl_mem.proofs.sparse_frames.SparseFrames.hold.Given as goal
+
+-- the frames so far have room
+abbrev pub invariant-loop-at : goal.invariant-loop-at
+invariant-loop-at g l =
+    record {
+      from : l.first ≤ l.at;
+      within : l.at ≤ l.end;
+      size : l.end ≤ length l.self.table;
+      same : SameBytes l.fn.self l.self;
+      kept : KeepsRoom (IsHeld l.fn.self) (IsHeld l.self);
+      made : AreOpen l.self l.first l.at;
+    }
+
+abbrev pub decreases-loop-at : goal.decreases-loop-at
+decreases-loop-at g l = l.end - l.at
