@@ -4,6 +4,7 @@ from typing import Callable, List
 
 from language import demand, fields, number, numbers, only, pair, single, spell as spelled, steps
 from rules.memory import MAX_BLOCK, Memory, bytes_of, number_of
+from rules.numbers import FRAME
 
 from . import Call
 from .answers import Steps, is_right, one_of
@@ -32,6 +33,10 @@ def step_of(table, words: List[str], is_block: bool) -> Callable:
         demand(bool(rest))
         places, data = numbers(rest[0]), table.names.bytes_of(rest[1:])
         return lambda memory: write(memory, places, data)
+    if name == "copy":
+        demand(len(rest) == 3)
+        source, to, length = number(rest[0]), number(rest[1]), number(rest[2])
+        return lambda memory: copy(memory, source, to, length)
     if name == "zero":
         demand(len(rest) == 1)
         return lambda memory: zero(memory, pair(rest[0], ".."))
@@ -51,6 +56,12 @@ def write(memory, places: List[int], data: bytes) -> str:
     for at in places:
         memory.write(at, data)
     return "ok"
+
+
+def copy(memory, source: int, to: int, length: int) -> str:
+    """At most a frame, as the call asks."""
+    demand(length <= FRAME and memory.holds(to, to + length))
+    return write(memory, [to], held(memory, source, length))
 
 
 def zero(memory, cleared) -> str:
@@ -93,7 +104,7 @@ def sparse_is_refused(table, line, text):
     if len(words) != len(parts) or NO_MEMORY not in parts:
         return False
     for step, part in zip(words, parts):
-        if part == NO_MEMORY and step[0] in ("write", "zero", "reserve"):
+        if part == NO_MEMORY and step[0] in ("write", "copy", "zero", "reserve"):
             continue
         if not is_right(step_of(table, step, False)(memory), part):
             return False
@@ -134,6 +145,7 @@ def slice_step(table, words: List[str], memory: Slice) -> str:
         return "nothing"
     length = lambda: len(table.names.bytes_of(words[2:]))
     ranges = {"write": lambda: [(at, at + length()) for at in numbers(words[1])],
+              "copy": lambda: [(number(words[2]), number(words[2]) + number(words[3]))],
               "zero": lambda: [pair(words[1], "..")],
               "reserve": lambda: [pair(word, "..") for word in words[1:]]}
     # an empty range needs no room, wherever it lies
