@@ -1,7 +1,7 @@
 -- What a list of groups stands for, as one cell of it is read or written.
-use Rattle.std.proofs.Common.{◌≡◌, ◌≢◌, ℕ, ◌/◌, ◌%◌, ◌*◌, ◌<◌, ◌≤◌, List, length, get_or, set}
+use Rattle.std.proofs.Common.{◌≡◌, ◌≢◌, ℕ, ◌/◌, ◌%◌, ◌<◌, List, length, get_or, set}
 use Rattle.std.proofs.Common.{Bool, false, Option, Some, None, IfSome, replicate, arith}
-use Rattle.std.proofs.Common.{refl, sym, ap, ◌∙◌, inl, inr}
+use Rattle.std.proofs.Common.{refl, sym, ap, ◌∙◌, inl, inr, [], ◌∷◌, ◌++◌, zero, suc}
 use Rattle.std.specs.Option.{unwrap_or}
 use Rattle.std.proofs.lemmas.Bool.{cases_eq, ne_eqb}
 use Rattle.std.proofs.lemmas.List.{get_or-set_same, get_or-set_other, length-set, ext_get_or}
@@ -63,25 +63,38 @@ cells_put groups count at group cell h within here others =
           ]
     ])
 
--- groups of which each cell is one that holds nothing and is open
-pub cells_empty : (group : CellGroup) (n count : ℕ) → count ≤ 4 * n
-    → ((place : ℕ) → place < 4 → cell_in group place ≡ no_cell)
-    → cells_of (replicate n group) count ≡ replicate count no_cell
-cells_empty group n count enough each =
-    ext_get_or no_cell _ _
-    (cells_length (replicate n group) count ∙ sym (length-replicate count no_cell))
+-- the cells of a group that holds nothing
+pub cell_of_none : (place : ℕ) → place < 4 → cell_in no_group place ≡ no_cell
+cell_of_none place h =
+    rw (get_or-replicate 4 place no_holder 0 h, get_or-replicate 4 place false false h) refl
+
+-- where no group stands each cell is one that holds nothing and is open
+pub cells_empty : (count : ℕ) → cells_of [] count ≡ replicate count no_cell
+cells_empty count =
+    ext_get_or no_cell _ _ (cells_length [] count ∙ sym (length-replicate count no_cell))
     (λ j hj.
-    let below : j < count = let e = cells_length (replicate n group) count in omega arith in
-    cells_read (replicate n group) count j below
-    ∙ ap (λ g. cell_in g (j % 4)) (get_or-replicate n (j / 4) group no_group (omega arith))
-    ∙ each (j % 4) (omega arith)
+    let below : j < count = let e = cells_length [] count in omega arith in
+    cells_read [] count j below ∙ cell_of_none (j % 4) (omega arith)
     ∙ sym (get_or-replicate count j no_cell no_cell below))
 
--- the cells of a new group
-pub cell_of_new : (place : ℕ) → place < 4
-    → cell_in (record { holders = replicate 4 no_holder; shut = replicate 4 false }) place ≡ no_cell
-cell_of_new place h =
-    rw (get_or-replicate 4 place no_holder 0 h, get_or-replicate 4 place false false h) refl
+-- groups that read alike have the same cells
+pub cells_alike : (new old : List CellGroup) (count : ℕ)
+    → ((i : ℕ) → get_or new i no_group ≡ get_or old i no_group)
+    → cells_of new count ≡ cells_of old count
+cells_alike new old count same =
+    ext_get_or no_cell _ _ (cells_length new count ∙ sym (cells_length old count))
+    (λ j hj.
+    let below : j < count = let e = cells_length new count in omega arith in
+    cells_read new count j below ∙ ap (λ g. cell_in g (j % 4)) (same (j / 4))
+    ∙ sym (cells_read old count j below))
+
+-- one more that holds nothing
+pub none_more : (groups : List CellGroup) (i : ℕ)
+    → get_or (groups ++ no_group ∷ []) i no_group ≡ get_or groups i no_group
+none_more [] zero = refl
+none_more [] (suc i) = refl
+none_more (g ∷ gs) zero = refl
+none_more (g ∷ gs) (suc i) = none_more gs i
 
 -- a holder is read as it was written
 pub holder_again : (holder : Option ℕ) → IfSome holder (λ slot. slot < no_holder)

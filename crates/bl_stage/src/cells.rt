@@ -1,7 +1,9 @@
 //! The cells of all frames of the pool, kept so that they take little memory.
-ghost use Rattle.std.specs.Prelude.{◌≡◌, ◌<◌, IfOk, IfSome, length, replicate, slice_set};
+ghost use Rattle.std.specs.Prelude.{◌≡◌, ℕ, ◌<◌, ◌≤◌, IfOk, IfSome, length, replicate, slice_set};
+ghost use Rattle.std.specs.Prelude.{slice_index_or, vec_capacity};
 ghost use Rattle.bl_stage.specs.Cells.{no_cell, cell_at};
-ghost use Rattle.bl_stage.specs.PackedCells.{no_holder};
+ghost use Rattle.bl_stage.specs.PackedCells.{no_holder, no_group};
+ghost use Rattle.bl_stage.specs.PackedCells as packed;
 
 use crate::cell::Cell;
 use std::alloc::{AllocError, Allocator};
@@ -20,16 +22,54 @@ struct CellGroup {
     shut: [bool; GROUP],
 }
 
+/// The holder that a number in a group stands for.
+fn holder_of(holder: u32) -> Option<u32>
+    ensures is { result ≡ packed.holder_of holder }
+    ensures named { IfSome result (λ slot. slot < no_holder) }
+{
+    if holder == NO_HOLDER {
+        return None;
+    }
+    Some(holder)
+}
+
+/// Four cells that hold nothing and are to stay.
+fn empty_group() -> CellGroup
+    ensures { result ≡ no_group }
+{
+    CellGroup {
+        holders: [NO_HOLDER; GROUP],
+        shut: [false; GROUP],
+    }
+}
+
+/// Has so many groups stand in a vector that has room for them. Those that come hold nothing.
+fn reach<A: Allocator>(groups: &mut Vec<CellGroup, A>, count: usize)
+    requires { count ≤ vec_capacity groups.old }
+    ensures there { count ≤ length groups.new.items }
+    ensures same { (i : ℕ) → slice_index_or groups.new.items i no_group
+        ≡ slice_index_or groups.old.items i no_group }
+    ensures capacity { vec_capacity groups.old ≤ vec_capacity groups.new }
+{
+    let mut at = groups.len();
+    while at < count {
+        groups.push(empty_group()).unwrap();
+        at += 1;
+    }
+}
+
 /// The cells of the pool's frames, by their place in the pool, in 5 bytes each. It takes memory
-/// when it is made, by one request, and never again.
+/// when it is made, by one request, and never again, and touches none of it before a cell there is
+/// to be told from an empty one: a large pool of which little is used costs little.
 #[derive(Drop)]
 pub struct Cells<A: Allocator> {
+    /// The first groups; the cells of all others hold nothing and are to stay.
     groups: Vec<CellGroup, A>,
     count: usize,
 }
 
 impl<A: Allocator> Model for Cells<A> {
-    ghost use Rattle.std.specs.Prelude.{◌≤◌, ◌*◌, List, length};
+    ghost use Rattle.std.specs.Prelude.{◌≤◌, ◌*◌, List, vec_capacity};
     ghost use Rattle.bl_stage.specs.declared.cell.Cell.{Cell};
 
     ghost Value = { List Cell };
@@ -38,7 +78,7 @@ impl<A: Allocator> Model for Cells<A> {
 
     ghost view = { λ cells. cells_of cells.groups.items cells.count };
 
-    ghost invariant = { λ cells. cells.count ≤ 4 * length cells.groups.items };
+    ghost invariant = { λ cells. cells.count ≤ 4 * vec_capacity cells.groups };
 }
 
 impl<A: Allocator> Cells<A> {
@@ -46,11 +86,7 @@ impl<A: Allocator> Cells<A> {
     pub fn empty(alloc: A, count: usize) -> Result<Cells<A>, AllocError>
         ensures { IfOk result (λ cells. cells ≡ replicate count no_cell) }
     {
-        let group = CellGroup {
-            holders: [NO_HOLDER; GROUP],
-            shut: [false; GROUP],
-        };
-        let groups = Vec::from_elem(alloc, group, count.div_ceil(GROUP))?;
+        let groups = Vec::with_capacity(alloc, count.div_ceil(GROUP))?;
         Ok(Cells { groups, count })
     }
 
@@ -67,14 +103,15 @@ impl<A: Allocator> Cells<A> {
         ensures is { result ≡ cell_at self.now at }
         ensures named { IfSome result.holder (λ slot. slot < no_holder) }
     {
+        if self.groups.len() <= at / GROUP {
+            return Cell {
+                holder: None,
+                shut: false,
+            };
+        }
         let group = &self.groups[at / GROUP];
-        let holder = group.holders[at % GROUP];
         Cell {
-            holder: if holder == NO_HOLDER {
-                None
-            } else {
-                Some(holder)
-            },
+            holder: holder_of(group.holders[at % GROUP]),
             shut: group.shut[at % GROUP],
         }
     }
@@ -85,6 +122,7 @@ impl<A: Allocator> Cells<A> {
         requires named { IfSome cell.holder (λ slot. slot < no_holder) }
         ensures { self.new ≡ slice_set self.old at cell }
     {
+        reach(&mut self.groups, at / GROUP + 1);
         let group = &mut self.groups[at / GROUP];
         group.holders[at % GROUP] = cell.holder.unwrap_or(NO_HOLDER);
         group.shut[at % GROUP] = cell.shut;
@@ -96,6 +134,10 @@ impl<A: Allocator> Cells<A> {
         ensures { self.new ≡ slice_set self.old at
             (record { holder = (cell_at self.old at).holder; shut = shut }) }
     {
+        if !shut && self.groups.len() <= at / GROUP {
+            return;
+        }
+        reach(&mut self.groups, at / GROUP + 1);
         self.groups[at / GROUP].shut[at % GROUP] = shut;
     }
 }

@@ -2,12 +2,13 @@ use Rattle.std.proofs.Common.{◌≡◌, ◌<◌, ◌/◌, ◌%◌, length, get_
 use Rattle.std.proofs.lemmas.List.{get_or_default}
 use Rattle.bl_stage.specs.declared.cells.CellGroup.{CellGroup}
 use Rattle.bl_stage.specs.PackedCells.{no_group, holder_of, cell_in}
-use Rattle.bl_stage.proofs.CellGroupLemmas.{cells_length, cells_put, put_here, put_others}
+use Rattle.bl_stage.proofs.CellGroupLemmas.{cells_length, cells_put, cells_alike, put_here}
+use Rattle.bl_stage.proofs.CellGroupLemmas.{put_others}
 use Rattle.bl_stage.proofs.CellGroupLemmas.{holder_again}
 use Rattle.bl_stage.proofs.cells.Cells.set.Goals as goal
 
-pub index_mut-group-requires : goal.index_mut-group-requires
-index_mut-group-requires g c =
+pub reach-requires : goal.reach-requires
+reach-requires g c =
     let fields = c.self.inside in
     let long =
     sym (cells_length fields.groups.items fields.count) ∙ ap length c.self.view_is in
@@ -16,12 +17,14 @@ index_mut-group-requires g c =
 pub returns : goal.returns
 returns g c =
     let fields = c.self.inside in
-    let groups = fields.groups.items in
+    let before = fields.groups.items in
+    let groups = c.reach.new.groups.items in
     let group = c.index_mut-group.result.now in
     let at = c.args.at in
-    let long = sym (cells_length groups fields.count) ∙ ap length c.self.view_is in
+    let long = sym (cells_length before fields.count) ∙ ap length c.self.view_is in
     let below : at < fields.count = omega (arith, long, c.requires.at) in
-    let within : at / 4 < length groups = omega (arith, below, c.self.invariant) in
+    let within : at / 4 < length groups = omega (arith, c.reach.ensures.there) in
+    let alike = cells_alike groups before fields.count c.reach.ensures.same in
     let is : group ≡ get_or groups (at / 4) no_group =
     c.index_mut-group.ensures.value ∙ get_or_default groups (at / 4) group no_group within in
     let holders : length group.holders ≡ 4 = search rules in
@@ -41,4 +44,4 @@ returns g c =
     (λ place other.
     put_others group.holders group.shut (at % 4) c.unwrap_or.result c.args.cell.shut place other
     ∙ ap (λ g. cell_in g place) is)
-    ∙ ap (λ cells. set cells at c.args.cell) c.self.view_is
+    ∙ ap (λ cells. set cells at c.args.cell) (alike ∙ c.self.view_is)
