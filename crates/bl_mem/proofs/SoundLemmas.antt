@@ -20,7 +20,7 @@ none_some s e = cc
 some_same : (a b : ℕ) → Some a ≡ Some b → a ≡ b
 some_same a b e = cc
 
--- a frame is set to one that has the same slot or none, and owed_slots as much
+-- a frame is set to one that has the same slot or none, and owes as much
 pub sound_set : (table : List FrameState) (len owed capacity more i : ℕ) (frame : FrameState)
     → AreSoundSlots table len owed capacity → i < length table → capacity ≤ more
     → owed_slots frame ≡ owed_slots (get_or table i Bare)
