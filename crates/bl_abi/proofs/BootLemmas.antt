@@ -14,19 +14,19 @@ use Rattle.bl_abi.specs.declared.misuse.Misuse.{Misuse}
 use Rattle.bl_abi.specs.declared.given_records.EntryRecord.{EntryRecord}
 use Rattle.bl_abi.specs.GivenChecks.{entry_misuse}
 use Rattle.bl_abi.specs.Given.{GivenFacts}
-use Rattle.bl_abi.specs.Boot.{entries_misuse, facts_given, given_fault_of_menu, AreFewGiven}
+use Rattle.bl_abi.specs.Boot.{entries_misuse, entry_facts_given, given_fault_of_menu, AreFewGiven}
 use Rattle.bl_abi.specs.Boot.{IsNoMenu}
 use Rattle.bl_abi.specs.Boot.{are_many, names_none, is_short}
 
 -- as many entries as are given
 pub entry_count : {A : Type 0} (given : GivenFacts) (rows : List EntryRecord)
-    (typed : List (Entry A)) → map facts_of typed ≡ map (facts_given given) rows
+    (typed : List (Entry A)) → map facts_of typed ≡ map (entry_facts_given given) rows
     → length typed ≡ length rows
 entry_count given rows typed is =
-    sym (length-map typed facts_of) ∙ ap length is ∙ length-map rows (facts_given given)
+    sym (length-map typed facts_of) ∙ ap length is ∙ length-map rows (entry_facts_given given)
 
 few_typed : {A : Type 0} (given : GivenFacts) (rows : List EntryRecord) (typed : List (Entry A))
-    → map facts_of typed ≡ map (facts_given given) rows → AreFewGiven given rows
+    → map facts_of typed ≡ map (entry_facts_given given) rows → AreFewGiven given rows
     → AreWithinLimits typed
 unfolding IsWithinLimits
 few_typed given rows typed is few =
@@ -42,7 +42,7 @@ few_typed given rows typed is few =
 
 -- the other way round
 pub few_given : {A : Type 0} (given : GivenFacts) (rows : List EntryRecord)
-    (typed : List (Entry A)) → map facts_of typed ≡ map (facts_given given) rows
+    (typed : List (Entry A)) → map facts_of typed ≡ map (entry_facts_given given) rows
     → AreWithinLimits typed
     → AreFewGiven given rows
 unfolding IsWithinLimits
@@ -55,7 +55,7 @@ few_given given rows typed is small =
 -- why these entries make no menu
 pub no_menu_is : {A : Type 0} (given : GivenFacts) (rows : List EntryRecord) (default : ℕ)
     (fallbacks : List ℕ) (typed : List (Entry A)) (fault : MenuFault)
-    → map facts_of typed ≡ map (facts_given given) rows
+    → map facts_of typed ≡ map (entry_facts_given given) rows
     → HasMenuFault typed default fallbacks fault
     → IsNoMenu given rows default fallbacks (given_fault_of_menu fault)
 no_menu_is given rows default fallbacks typed menu_faults.TooMany is has =

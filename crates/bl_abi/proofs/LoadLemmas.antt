@@ -13,29 +13,29 @@ use Rattle.bl_abi.specs.declared.misuse.Misuse.TheVariants.{TooMany}
 use Rattle.bl_abi.specs.declared.given_fault.GivenFault.{GivenFault}
 use Rattle.bl_abi.specs.declared.given_fault.GivenFault.TheVariants as given_fault
 use Rattle.bl_abi.specs.GivenChecks.{load_misuse}
-use Rattle.bl_abi.specs.Given.{GivenFacts, entry_without_files, files_given, file_given}
+use Rattle.bl_abi.specs.Given.{GivenFacts, entry_without_files, file_indices, file_given}
 use Rattle.bl_abi.specs.Given.{value_given}
 use Rattle.bl_abi.specs.Load.{IsEntrySound, IsEntryMisuse, IsEntryGivenFault, IsEntryFault}
-use Rattle.bl_abi.specs.Load.{of_given, of_prepared}
+use Rattle.bl_abi.specs.Load.{load_fault_of_given, load_fault_of_prep}
 use Rattle.bl_abi.proofs.ValueLemmas.{value_is}
 
 -- an entry's value is the one that is given
 pub given_value : {A : Type 0} (given : GivenFacts) (r : EntryRecord) (entry : Entry A)
     (texts : List (List ℕ)) → value_of [] entry ≡ entry_without_files given r
-    → texts ≡ map (file_given given) (files_given given r)
+    → texts ≡ map (file_given given) (file_indices given r)
     → value_of texts entry ≡ value_given given r
 given_value given r entry texts is same =
     value_is entry (entry_without_files given r) texts
-    (map (file_given given) (files_given given r)) is
+    (map (file_given given) (file_indices given r)) is
     same
 
 -- as many files as are given
 pub given_count : {V : Type 0} (bytes : V → List ℕ) (given : GivenFacts) (r : EntryRecord)
-    (views : List V) → map bytes views ≡ map (file_given given) (files_given given r)
-    → length views ≡ length (files_given given r)
+    (views : List V) → map bytes views ≡ map (file_given given) (file_indices given r)
+    → length views ≡ length (file_indices given r)
 given_count bytes given r views is =
     sym (length-map views bytes) ∙ ap length is
-    ∙ length-map (files_given given r) (file_given given)
+    ∙ length-map (file_indices given r) (file_given given)
 
 -- an entry that has not its limits is misused
 pub too_many : {A : Type 0} (given : GivenFacts) (r : EntryRecord) (entry : Entry A)
@@ -57,13 +57,13 @@ entry_sound given r entry is names within =
 -- what is not taken is not loaded
 pub of_given_is : (facts : MachineFacts) (given : GivenFacts) (r : EntryRecord)
     (fault : GivenFault) → IsEntryGivenFault given r fault
-    → IsEntryFault facts given r (of_given fault)
+    → IsEntryFault facts given r (load_fault_of_given fault)
 of_given_is facts given r (given_fault.Misused misuse) is = is
 of_given_is facts given r given_fault.NoMemory is = tt
 
 pub of_prepared_is : (facts : MachineFacts) (given : GivenFacts) (r : EntryRecord)
     (value : EntryValue) (fault : PrepFault) → IsEntrySound given r → value ≡ value_given given r
-    → IsPrepFault facts value fault → IsEntryFault facts given r (of_prepared fault)
+    → IsPrepFault facts value fault → IsEntryFault facts given r (load_fault_of_prep fault)
 of_prepared_is facts given r value (prep_fault.Refused refused) sound same is =
     (sound, subst (λ (v : EntryValue). IsRefusal facts v refused) same is)
 of_prepared_is facts given r value prep_fault.NoMemory sound same is = tt

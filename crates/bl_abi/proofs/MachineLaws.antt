@@ -8,7 +8,7 @@ use Rattle.bl_map.specs.declared.region.Region.{Region}
 use Rattle.bl_map.specs.declared.kind.Kind.TheVariants.{Usable}
 use Rattle.bl_map.specs.declared.fault.MapFault.{MapFault}
 use Rattle.bl_map.specs.declared.fault.MapFault.TheVariants as map_fault
-use Rattle.bl_map.specs.Faults.{HasFirstMapFault, IsAccepted, IsLowRegion}
+use Rattle.bl_map.specs.Faults.{HasFirstMapFault, IsAccepted, HasAllowedEnd}
 use Rattle.bl_map.specs.MachineFacts.{MachineFacts}
 use Rattle.bl_map.proofs.MapLaws.{one_normal_map}
 use Rattle.bl_abi.specs.declared.load_fault.LoadFault.TheVariants.{NoMemory}
@@ -18,7 +18,7 @@ use Rattle.bl_abi.specs.declared.given_fault.GivenFault.TheVariants as given_fau
 use Rattle.bl_abi.specs.declared.given_records.MachineRecord.{MachineRecord}
 use Rattle.bl_abi.specs.declared.given_records.RegionRecord.{RegionRecord}
 use Rattle.bl_abi.specs.Given.{region_given}
-use Rattle.bl_abi.specs.Load.{of_given}
+use Rattle.bl_abi.specs.Load.{load_fault_of_given}
 use Rattle.bl_abi.specs.Machines.{IsMachineGiven, IsMachineSound, HasMachineFault}
 use Rattle.bl_abi.specs.Machines.{given_fault_of_map}
 use Rattle.bl_abi.specs.Machines.{pool_given}
@@ -27,10 +27,10 @@ use Rattle.bl_abi.specs.Machines.{pool_given}
 
 -- a region that is not low is one that is read at its index
 high_at : (regions : List Region) (i : ℕ) (none : Region) → i < length regions
-    → IfSome (slice_get regions i) (λ region. ¬ IsLowRegion region)
-    → ¬ IsLowRegion (get_or regions i none)
+    → IfSome (slice_get regions i) (λ region. ¬ HasAllowedEnd region)
+    → ¬ HasAllowedEnd (get_or regions i none)
 high_at regions i none within high =
-    subst (λ (x : Option Region). IfSome x (λ region. ¬ IsLowRegion region))
+    subst (λ (x : Option Region). IfSome x (λ region. ¬ HasAllowedEnd region))
     (slice_get-get_or regions i none within) high
 
 module _ (size : ℕ) (regions : List Region) (pool : Range ℕ) where
@@ -110,23 +110,23 @@ module _ (machine : MachineRecord) (regions : List RegionRecord) where
       absurd cc
 
   -- two faults that are told are one
-  pub one_machine_fault : (f g : GivenFault) → of_given f ≢ NoMemory → of_given g ≢ NoMemory
+  pub one_machine_fault : (f g : GivenFault) → load_fault_of_given f ≢ NoMemory → load_fault_of_given g ≢ NoMemory
       → HasMachineFault machine regions f → HasMachineFault machine regions g
-      → of_given g ≡ of_given f
+      → load_fault_of_given g ≡ load_fault_of_given f
   one_machine_fault f g told said (inl (bad, is)) (inl (worse, same)) =
-      ap of_given (same ∙ sym is)
+      ap load_fault_of_given (same ∙ sym is)
   one_machine_fault f g told said (inl (bad, is)) (inr (inl short)) =
-      absurd (said (ap of_given short))
+      absurd (said (ap load_fault_of_given short))
   one_machine_fault f g told said (inl (bad, is)) (inr (inr part)) =
       let e : true ≡ false = sym part.kinds ∙ bad in absurd cc
-  one_machine_fault f g told said (inr (inl short)) b = absurd (told (ap of_given short))
+  one_machine_fault f g told said (inr (inl short)) b = absurd (told (ap load_fault_of_given short))
   one_machine_fault f g told said (inr (inr part)) (inl (bad, is)) =
       let e : true ≡ false = sym part.kinds ∙ bad in absurd cc
   one_machine_fault f g told said (inr (inr part)) (inr (inl short)) =
-      absurd (said (ap of_given short))
+      absurd (said (ap load_fault_of_given short))
   one_machine_fault f g told said (inr (inr a)) (inr (inr b)) =
       let one =
       one_part_fault machine.size (map region_given regions) (pool_given machine) a.found b.found
-      (λ is. told (ap of_given (a.is ∙ is))) (λ is. said (ap of_given (b.is ∙ is))) a.first
+      (λ is. told (ap load_fault_of_given (a.is ∙ is))) (λ is. said (ap load_fault_of_given (b.is ∙ is))) a.first
       b.first in
-      ap of_given (b.is ∙ one ∙ sym a.is)
+      ap load_fault_of_given (b.is ∙ one ∙ sym a.is)

@@ -9,10 +9,10 @@ use Rattle.bl_load.specs.declared.refusal.Refusal.{Refusal}
 use Rattle.bl_load.specs.HandoffFacts.{HandoffFacts, max_parts}
 use Rattle.bl_load.specs.Handover.{Handover}
 use Rattle.bl_load.specs.Parts.{IsHandover, IsRefusal}
-use Rattle.bl_load.specs.PlanFacts.{part_in, handover_in}
+use Rattle.bl_load.specs.PlanContents.{part_in, handover_in}
 use Rattle.bl_load.proofs.HandoverLaws as handovers
 use Rattle.bl_load.proofs.WrittenLemmas.{EndsWithin, length-written}
-use Rattle.bl_image.specs.ImageParts.{part_place, handoff_of}
+use Rattle.bl_image.specs.ImageHandover.{part_place, handoff_of}
 use Rattle.bl_image.proofs.Spelled.{EndsIn, length-place_bytes}
 use Rattle.bl_abi.specs.declared.load_fault.LoadFault.{LoadFault}
 use Rattle.bl_abi.specs.declared.load_fault.LoadFault.TheVariants.{Misused, Refused, NoMemory}

@@ -5,10 +5,10 @@ use Rattle.bl_plan.specs.declared.part.Place.{Place}
 use Rattle.bl_load.specs.declared.plan.Plan.{Plan}
 use Rattle.bl_load.specs.HandoffFacts.{HandoffFacts}
 use Rattle.bl_load.specs.Loadable.{lengths_of, IsLoadable}
-use Rattle.bl_load.specs.Place.{planned_place}
-use Rattle.bl_load.specs.PlanFacts.{part_by, handover_by, handoff_by}
+use Rattle.bl_load.specs.PlannedPlaceKept.{planned_place}
+use Rattle.bl_load.specs.PlanContents.{part_by, handover_by, handoff_by}
 use Rattle.bl_load.proofs.HeldLemmas.{map_same, length-bytes_by}
-use Rattle.bl_image.specs.ImageParts.{part_place, handoff_of}
+use Rattle.bl_image.specs.ImageHandover.{part_place, handoff_of}
 
 pub plan_says : {A : Type 0} (texts : List (List ℕ)) (size : ℕ) (plan : Plan A)
     → IsLoadable (lengths_of texts) size plan

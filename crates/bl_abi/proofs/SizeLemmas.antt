@@ -4,11 +4,12 @@ use Rattle.std.proofs.Common.{map}
 use Rattle.std.proofs.Common.{None, Some, if◌then◌else◌, slice_range, refl, ap, sym, subst}
 use Rattle.std.proofs.Common.{◌∙◌, arith, leb-true}
 use Rattle.std.proofs.lemmas.List.{length-take, length-drop}
-use Rattle.bl_session.specs.Outcome.{missing, whole, size_of}
+use Rattle.bl_session.specs.MenuFiles.{missing, whole, size_of}
 use Rattle.bl_abi.specs.declared.given_records.ByteRange.{ByteRange}
 use Rattle.bl_abi.specs.Given.{GivenFacts, are_among, range_bytes}
 use Rattle.bl_abi.specs.GivenChecks.{is_in_contents}
-use Rattle.bl_abi.specs.Boot.{is_unread, is_missing_or_within, are_missing_or_within, stored_given}
+use Rattle.bl_abi.specs.Boot.{is_missing_file, is_missing_or_within, are_missing_or_within}
+use Rattle.bl_abi.specs.Boot.{stored_given}
 use Rattle.bl_abi.specs.Sessions.{size_given}
 
 length_within : (bytes : List ℕ) (range : ByteRange)
@@ -26,7 +27,7 @@ length_within bytes range within =
 size_as_stored : (given : GivenFacts) (range : ByteRange) → is_missing_or_within given range ≡ true
     → size_given range ≡ size_of (stored_given given range)
 size_as_stored given range =
-    elim (is_unread range) as (λ b. (b || is_in_contents given range) ≡ true
+    elim (is_missing_file range) as (λ b. (b || is_in_contents given range) ≡ true
     → (if b then None else Some range.length)
     ≡ size_of (if b then missing else whole (range_bytes given.contents range))) [
       | true ↦ λ stored. refl

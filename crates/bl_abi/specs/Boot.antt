@@ -11,9 +11,10 @@ use Rattle.bl_plan.specs.MenuLimits.{max_entries}
 use Rattle.bl_session.specs.Attempts.{attempt_order, AreEntryIndices}
 use Rattle.bl_session.specs.Memory.{IsMemoryAt}
 use Rattle.bl_session.specs.Menu.{EntryFacts, MenuFacts}
-use Rattle.bl_session.specs.Outcome.{File, missing, whole, size_of, IsOutcome, HasEnded}
+use Rattle.bl_session.specs.MenuFiles.{File, missing, whole, size_of}
+use Rattle.bl_session.specs.Outcome.{IsOutcome, HasEnded}
 use Rattle.bl_session.specs.Phases.{PhaseFacts, boot_facts, state_at}
-use Rattle.bl_session.specs.Run.{boot_end}
+use Rattle.bl_session.specs.Run.{final_phase}
 use Rattle.bl_session.specs.declared.menu.fault.MenuFault.{MenuFault}
 use Rattle.bl_session.specs.declared.menu.fault.MenuFault.TheVariants as menu_faults
 use Rattle.bl_session.specs.declared.outcome.BootFault.{BootFault}
@@ -27,31 +28,31 @@ use Rattle.bl_abi.specs.declared.misuse.Misuse.TheVariants.{BadContents, BadMemo
 use Rattle.bl_abi.specs.declared.misuse.Misuse.TheVariants.{TooMany, BadIndex}
 use Rattle.bl_abi.specs.declared.given_fault.GivenFault.{GivenFault}
 use Rattle.bl_abi.specs.declared.given_fault.GivenFault.TheVariants.{Misused, NoMemory}
-use Rattle.bl_abi.specs.Given.{GivenFacts, range_bytes, files_given, entry_without_files}
+use Rattle.bl_abi.specs.Given.{GivenFacts, range_bytes, file_indices, entry_without_files}
 use Rattle.bl_abi.specs.GivenChecks.{entry_misuse, is_in_contents}
 use Rattle.bl_abi.specs.Machines.{IsMachineGiven, IsMachineSound, HasMachineFault}
 
 -- ---- the menu and its files
 
 -- a file whose offset is 2^64 - 1 can't be read
-abbrev pub is_unread : ByteRange → Bool
-is_unread range = range.offset == 2 ^ 64 - 1
+abbrev pub is_missing_file : ByteRange → Bool
+is_missing_file range = range.offset == 2 ^ 64 - 1
 
 abbrev pub stored_given : GivenFacts → ByteRange → File
 stored_given given range =
-    if is_unread range then missing else whole (range_bytes given.contents range)
+    if is_missing_file range then missing else whole (range_bytes given.contents range)
 
 -- the files of a menu
 abbrev pub given_files : GivenFacts → List File
 given_files given = map (stored_given given) given.files
 
-abbrev pub facts_given : GivenFacts → EntryRecord → EntryFacts
-facts_given given entry =
-    record { files = files_given given entry; blank = entry_without_files given entry }
+abbrev pub entry_facts_given : GivenFacts → EntryRecord → EntryFacts
+entry_facts_given given entry =
+    record { files = file_indices given entry; blank = entry_without_files given entry }
 
 abbrev pub menu_given : GivenFacts → List EntryRecord → ℕ → List ℕ → MenuFacts
 menu_given given entries default fallbacks = record {
-  entries = map (facts_given given) entries;
+  entries = map (entry_facts_given given) entries;
   attempts = attempt_order default fallbacks;
 }
 
@@ -65,7 +66,7 @@ entries_misuse given (entry ∷ entries) =
 
 -- a file is missing or lies in the contents
 abbrev pub is_missing_or_within : GivenFacts → ByteRange → Bool
-is_missing_or_within given range = is_unread range || is_in_contents given range
+is_missing_or_within given range = is_missing_file range || is_in_contents given range
 
 abbrev pub are_missing_or_within : GivenFacts → List ByteRange → Bool
 are_missing_or_within given files = list_all (is_missing_or_within given) files
@@ -83,7 +84,7 @@ entries_or_files_misuse given entries =
 abbrev pub AreFewGiven : GivenFacts → List EntryRecord → Type 0
 AreFewGiven given entries =
     (length entries ≤ max_entries)
-    × All (λ facts. HasLimits facts.blank) (map (facts_given given) entries)
+    × All (λ facts. HasLimits facts.blank) (map (entry_facts_given given) entries)
 
 -- the menu may be given, whatever its files are: no entry has a misuse, they are few, and each
 -- index names one
@@ -174,5 +175,5 @@ IsBootEnd machine regions given entries default fallbacks room old new (Err faul
 -- an end as contracts see it
 abbrev pub typed_end : {A : Type 0} → Result (Result (Outcome A) (BootFault A)) GivenFault
     → Result PhaseFacts GivenFault
-typed_end (Ok end) = Ok (boot_end end)
+typed_end (Ok end) = Ok (final_phase end)
 typed_end (Err fault) = Err fault

@@ -8,10 +8,10 @@ use Rattle.bl_abi.specs.declared.end_records.PlaceRecord.{PlaceRecord}
 use Rattle.bl_abi.specs.declared.end_records.HandoffRecord.{HandoffRecord}
 use Rattle.bl_abi.specs.declared.end_records.RefusalRecord.{RefusalRecord}
 use Rattle.bl_abi.specs.declared.given_fault.GivenFault.{GivenFault}
-use Rattle.bl_abi.specs.Load.{of_given}
-use Rattle.bl_abi.specs.Refused.{refusal_record}
-use Rattle.bl_abi.specs.Status.{done, is_refused, no_memory, fault_status}
-use Rattle.bl_abi.specs.Told.{handoff_told, places_told}
+use Rattle.bl_abi.specs.Load.{load_fault_of_given}
+use Rattle.bl_abi.specs.RefusalTold.{refusal_record}
+use Rattle.bl_abi.specs.Status.{done_status, refused_status, no_memory_status, fault_status}
+use Rattle.bl_abi.specs.LoadTold.{handoff_told, places_told}
 
 abbrev pub refused_told : RefusedEntry → RefusalRecord
 refused_told refused = refusal_record refused.entry refused.refusal
@@ -29,11 +29,11 @@ pub record Telling : Type 0 where
   pub count : ℕ
 
 abbrev pub end_status : PhaseFacts → ℕ
-end_status not_started = no_memory
-end_status (waits entry rest earlier stage) = no_memory
-end_status (hands_over entry earlier handoff) = done
-end_status (has_none earlier) = is_refused
-end_status lacks_memory = no_memory
+end_status not_started = no_memory_status
+end_status (waits entry rest earlier stage) = no_memory_status
+end_status (hands_over entry earlier handoff) = done_status
+end_status (has_none earlier) = refused_status
+end_status lacks_memory = no_memory_status
 
 -- what C is told of refusals, and how many there were
 abbrev pub with_refusals : List RefusedEntry → Telling → Telling
@@ -63,4 +63,5 @@ end_told lacks_memory old = old
 -- a status and what is told beside it
 abbrev pub TellsBoot : Result PhaseFacts GivenFault → ℕ → (old new : Telling) → Type 0
 TellsBoot (Ok end) status old new = (status ≡ end_status end) × (new ≡ end_told end old)
-TellsBoot (Err fault) status old new = (status ≡ fault_status (of_given fault)) × (new ≡ old)
+TellsBoot (Err fault) status old new =
+    (status ≡ fault_status (load_fault_of_given fault)) × (new ≡ old)

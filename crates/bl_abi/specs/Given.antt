@@ -62,19 +62,19 @@ modules_given given entry =
     else []
 
 -- the index of the initial ramdisk's file; 2^32 - 1 is none
-abbrev pub initrd_given : EntryRecord → List ℕ
-initrd_given entry = if entry.initrd == 2 ^ 32 - 1 then [] else entry.initrd ∷ []
+abbrev pub initrd_index : EntryRecord → List ℕ
+initrd_index entry = if entry.initrd == 2 ^ 32 - 1 then [] else entry.initrd ∷ []
 
 -- the indices of the files beside the kernel: those of its modules, or of its initial ramdisk
-abbrev pub files_beside : GivenFacts → EntryRecord → List ℕ
-files_beside given entry =
+abbrev pub indices_beside : GivenFacts → EntryRecord → List ℕ
+indices_beside given entry =
     if entry.protocol == 1
     then map (λ m. m.file) (modules_given given entry)
-    else initrd_given entry
+    else initrd_index entry
 
 -- the indices of its files, the kernel's first
-abbrev pub files_given : GivenFacts → EntryRecord → List ℕ
-files_given given entry = entry.kernel ∷ files_beside given entry
+abbrev pub file_indices : GivenFacts → EntryRecord → List ℕ
+file_indices given entry = entry.kernel ∷ indices_beside given entry
 
 -- the value of an entry of protocol 1, with no files yet
 abbrev pub multiboot2_without_files : GivenFacts → EntryRecord → EntryValue
@@ -99,7 +99,7 @@ entry_without_files given entry =
 abbrev pub value_given : GivenFacts → EntryRecord → EntryValue
 value_given given entry =
     record (entry_without_files given entry) {
-      files = map (file_given given) (files_given given entry);
+      files = map (file_given given) (file_indices given entry);
     }
 
 -- ---- regions

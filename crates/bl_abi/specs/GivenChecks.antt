@@ -9,7 +9,7 @@ use Rattle.bl_abi.specs.declared.given_records.EntryRecord.{EntryRecord}
 use Rattle.bl_abi.specs.declared.misuse.Misuse.{Misuse}
 use Rattle.bl_abi.specs.declared.misuse.Misuse.TheVariants.{BadProtocol, BadModules, BadText}
 use Rattle.bl_abi.specs.declared.misuse.Misuse.TheVariants.{BadFile, BadContents}
-use Rattle.bl_abi.specs.Given.{GivenFacts, are_among, modules_given, initrd_given, no_range}
+use Rattle.bl_abi.specs.Given.{GivenFacts, are_among, modules_given, initrd_index, no_range}
 
 -- the number of a kind of memory
 abbrev pub is_kind : ℕ → Bool
@@ -54,7 +54,7 @@ all_files is_so given entry =
     is_so entry.kernel
     && (if is_multiboot2 entry
     then list_all (λ m. is_so m.file) (modules_given given entry)
-    else list_all is_so (initrd_given entry))
+    else list_all is_so (initrd_index entry))
 
 -- there is such a file
 abbrev pub is_file : GivenFacts → ℕ → Bool

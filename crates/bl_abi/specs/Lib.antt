@@ -3,9 +3,9 @@ pub mod GivenChecks
 pub mod Machines
 pub mod Load
 pub mod Prepare
-pub mod Refused
+pub mod RefusalTold
 pub mod Status
-pub mod Told
+pub mod LoadTold
 pub mod Boot
 pub mod BootTold
 pub mod Sessions

@@ -5,9 +5,9 @@ use Rattle.bl_map.specs.MachineFacts.{MachineFacts}
 use Rattle.bl_load.specs.declared.refusal.PrepFault.{PrepFault}
 use Rattle.bl_load.specs.declared.refusal.PrepFault.TheVariants as prep_fault
 use Rattle.bl_load.specs.HandoffFacts.{HandoffFacts, max_parts}
-use Rattle.bl_load.specs.Handover.{written}
+use Rattle.bl_load.specs.Handover.{overwrite_parts}
 use Rattle.bl_load.specs.Parts.{IsHandover, IsRefusal}
-use Rattle.bl_load.specs.PlanFacts.{handover_in}
+use Rattle.bl_load.specs.PlanContents.{handover_in}
 use Rattle.bl_load.specs.EntryValue.{HasLimits}
 use Rattle.bl_abi.specs.declared.given_records.RegionRecord.{RegionRecord}
 use Rattle.bl_abi.specs.declared.given_records.MachineRecord.{MachineRecord}
@@ -22,13 +22,13 @@ use Rattle.bl_abi.specs.Given.{GivenFacts, entry_without_files, value_given}
 use Rattle.bl_abi.specs.GivenChecks.{load_misuse}
 use Rattle.bl_abi.specs.Machines.{IsMachineGiven, IsMachineSound, HasMachineFault}
 
-abbrev pub of_prepared : PrepFault → LoadFault
-of_prepared (prep_fault.Refused refusal) = Refused refusal
-of_prepared prep_fault.NoMemory = NoMemory
+abbrev pub load_fault_of_prep : PrepFault → LoadFault
+load_fault_of_prep (prep_fault.Refused refusal) = Refused refusal
+load_fault_of_prep prep_fault.NoMemory = NoMemory
 
-abbrev pub of_given : GivenFault → LoadFault
-of_given (given_fault.Misused misuse) = Misused misuse
-of_given given_fault.NoMemory = NoMemory
+abbrev pub load_fault_of_given : GivenFault → LoadFault
+load_fault_of_given (given_fault.Misused misuse) = Misused misuse
+load_fault_of_given given_fault.NoMemory = NoMemory
 
 -- ---- on a machine of these facts
 
@@ -58,12 +58,13 @@ IsEntryFault facts given entry NoMemory = Unit {0}
 
 -- memory holds what is handed over, and is what it was with those parts written into it: each byte
 -- of no part is as before
-pub record IsHandedIn (facts : MachineFacts) (given : GivenFacts) (entry : EntryRecord)
+pub record IsHandoffInMemory (facts : MachineFacts) (given : GivenFacts) (entry : EntryRecord)
     (old new : List ℕ) (handoff : HandoffFacts) : Type 0 where
   pub handover : IsHandover facts (value_given given entry)
       (handover_in new handoff.protocol handoff.registers handoff.places)
   pub after : new
-      ≡ written (handover_in new handoff.protocol handoff.registers handoff.places).parts old
+      ≡ overwrite_parts
+      (handover_in new handoff.protocol handoff.registers handoff.places).parts old
   pub inside : All (λ place. place.address + place.length ≤ facts.size) handoff.places
 
 -- ---- on the machine that is given
@@ -78,7 +79,7 @@ pub record IsLoaded (machine : MachineRecord) (regions : List RegionRecord) (giv
   pub machine_sound : IsMachineSound machine regions
   pub has_memory : machine.size ≤ length old
   pub entry_sound : IsEntrySound given entry
-  pub handed : IsHandedIn facts given entry old new handoff
+  pub handed : IsHandoffInMemory facts given entry old new handoff
 
 -- there is such a machine, and its entry has this fault
 pub record HasEntryFault (machine : MachineRecord) (regions : List RegionRecord)
@@ -95,7 +96,7 @@ pub data IsNotLoaded (machine : MachineRecord) (regions : List RegionRecord) (gi
   few_places : room < max_parts
       → IsNotLoaded machine regions given entry room end (Misused FewPlaces)
   bad_machine : max_parts ≤ room → (fault : GivenFault) → HasMachineFault machine regions fault
-      → IsNotLoaded machine regions given entry room end (of_given fault)
+      → IsNotLoaded machine regions given entry room end (load_fault_of_given fault)
   bad_memory : max_parts ≤ room → IsMachineSound machine regions → end < machine.size
       → IsNotLoaded machine regions given entry room end (Misused BadMemory)
   bad_entry : max_parts ≤ room → IsMachineSound machine regions → machine.size ≤ end

@@ -5,7 +5,7 @@ use Rattle.bl_map.specs.MachineFacts.{MachineFacts}
 use Rattle.bl_load.specs.HandoffFacts.{HandoffFacts, max_parts}
 use Rattle.bl_load.specs.Handover.{Handover}
 use Rattle.bl_load.specs.Parts.{IsHandover}
-use Rattle.bl_image.specs.ImageParts.{handoff_of}
+use Rattle.bl_image.specs.ImageHandover.{handoff_of}
 use Rattle.bl_abi.specs.declared.given_records.RegionRecord.{RegionRecord}
 use Rattle.bl_abi.specs.declared.given_records.MachineRecord.{MachineRecord}
 use Rattle.bl_abi.specs.declared.given_records.EntryRecord.{EntryRecord}

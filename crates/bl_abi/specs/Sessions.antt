@@ -14,16 +14,16 @@ use Rattle.bl_abi.specs.declared.given_fault.GivenFault.{GivenFault}
 use Rattle.bl_abi.specs.declared.given_fault.GivenFault.TheVariants.{Misused}
 use Rattle.bl_abi.specs.Given.{GivenFacts}
 use Rattle.bl_abi.specs.Machines.{IsMachineGiven, IsMachineSound, HasMachineFault}
-use Rattle.bl_abi.specs.Load.{of_given}
-use Rattle.bl_abi.specs.Boot.{is_unread, menu_given, entries_misuse, IsMenuAllowed, IsNoMenu}
+use Rattle.bl_abi.specs.Load.{load_fault_of_given}
+use Rattle.bl_abi.specs.Boot.{is_missing_file, menu_given, entries_misuse, IsMenuAllowed, IsNoMenu}
 use Rattle.bl_abi.specs.BootTold.{Telling, end_status, end_told}
-use Rattle.bl_abi.specs.Status.{done, fault_status, misuse_status}
+use Rattle.bl_abi.specs.Status.{done_status, fault_status, misuse_status}
 
 -- ---- the session
 
 -- how long a file is, none of one that can't be read: its bytes come later
 abbrev pub size_given : ByteRange → Option ℕ
-size_given range = if is_unread range then None else Some range.length
+size_given range = if is_missing_file range then None else Some range.length
 
 abbrev pub sizes_given : GivenFacts → List (Option ℕ)
 sizes_given given = map size_given given.files
@@ -75,18 +75,19 @@ IsSessionMade machine regions given entries default fallbacks (Err fault) =
 -- a status, and which session is kept: the one that is made, or after a fault the one that was
 abbrev pub TellsSession : Result SessionFacts GivenFault → ℕ → (old new : Option SessionFacts)
     → Type 0
-TellsSession (Ok session) status old new = (status ≡ done) × (new ≡ Some session)
-TellsSession (Err fault) status old new = (status ≡ fault_status (of_given fault)) × (new ≡ old)
+TellsSession (Ok session) status old new = (status ≡ done_status) × (new ≡ Some session)
+TellsSession (Err fault) status old new =
+    (status ≡ fault_status (load_fault_of_given fault)) × (new ≡ old)
 
 -- ---- its outcome
 
 -- a session has not ended
-abbrev pub still_waits : ℕ
-still_waits = 2
+abbrev pub waiting_status : ℕ
+waiting_status = 2
 
 -- the status of an end, if there is one
 abbrev pub outcome_status : Option PhaseFacts → ℕ
-outcome_status None = still_waits
+outcome_status None = waiting_status
 outcome_status (Some end) = end_status end
 
 -- what is told beside it

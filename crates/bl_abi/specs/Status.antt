@@ -6,16 +6,16 @@ use Rattle.bl_abi.specs.declared.load_fault.LoadFault.{LoadFault}
 use Rattle.bl_abi.specs.declared.load_fault.LoadFault.TheVariants.{Misused, Refused, NoMemory}
 
 -- it was done
-abbrev pub done : ℕ
-done = 0
+abbrev pub done_status : ℕ
+done_status = 0
 
 -- the entry was refused, or no entry is left
-abbrev pub is_refused : ℕ
-is_refused = 1
+abbrev pub refused_status : ℕ
+refused_status = 1
 
 -- memory ran out
-abbrev pub no_memory : ℕ
-no_memory = 4
+abbrev pub no_memory_status : ℕ
+no_memory_status = 4
 
 abbrev pub misuse_status : Misuse → ℕ
 misuse_status misuse.FewPlaces = 16
@@ -36,5 +36,5 @@ misuse_status misuse.BadIndex = 30
 -- of a load that ended so
 abbrev pub fault_status : LoadFault → ℕ
 fault_status (Misused misuse) = misuse_status misuse
-fault_status (Refused refused) = is_refused
-fault_status NoMemory = no_memory
+fault_status (Refused refused) = refused_status
+fault_status NoMemory = no_memory_status

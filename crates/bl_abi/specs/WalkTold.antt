@@ -7,7 +7,7 @@ use Rattle.bl_walk.specs.Faults.{walk_fault_number}
 use Rattle.bl_walk.specs.declared.fault.WalkFault.{WalkFault}
 use Rattle.bl_walk.specs.declared.fault.WalkFault.TheVariants as walk_faults
 use Rattle.bl_abi.specs.SeenTold.{WalkRecordsFacts}
-use Rattle.bl_abi.specs.Status.{done, misuse_status}
+use Rattle.bl_abi.specs.Status.{done_status, misuse_status}
 use Rattle.bl_abi.specs.declared.misuse.Misuse.TheVariants.{FewPlaces}
 use Rattle.bl_abi.specs.declared.given_records.RegionRecord.{RegionRecord}
 use Rattle.bl_abi.specs.declared.end_records.RefusalRecord.{RefusalRecord}
@@ -64,7 +64,7 @@ stop_status (NotWalked fault) = walk_status fault
 abbrev pub TellsWalk : Result WalkRecordsFacts WalkStop → ℕ → (seen_old seen : SeenRecord)
     → (fault_old fault : RefusalRecord) → Type 0
 TellsWalk (Ok told) status seen_old seen fault_old fault =
-    (status ≡ done) × (seen ≡ told.seen) × (fault ≡ fault_old)
+    (status ≡ done_status) × (seen ≡ told.seen) × (fault ≡ fault_old)
 TellsWalk (Err stop) status seen_old seen fault_old fault =
     (status ≡ stop_status stop) × (seen ≡ seen_old) × (fault ≡ stop_told stop)
 
@@ -94,7 +94,7 @@ all_told told old = record {
 -- all is told if there is room for it, and else the summary, which has the numbers of elements
 pub data TellsSeen (told : WalkRecordsFacts) (status : ℕ) (old new : WalkRecordsFacts) :
     Type 0 where
-  tells_all : FitsInto told old.kernel old.modules old.runs old.text → status ≡ done
+  tells_all : FitsInto told old.kernel old.modules old.runs old.text → status ≡ done_status
       → new ≡ all_told told old → TellsSeen told status old new
   tells_summary : ¬ FitsInto told old.kernel old.modules old.runs old.text
       → status ≡ misuse_status FewPlaces → new ≡ record old { seen = told.seen }

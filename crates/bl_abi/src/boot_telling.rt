@@ -3,7 +3,7 @@ ghost use Rattle.std.specs.Prelude.{◌≡◌, ◌≤◌, List, length, Ok, OnOk
 ghost use Rattle.bl_session.specs.Phases.{outcome_facts, fault_facts};
 ghost use Rattle.bl_abi.specs.Boot.{typed_end};
 ghost use Rattle.bl_abi.specs.BootTold as spec;
-ghost use Rattle.bl_abi.specs.Load.{of_given};
+ghost use Rattle.bl_abi.specs.Load.{load_fault_of_given};
 ghost use Rattle.bl_abi.specs.Status.{fault_status};
 ghost use Rattle.bl_abi.specs.declared.end_records.HandoffRecord.{HandoffRecord};
 ghost use Rattle.bl_abi.specs.declared.end_records.PlaceRecord.{PlaceRecord};
@@ -27,7 +27,7 @@ fn tell_refusals(refused: &[RefusedEntry], refusals: &mut [RefusalRecord])
 
 /// The status of why what C gives is not taken.
 pub fn given_status(fault: GivenFault) -> u32
-    ensures { result ≡ fault_status (of_given fault) }
+    ensures { result ≡ fault_status (load_fault_of_given fault) }
 {
     match fault {
         GivenFault::Misused(misuse) => misuse.status(),

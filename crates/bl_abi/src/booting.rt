@@ -3,7 +3,7 @@ ghost use Rattle.std.specs.Prelude.{◌≡◌, ◌+◌, ◌≤◌, None, IfOk, I
 ghost use Rattle.std.specs.Prelude.{option_copied};
 ghost use Rattle.bl_mem.specs.Memory.{KeepsSizeAndRoom, memory_from};
 ghost use Rattle.bl_session.specs.Ledger.{sliced_file};
-ghost use Rattle.bl_session.specs.Run.{boot_end};
+ghost use Rattle.bl_session.specs.Run.{final_phase};
 ghost use Rattle.bl_session.specs.Phases.{PhaseFacts};
 ghost use Rattle.bl_abi.specs.Boot.{HasBootEnded, IsBootEnd, IsBootMenuFault, IsMenuAllowed};
 ghost use Rattle.bl_abi.specs.Boot.{files_misuse, typed_end, menu_given};
@@ -37,7 +37,7 @@ fn boot_slices<M: PhysMem, A: Allocator + Copy>(
     requires { length (M.bytes memory.old) ≡ machine.now.size }
     ensures booted { HasBootEnded machine.now menu.now
         (map (λ file. sliced_file (option_copied file)) files.now)
-        (M.bytes memory.old) (M.bytes memory.new) (boot_end result) }
+        (M.bytes memory.old) (M.bytes memory.new) (final_phase result) }
     ensures kept { KeepsSizeAndRoom M.lender M.bytes M.room memory.old memory.new }
 {
     let mut store = SliceStore::new(alloc, files, Order::Forward);
@@ -58,7 +58,7 @@ fn boot_files<A: Allocator + Copy>(
     requires { base + length memory.old ≡ machine.now.size }
     ensures { HasBootEnded machine.now menu.now
         (map (λ file. sliced_file (option_copied file)) files.now)
-        (memory_from base memory.old) (memory_from base memory.new) (boot_end result) }
+        (memory_from base memory.old) (memory_from base memory.new) (final_phase result) }
 {
     let mut own = SliceMemory::from_base(base, memory);
     boot_slices(alloc, &mut own, files, machine, menu)
@@ -75,7 +75,7 @@ fn boot_given<A: Allocator + Copy>(
 ) -> Result<Outcome<A>, BootFault<A>>
     requires { base + length memory.old ≡ machine.now.size }
     ensures { HasBootEnded machine.now menu.now (spec.given_files given.now)
-        (memory_from base memory.old) (memory_from base memory.new) (boot_end result) }
+        (memory_from base memory.old) (memory_from base memory.new) (final_phase result) }
 {
     let Ok(files) = stored_files(alloc, given) else {
         return Err(BootFault::NoMemory);

@@ -3,7 +3,7 @@ ghost use Rattle.std.specs.Prelude.{◌≡◌, [], None, Some, IfOk, IfErr, OnOk
 ghost use Rattle.std.specs.Prelude.{length, map, option_to_list};
 ghost use Rattle.bl_load.specs.EntryValue.{file_count, value_of, IsWithinLimits};
 ghost use Rattle.bl_session.specs.Menu.{facts_of};
-ghost use Rattle.bl_abi.specs.Boot.{facts_given, entries_misuse};
+ghost use Rattle.bl_abi.specs.Boot.{entry_facts_given, entries_misuse};
 ghost use Rattle.bl_abi.specs.GivenChecks.{load_misuse};
 ghost use Rattle.bl_abi.specs.Given as spec;
 ghost use Rattle.bl_abi.specs.Load.{IsEntryGivenFault};
@@ -52,7 +52,7 @@ fn copy_of<A: Allocator + Copy>(
 
 /// The index of the initial ramdisk's file.
 fn initrd_of(entry: &EntryRecord) -> Option<u32>
-    ensures { option_to_list result ≡ spec.initrd_given entry.now }
+    ensures { option_to_list result ≡ spec.initrd_index entry.now }
 {
     if entry.initrd == NO_FILE {
         return None;
@@ -68,9 +68,9 @@ pub(crate) fn entry_of<A: Allocator + Copy>(
 ) -> Result<Entry<A>, AllocError>
     ensures value { IfOk result (λ made.
         value_of [] made ≡ spec.entry_without_files given.now entry.now) }
-    ensures facts { IfOk result (λ made. facts_of made ≡ facts_given given.now entry.now) }
+    ensures facts { IfOk result (λ made. facts_of made ≡ entry_facts_given given.now entry.now) }
     ensures count { IfOk result
-        (λ made. file_count made ≡ length (spec.files_given given.now entry.now)) }
+        (λ made. file_count made ≡ length (spec.file_indices given.now entry.now)) }
 {
     let line = Bytes::copy(alloc, given.line(entry.line))?;
     if entry.protocol == 1 {
@@ -99,7 +99,7 @@ pub(crate) fn take_entry<A: Allocator + Copy>(
     ensures value { IfOk result (λ entry.
         value_of [] entry ≡ spec.entry_without_files given.now row.now) }
     ensures count { IfOk result
-        (λ entry. file_count entry ≡ length (spec.files_given given.now row.now)) }
+        (λ entry. file_count entry ≡ length (spec.file_indices given.now row.now)) }
     ensures limits { IfOk result IsWithinLimits }
     ensures sound { OnOk result (load_misuse given.now row.now ≡ None) }
     ensures fault { IfErr result (IsEntryGivenFault given.now row.now) }
@@ -119,7 +119,7 @@ pub(crate) fn entries_of<A: Allocator + Copy>(
     records: &[EntryRecord],
 ) -> Result<Vec<Entry<A>, A>, AllocError>
     ensures { IfOk result (λ entries. map facts_of entries.items
-        ≡ map (facts_given given.now) records.now) }
+        ≡ map (entry_facts_given given.now) records.now) }
 {
     let mut entries = Vec::new(alloc);
     for record in records {

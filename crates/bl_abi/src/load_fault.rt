@@ -1,7 +1,7 @@
 //! Why an entry is not loaded.
 ghost use Rattle.std.specs.Prelude.{◌≡◌};
 ghost use Rattle.bl_abi.specs.declared.load_fault.LoadFault.TheVariants.{NoMemory, Misused};
-ghost use Rattle.bl_abi.specs.Load.{of_given, of_prepared};
+ghost use Rattle.bl_abi.specs.Load.{load_fault_of_given, load_fault_of_prep};
 
 use crate::given_fault::GivenFault;
 use crate::misuse::Misuse;
@@ -38,7 +38,7 @@ impl From<AllocError> for LoadFault {
 }
 
 impl From<GivenFault> for LoadFault {
-    ghost from_gives = { λ given fault. fault ≡ of_given given };
+    ghost from_gives = { λ given fault. fault ≡ load_fault_of_given given };
 
     fn from(given: GivenFault) -> LoadFault {
         given_fault(given)
@@ -46,7 +46,7 @@ impl From<GivenFault> for LoadFault {
 }
 
 impl From<PrepFault> for LoadFault {
-    ghost from_gives = { λ prepared fault. fault ≡ of_prepared prepared };
+    ghost from_gives = { λ prepared fault. fault ≡ load_fault_of_prep prepared };
 
     fn from(prepared: PrepFault) -> LoadFault {
         load_fault(prepared)
@@ -55,7 +55,7 @@ impl From<PrepFault> for LoadFault {
 
 /// The fault of a preparation, as one of a load.
 pub(crate) fn load_fault(fault: PrepFault) -> LoadFault
-    ensures { result ≡ of_prepared fault }
+    ensures { result ≡ load_fault_of_prep fault }
 {
     match fault {
         PrepFault::Refused(refusal) => LoadFault::Refused(refusal),
@@ -65,7 +65,7 @@ pub(crate) fn load_fault(fault: PrepFault) -> LoadFault
 
 /// The fault of what is given, as one of a load.
 pub(crate) fn given_fault(fault: GivenFault) -> LoadFault
-    ensures { result ≡ of_given fault }
+    ensures { result ≡ load_fault_of_given fault }
 {
     match fault {
         GivenFault::Misused(misuse) => LoadFault::Misused(misuse),

@@ -1,9 +1,9 @@
 //! What C is told of the end of a load.
 ghost use Rattle.std.specs.Prelude.{◌≡◌, ◌≤◌, length, map, OnOk};
-ghost use Rattle.bl_load.specs.Place.{planned_place};
-ghost use Rattle.bl_load.specs.PlanFacts.{handoff_by, places_of};
+ghost use Rattle.bl_load.specs.PlannedPlaceKept.{planned_place};
+ghost use Rattle.bl_load.specs.PlanContents.{handoff_by, places_of};
 ghost use Rattle.bl_abi.specs.Status.{fault_status};
-ghost use Rattle.bl_abi.specs.Told as spec;
+ghost use Rattle.bl_abi.specs.LoadTold as spec;
 
 use crate::end_records::{HandoffRecord, PlaceRecord, RefusalRecord};
 use crate::load_fault::LoadFault;

@@ -2,24 +2,24 @@
 ghost use Rattle.std.specs.Prelude.{◌≡◌, ◌+◌, ◌≤◌, IfOk, IfErr, OnOk, Result, All};
 ghost use Rattle.std.specs.Prelude.{length, map};
 ghost use Rattle.bl_mem.specs.Memory.{memory_from};
-ghost use Rattle.bl_load.specs.Handover.{written};
+ghost use Rattle.bl_load.specs.Handover.{overwrite_parts};
 ghost use Rattle.bl_load.specs.Parts.{IsHandover, IsPrepFault};
-ghost use Rattle.bl_load.specs.PlanFacts.{handover_in};
+ghost use Rattle.bl_load.specs.PlanContents.{handover_in};
 ghost use Rattle.bl_load.specs.EntryValue.{value_of, file_count, IsWithinLimits};
 ghost use Rattle.bl_load.specs.HandoffFacts.{HandoffFacts};
-ghost use Rattle.bl_abi.specs.Load.{IsHandedIn, IsEntryFault, IsEntrySound, IsLoadEnd};
-ghost use Rattle.bl_abi.specs.Told.{TellsEnd};
+ghost use Rattle.bl_abi.specs.Load.{IsHandoffInMemory, IsEntryFault, IsEntrySound, IsLoadEnd};
+ghost use Rattle.bl_abi.specs.LoadTold.{TellsEnd};
 ghost use Rattle.bl_abi.specs.declared.load_fault.LoadFault.{LoadFault};
 
 use crate::end_records::{HandoffRecord, PlaceRecord, RefusalRecord};
 use crate::entries::take_entry;
+use crate::file_views::views_of;
 use crate::given_arrays::Given;
 use crate::given_records::{EntryRecord, MachineRecord, RegionRecord};
 use crate::load_fault::{LoadFault, given_fault, load_fault};
 use crate::load_telling::tell_end;
 use crate::machines::machine_of;
 use crate::misuse::Misuse;
-use crate::views::views_of;
 use bl_load::{Entry, Handoff, PrepFault, load_entry};
 use bl_map::Machine;
 use bl_mem::{SliceMemory, SliceView};
@@ -42,7 +42,7 @@ fn load_typed<A: Allocator + Copy>(
         (value_of (map (λ file. file.bytes.now) files.now) entry.now)
         (handover_in (memory_from base memory.new)
         handoff.protocol handoff.registers handoff.places)) }
-    ensures after { IfOk result (λ handoff. memory_from base memory.new ≡ written
+    ensures after { IfOk result (λ handoff. memory_from base memory.new ≡ overwrite_parts
         (handover_in (memory_from base memory.new)
         handoff.protocol handoff.registers handoff.places).parts
         (memory_from base memory.old)) }
@@ -67,7 +67,7 @@ fn load_given<A: Allocator + Copy>(
     row: &EntryRecord,
 ) -> Result<Handoff<A>, LoadFault>
     requires { machine.now.size ≤ base + length memory.old }
-    ensures handed { IfOk result (λ handoff. IsHandedIn machine.now given.now row.now
+    ensures handed { IfOk result (λ handoff. IsHandoffInMemory machine.now given.now row.now
         (memory_from base memory.old) (memory_from base memory.new) handoff) }
     ensures sound { OnOk result (IsEntrySound given.now row.now) }
     ensures fault { IfErr result (IsEntryFault machine.now given.now row.now) }

@@ -1,21 +1,21 @@
 //! What a load of an entry would hand over is told to C, which gives no memory to load into.
 ghost use Rattle.std.specs.Prelude.{◌≤◌, length, IfOk, IfErr, OnOk, Result};
 ghost use Rattle.bl_load.specs.HandoffFacts.{HandoffFacts};
-ghost use Rattle.bl_load.specs.PlanFacts.{handoff_by};
+ghost use Rattle.bl_load.specs.PlanContents.{handoff_by};
 ghost use Rattle.bl_abi.specs.Load.{IsEntryFault, IsEntrySound, IsNotLoaded};
 ghost use Rattle.bl_abi.specs.Prepare.{IsHandoffOf, IsPrepared, IsPrepareEnd};
-ghost use Rattle.bl_abi.specs.Told.{TellsEnd};
+ghost use Rattle.bl_abi.specs.LoadTold.{TellsEnd};
 ghost use Rattle.bl_abi.specs.declared.load_fault.LoadFault.{LoadFault};
 
 use crate::end_records::{HandoffRecord, PlaceRecord, RefusalRecord};
 use crate::entries::take_entry;
+use crate::file_views::views_of;
 use crate::given_arrays::Given;
 use crate::given_records::{EntryRecord, MachineRecord, RegionRecord};
 use crate::load_fault::{LoadFault, given_fault, load_fault};
 use crate::load_telling::{tell_fault, tell_plan};
 use crate::machines::machine_of;
 use crate::misuse::Misuse;
-use crate::views::views_of;
 use bl_load::{Plan, prepare};
 use bl_map::Machine;
 use bl_plan::MAX_PARTS;

@@ -1,6 +1,6 @@
 //! A refusal as C is told it.
 ghost use Rattle.std.specs.Prelude.{◌≡◌};
-ghost use Rattle.bl_abi.specs.Refused as spec;
+ghost use Rattle.bl_abi.specs.RefusalTold as spec;
 
 use crate::end_records::RefusalRecord;
 use bl_load::Refusal;

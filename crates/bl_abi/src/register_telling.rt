@@ -1,6 +1,6 @@
 //! Registers as C is told them.
 ghost use Rattle.std.specs.Prelude.{◌≡◌};
-ghost use Rattle.bl_abi.specs.Told as spec;
+ghost use Rattle.bl_abi.specs.LoadTold as spec;
 
 use crate::end_records::RegistersRecord;
 use bl_load::{Registers, Registers32, Registers64};

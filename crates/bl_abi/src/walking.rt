@@ -1,7 +1,7 @@
 //! An image in memory is walked.
 ghost use Rattle.std.specs.Prelude.{MatchResult, Result};
 ghost use Rattle.bl_image.specs.ImageFaults.{image_fault};
-ghost use Rattle.bl_image.specs.ImageParts.{IsImage};
+ghost use Rattle.bl_image.specs.ImageHandover.{IsImage};
 ghost use Rattle.bl_image.specs.Source.{IsBytesFault};
 ghost use Rattle.bl_image.specs.declared.version.Version.{Version};
 ghost use Rattle.bl_abi.specs.SeenTold.{WalkRecordsFacts};

@@ -5,7 +5,7 @@ use Rattle.toml.specs.View.{view}
 use Rattle.toml.specs.declared.value.Value.{Value, Array}
 use Rattle.toml.proofs.Views.{view-Array}
 use Rattle.bl_desc.proofs.BadValueLemmas.{item_count-view}
-use Rattle.bl_blame.specs.KeyWords.{held_words}
+use Rattle.bl_blame.specs.BadKeyWords.{held_words}
 
 pub held_array : (v : Vec Value Global)
     → held_words (view (Array v)) ≡ codes "an array of " ++ decimal (length v.items)

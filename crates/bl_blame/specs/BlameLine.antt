@@ -4,11 +4,12 @@ use Rattle.bl_map.specs.Faults.{map_fault_number}
 use Rattle.bl_map.specs.declared.fault.MapFault.{MapFault}
 use Rattle.bl_map.specs.declared.fault.MapFault.TheVariants.{BadSize, BadRegion, TooManyRegions}
 use Rattle.bl_map.specs.declared.fault.MapFault.TheVariants.{BadPool, NoMemory}
-use Rattle.bl_blame.specs.declared.told.blame.TextPlace.{TextPlace}
-use Rattle.bl_blame.specs.declared.told.blame.Blame.{Blame}
-use Rattle.bl_blame.specs.declared.told.blame.Blame.TheVariants as blames
-use Rattle.bl_blame.specs.declared.told.blame.Blame.TheVariants.{NotUtf8, NotToml, BadMachine}
-use Rattle.bl_blame.specs.KeyWords.{bad_key_words}
+use Rattle.bl_blame.specs.declared.line_subjects.blame.TextPlace.{TextPlace}
+use Rattle.bl_blame.specs.declared.line_subjects.blame.Blame.{Blame}
+use Rattle.bl_blame.specs.declared.line_subjects.blame.Blame.TheVariants as blames
+use Rattle.bl_blame.specs.declared.line_subjects.blame.Blame.TheVariants.{NotUtf8, NotToml}
+use Rattle.bl_blame.specs.declared.line_subjects.blame.Blame.TheVariants.{BadMachine}
+use Rattle.bl_blame.specs.BadKeyWords.{bad_key_words}
 use Rattle.bl_blame.specs.ToldNumbers.{number_told}
 
 abbrev pub map_fault_name : MapFault → List ℕ

@@ -3,8 +3,8 @@ use Rattle.std.specs.Prelude.{ℕ, List, [], ◌++◌, Option, Some, None}
 use Rattle.bl_map.specs.declared.fault.MapFault.{MapFault}
 use Rattle.bl_map.specs.declared.fault.MapFault.TheVariants.{BadSize, BadPool}
 use Rattle.bl_desc.specs.Described.{Described}
-use Rattle.bl_blame.specs.declared.told.blame.Blame.{Blame}
-use Rattle.bl_blame.specs.declared.told.blame.Blame.TheVariants as blames
+use Rattle.bl_blame.specs.declared.line_subjects.blame.Blame.{Blame}
+use Rattle.bl_blame.specs.declared.line_subjects.blame.Blame.TheVariants as blames
 use Rattle.bl_blame.specs.BlameLine.{blame_line}
 use Rattle.bl_blame.specs.RadixHints.{pool_hints, size_hint}
 use Rattle.bl_blame.specs.PoolLines.{pool_lines}

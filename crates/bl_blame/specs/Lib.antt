@@ -2,8 +2,8 @@ pub mod ShownNames
 pub mod ToldNumbers
 pub mod Addresses
 pub mod RegionHints
-pub mod UnusableWords
-pub mod KeyWords
+pub mod UnusableAddress
+pub mod BadKeyWords
 pub mod BlameLine
 pub mod EditDistance
 pub mod WordHints

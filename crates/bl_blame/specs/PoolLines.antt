@@ -8,7 +8,7 @@ use Rattle.bl_map.specs.Limits.{first_usable, usable_limit}
 use Rattle.bl_map.specs.declared.region.Region.{Region}
 use Rattle.bl_desc.specs.Described.{Described}
 use Rattle.bl_blame.specs.RegionHints.{region_hints}
-use Rattle.bl_blame.specs.UnusableWords.{unusable_line}
+use Rattle.bl_blame.specs.UnusableAddress.{unusable_line}
 
 -- `IsUsableAmong` as a test: a part may lie on this byte of a machine of this size
 abbrev pub is_usable_among : List Region → (size a : ℕ) → Bool

@@ -33,12 +33,12 @@ abbrev pub size_hint : ℕ → List ℕ
 size_hint size = hex_hint is_size size
 
 -- one that may be the start or the end of a pool in a machine of this size
-abbrev pub is_pool_end : (size n : ℕ) → Bool
-is_pool_end size n = not (is_unaligned n) && nat_le n size
+abbrev pub is_pool_bound : (size n : ℕ) → Bool
+is_pool_bound size n = not (is_unaligned n) && nat_le n size
 
 -- on one of a pool's two numbers that is not in whole frames
-abbrev pub pool_end_hint : (size n : ℕ) → List ℕ
-pool_end_hint size n = if is_unaligned n then hex_hint (is_pool_end size) n else []
+abbrev pub pool_bound_hint : (size n : ℕ) → List ℕ
+pool_bound_hint size n = if is_unaligned n then hex_hint (is_pool_bound size) n else []
 
 abbrev pub pool_hints : ℕ → Range ℕ → List ℕ
-pool_hints size pool = pool_end_hint size pool.start ++ pool_end_hint size pool.end
+pool_hints size pool = pool_bound_hint size pool.start ++ pool_bound_hint size pool.end

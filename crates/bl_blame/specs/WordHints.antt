@@ -22,17 +22,17 @@ near_hint [] held = []
 near_hint (word ∷ words) held =
     if is_one_edit_away held word then meant_line word else near_hint words held
 
-abbrev pub kind_words : List (List ℕ)
-kind_words =
+abbrev pub kind_names : List (List ℕ)
+kind_names =
     kind_name Usable ∷ kind_name Reserved ∷ kind_name Acpi ∷ kind_name Nvs ∷ kind_name Bad ∷ []
 
-abbrev pub protocol_words : List (List ℕ)
-protocol_words = protocol_name Multiboot2 ∷ protocol_name Linux ∷ protocol_name Linux64 ∷ []
+abbrev pub protocol_names : List (List ℕ)
+protocol_names = protocol_name Multiboot2 ∷ protocol_name Linux ∷ protocol_name Linux64 ∷ []
 
 -- on a text that is not allowed
 abbrev pub text_hint : Allowed → List ℕ → List ℕ
-text_hint KindName text = near_hint kind_words text
-text_hint ProtocolName text = near_hint protocol_words text
+text_hint KindName text = near_hint kind_names text
+text_hint ProtocolName text = near_hint protocol_names text
 text_hint _ text = []
 
 -- on a value that is not allowed

@@ -1,11 +1,11 @@
 //! Why a description is refused, told in lines.
 #![tactic(auto)]
 
+mod line_subjects;
 mod lines;
-mod told;
 
+pub use line_subjects::{Blame, TextPlace};
 pub use lines::{
-    say_address, say_blame, say_line_end, say_machine_blame, say_name, say_number,
+    say_address, say_blame, say_line_end, say_machine_blame, say_name, say_number_in_brackets,
     say_region_hints, say_unusable,
 };
-pub use told::{Blame, TextPlace};

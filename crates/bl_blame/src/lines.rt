@@ -4,7 +4,7 @@ mod bad_key;
 mod blame;
 mod edit_distance;
 mod key_values;
-mod pieces;
+mod number_and_line_end;
 mod pool_lines;
 mod radix_hints;
 mod region_hints;
@@ -13,7 +13,7 @@ mod unusable;
 mod word_hints;
 
 pub use blame::{say_blame, say_machine_blame};
-pub use pieces::{say_line_end, say_number};
+pub use number_and_line_end::{say_line_end, say_number_in_brackets};
 pub use region_hints::say_region_hints;
 pub use shown_names::say_name;
 pub use unusable::{say_address, say_unusable};

@@ -6,8 +6,8 @@ use Rattle.bl_load.specs.Handover.{Handover}
 use Rattle.bl_image.specs.declared.fault.ImageFault.{ImageFault}
 use Rattle.bl_image.specs.declared.fault.ImageFault.TheVariants as image
 use Rattle.bl_image.specs.declared.version.Version.{Version}
-use Rattle.bl_image.specs.ImageParts.{IsImage}
-use Rattle.bl_image.specs.Source.{SourceFacts, IsOfTheMoment}
+use Rattle.bl_image.specs.ImageHandover.{IsImage}
+use Rattle.bl_image.specs.Source.{SourceFacts, IsTransient}
 use Rattle.bl_image.specs.Versions.{written_version}
 use Rattle.bl_image.proofs.ImageLaws.{image_not_refused}
 use Rattle.bl_image.proofs.KnownLemmas.{known_ok}
@@ -35,7 +35,7 @@ read_same before after h k bytes version e read is =
     (image_is_read_again other.0 version k h other.1.kept.spellable is.kept.spellable
     (sym other.1.is ∙ is.is)).1
 
-of_the_bytes : (fault : ImageFault) → IsOfTheMoment fault → (fault ≡ image.DeviceFault → ⊥)
+of_the_bytes : (fault : ImageFault) → IsTransient fault → (fault ≡ image.DeviceFault → ⊥)
     → (fault ≡ image.NoMemory → ⊥) → ⊥
 of_the_bytes image.BadMagic moment device memory = absurd moment
 of_the_bytes image.BadVersion moment device memory = absurd moment

@@ -12,14 +12,16 @@ use Rattle.bl_image.specs.Image.{spelling}
 use Rattle.bl_image.specs.Versions.{written_version}
 use Rattle.bl_session.specs.BootSteps.{fresh}
 use Rattle.bl_session.specs.AttemptResult.{AttemptResult, AttemptHasResult}
-use Rattle.bl_session.specs.Outcome.{File, no_fault, faulty_file}
+use Rattle.bl_session.specs.MenuFiles.{File}
+use Rattle.bl_session.specs.Schedules.{no_fault}
+use Rattle.bl_session.specs.Outcome.{faulty_file}
 use Rattle.bl_session.specs.Pieces.{are_whole}
 use Rattle.bl_session.proofs.EndLaws.{one_end}
 use Rattle.bl_session.proofs.OutcomeLaws.{same_handover}
 use Rattle.bl_desc.specs.Described.{Described}
-use Rattle.bl_menu.specs.Attempted.{boot_of}
+use Rattle.bl_menu.specs.DescribedMenu.{boot_of}
 use Rattle.bl_menu.specs.DescribedMachine.{IsMachineOf}
-use Rattle.bl_menu.specs.Cases.{BootCase, HasResultAt, sizes_at, value_at}
+use Rattle.bl_menu.specs.BootCases.{BootCase, HasResultAt, file_sizes_at, entry_value_at}
 use Rattle.bl_boot.specs.Ends.{IsBooted, Surroundings}
 
 -- two boots
@@ -29,7 +31,7 @@ module _ {F G : Type 0} {answers : F → List ℕ → File → Type 0} {faults :
     {began ended : Surroundings G} where
   pub one_image : (a : IsBooted answers faults desc before after)
       (b : IsBooted replies wants other began ended)
-      → a.case.facts ≡ b.case.facts → value_at a.case a.entry ≡ value_at b.case b.entry
+      → a.case.facts ≡ b.case.facts → entry_value_at a.case a.entry ≡ entry_value_at b.case b.entry
       → (image : List ℕ) × (after.sink ≡ before.sink ++ image) × (ended.sink ≡ began.sink ++ image)
   one_image a b machine value =
       let f = boot_of a.case.description a.case.facts a.case.files in
@@ -61,16 +63,16 @@ module _ {F G : Type 0} {answers : F → List ℕ → File → Type 0} {faults :
   where
     pub one_end_at : (a : BootCase answers faults desc before after)
         (b : BootCase replies wants other began ended)
-        → a.facts ≡ b.facts → (entry index : ℕ) → sizes_at a entry ≡ sizes_at b index
-        → value_at a entry ≡ value_at b index
+        → a.facts ≡ b.facts → (entry index : ℕ) → file_sizes_at a entry ≡ file_sizes_at b index
+        → entry_value_at a entry ≡ entry_value_at b index
         → (e f : AttemptResult) → HasResultAt a entry e → HasResultAt b index f → e ≡ f
     one_end_at a b machine entry index sizes value e f x y =
         let f_a = boot_of a.description a.facts a.files in
         let f_b = boot_of b.description b.facts b.files in
-        ends_alike a.facts b.facts (sizes_at a entry) (sizes_at b index)
+        ends_alike a.facts b.facts (file_sizes_at a entry) (file_sizes_at b index)
         (faulty_file f_a entry None)
         (faulty_file f_b index None)
-        (value_at a entry) (value_at b index) e f machine sizes
+        (entry_value_at a entry) (entry_value_at b index) e f machine sizes
         (none_if (are_whole (fresh f_a entry)) ∙ sym (none_if (are_whole (fresh f_b index)))) value
         x y
 

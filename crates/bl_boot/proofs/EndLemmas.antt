@@ -1,37 +1,39 @@
 -- How boots end.
 use Rattle.std.proofs.Common.{◌≡◌, ◌++◌, ℕ, List, Some, Result, Ok, Err, inl, inr, map, refl}
 use Rattle.bl_map.specs.MachineFacts.{MachineFacts}
-use Rattle.bl_load.specs.Offered.{IsOffered}
+use Rattle.bl_load.specs.WellFormedEntry.{IsWellFormedValue}
 use Rattle.bl_load.specs.Handover.{Handover}
 use Rattle.bl_image.specs.Image.{spelling}
 use Rattle.bl_image.specs.Versions.{written_version}
 use Rattle.bl_session.specs.declared.outcome.RefusedEntry.{RefusedEntry}
 use Rattle.bl_session.specs.BootSteps.{BootFacts, handed_over}
-use Rattle.bl_session.specs.Outcome.{File, IsOutcome, no_fault, size_of, entry_value_in}
+use Rattle.bl_session.specs.MenuFiles.{File, size_of, entry_value_in}
+use Rattle.bl_session.specs.Schedules.{no_fault}
+use Rattle.bl_session.specs.Outcome.{IsOutcome}
 use Rattle.bl_session.specs.Phases.{boot_facts}
 use Rattle.bl_desc.specs.declared.desc.Description.{Description}
 use Rattle.bl_desc.specs.Described.{Described, described}
 use Rattle.bl_desc.specs.declared.fault.DescFault.{DescFault}
 use Rattle.bl_desc.specs.declared.fault.DescFault.TheVariants as desc_fault
-use Rattle.bl_desc.specs.Views.{AnswersNothing, view}
+use Rattle.bl_desc.specs.Views.{IsReaderFault, view}
 use Rattle.bl_menu.specs.declared.boot_end.End.{End}
 use Rattle.bl_menu.specs.declared.boot_end.End.TheVariants.{Booted, NoEntryLeft}
 use Rattle.bl_boot.specs.declared.description_boot.end_fault.EndFault.{EndFault}
 use Rattle.bl_boot.specs.declared.description_boot.end_fault.EndFault.TheVariants.{BadDescription}
 use Rattle.bl_boot.specs.declared.description_boot.end_fault.EndFault.TheVariants.{Device}
 use Rattle.bl_boot.specs.declared.description_boot.end_fault.EndFault.TheVariants.{NoMemory}
-use Rattle.bl_menu.specs.Found.{AreFound}
-use Rattle.bl_menu.specs.Attempted.{names_in, menu_of, boot_of}
+use Rattle.bl_menu.specs.FoundFiles.{AreFound}
+use Rattle.bl_menu.specs.DescribedMenu.{attempted_file_names, menu_of, boot_of}
 use Rattle.bl_menu.specs.DescribedMachine.{IsMachineFault, IsMachineOf}
-use Rattle.bl_menu.specs.Cases.{BootCase}
+use Rattle.bl_menu.specs.BootCases.{BootCase}
 use Rattle.bl_boot.specs.Ends.{Surroundings}
-use Rattle.bl_boot.specs.Kept.{end_of_desc_fault, IsImageWriteFault, HasFaults, HasAsked}
-use Rattle.bl_boot.specs.Kept.{FoundEnds, BootEnds}
+use Rattle.bl_boot.specs.Kept.{end_of_desc_fault, IsImageWriteFault, CountsSinkFault, HasAsked}
+use Rattle.bl_boot.specs.Kept.{FoundBootEnds, BootEnds}
 use Rattle.bl_menu.proofs.AskedLemmas.{none_asked, all_asked}
 
 -- the sink has one fault more exactly if it had one while the image was written
 pub faults_by : (old new : ℕ) (s t image : List ℕ) (fault : EndFault)
-    → IsImageWriteFault old new s t image fault → HasFaults old new (Err fault)
+    → IsImageWriteFault old new s t image fault → CountsSinkFault old new (Err fault)
 faults_by old new s t image BadDescription never = absurd never
 faults_by old new s t image Device broken = broken.0
 faults_by old new s t image NoMemory kept = kept.0
@@ -42,7 +44,7 @@ pub not_handed : (description : Described) (facts : BootFacts) (files : List Fil
     → IsOutcome facts files no_fault (handed_over entry earlier handover)
     → (old new : ℕ) (s t u v : List ℕ) (fault : EndFault)
     → IsImageWriteFault old new s t (spelling written_version handover) fault → v ≡ u
-    → FoundEnds description facts files s t u v (Err fault)
+    → FoundBootEnds description facts files s t u v (Err fault)
 not_handed description facts files entry earlier handover came old new s t u v BadDescription never
     unsaid = absurd never
 not_handed description facts files entry earlier handover came old new s t u v Device broken
@@ -62,13 +64,13 @@ asked_without description names before desc_fault.NoMemory is = none_asked names
 -- nothing is described, or memory ran out: the boot ends as it began
 pub undescribed : {F : Type 0} (answers : F → List ℕ → File → Type 0) (faults : F → ℕ)
     (desc : List ℕ) (around : Surroundings F) (fault : DescFault)
-    → AnswersNothing fault (described desc)
+    → IsReaderFault fault (described desc)
     → BootEnds answers faults desc around around (Err (end_of_desc_fault fault))
 undescribed answers faults desc around desc_fault.BadDescription none = (inl none, refl)
 undescribed answers faults desc around desc_fault.NoMemory given = (refl, refl)
 
 pub sound_undescribed : (faults : ℕ) (fault : DescFault)
-    → HasFaults faults faults (Err (end_of_desc_fault fault))
+    → CountsSinkFault faults faults (Err (end_of_desc_fault fault))
 sound_undescribed faults desc_fault.BadDescription = refl
 sound_undescribed faults desc_fault.NoMemory = refl
 
@@ -88,7 +90,7 @@ without_machine desc d is answers faults around desc_fault.BadDescription bad =
 without_machine desc d is answers faults around desc_fault.NoMemory given = (refl, refl)
 
 pub sound_without : (description : Described) (faults : ℕ) (fault : DescFault)
-    → IsMachineFault description fault → HasFaults faults faults (Err (end_of_desc_fault fault))
+    → IsMachineFault description fault → CountsSinkFault faults faults (Err (end_of_desc_fault fault))
 sound_without description faults desc_fault.BadDescription bad = refl
 sound_without description faults desc_fault.NoMemory given = refl
 
@@ -103,13 +105,13 @@ asked_by (Err NoMemory) names before after all = all_asked names before after al
 -- the bytes describe d
 module _ {A : Type 0} (desc : List ℕ) (d : Description A) (is : described desc ≡ Some (view d))
   where
-    -- its machine has these facts, these files were found, and its entries are offered
+    -- its machine has these facts, these files were found, and the values of its entries are well-formed
     module _ {F : Type 0} (answers : F → List ℕ → File → Type 0) (faults : F → ℕ)
         (facts : MachineFacts)
         (machine : IsMachineOf (view d) facts) (before after : F) (files : List File)
-        (found : AreFound answers faults (view d).files (names_in (view d)) before after files)
-        (offered : (entry : ℕ)
-        → IsOffered (entry_value_in (boot_of (view d) facts files) files entry))
+        (found : AreFound answers faults (view d).files (attempted_file_names (view d)) before after files)
+        (well_formed : (entry : ℕ)
+        → IsWellFormedValue (entry_value_in (boot_of (view d) facts files) files entry))
       where
         abbrev this_case : BootCase answers faults desc before after
         this_case = record {
@@ -127,7 +129,7 @@ module _ {A : Type 0} (desc : List ℕ) (d : Description A) (is : described desc
 
         -- it ends as the boot of what was found
         pub ends_by : (s t u v : List ℕ) (ended : Result End EndFault)
-            → FoundEnds (view d)
+            → FoundBootEnds (view d)
             (boot_facts facts (menu_of (view d)) (map size_of files)) files s t u v ended
             → BootEnds answers faults desc (around before s u) (around after t v) ended
         ends_by s t u v (Ok Booted) (entry, earlier, handover, came, kept, image, said) = record {
@@ -136,7 +138,7 @@ module _ {A : Type 0} (desc : List ℕ) (d : Description A) (is : described desc
           earlier = earlier;
           handover = handover;
           outcome = came;
-          offered = offered entry;
+          well_formed = well_formed entry;
           kept = kept;
           image = image;
           said = said;

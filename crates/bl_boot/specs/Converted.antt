@@ -1,12 +1,12 @@
 -- How a conversion of an image ends. Own.
 use Rattle.std.specs.Prelude.{◌≡◌, ◌+◌, ◌⊎◌, ℕ, List, ◌++◌, Some}
 use Rattle.bl_load.specs.Handover.{Handover}
-use Rattle.bl_image.specs.Begun.{TookBeginning}
+use Rattle.bl_image.specs.SinkFacts.{TookBeginning}
 use Rattle.bl_image.specs.Image.{spelling}
 use Rattle.bl_image.specs.Source.{SourceFacts}
 use Rattle.bl_image.specs.Versions.{written_version}
 use Rattle.bl_boot.specs.Walked.{ReadsImage, IsWalked, IsNoImage, IsBadImage}
-use Rattle.bl_say.specs.Says.{bad_image_line}
+use Rattle.bl_say.specs.BootAndMapLines.{bad_image_line}
 
 -- the image of a handover came, and the sink took it in the version that is written
 pub record IsConverted (before after : SourceFacts) (old new : List ℕ) : Type 0 where

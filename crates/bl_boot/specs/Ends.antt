@@ -1,17 +1,17 @@
 -- How a boot of the program ends. Own.
 use Rattle.std.specs.Prelude.{◌≡◌, ℕ, List, ◌++◌}
-use Rattle.bl_load.specs.Offered.{IsOffered}
+use Rattle.bl_load.specs.WellFormedEntry.{IsWellFormedValue}
 use Rattle.bl_load.specs.Handover.{Handover}
-use Rattle.bl_image.specs.Begun.{TookBeginning}
+use Rattle.bl_image.specs.SinkFacts.{TookBeginning}
 use Rattle.bl_image.specs.Image.{spelling}
-use Rattle.bl_image.specs.ImageParts.{IsKeptByImages}
+use Rattle.bl_image.specs.ImageHandover.{IsKeptByImages}
 use Rattle.bl_image.specs.Versions.{written_version}
 use Rattle.bl_session.specs.declared.outcome.RefusedEntry.{RefusedEntry}
 use Rattle.bl_session.specs.BootSteps.{handed_over, none_left}
-use Rattle.bl_session.specs.Outcome.{File, entry_value_in}
-use Rattle.bl_menu.specs.Attempted.{entry_of, boot_of}
-use Rattle.bl_menu.specs.Cases.{BootCase, HasOutcome}
-use Rattle.bl_say.specs.Says.{booted_line, refused_lines, no_entry_line}
+use Rattle.bl_session.specs.MenuFiles.{File, entry_value_in}
+use Rattle.bl_menu.specs.DescribedMenu.{described_entry, boot_of}
+use Rattle.bl_menu.specs.BootCases.{BootCase, HasOutcome}
+use Rattle.bl_say.specs.BootAndMapLines.{booted_line, refused_lines, no_entry_line}
 
 -- what a boot starts from, or what it leaves: the files, what the sink took, and what is said
 pub record Surroundings (F : Type 0) : Type 0 where
@@ -30,12 +30,13 @@ module _ {F : Type 0} (answers : F → List ℕ → File → Type 0) (faults : F
     pub earlier : List RefusedEntry
     pub handover : Handover
     pub outcome : HasOutcome answers faults case (handed_over entry earlier handover)
-    pub offered : IsOffered (entry_value_in (boot_of case.description case.facts case.files)
-        case.files entry)
+    pub well_formed : IsWellFormedValue
+        (entry_value_in (boot_of case.description case.facts case.files) case.files entry)
     pub kept : IsKeptByImages handover
     pub image : after.sink ≡ before.sink ++ spelling written_version handover
     pub said : after.said ≡ before.said
-        ++ (refused_lines earlier ++ booted_line entry (entry_of case.description entry).title)
+        ++ (refused_lines earlier
+        ++ booted_line entry (described_entry case.description entry).title)
 
   -- each entry that was attempted was refused, the sink took nothing, and what is said tells it
   pub record IsRefused (desc : List ℕ) (before after : Surroundings F) : Type 0 where

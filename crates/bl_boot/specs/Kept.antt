@@ -1,22 +1,24 @@
 -- What the code keeps of how a call ends, by its result. Own.
 use Rattle.std.specs.Prelude.{◌≡◌, ℕ, ◌+◌, ◌++◌, List, Result, Ok, Err}
-use Rattle.bl_image.specs.Begun.{TookBeginning}
+use Rattle.bl_image.specs.SinkFacts.{TookBeginning}
 use Rattle.bl_desc.specs.Described.{Described}
 use Rattle.bl_desc.specs.declared.fault.DescFault.{DescFault}
 use Rattle.bl_desc.specs.declared.fault.DescFault.TheVariants as desc_fault
 use Rattle.bl_image.specs.Image.{spelling}
-use Rattle.bl_image.specs.ImageParts.{IsKeptByImages}
+use Rattle.bl_image.specs.ImageHandover.{IsKeptByImages}
 use Rattle.bl_image.specs.Versions.{written_version}
 use Rattle.bl_load.specs.Handover.{Handover}
 use Rattle.bl_session.specs.declared.outcome.RefusedEntry.{RefusedEntry}
 use Rattle.bl_session.specs.BootSteps.{BootFacts, handed_over, none_left}
-use Rattle.bl_session.specs.Outcome.{File, IsOutcome, no_fault}
-use Rattle.bl_menu.specs.Attempted.{entry_of}
-use Rattle.bl_menu.specs.Found.{AsksPrefix}
-use Rattle.bl_say.specs.Says.{booted_line, refused_lines, no_entry_line}
+use Rattle.bl_session.specs.MenuFiles.{File}
+use Rattle.bl_session.specs.Schedules.{no_fault}
+use Rattle.bl_session.specs.Outcome.{IsOutcome}
+use Rattle.bl_menu.specs.DescribedMenu.{described_entry}
+use Rattle.bl_menu.specs.FoundFiles.{AsksPrefix}
+use Rattle.bl_say.specs.BootAndMapLines.{booted_line, refused_lines, no_entry_line}
 use Rattle.bl_menu.specs.DescribedMachine.{IsBadDescription}
 use Rattle.bl_boot.specs.Ends.{IsBooted, IsRefused, IsCutShort, Surroundings}
-use Rattle.bl_boot.specs.Mapped.{IsMapped}
+use Rattle.bl_boot.specs.MachineMap.{SaysMachineMap}
 use Rattle.bl_boot.specs.declared.description_boot.end_fault.EndFault.{EndFault}
 use Rattle.bl_boot.specs.declared.description_boot.end_fault.EndFault.TheVariants.{BadDescription}
 use Rattle.bl_boot.specs.declared.description_boot.end_fault.EndFault.TheVariants.{Device}
@@ -52,29 +54,30 @@ BootEnds answers faults desc before after (Err NoMemory) =
 
 -- the boot of what was found for a description ends so: what it came to, of these files, what the
 -- sink took, and what is said
-abbrev pub FoundEnds : Described → BootFacts → List File → (s t u v : List ℕ)
+abbrev pub FoundBootEnds : Described → BootFacts → List File → (s t u v : List ℕ)
     → Result End EndFault → Type 0
-FoundEnds description facts files s t u v (Ok Booted) =
+FoundBootEnds description facts files s t u v (Ok Booted) =
     (entry : ℕ) × (earlier : List RefusedEntry) × (handover : Handover)
     × IsOutcome facts files no_fault (handed_over entry earlier handover)
     × IsKeptByImages handover × (t ≡ s ++ spelling written_version handover)
-    × (v ≡ u ++ (refused_lines earlier ++ booted_line entry (entry_of description entry).title))
-FoundEnds description facts files s t u v (Ok NoEntryLeft) =
+    × (v ≡ u ++ (refused_lines earlier
+    ++ booted_line entry (described_entry description entry).title))
+FoundBootEnds description facts files s t u v (Ok NoEntryLeft) =
     (refused : List RefusedEntry) × IsOutcome facts files no_fault (none_left refused)
     × (t ≡ s) × (v ≡ u ++ (refused_lines refused ++ no_entry_line))
-FoundEnds description facts files s t u v (Err BadDescription) = ⊥
-FoundEnds description facts files s t u v (Err Device) =
+FoundBootEnds description facts files s t u v (Err BadDescription) = ⊥
+FoundBootEnds description facts files s t u v (Err Device) =
     (entry : ℕ) × (earlier : List RefusedEntry) × (handover : Handover)
     × IsOutcome facts files no_fault (handed_over entry earlier handover)
     × TookBeginning s t (spelling written_version handover) × (v ≡ u)
-FoundEnds description facts files s t u v (Err NoMemory) = (t ≡ s) × (v ≡ u)
+FoundBootEnds description facts files s t u v (Err NoMemory) = (t ≡ s) × (v ≡ u)
 
 -- the sink has one fault more exactly where the boot ends in a fault of the sink
-abbrev pub HasFaults : ℕ → ℕ → Result End EndFault → Type 0
-HasFaults before after (Err Device) = after ≡ before + 1
-HasFaults before after (Err BadDescription) = after ≡ before
-HasFaults before after (Err NoMemory) = after ≡ before
-HasFaults before after (Ok ended) = after ≡ before
+abbrev pub CountsSinkFault : ℕ → ℕ → Result End EndFault → Type 0
+CountsSinkFault before after (Err Device) = after ≡ before + 1
+CountsSinkFault before after (Err BadDescription) = after ≡ before
+CountsSinkFault before after (Err NoMemory) = after ≡ before
+CountsSinkFault before after (Ok ended) = after ≡ before
 
 -- these names were asked for where the boot came to an end, or the sink had a fault; else the first
 -- of them
@@ -86,7 +89,7 @@ HasAsked names before after (Err NoMemory) = AsksPrefix names before after
 
 -- a map ends so
 abbrev pub MapEnds : List ℕ → List ℕ → List ℕ → Result (Unit {0}) EndFault → Type 0
-MapEnds desc before after (Ok done) = IsMapped desc before after
+MapEnds desc before after (Ok done) = SaysMachineMap desc before after
 MapEnds desc before after (Err BadDescription) = IsBadDescription desc × (after ≡ before)
 MapEnds desc before after (Err Device) = ⊥
 MapEnds desc before after (Err NoMemory) = after ≡ before

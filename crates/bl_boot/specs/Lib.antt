@@ -1,5 +1,5 @@
 pub mod Ends
-pub mod Mapped
+pub mod MachineMap
 pub mod Kept
 pub mod Walked
 pub mod WalkKept

@@ -4,7 +4,7 @@ use Rattle.bl_load.specs.Handover.{Handover}
 use Rattle.bl_image.specs.declared.version.Version.{Version}
 use Rattle.bl_image.specs.Image.{spelling}
 use Rattle.bl_image.specs.ImageFaults.{image_fault}
-use Rattle.bl_image.specs.ImageParts.{IsKeptByImages}
+use Rattle.bl_image.specs.ImageHandover.{IsKeptByImages}
 use Rattle.bl_image.specs.Faults.{image_fault_number}
 use Rattle.bl_image.specs.Versions.{HasProtocol}
 use Rattle.bl_image.specs.Source.{SourceFacts, Comes, IsEnded, IsInputFault}
@@ -15,7 +15,7 @@ use Rattle.bl_walk.specs.SeenFacts.{SeenFacts}
 use Rattle.bl_walk.specs.Faults.{HasWalkFault, IsSound, walk_fault_number}
 use Rattle.bl_walk.specs.declared.fault.WalkFault.{WalkFault}
 use Rattle.bl_walk.specs.declared.fault.WalkFault.TheVariants as walking
-use Rattle.bl_say.specs.Says.{bad_image_line}
+use Rattle.bl_say.specs.BootAndMapLines.{bad_image_line}
 use Rattle.bl_say.specs.WalkLines.{walk_lines}
 
 -- the image of a handover, in a version, came from the source, and then its end

@@ -4,19 +4,19 @@ ghost use Rattle.bl_map.specs.MachineFacts.{MachineFacts};
 ghost use Rattle.bl_map.specs.NormalMap.{kind_at};
 ghost use Rattle.bl_load.specs.Handover.{Handover};
 ghost use Rattle.bl_image.specs.Image.{spelling};
-ghost use Rattle.bl_image.specs.ImageParts.{IsImage};
+ghost use Rattle.bl_image.specs.ImageHandover.{IsImage};
 ghost use Rattle.bl_image.specs.Versions.{written_version};
 ghost use Rattle.bl_image.specs.declared.version.Version.{Version};
 ghost use Rattle.bl_walk.specs.Faults.{IsSound};
 ghost use Rattle.bl_walk.specs.Seen.{IsSeen};
 ghost use Rattle.bl_walk.specs.SeenFacts.{SeenFacts};
-ghost use Rattle.bl_walk.specs.Shown.{ShowsEntry};
+ghost use Rattle.bl_walk.specs.EntryShown.{ShowsEntry};
 ghost use Rattle.bl_walk.specs.State.{IsEntered};
 ghost use Rattle.bl_session.specs.AttemptResult.{AttemptResult};
 ghost use Rattle.bl_boot.specs.Converted.{Converts, Walks, WalkRefuses};
 ghost use Rattle.bl_desc.specs.Described.{Described};
 ghost use Rattle.bl_menu.specs.DescribedMachine.{IsMachineOf};
-ghost use Rattle.bl_menu.specs.Cases.{BootCase, value_at, sizes_at, HasResultAt};
+ghost use Rattle.bl_menu.specs.BootCases.{BootCase, entry_value_at, file_sizes_at, HasResultAt};
 ghost use Rattle.bl_boot.specs.Ends.{IsBooted, Surroundings};
 
 use bl_menu::Files;
@@ -33,13 +33,13 @@ pub fn two_boots<F: Files, G: Files>()
     ensures one_image { (desc other : List ℕ) (before after : Surroundings F)
         (began ended : Surroundings G) (a : IsBooted F.answers F.faults desc before after)
         (b : IsBooted G.answers G.faults other began ended) → a.case.facts ≡ b.case.facts
-        → value_at a.case a.entry ≡ value_at b.case b.entry → (image : List ℕ)
+        → entry_value_at a.case a.entry ≡ entry_value_at b.case b.entry → (image : List ℕ)
         × (after.sink ≡ before.sink ++ image) × (ended.sink ≡ began.sink ++ image) }
     ensures ends { (desc other : List ℕ) (before after : F) (began ended : G)
         (a : BootCase F.answers F.faults desc before after)
         (b : BootCase G.answers G.faults other began ended) → a.facts ≡ b.facts
-        → (entry index : ℕ) → sizes_at a entry ≡ sizes_at b index
-        → value_at a entry ≡ value_at b index → (e f : AttemptResult)
+        → (entry index : ℕ) → file_sizes_at a entry ≡ file_sizes_at b index
+        → entry_value_at a entry ≡ entry_value_at b index → (e f : AttemptResult)
         → HasResultAt a entry e → HasResultAt b index f → e ≡ f }
 
     // Machines have equal facts where size and pool are equal and each address has one kind in
@@ -56,7 +56,7 @@ pub fn booted_images_show_their_entries<F: Files>()
         (b : IsBooted F.answers F.faults desc before after) (version : Version)
         (image : Handover) (seen : SeenFacts)
         → IsImage version (spelling written_version b.handover) image → IsSeen image seen
-        → ShowsEntry b.case.facts (value_at b.case b.entry) seen }
+        → ShowsEntry b.case.facts (entry_value_at b.case b.entry) seen }
     ensures entered { (desc : List ℕ) (before after : Surroundings F)
         (b : IsBooted F.answers F.faults desc before after) (version : Version)
         (image : Handover) → IsImage version (spelling written_version b.handover) image

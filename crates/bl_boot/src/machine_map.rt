@@ -1,7 +1,7 @@
 //! The map of a description's machine, as it is said.
 ghost use Rattle.std.specs.Prelude.{◌≡◌, ◌⊎◌};
 ghost use Rattle.bl_menu.specs.DescribedMachine.{IsBadDescription};
-ghost use Rattle.bl_boot.specs.Mapped.{IsMapped};
+ghost use Rattle.bl_boot.specs.MachineMap.{SaysMachineMap};
 ghost use Rattle.bl_boot.specs.Kept.{MapEnds};
 
 use crate::description_boot::EndFault;
@@ -44,7 +44,7 @@ pub fn map_to<A: Allocator + Copy, B: Allocator>(
     say: &mut Vec<u8, B>,
 ) -> u8
     ensures status { (result ≡ 0) ⊎ (result ≡ 2) ⊎ (result ≡ 4) }
-    ensures mapped { result ≡ 0 → IsMapped desc.now say.old.items say.new.items }
+    ensures mapped { result ≡ 0 → SaysMachineMap desc.now say.old.items say.new.items }
     ensures described { result ≡ 2 → IsBadDescription desc.now × (say.new.items ≡ say.old.items) }
     ensures memory { result ≡ 4 → say.new.items ≡ say.old.items }
 {

@@ -12,7 +12,7 @@ use Rattle.bl_bzimage.specs.declared.fault.SetupFault.TheVariants.{NotBzImage, O
 use Rattle.bl_bzimage.specs.declared.fault.SetupFault.TheVariants.{SetupCut, BadAlign, BadPreferred}
 use Rattle.bl_bzimage.specs.declared.setup.Setup.{Setup}
 use Rattle.bl_bzimage.specs.Setup.{IsSetup, setup_fault, is_bz_image, is_loaded_high, is_whole}
-use Rattle.bl_bzimage.specs.Setup.{has_alignment, has_preferred}
+use Rattle.bl_bzimage.specs.Setup.{has_sound_alignment, has_sound_pref_address}
 use Rattle.bl_bzimage.proofs.SetupLaws.{fields_are}
 
 passed :
@@ -28,16 +28,16 @@ holds false e = absurd cc
 -- the last two checks, of a relocatable kernel and of another one
 last_checks :
     (file : List ℕ) → setup_fault file ≡ None
-    → (has_alignment file ≡ true) × (has_preferred file ≡ true)
+    → (has_sound_alignment file ≡ true) × (has_sound_pref_address file ≡ true)
 unfolding setup_fault
 last_checks file sound =
     let image = passed (not (is_bz_image file)) NotBzImage _ sound in
     let version = passed (nat_lt (u16_at file 0x206) 0x020A) OldProtocol _ image.1 in
     let high = passed (not (is_loaded_high file)) NotHigh _ version.1 in
     let whole = passed (not (is_whole file)) SetupCut _ high.1 in
-    let align = passed (not (has_alignment file)) BadAlign _ whole.1 in
-    let preferred = passed (not (has_preferred file)) BadPreferred _ align.1 in
-    (holds (has_alignment file) align.0, holds (has_preferred file) preferred.0)
+    let align = passed (not (has_sound_alignment file)) BadAlign _ whole.1 in
+    let preferred = passed (not (has_sound_pref_address file)) BadPreferred _ align.1 in
+    (holds (has_sound_alignment file) align.0, holds (has_sound_pref_address file) preferred.0)
 
 some_power : (n : ℕ) → is_power_of_two n ≡ true → 1 ≤ n
 some_power n is =

@@ -60,13 +60,13 @@ abbrev pub is_relocatable : List ℕ → Bool
 is_relocatable bytes = not (slice_index bytes 0x234 == 0)
 
 -- own: "kernel_alignment" of a relocatable kernel is a power of two
-abbrev pub has_alignment : List ℕ → Bool
-has_alignment bytes = not (is_relocatable bytes) || is_power_of_two (u32_at bytes 0x230)
+abbrev pub has_sound_alignment : List ℕ → Bool
+has_sound_alignment bytes = not (is_relocatable bytes) || is_power_of_two (u32_at bytes 0x230)
 
 -- "pref_address" of a kernel that is not relocatable, which runs there. Own: from 1 MiB on, within
 -- 32 bits
-abbrev pub has_preferred : List ℕ → Bool
-has_preferred bytes =
+abbrev pub has_sound_pref_address : List ℕ → Bool
+has_sound_pref_address bytes =
     is_relocatable bytes
     || (nat_le 0x100000 (u64_at bytes 0x258) && nat_le (u64_at bytes 0x258) 0xFFFFFFFF)
 
@@ -78,8 +78,8 @@ setup_fault bytes =
     if nat_lt (u16_at bytes 0x206) 0x020A then Some OldProtocol else
     if not (is_loaded_high bytes) then Some NotHigh else
     if not (is_whole bytes) then Some SetupCut else
-    if not (has_alignment bytes) then Some BadAlign else
-    if not (has_preferred bytes) then Some BadPreferred else
+    if not (has_sound_alignment bytes) then Some BadAlign else
+    if not (has_sound_pref_address bytes) then Some BadPreferred else
     None
 
 -- a file without a fault, and what is read of it

@@ -72,9 +72,9 @@ fn is_relocatable<V: ByteView>(view: &V) -> bool
 
 /// Whether the alignment of a relocatable kernel is a power of two. The boot protocol does not say
 /// that it is; no other one is taken.
-pub fn has_alignment<V: ByteView>(view: &V) -> bool
+pub fn has_sound_alignment<V: ByteView>(view: &V) -> bool
     requires { MIN_FILE ≤ length (V.bytes view.now) }
-    ensures { result ≡ spec.has_alignment (V.bytes view.now) }
+    ensures { result ≡ spec.has_sound_alignment (V.bytes view.now) }
 {
     if !is_relocatable(view) {
         return true;
@@ -83,9 +83,9 @@ pub fn has_alignment<V: ByteView>(view: &V) -> bool
 }
 
 /// Whether a kernel that is not relocatable has an address that it can run at.
-pub fn has_preferred<V: ByteView>(view: &V) -> bool
+pub fn has_sound_pref_address<V: ByteView>(view: &V) -> bool
     requires { MIN_FILE ≤ length (V.bytes view.now) }
-    ensures { result ≡ spec.has_preferred (V.bytes view.now) }
+    ensures { result ≡ spec.has_sound_pref_address (V.bytes view.now) }
 {
     if is_relocatable(view) {
         return true;

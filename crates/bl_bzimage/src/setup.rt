@@ -3,8 +3,8 @@ ghost use Rattle.std.specs.Prelude.{◌≡◌, ◌≤◌, ◌<◌, ◌+◌, ◌-
 ghost use Rattle.bl_bzimage.specs.Setup.{IsSetup, header_end, payload_at, setup_fault, setup_of};
 
 use crate::checks::{
-    end_of_header, has_alignment, has_preferred, is_bz_image, is_loaded_high, is_whole,
-    start_of_payload,
+    end_of_header, has_sound_alignment, has_sound_pref_address, is_bz_image, is_loaded_high,
+    is_whole, start_of_payload,
 };
 use crate::fault::SetupFault;
 use crate::fields::{
@@ -90,10 +90,10 @@ pub fn read_setup<V: ByteView>(view: &V) -> Result<Setup, SetupFault>
     if !is_whole(view) {
         return Err(SetupFault::SetupCut);
     }
-    if !has_alignment(view) {
+    if !has_sound_alignment(view) {
         return Err(SetupFault::BadAlign);
     }
-    if !has_preferred(view) {
+    if !has_sound_pref_address(view) {
         return Err(SetupFault::BadPreferred);
     }
     Ok(setup_of(view))

@@ -21,7 +21,7 @@ use Rattle.bl_desc.specs.Entries.{Module, module_in, toml_modules}
 use Rattle.bl_desc.specs.Allowed.{allows, count_within, item_count, key_rules, keys_of_set}
 use Rattle.bl_desc.specs.Allowed.{required_key}
 use Rattle.bl_desc.specs.BadKeysKept.{all_items, array_items, item_passes, passes_at, table_passes}
-use Rattle.bl_desc.specs.DescriptionKept.{name_value, named_file, text_or_none, value_or}
+use Rattle.bl_desc.specs.DescriptionKept.{name_value, name_only_file, value_text_or_empty, value_or}
 use Rattle.bl_desc.specs.declared.bad_key.Allowed.TheVariants.{Number, IndexBelow, TwoNumbers}
 use Rattle.bl_desc.specs.declared.bad_key.Allowed.TheVariants.{Indices, Tables, ModuleTables}
 use Rattle.bl_desc.specs.declared.bad_key.Allowed.TheVariants.{AnyText, HexText}
@@ -32,7 +32,7 @@ use Rattle.bl_desc.proofs.DescribesLemmas.{rule_passes, some_of, table_parts}
 -- ---- files
 
 name_reads : (o : Option Data) (d : Data) → passes_at true AnyText o ≡ true
-    → required toml_text o ≡ Some (text_or_none (value_or d o))
+    → required toml_text o ≡ Some (value_text_or_empty (value_or d o))
 name_reads None d h = absurd (cc h)
 name_reads (Some (string s)) d h = refl
 name_reads (Some (integer z)) d h = absurd (cc h)
@@ -43,7 +43,7 @@ name_reads (Some (array ds)) d h = absurd (cc h)
 name_reads (Some (table ms)) d h = absurd (cc h)
 
 abbrev file_of : Data → List ℕ → InlineFile
-file_of d bytes = record { name = text_or_none (name_value d); bytes = bytes }
+file_of d bytes = record { name = value_text_or_empty (name_value d); bytes = bytes }
 
 file_by : (ms : Members) (name bytes : List ℕ) → has_only (keys_of_set keys.File) ms ≡ true
     → required toml_text (get_member (codes "name") ms) ≡ Some name
@@ -79,8 +79,8 @@ file_reads (array ds) h = absurd (cc h)
 record FilesRead (vs : List Value) : Type 0 where
   files : List InlineFile
   read : each_item (in_table file_in) (items_view vs) ≡ Some files
-  same : names_differ files ≡ names_differ (map named_file vs)
-  has : (name : List ℕ) → has_file name files ≡ has_file name (map named_file vs)
+  same : names_differ files ≡ names_differ (map name_only_file vs)
+  has : (name : List ℕ) → has_file name files ≡ has_file name (map name_only_file vs)
 
 files_read_by : (v : Value) (vs : List Value) (bytes : List ℕ)
     → in_table file_in (view v) ≡ Some (file_of (view v) bytes) → FilesRead vs
@@ -88,9 +88,9 @@ files_read_by : (v : Value) (vs : List Value) (bytes : List ℕ)
 files_read_by v vs bytes one rest = record {
   files = file_of (view v) bytes ∷ rest.files;
   read = rw (one, rest.read) refl;
-  same = rw (rest.has (text_or_none (name_value (view v))), rest.same) refl;
+  same = rw (rest.has (value_text_or_empty (name_value (view v))), rest.same) refl;
   has = λ name.
-      ap (λ (b : Bool). bytes_eq (text_or_none (name_value (view v))) name || b) (rest.has name);
+      ap (λ (b : Bool). bytes_eq (value_text_or_empty (name_value (view v))) name || b) (rest.has name);
 }
 
 files_read : (vs : List Value) → all_items (item_passes keys.File) (items_view vs) ≡ true
@@ -103,14 +103,14 @@ files_read (v ∷ vs) h =
     let f = file_reads (view v) parts.0 in
     files_read_by v vs f.0 f.1 (files_read vs parts.1)
 
-files_by : (vs : List Value) (r : FilesRead vs) → names_differ (map named_file vs) ≡ true
+files_by : (vs : List Value) (r : FilesRead vs) → names_differ (map name_only_file vs) ≡ true
     → toml_files (array (items_view vs)) ≡ Some r.files
 unfolding toml_files
 files_by vs r differ = rw (r.read, r.same, differ) refl
 
 pub files_given : (o : Option Data) (vs : List Value) → passes_at false Tables o ≡ true
     → all_items (item_passes keys.File) (array_items o) ≡ true
-    → items_view vs ≡ array_items o → names_differ (map named_file vs) ≡ true
+    → items_view vs ≡ array_items o → names_differ (map name_only_file vs) ≡ true
     → (files : List InlineFile) × (optional toml_files [] o ≡ Some files)
 files_given None vs h items same differ = ([], refl)
 files_given (Some (array ds)) vs h items same differ =

@@ -10,13 +10,13 @@ use Rattle.std.proofs.lemmas.List.Sums.{AllPass-from_list_all, list_all-from_All
 use Rattle.hex.specs.Hex.{decode_of, is_hex_digit}
 use Rattle.hex.specs.declared.error.FromHexError.{FromHexError}
 use Rattle.hex.proofs.HexLemmas.{decode_of-digits, decode_of-odd, decode_of-ok}
-use Rattle.bl_plan.specs.MenuLimits.{max_copy}
-use Rattle.bl_desc.specs.Entries.{is_copy}
+use Rattle.bl_plan.specs.MenuLimits.{max_rsdp_length}
+use Rattle.bl_desc.specs.Entries.{is_rsdp_copy}
 use Rattle.toml.specs.Data.{Data, string, integer, float, boolean, datetime, array, table, as_str}
 use Rattle.toml.specs.Data.{Items}
 use Rattle.toml.specs.View.{items_view}
 use Rattle.toml.specs.declared.value.Value.{Value}
-use Rattle.bl_desc.specs.Values.{◌>>=◌, bytes_from, passing, toml_text}
+use Rattle.bl_desc.specs.Values.{◌>>=◌, bytes_from, some_when, toml_text}
 use Rattle.bl_desc.specs.Allowed.{count_within, item_count}
 use Rattle.bl_desc.specs.BadKeysKept.{text_test}
 
@@ -84,14 +84,14 @@ hex_odd s odd = rw (decode_of-odd s odd) refl
 
 -- twice as many digits as bytes
 half : (n m : ℕ) → m ≡ 2 * n
-    → (nat_le 1 n && nat_le n max_copy) ≡ (nat_le 2 m && nat_le m 512)
+    → (nat_le 1 n && nat_le n max_rsdp_length) ≡ (nat_le 2 m && nat_le m 512)
 half n m twice = grind (arith, nat_tests)
 
 -- a text for bytes is that of a copy, by its length
 copy_by : (s : List ℕ) (read : Result (List ℕ) FromHexError) → decode_of s ≡ read
-    → is_some (bytes_from read >>= passing is_copy)
+    → is_some (bytes_from read >>= some_when is_rsdp_copy)
     ≡ (is_some (bytes_from read) && (nat_le 2 (length s) && nat_le (length s) 512))
-copy_by s (Ok bytes) is = by_length (is_copy bytes) _ (half (length bytes) (length s)
+copy_by s (Ok bytes) is = by_length (is_rsdp_copy bytes) _ (half (length bytes) (length s)
     (decode_of-ok s bytes is).2)
   where
     by_length : (a b : Bool) → a ≡ b
@@ -103,7 +103,7 @@ copy_by s (Ok bytes) is = by_length (is_copy bytes) _ (half (length bytes) (leng
 copy_by s (Err e) is = refl
 
 pub copy_text : (s : List ℕ)
-    → is_some (bytes_from (decode_of s) >>= passing is_copy)
+    → is_some (bytes_from (decode_of s) >>= some_when is_rsdp_copy)
     ≡ (is_some (bytes_from (decode_of s)) && (nat_le 2 (length s) && nat_le (length s) 512))
 copy_text s = copy_by s (decode_of s) refl
 

@@ -8,7 +8,7 @@ use Rattle.toml.specs.declared.value.Value.{Value}
 use Rattle.toml.proofs.Views.{items_view-drop}
 use Rattle.bl_desc.specs.declared.fault.DescFault.{DescFault}
 use Rattle.bl_desc.specs.declared.fault.DescFault.TheVariants.{BadDescription, NoMemory}
-use Rattle.bl_desc.specs.Views.{AnswersNothing}
+use Rattle.bl_desc.specs.Views.{IsReaderFault}
 use Rattle.bl_desc.specs.Values.{◌>>=◌, range_in, each_item}
 
 -- what was read before, and what is still read
@@ -73,9 +73,9 @@ all_read read vs i front past so_far =
 -- an item that fails makes all fail
 pub one_fails : {Y : Type 0} (read : Data → Option Y) (vs : List Value) (i : ℕ) (v : Value)
     (front : List Y) (fault : DescFault)
-    → i < length vs → v ≡ get_or vs i v → AnswersNothing fault (read (view v))
+    → i < length vs → v ≡ get_or vs i v → IsReaderFault fault (read (view v))
     → with_front front (each_item read (items_view (drop i vs))) ≡ each_item read (items_view vs)
-    → AnswersNothing fault (each_item read (items_view vs))
+    → IsReaderFault fault (each_item read (items_view vs))
 one_fails read vs i v front NoMemory within at_i fails so_far = tt
 one_fails read vs i v front BadDescription within at_i fails so_far =
     let rest = items_view (drop (i + 1) vs) in
@@ -86,6 +86,6 @@ one_fails read vs i v front BadDescription within at_i fails so_far =
 
 -- where one value fails, what is made of it fails
 pub fails_on : {X Y : Type 0} (fault : DescFault) (x : Option X) (rest : X → Option Y)
-    → AnswersNothing fault x → AnswersNothing fault (x >>= rest)
+    → IsReaderFault fault x → IsReaderFault fault (x >>= rest)
 fails_on NoMemory x rest fails = tt
 fails_on BadDescription x rest fails = rw fails refl

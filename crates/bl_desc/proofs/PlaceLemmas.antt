@@ -14,12 +14,13 @@ use Rattle.bl_desc.specs.BadKeys.{IsKeyFault, count_at, item_count_or_zero, item
 use Rattle.bl_desc.specs.BadKeys.{set_of_protocol}
 use Rattle.bl_desc.specs.BadKeysKept.{IsListedBad, IsBadItemFault, array_items}
 use Rattle.bl_desc.specs.EntriesKept.{IsEntryBad, IsEntryFaultAt, IsEntryItemFaultAt}
-use Rattle.bl_desc.specs.EntriesKept.{IsFrontFault, IsMenuBad, IsModulesBad, IsModulesFaultAt}
+use Rattle.bl_desc.specs.EntriesKept.{IsCommonKeyFault, IsMenuBad, IsModulesBad, IsModulesFaultAt}
 use Rattle.bl_desc.specs.EntriesKept.{copy_rules, entry_set_in, common_rules, initrd_rules}
 use Rattle.bl_desc.specs.EntriesKept.{entry_passes, passes_by, protocol_in}
-use Rattle.bl_desc.specs.EntriesKept.{module_rules, protocol_rules}
+use Rattle.bl_desc.specs.EntriesKept.{module_array_rules, protocol_rules}
 use Rattle.bl_desc.specs.DescriptionKept.{machine_rules, fill_rules}
-use Rattle.bl_desc.specs.DescriptionKept.{region_rules, file_rules, entry_rules, index_rules}
+use Rattle.bl_desc.specs.DescriptionKept.{region_array_rules, file_array_rules, entry_array_rules}
+use Rattle.bl_desc.specs.DescriptionKept.{index_rules}
 use Rattle.bl_desc.specs.declared.bad_key.Allowed.TheVariants.{Number, IndexBelow}
 use Rattle.bl_desc.specs.declared.bad_key.Allowed.TheVariants.{TwoNumbers, Indices}
 use Rattle.bl_desc.specs.declared.bad_key.BadKey.{BadKey}
@@ -30,7 +31,7 @@ use Rattle.bl_desc.specs.declared.bad_key.KeySet.{KeySet}
 use Rattle.bl_desc.specs.declared.bad_key.KeySet.TheVariants as keys
 use Rattle.bl_desc.specs.declared.bad_key.TablePlace.{TablePlace}
 use Rattle.bl_desc.specs.declared.bad_key.TablePlace.TheVariants as places
-use Rattle.bl_desc.specs.declared.bad_keys.items.Listed.TheVariants.{Regions, Files, Modules}
+use Rattle.bl_desc.specs.declared.bad_keys.items.TableArray.TheVariants.{Regions, Files, Modules}
 use Rattle.bl_desc.proofs.BadRuleLemmas.{rule_fault, table_fault, with_items-broken}
 
 -- ---- items
@@ -81,10 +82,10 @@ front-Linux ms fault h = rule_fault 0 keys.LinuxEntry ms fault (among h)
     among (inr (inr (inl line))) = inr (inr (inr (inl line)))
     among (inr (inr (inr none))) = absurd none
 
-pub module-Multiboot2 : AreAmong module_rules keys.Multiboot2Entry
+pub module-Multiboot2 : AreAmong module_array_rules keys.Multiboot2Entry
 module-Multiboot2 ms fault h = rule_fault 0 keys.Multiboot2Entry ms fault (among h)
   where
-    among : BreaksAnyOf module_rules ms fault
+    among : BreaksAnyOf module_array_rules ms fault
         → BreaksAnyOf (key_rules 0 keys.Multiboot2Entry) ms fault
     among (inl modules) = inr (inr (inr (inr (inl modules))))
     among (inr none) = absurd none
@@ -114,7 +115,7 @@ protocol-Entry ms fault h = rule_fault 0 keys.Entry ms fault (among h)
 
 -- a fault of a table with these keys, or a broken rule of each entry's
 pub front_fault : (set : KeySet) → AreAmong common_rules set → (ms : Members) (fault : KeyFault)
-    → IsFrontFault set ms fault → IsKeyFault 0 set ms fault
+    → IsCommonKeyFault set ms fault → IsKeyFault 0 set ms fault
 front_fault set among ms fault (inl h) = h
 front_fault set among ms fault (inr h) = among ms fault h
 
@@ -126,7 +127,7 @@ pub at_entry : (set : KeySet) (i : ℕ) (ms : Members) (place : TablePlace) (fau
 at_entry set i ms place fault is h = rw is (refl, h)
 
 pub at_modules_key : (i : ℕ) (ms : Members) (place : TablePlace) (fault : KeyFault)
-    → place ≡ places.Entry i → BreaksAnyOf module_rules ms fault
+    → place ≡ places.Entry i → BreaksAnyOf module_array_rules ms fault
     → IsModulesFaultAt i ms place fault
 at_modules_key i ms place fault is h = rw is (refl, h)
 
@@ -209,26 +210,26 @@ indices_whole count ms fault h = rule_fault count keys.Description ms fault (amo
         (IndexBelow count) ms fault refl fallback)))))
     among (inr (inr none)) = absurd none
 
-pub region_whole : (count : ℕ) → AreAmongWhole count region_rules
+pub region_whole : (count : ℕ) → AreAmongWhole count region_array_rules
 region_whole count ms fault h = rule_fault count keys.Description ms fault (among h)
   where
-    among : BreaksAnyOf region_rules ms fault
+    among : BreaksAnyOf region_array_rules ms fault
         → BreaksAnyOf (key_rules count keys.Description) ms fault
     among (inl region) = inr (inr (inr (inr (inr (inl region)))))
     among (inr none) = absurd none
 
-pub file_whole : (count : ℕ) → AreAmongWhole count file_rules
+pub file_whole : (count : ℕ) → AreAmongWhole count file_array_rules
 file_whole count ms fault h = rule_fault count keys.Description ms fault (among h)
   where
-    among : BreaksAnyOf file_rules ms fault
+    among : BreaksAnyOf file_array_rules ms fault
         → BreaksAnyOf (key_rules count keys.Description) ms fault
     among (inl file) = inr (inr (inr (inr (inr (inr (inl file))))))
     among (inr none) = absurd none
 
-pub entry_whole : (count : ℕ) → AreAmongWhole count entry_rules
+pub entry_whole : (count : ℕ) → AreAmongWhole count entry_array_rules
 entry_whole count ms fault h = rule_fault count keys.Description ms fault (among h)
   where
-    among : BreaksAnyOf entry_rules ms fault
+    among : BreaksAnyOf entry_array_rules ms fault
         → BreaksAnyOf (key_rules count keys.Description) ms fault
     among (inl entry) = inr (inr (inr (inr (inr (inr (inr (inl entry)))))))
     among (inr none) = absurd none

@@ -14,9 +14,9 @@ use Rattle.toml.specs.declared.value.Value.{Value}
 use Rattle.bl_desc.specs.Described.{has_file}
 use Rattle.bl_desc.specs.BadKeys.{file_name_at, item_at}
 use Rattle.bl_desc.specs.BadKeysKept.{all_items, all_pass, array_items, item_passes, passes_at}
-use Rattle.bl_desc.specs.DescriptionKept.{IsSameName, file_rules, files_pass, name_value}
-use Rattle.bl_desc.specs.DescriptionKept.{named_file}
-use Rattle.bl_desc.specs.DescriptionKept.{text_or_none, value_or}
+use Rattle.bl_desc.specs.DescriptionKept.{IsSameName, file_array_rules, files_pass, name_value}
+use Rattle.bl_desc.specs.DescriptionKept.{name_only_file}
+use Rattle.bl_desc.specs.DescriptionKept.{value_text_or_empty, value_or}
 use Rattle.bl_desc.specs.declared.bad_key.Allowed.TheVariants.{AnyText}
 use Rattle.bl_desc.specs.declared.bad_key.KeySet.TheVariants as keys
 use Rattle.bl_desc.proofs.DescribesLemmas.{rule_passes, table_parts}
@@ -26,24 +26,24 @@ use Rattle.std.proofs.lemmas.Option.{slice_get_read}
 
 -- the first values, and one more
 pub first_values : (vs : List Value) (i : ℕ) (v : Value) → i < length vs → v ≡ get_or vs i v
-    → map named_file (take (i + 1) vs) ≡ map named_file (take i vs) ++ named_file v ∷ []
+    → map name_only_file (take (i + 1) vs) ≡ map name_only_file (take i vs) ++ name_only_file v ∷ []
 first_values vs i v within at_i =
-    ap (map named_file) (take_more vs i v within)
-    ∙ map-append named_file (take i vs) (get_or vs i v ∷ [])
-    ∙ ap (λ w. map named_file (take i vs) ++ named_file w ∷ []) (sym at_i)
+    ap (map name_only_file) (take_more vs i v within)
+    ∙ map-append name_only_file (take i vs) (get_or vs i v ∷ [])
+    ∙ ap (λ w. map name_only_file (take i vs) ++ name_only_file w ∷ []) (sym at_i)
 
 -- a name among the first values is that of one of them
 pub earlier : (name : List ℕ) (vs : List Value) (i : ℕ)
-    → has_file name (map named_file (take i vs)) ≡ true
-    → (j : ℕ) × (j < i) × ((w : Value) × (slice_get vs j ≡ Some w) × ((named_file w).name ≡ name))
+    → has_file name (map name_only_file (take i vs)) ≡ true
+    → (j : ℕ) × (j < i) × ((w : Value) × (slice_get vs j ≡ Some w) × ((name_only_file w).name ≡ name))
 earlier name [] zero h = absurd (cc h)
 earlier name [] (suc i) h = absurd (cc h)
 earlier name (v ∷ vs) zero h = absurd (cc h)
 earlier name (v ∷ vs) (suc i) h =
-    elim (cases_Bool (bytes_eq (named_file v).name name)) [
-      | inl same ↦ (0, omega arith, (v, refl, (bytes_eq-Decides (named_file v).name name).0 same))
+    elim (cases_Bool (bytes_eq (name_only_file v).name name)) [
+      | inl same ↦ (0, omega arith, (v, refl, (bytes_eq-Decides (name_only_file v).name name).0 same))
       | inr other ↦
-          let rest : has_file name (map named_file (take i vs)) ≡ true = rw other at h in
+          let rest : has_file name (map name_only_file (take i vs)) ≡ true = rw other at h in
           let r = earlier name vs i rest in
           (suc r.0, omega (arith, r.1), (r.2.0, r.2.1, r.2.2))
     ]
@@ -66,8 +66,8 @@ item_view (w ∷ vs) (suc i) v at_i = item_view vs i v at_i
 
 -- a file that passes has a name
 text_of : (o : Option Data) (d : Data) → passes_at true AnyText o ≡ true
-    → (o ≡ Some (string (text_or_none (value_or d o))))
-    × (value_or d o ≡ string (text_or_none (value_or d o)))
+    → (o ≡ Some (string (value_text_or_empty (value_or d o))))
+    × (value_or d o ≡ string (value_text_or_empty (value_or d o)))
 text_of None d h = absurd (cc h)
 text_of (Some (string s)) d h = (refl, refl)
 text_of (Some (integer z)) d h = absurd (cc h)
@@ -78,8 +78,8 @@ text_of (Some (array ds)) d h = absurd (cc h)
 text_of (Some (table ms)) d h = absurd (cc h)
 
 pub has_name : (d : Data) → item_passes keys.File d ≡ true
-    → (get (codes "name") d ≡ Some (string (text_or_none (name_value d))))
-    × (name_value d ≡ string (text_or_none (name_value d)))
+    → (get (codes "name") d ≡ Some (string (value_text_or_empty (name_value d))))
+    × (name_value d ≡ string (value_text_or_empty (name_value d)))
 has_name (table ms) h =
     let t = table_parts keys.File ms h in
     let name =
@@ -96,7 +96,7 @@ has_name (array ds) h = absurd (cc h)
 pub name_there : (ms : Members) (vs : List Value) (i : ℕ) (v : Value)
     → items_view vs ≡ array_items (get_member (codes "file") ms)
     → all_items (item_passes keys.File) (items_view vs) ≡ true → slice_get vs i ≡ Some v
-    → file_name_at i ms ≡ Some (named_file v).name
+    → file_name_at i ms ≡ Some (name_only_file v).name
 name_there ms vs i v same all at_i =
     let there : item_at (codes "file") i ms ≡ Some (view v) =
     sym (item_of (get_member (codes "file") ms) i) ∙ ap (get_item i) (sym same)
@@ -113,14 +113,14 @@ pub same_name_fault : (ms : Members) (vs : List Value) (i : ℕ) (v : Value) (va
 same_name_fault ms vs i v value same passes named at_v is =
     let at_i : slice_get vs i ≡ Some v = slice_get_read vs (length vs) i v refl named.1 at_v in
     let items =
-    and_parts (all_pass file_rules ms)
+    and_parts (all_pass file_array_rules ms)
     (all_items (item_passes keys.File) (array_items (get_member (codes "file") ms))) passes in
     let all : all_items (item_passes keys.File) (items_view vs) ≡ true = rw same items.1 in
-    let has : has_file (named_file v).name (map named_file (take i vs)) ≡ true =
+    let has : has_file (name_only_file v).name (map name_only_file (take i vs)) ≡ true =
     rw at_i at named.0 in
-    let e = earlier (named_file v).name vs i has in
+    let e = earlier (name_only_file v).name vs i has in
     let text = has_name (view v) (one_passes (item_passes keys.File) vs i v all at_i) in (
-      (named_file v).name,
+      (name_only_file v).name,
       is ∙ text.1,
       name_there ms vs i v same all at_i,
       (

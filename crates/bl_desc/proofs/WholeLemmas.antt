@@ -14,24 +14,25 @@ use Rattle.bl_desc.specs.Values.{◌>>=◌, required, optional, if_given, toml_n
 use Rattle.bl_desc.specs.Values.{toml_text, toml_range, toml_index, toml_indices, each_item}
 use Rattle.bl_desc.specs.Values.{has_only, in_table}
 use Rattle.bl_desc.specs.Described.{InlineFile, described_in, toml_files, toml_regions}
-use Rattle.bl_desc.specs.Entries.{Entry, Module, entry_by, menu_entry_in, toml_copy, toml_entries}
+use Rattle.bl_desc.specs.Entries.{Entry, Module, entry_by, menu_entry_in, toml_rsdp_copy}
+use Rattle.bl_desc.specs.Entries.{toml_entries}
 use Rattle.bl_desc.specs.Entries.{toml_modules, toml_protocol, toml_title}
 use Rattle.bl_desc.specs.Allowed.{allows, count_within, item_count, keys_of_set, optional_key}
 use Rattle.bl_desc.specs.Allowed.{required_key}
 use Rattle.bl_desc.specs.BadKeysKept.{all_items, all_pass, array_items, item_passes, passes_at}
 use Rattle.bl_desc.specs.EntriesKept.{copy_rules, entry_item_passes}
-use Rattle.bl_desc.specs.DescriptionKept.{IsEachFileNamed}
-use Rattle.bl_desc.specs.DescriptionKept.{entry_rules}
-use Rattle.bl_desc.specs.EntriesKept.{front_passes}
-use Rattle.bl_desc.specs.DescriptionKept.{file_rules, files_pass, fill_rules}
+use Rattle.bl_desc.specs.DescriptionKept.{HasDistinctFileNames}
+use Rattle.bl_desc.specs.DescriptionKept.{entry_array_rules}
+use Rattle.bl_desc.specs.EntriesKept.{common_keys_pass}
+use Rattle.bl_desc.specs.DescriptionKept.{file_array_rules, files_pass, fill_rules}
 use Rattle.bl_desc.specs.EntriesKept.{common_rules}
 use Rattle.bl_desc.specs.EntriesKept.{initrd_rules, linux_passes}
 use Rattle.bl_desc.specs.DescriptionKept.{index_rules, indices_pass}
-use Rattle.bl_desc.specs.EntriesKept.{module_rules}
+use Rattle.bl_desc.specs.EntriesKept.{module_array_rules}
 use Rattle.bl_desc.specs.DescriptionKept.{machine_passes, machine_rules, menu_passes}
 use Rattle.bl_desc.specs.EntriesKept.{modules_pass, multiboot2_passes, passes_by, protocol_in}
 use Rattle.bl_desc.specs.EntriesKept.{protocol_rules}
-use Rattle.bl_desc.specs.DescriptionKept.{region_rules, regions_pass}
+use Rattle.bl_desc.specs.DescriptionKept.{region_array_rules, regions_pass}
 use Rattle.bl_desc.specs.declared.bad_key.Allowed.TheVariants.{Number, Byte, IndexBelow}
 use Rattle.bl_desc.specs.declared.bad_key.Allowed.TheVariants.{TwoNumbers, Indices, Tables}
 use Rattle.bl_desc.specs.declared.bad_key.Allowed.TheVariants.{EntryTables, ModuleTables, AnyText}
@@ -76,8 +77,8 @@ front_reads ms h =
 multiboot2_by : (ms : Members) → Front ms → (modules : List Module) (old new : Option (List ℕ))
     → has_only (keys_of_set keys.Multiboot2Entry) ms ≡ true
     → optional toml_modules [] (get_member (codes "module") ms) ≡ Some modules
-    → if_given toml_copy (get_member (codes "rsdp_old") ms) ≡ Some old
-    → if_given toml_copy (get_member (codes "rsdp_new") ms) ≡ Some new
+    → if_given toml_rsdp_copy (get_member (codes "rsdp_old") ms) ≡ Some old
+    → if_given toml_rsdp_copy (get_member (codes "rsdp_new") ms) ≡ Some new
     → IsSome (entry_by ms Multiboot2)
 unfolding entry_by
 multiboot2_by ms f modules old new known m o n =
@@ -86,21 +87,21 @@ multiboot2_by ms f modules old new known m o n =
 multiboot2_reads : (ms : Members) → multiboot2_passes ms ≡ true → IsSome (entry_by ms Multiboot2)
 multiboot2_reads ms h =
     let whole =
-    and_parts (front_passes keys.Multiboot2Entry ms) (modules_pass ms && all_pass copy_rules ms) h
+    and_parts (common_keys_pass keys.Multiboot2Entry ms) (modules_pass ms && all_pass copy_rules ms) h
     in
     let front =
     and_parts (has_only (keys_of_set keys.Multiboot2Entry) ms) (all_pass common_rules ms) whole.0 in
     let rest = and_parts (modules_pass ms) (all_pass copy_rules ms) whole.1 in
     let modules =
-    and_parts (all_pass module_rules ms)
+    and_parts (all_pass module_array_rules ms)
     (all_items (item_passes keys.Module) (array_items (get_member (codes "module") ms))) rest.0 in
     let rule =
-    rule_passes module_rules ms 0 (optional_key (codes "module") ModuleTables) modules.0 refl in
+    rule_passes module_array_rules ms 0 (optional_key (codes "module") ModuleTables) modules.0 refl in
     let old = rule_passes copy_rules ms 0 (optional_key (codes "rsdp_old") CopyText) rest.1 refl in
     let new = rule_passes copy_rules ms 1 (optional_key (codes "rsdp_new") CopyText) rest.1 refl in
     let m = modules_given (get_member (codes "module") ms) rule modules.1 in
-    let o = given_reads CopyText toml_copy (get_member (codes "rsdp_old") ms) (λ d can. can) old in
-    let n = given_reads CopyText toml_copy (get_member (codes "rsdp_new") ms) (λ d can. can) new in
+    let o = given_reads CopyText toml_rsdp_copy (get_member (codes "rsdp_old") ms) (λ d can. can) old in
+    let n = given_reads CopyText toml_rsdp_copy (get_member (codes "rsdp_new") ms) (λ d can. can) new in
     multiboot2_by ms (front_reads ms front.1) m.0 o.0 n.0 front.0 m.1 o.1 n.1
 
 linux_by : (ms : Members) → Front ms → (initrd : Option (List ℕ))
@@ -116,7 +117,7 @@ linux_by ms f initrd known i = (
 linux_reads : (ms : Members) → linux_passes ms ≡ true
     → IsSome (entry_by ms Linux) × IsSome (entry_by ms Linux64)
 linux_reads ms h =
-    let whole = and_parts (front_passes keys.LinuxEntry ms) (all_pass initrd_rules ms) h in
+    let whole = and_parts (common_keys_pass keys.LinuxEntry ms) (all_pass initrd_rules ms) h in
     let front =
     and_parts (has_only (keys_of_set keys.LinuxEntry) ms) (all_pass common_rules ms) whole.0 in
     let initrd =
@@ -219,7 +220,7 @@ describes_by ms count r =
     ) refl
 
 pub describes : (ms : Members) → machine_passes ms ≡ true → regions_pass ms ≡ true
-    → files_pass ms ≡ true → IsEachFileNamed ms → menu_passes ms ≡ true → indices_pass ms ≡ true
+    → files_pass ms ≡ true → HasDistinctFileNames ms → menu_passes ms ≡ true → indices_pass ms ≡ true
     → IsSome (described_in ms)
 describes ms machine regions files named menu indices =
     let count : ℕ = item_count (array_items (get_member (codes "entry") ms)) in
@@ -236,13 +237,13 @@ describes ms machine regions files named menu indices =
     and_parts (all_items (allows Number) (array_items (get_member (codes "pool") ms)))
     (all_pass fill_rules ms) n.1 in
     let regioned =
-    and_parts (all_pass region_rules ms)
+    and_parts (all_pass region_array_rules ms)
     (all_items (item_passes keys.Region) (array_items (get_member (codes "region") ms))) regions in
     let filed =
-    and_parts (all_pass file_rules ms)
+    and_parts (all_pass file_array_rules ms)
     (all_items (item_passes keys.File) (array_items (get_member (codes "file") ms))) files in
     let entered =
-    and_parts (all_pass entry_rules ms)
+    and_parts (all_pass entry_array_rules ms)
     (all_items entry_item_passes (array_items (get_member (codes "entry") ms))) menu in
     let indexed =
     and_parts (all_pass (index_rules count) ms)
@@ -252,10 +253,10 @@ describes ms machine regions files named menu indices =
     let pool = rule_passes machine_rules ms 1 (required_key (codes "pool") TwoNumbers) n.0 refl in
     let fill = rule_passes fill_rules ms 0 (optional_key (codes "fill") Byte) l.1 refl in
     let region =
-    rule_passes region_rules ms 0 (optional_key (codes "region") Tables) regioned.0 refl in
-    let file = rule_passes file_rules ms 0 (optional_key (codes "file") Tables) filed.0 refl in
+    rule_passes region_array_rules ms 0 (optional_key (codes "region") Tables) regioned.0 refl in
+    let file = rule_passes file_array_rules ms 0 (optional_key (codes "file") Tables) filed.0 refl in
     let entry =
-    rule_passes entry_rules ms 0 (required_key (codes "entry") EntryTables) entered.0 refl in
+    rule_passes entry_array_rules ms 0 (required_key (codes "entry") EntryTables) entered.0 refl in
     let default =
     rule_passes (index_rules count) ms 0 (optional_key (codes "default") (IndexBelow count))
     indexed.0 refl

@@ -5,7 +5,7 @@ use Rattle.toml.specs.Data.{Data, Items, no_items, item, as_array}
 use Rattle.bl_map.specs.Kinds.{kind_named}
 use Rattle.bl_plan.specs.MenuLimits.{max_entries, max_modules}
 use Rattle.bl_desc.specs.Values.{◌>>=◌, toml_number, toml_byte, toml_text, toml_bytes, toml_index}
-use Rattle.bl_desc.specs.Entries.{toml_title, toml_copy, toml_protocol}
+use Rattle.bl_desc.specs.Entries.{toml_title, toml_rsdp_copy, toml_protocol}
 use Rattle.bl_desc.specs.declared.bad_key.Allowed.{Allowed}
 use Rattle.bl_desc.specs.declared.bad_key.Allowed.TheVariants.{Number, Byte, IndexBelow}
 use Rattle.bl_desc.specs.declared.bad_key.Allowed.TheVariants.{TwoNumbers, Indices, Tables}
@@ -45,7 +45,7 @@ allows Title d = is_some (toml_title d)
 allows KindName d = is_some (toml_text d >>= kind_named)
 allows ProtocolName d = is_some (toml_protocol d)
 allows HexText d = is_some (toml_bytes d)
-allows CopyText d = is_some (toml_copy d)
+allows CopyText d = is_some (toml_rsdp_copy d)
 
 -- ---- keys
 

@@ -9,8 +9,8 @@ use Rattle.toml.specs.View.{view}
 use Rattle.hex.specs.Hex.{decode_of}
 use Rattle.bl_map.specs.Kinds.{kind_named}
 use Rattle.bl_plan.specs.Protocols.{protocol_named}
-use Rattle.bl_desc.specs.Values.{◌>>=◌, bytes_from, passing, has_only}
-use Rattle.bl_desc.specs.Entries.{is_copy, is_title}
+use Rattle.bl_desc.specs.Values.{◌>>=◌, bytes_from, some_when, has_only}
+use Rattle.bl_desc.specs.Entries.{is_rsdp_copy, is_title}
 use Rattle.bl_desc.specs.Allowed.{allows, KeyRule, key_rules, keys_of_set}
 use Rattle.bl_desc.specs.BadKeys.{IsItemFault}
 use Rattle.bl_desc.specs.declared.bad_key.Allowed.{Allowed}
@@ -24,19 +24,19 @@ use Rattle.bl_desc.specs.declared.bad_key.KeySet.TheVariants as keys
 use Rattle.bl_desc.specs.declared.bad_key.TablePlace.{TablePlace}
 use Rattle.bl_desc.specs.declared.bad_key.TablePlace.TheVariants as places
 use Rattle.bl_desc.specs.declared.bad_keys.rules.Rule.{Rule}
-use Rattle.bl_desc.specs.declared.bad_keys.items.Listed.{Listed}
-use Rattle.bl_desc.specs.declared.bad_keys.items.Listed.TheVariants.{Regions, Files, Modules}
+use Rattle.bl_desc.specs.declared.bad_keys.items.TableArray.{TableArray}
+use Rattle.bl_desc.specs.declared.bad_keys.items.TableArray.TheVariants.{Regions, Files, Modules}
 
 -- ---- texts
 
 -- a text is allowed by a rule for texts
 abbrev pub allows_text : Allowed → List ℕ → Bool
 allows_text AnyText s = true
-allows_text Title s = is_some (passing is_title s)
+allows_text Title s = is_some (some_when is_title s)
 allows_text KindName s = is_some (kind_named s)
 allows_text ProtocolName s = is_some (protocol_named s)
 allows_text HexText s = is_some (bytes_from (decode_of s))
-allows_text CopyText s = is_some (bytes_from (decode_of s) >>= passing is_copy)
+allows_text CopyText s = is_some (bytes_from (decode_of s) >>= some_when is_rsdp_copy)
 allows_text _ s = false
 
 abbrev pub text_test : (List ℕ → Bool) → Option (List ℕ) → Bool
@@ -83,18 +83,18 @@ abbrev pub item_passes : KeySet → Data → Bool
 item_passes set (table ms) = table_passes set ms
 item_passes set _ = false
 
-abbrev pub place_in : Listed → ℕ → TablePlace
+abbrev pub place_in : TableArray → ℕ → TablePlace
 place_in Regions i = places.Region i
 place_in Files i = places.File i
 place_in (Modules entry) i = places.Module entry i
 
-abbrev pub set_in : Listed → KeySet
+abbrev pub set_in : TableArray → KeySet
 set_in Regions = keys.Region
 set_in Files = keys.File
 set_in (Modules entry) = keys.Module
 
 -- one of these items, which stand in such an array, is bad so
-abbrev pub IsListedBad : Listed → Items → BadKey → Type 0
+abbrev pub IsListedBad : TableArray → Items → BadKey → Type 0
 IsListedBad listed ds bad =
     (i : ℕ) × (bad.table ≡ place_in listed i)
     × IsSomeAnd (get_item i ds) (λ d. IsItemFault (set_in listed) d bad.fault)

@@ -9,7 +9,7 @@ use Rattle.toml.specs.Data.{Data, Members}
 use Rattle.toml.specs.Parse.{parse_document}
 use Rattle.bl_map.specs.Kinds.{kind_named}
 use Rattle.bl_map.specs.declared.region.Region.{Region}
-use Rattle.bl_desc.specs.Values.{◌>>=◌, passing, toml_number, toml_byte, toml_text, toml_bytes}
+use Rattle.bl_desc.specs.Values.{◌>>=◌, some_when, toml_number, toml_byte, toml_text, toml_bytes}
 use Rattle.bl_desc.specs.Values.{toml_range, toml_index, toml_indices, has_only, at_key}
 use Rattle.bl_desc.specs.Values.{at_key_or, in_tables}
 use Rattle.bl_desc.specs.Entries.{Entry, toml_entries}
@@ -70,7 +70,7 @@ names_differ [] = true
 names_differ (f ∷ fs) = not (has_file f.name fs) && names_differ fs
 
 unfoldable pub toml_files : Data → Option (List InlineFile)
-toml_files d = in_tables file_in d >>= passing names_differ
+toml_files d = in_tables file_in d >>= some_when names_differ
 
 -- ---- the whole
 

@@ -18,9 +18,9 @@ use Rattle.bl_desc.specs.EntriesKept.{entry_item_passes}
 -- ---- names of files
 
 -- a text; empty if it is something else
-abbrev pub text_or_none : Data → List ℕ
-text_or_none (string s) = s
-text_or_none _ = []
+abbrev pub value_text_or_empty : Data → List ℕ
+value_text_or_empty (string s) = s
+value_text_or_empty _ = []
 
 abbrev pub value_or : Data → Option Data → Data
 value_or d None = d
@@ -29,20 +29,21 @@ value_or d (Some e) = e
 abbrev pub name_value : Data → Data
 name_value d = value_or d (get (codes "name") d)
 
-abbrev pub named_file : Value → InlineFile
-named_file v = record { name = text_or_none (name_value (view v)); bytes = [] }
+abbrev pub name_only_file : Value → InlineFile
+name_only_file v = record { name = value_text_or_empty (name_value (view v)); bytes = [] }
 
 -- the file of this index has the name of an earlier one
 abbrev pub IsSameName : List Value → ℕ → Type 0
 IsSameName vs i =
-    IfSome (slice_get vs i) (λ v. has_file (named_file v).name (map named_file (take i vs)) ≡ true)
+    IfSome (slice_get vs i)
+    (λ v. has_file (name_only_file v).name (map name_only_file (take i vs)) ≡ true)
     × (i < length vs)
 
 -- the names of these files differ, whatever they hold
-abbrev pub IsEachFileNamed : Members → Type 0
-IsEachFileNamed ms =
+abbrev pub HasDistinctFileNames : Members → Type 0
+HasDistinctFileNames ms =
     (vs : List Value) × (items_view vs ≡ array_items (get_member (codes "file") ms))
-    × (names_differ (map named_file vs) ≡ true)
+    × (names_differ (map name_only_file vs) ≡ true)
 
 -- ---- the whole
 
@@ -52,14 +53,14 @@ machine_rules = required_key (codes "size") Number ∷ required_key (codes "pool
 abbrev pub fill_rules : List KeyRule
 fill_rules = optional_key (codes "fill") Byte ∷ []
 
-abbrev pub region_rules : List KeyRule
-region_rules = optional_key (codes "region") Tables ∷ []
+abbrev pub region_array_rules : List KeyRule
+region_array_rules = optional_key (codes "region") Tables ∷ []
 
-abbrev pub file_rules : List KeyRule
-file_rules = optional_key (codes "file") Tables ∷ []
+abbrev pub file_array_rules : List KeyRule
+file_array_rules = optional_key (codes "file") Tables ∷ []
 
-abbrev pub entry_rules : List KeyRule
-entry_rules = required_key (codes "entry") EntryTables ∷ []
+abbrev pub entry_array_rules : List KeyRule
+entry_array_rules = required_key (codes "entry") EntryTables ∷ []
 
 abbrev pub index_rules : ℕ → List KeyRule
 index_rules count =
@@ -74,17 +75,17 @@ machine_passes ms =
 
 abbrev pub regions_pass : Members → Bool
 regions_pass ms =
-    all_pass region_rules ms
+    all_pass region_array_rules ms
     && all_items (item_passes keys.Region) (array_items (get_member (codes "region") ms))
 
 abbrev pub files_pass : Members → Bool
 files_pass ms =
-    all_pass file_rules ms
+    all_pass file_array_rules ms
     && all_items (item_passes keys.File) (array_items (get_member (codes "file") ms))
 
 abbrev pub menu_passes : Members → Bool
 menu_passes ms =
-    all_pass entry_rules ms
+    all_pass entry_array_rules ms
     && all_items entry_item_passes (array_items (get_member (codes "entry") ms))
 
 abbrev pub indices_pass_among : ℕ → Members → Bool

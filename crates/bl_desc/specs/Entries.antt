@@ -4,9 +4,10 @@ use Rattle.std.specs.Prelude.{ℕ, Bool, ◌&&◌, if◌then◌else◌, nat_le, 
 use Rattle.std.specs.Prelude.{Option, Some, None, codes}
 use Rattle.std.specs.List.{list_all}
 use Rattle.toml.specs.Data.{Data, Members}
-use Rattle.bl_desc.specs.Values.{◌>>=◌, passing, toml_text, toml_bytes, has_only, at_key, at_key_or}
+use Rattle.bl_desc.specs.Values.{◌>>=◌, some_when, toml_text, toml_bytes, has_only, at_key}
+use Rattle.bl_desc.specs.Values.{at_key_or}
 use Rattle.bl_desc.specs.Values.{at_key_if, in_tables}
-use Rattle.bl_plan.specs.MenuLimits.{max_copy, max_entries, max_modules}
+use Rattle.bl_plan.specs.MenuLimits.{max_rsdp_length, max_entries, max_modules}
 use Rattle.bl_plan.specs.Protocols.{protocol_named}
 use Rattle.bl_plan.specs.declared.protocol.Protocol.{Protocol}
 use Rattle.bl_plan.specs.declared.protocol.Protocol.TheVariants.{Multiboot2, Linux, Linux64}
@@ -64,20 +65,20 @@ abbrev pub is_title : List ℕ → Bool
 is_title text = (nat_le 1 (length text) && nat_le (length text) 64) && is_printable text
 
 abbrev pub toml_title : Data → Option (List ℕ)
-toml_title d = toml_text d >>= passing is_title
+toml_title d = toml_text d >>= some_when is_title
 
 abbrev pub has_few_modules : List Module → Bool
 has_few_modules modules = nat_le (length modules) max_modules
 
 unfoldable pub toml_modules : Data → Option (List Module)
-toml_modules d = in_tables module_in d >>= passing has_few_modules
+toml_modules d = in_tables module_in d >>= some_when has_few_modules
 
 -- 1 to 256 bytes
-abbrev pub is_copy : List ℕ → Bool
-is_copy copy = nat_le 1 (length copy) && nat_le (length copy) max_copy
+abbrev pub is_rsdp_copy : List ℕ → Bool
+is_rsdp_copy copy = nat_le 1 (length copy) && nat_le (length copy) max_rsdp_length
 
-abbrev pub toml_copy : Data → Option (List ℕ)
-toml_copy d = toml_bytes d >>= passing is_copy
+abbrev pub toml_rsdp_copy : Data → Option (List ℕ)
+toml_rsdp_copy d = toml_bytes d >>= some_when is_rsdp_copy
 
 -- ---- protocol
 
@@ -95,8 +96,8 @@ multiboot2_keys = codes "module" ∷ codes "rsdp_old" ∷ codes "rsdp_new" ∷ [
 abbrev pub multiboot2_form : Members → Option Form
 multiboot2_form ms = do
   modules ← at_key_or [] toml_modules (codes "module") ms
-  rsdp_old ← at_key_if toml_copy (codes "rsdp_old") ms
-  rsdp_new ← at_key_if toml_copy (codes "rsdp_new") ms
+  rsdp_old ← at_key_if toml_rsdp_copy (codes "rsdp_old") ms
+  rsdp_new ← at_key_if toml_rsdp_copy (codes "rsdp_new") ms
   Some (record (bare_form Multiboot2) {
     modules = modules;
     rsdp_old = rsdp_old;
@@ -146,4 +147,4 @@ abbrev pub is_menu : List Entry → Bool
 is_menu entries = nat_le 1 (length entries) && nat_le (length entries) max_entries
 
 unfoldable pub toml_entries : Data → Option (List Entry)
-toml_entries d = in_tables menu_entry_in d >>= passing is_menu
+toml_entries d = in_tables menu_entry_in d >>= some_when is_menu

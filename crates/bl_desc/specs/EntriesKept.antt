@@ -37,30 +37,30 @@ abbrev pub copy_rules : List KeyRule
 copy_rules =
     optional_key (codes "rsdp_old") CopyText ∷ optional_key (codes "rsdp_new") CopyText ∷ []
 
-abbrev pub module_rules : List KeyRule
-module_rules = optional_key (codes "module") ModuleTables ∷ []
+abbrev pub module_array_rules : List KeyRule
+module_array_rules = optional_key (codes "module") ModuleTables ∷ []
 
 abbrev pub initrd_rules : List KeyRule
 initrd_rules = optional_key (codes "initrd") AnyText ∷ []
 
-abbrev pub front_passes : KeySet → Members → Bool
-front_passes set ms = has_only (keys_of_set set) ms && all_pass common_rules ms
+abbrev pub common_keys_pass : KeySet → Members → Bool
+common_keys_pass set ms = has_only (keys_of_set set) ms && all_pass common_rules ms
 
 -- the table has a fault, or one of those rules is broken
-abbrev pub IsFrontFault : KeySet → Members → KeyFault → Type 0
-IsFrontFault set ms fault = IsKeyFault 0 set ms fault ⊎ BreaksAnyOf common_rules ms fault
+abbrev pub IsCommonKeyFault : KeySet → Members → KeyFault → Type 0
+IsCommonKeyFault set ms fault = IsKeyFault 0 set ms fault ⊎ BreaksAnyOf common_rules ms fault
 
 abbrev pub modules_pass : Members → Bool
 modules_pass ms =
-    all_pass module_rules ms
+    all_pass module_array_rules ms
     && all_items (item_passes keys.Module) (array_items (get_member (codes "module") ms))
 
 abbrev pub multiboot2_passes : Members → Bool
 multiboot2_passes ms =
-    front_passes keys.Multiboot2Entry ms && (modules_pass ms && all_pass copy_rules ms)
+    common_keys_pass keys.Multiboot2Entry ms && (modules_pass ms && all_pass copy_rules ms)
 
 abbrev pub linux_passes : Members → Bool
-linux_passes ms = front_passes keys.LinuxEntry ms && all_pass initrd_rules ms
+linux_passes ms = common_keys_pass keys.LinuxEntry ms && all_pass initrd_rules ms
 
 -- what an entry of this protocol passes
 abbrev pub passes_by : Option Protocol → Members → Bool
@@ -84,7 +84,7 @@ IsModuleFault ms j fault =
 
 -- its modules, or its key for them
 abbrev pub IsModulesFaultAt : ℕ → Members → TablePlace → KeyFault → Type 0
-IsModulesFaultAt i ms (places.Entry k) fault = (k ≡ i) × BreaksAnyOf module_rules ms fault
+IsModulesFaultAt i ms (places.Entry k) fault = (k ≡ i) × BreaksAnyOf module_array_rules ms fault
 IsModulesFaultAt i ms (places.Module k j) fault = (k ≡ i) × IsModuleFault ms j fault
 IsModulesFaultAt i ms _ fault = ⊥
 

@@ -2,7 +2,7 @@ pub mod Values
 pub mod Entries
 pub mod EntryNames
 pub mod Described
-pub mod Forms
+pub mod EntryFormViews
 pub mod Views
 pub mod Allowed
 pub mod BadKeys

@@ -14,8 +14,8 @@ abbrev pub ◌>>=◌ : {A B : Type 0} → Option A → (A → Option B) → Opti
 None >>= f = None
 
 -- what was read, where it passes a test
-abbrev pub passing : {A : Type 0} → (A → Bool) → A → Option A
-passing test x = if test x then Some x else None
+abbrev pub some_when : {A : Type 0} → (A → Bool) → A → Option A
+some_when test x = if test x then Some x else None
 
 -- ---- values
 
@@ -25,7 +25,7 @@ toml_number (integer (pos n)) = Some n
 toml_number _ = None
 
 abbrev pub toml_byte : Data → Option ℕ
-toml_byte d = toml_number d >>= passing (λ n. nat_lt n 256)
+toml_byte d = toml_number d >>= some_when (λ n. nat_lt n 256)
 
 abbrev pub toml_text : Data → Option (List ℕ)
 toml_text (string s) = Some s
@@ -108,7 +108,7 @@ in_tables read d = array_of (in_table read) d
 
 -- the index of one of so many
 abbrev pub toml_index : ℕ → Data → Option ℕ
-toml_index count d = toml_number d >>= passing (λ n. nat_lt n count)
+toml_index count d = toml_number d >>= some_when (λ n. nat_lt n count)
 
 -- an array of such indices, in which one may repeat
 abbrev pub toml_indices : ℕ → Data → Option (List ℕ)

@@ -2,7 +2,7 @@
 use Rattle.std.specs.Prelude.{◌≡◌, ◌<◌, ◌≤◌, length, map, All, Option, Some, None, Result, Ok, Err}
 use Rattle.bl_desc.specs.Described.{InlineFile, Described}
 use Rattle.bl_desc.specs.Entries.{Entry}
-pub use Rattle.bl_desc.specs.Forms.{module_view, form_view}
+pub use Rattle.bl_desc.specs.EntryFormViews.{module_view, form_view}
 use Rattle.bl_plan.specs.MenuLimits.{max_entries}
 use Rattle.bl_desc.specs.declared.file_row.FileRow.{FileRow}
 use Rattle.bl_desc.specs.declared.entry_row.EntryRow.{EntryRow}
@@ -36,10 +36,10 @@ HasMenu d =
     × All (λ index. index < length d.entries.items) d.fallbacks.items
 
 -- what a reader returned, seen by view, is what the definition gives, unless memory ran out
-abbrev pub AnswersNothing : {Y : Type 0} → DescFault → Option Y → Type 0
-AnswersNothing NoMemory read = Unit {0}
-AnswersNothing BadDescription read = read ≡ None
+abbrev pub IsReaderFault : {Y : Type 0} → DescFault → Option Y → Type 0
+IsReaderFault NoMemory read = Unit {0}
+IsReaderFault BadDescription read = read ≡ None
 
 abbrev pub AnswersAs : {X Y : Type 0} → (X → Y) → Result X DescFault → Option Y → Type 0
 AnswersAs view (Ok x) read = read ≡ Some (view x)
-AnswersAs view (Err e) read = AnswersNothing e read
+AnswersAs view (Err e) read = IsReaderFault e read

@@ -2,9 +2,9 @@
 
 mod entries;
 mod items;
+mod root_table;
 mod rules;
 mod same_names;
 mod values;
-mod whole;
 
-pub use whole::first_bad_key;
+pub use root_table::first_bad_key;

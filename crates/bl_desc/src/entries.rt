@@ -4,7 +4,7 @@ ghost use Rattle.toml.specs.View.{view, table_view, items_view};
 ghost use Rattle.bl_desc.specs.Values as values;
 ghost use Rattle.bl_desc.specs.Entries as spec;
 ghost use Rattle.bl_plan.specs.MenuLimits.{max_entries};
-ghost use Rattle.bl_desc.specs.Forms.{HasCopyLength};
+ghost use Rattle.bl_desc.specs.EntryFormViews.{HasCopyLength};
 ghost use Rattle.bl_desc.specs.Views.{AnswersAs, entry_view, form_view};
 
 use crate::entry_form::EntryForm;
@@ -12,7 +12,7 @@ use crate::entry_row::EntryRow;
 use crate::fault::DescFault;
 use crate::keys::{at_key, text_at, text_or_empty};
 use crate::owned_text::Text;
-use crate::protocols::{form_in, has_keys, protocol_in};
+use crate::protocols::{form_in, has_only_entry_keys, protocol_in};
 use bl_plan::{MAX_ENTRIES, Protocol};
 use std::alloc::{AllocError, Allocator};
 use toml::{Table, Value};
@@ -95,7 +95,7 @@ fn entry_by<A: Allocator + Copy>(
 ) -> Result<EntryRow<A>, DescFault>
     ensures { AnswersAs entry_view result (spec.entry_by (table_view table.now) protocol) }
 {
-    if !has_keys(table, protocol) {
+    if !has_only_entry_keys(table, protocol) {
         return Err(DescFault::BadDescription);
     }
     let title = title_in(table)?;

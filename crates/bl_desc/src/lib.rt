@@ -3,7 +3,6 @@
 
 mod bad_key;
 mod bad_keys;
-mod copies;
 mod default_and_fallbacks;
 mod desc;
 mod document;
@@ -19,6 +18,7 @@ mod name_index;
 mod owned_text;
 mod protocols;
 mod regions;
+mod rsdp_copies;
 mod values;
 
 pub use bad_key::{Allowed, BadKey, KeyFault, KeySet, TablePlace};

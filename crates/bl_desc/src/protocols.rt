@@ -5,15 +5,15 @@ ghost use Rattle.bl_plan.specs.Protocols.{of_linux};
 ghost use Rattle.bl_desc.specs.Values as values;
 ghost use Rattle.bl_desc.specs.Entries as spec;
 ghost use Rattle.bl_desc.specs.Entries.{common_entry_keys, protocol_row};
-ghost use Rattle.bl_desc.specs.Forms.{HasCopyLength};
+ghost use Rattle.bl_desc.specs.EntryFormViews.{HasCopyLength};
 ghost use Rattle.bl_desc.specs.Views.{AnswersAs, form_view};
 
-use crate::copies::copy_if;
 use crate::entry_form::EntryForm;
 use crate::fault::DescFault;
 use crate::keys::{has_only, text_at, text_if};
 use crate::modules::modules_at;
 use crate::owned_text::Text;
+use crate::rsdp_copies::rsdp_copy_if;
 use bl_plan::Protocol;
 use std::alloc::{AllocError, Allocator};
 use toml::Table;
@@ -28,7 +28,7 @@ pub fn protocol_in(table: &Table) -> Result<Protocol, DescFault>
 }
 
 /// Whether an entry has no key but those of each entry and of its protocol.
-pub fn has_keys(table: &Table, protocol: Protocol) -> bool
+pub fn has_only_entry_keys(table: &Table, protocol: Protocol) -> bool
     ensures { result
         ≡ values.has_only (common_entry_keys ++ (protocol_row protocol).keys)
         (table_view table.now) }
@@ -62,8 +62,8 @@ fn multiboot2_form<A: Allocator + Copy>(alloc: A, table: &Table) -> Result<Entry
     ensures new { IfOk result (λ form. IfSome (form_view form).rsdp_new HasCopyLength) }
 {
     let modules = modules_at(alloc, table)?;
-    let rsdp_old = copy_if(alloc, table, "rsdp_old")?;
-    let rsdp_new = copy_if(alloc, table, "rsdp_new")?;
+    let rsdp_old = rsdp_copy_if(alloc, table, "rsdp_old")?;
+    let rsdp_new = rsdp_copy_if(alloc, table, "rsdp_new")?;
     Ok(EntryForm::Multiboot2 {
         modules,
         rsdp_old,

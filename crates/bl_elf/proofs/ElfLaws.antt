@@ -10,7 +10,7 @@ use Rattle.bl_elf.specs.declared.fault.ElfFault.TheVariants.{NotElf, BadElf, Seg
 use Rattle.bl_elf.specs.declared.fault.ElfFault.TheVariants.{AddressTooHigh, SegmentsOverlap}
 use Rattle.bl_elf.specs.declared.fault.ElfFault.TheVariants.{NoEntry, NoMemory}
 use Rattle.bl_elf.specs.Header.{header_of, header_fault}
-use Rattle.bl_elf.specs.Program.{program_fault_at, program_header, segment_by_header}
+use Rattle.bl_elf.specs.ProgramHeaders.{program_fault_at, program_header, segment_by_header}
 use Rattle.bl_elf.specs.Elf.{ElfFacts, IsElf, IsProgramHeaderIndex, IsFirstFaulty, IsFirstOverlap}
 use Rattle.bl_elf.specs.Elf.{HasFirstElfFault}
 use Rattle.bl_elf.specs.Elf.{IsSoundSegment, AreApartSegments, IsAddressOf}

@@ -4,9 +4,9 @@ use Rattle.bl_elf.specs.declared.fault.ElfFault.{ElfFault}
 use Rattle.bl_elf.specs.declared.fault.ElfFault.TheVariants.{NotElf, BadElf, SegmentCut}
 use Rattle.bl_elf.specs.declared.fault.ElfFault.TheVariants.{AddressTooHigh}
 use Rattle.bl_elf.specs.declared.header.Header.{Header}
-use Rattle.bl_elf.specs.declared.program.ProgramHeader.{ProgramHeader}
+use Rattle.bl_elf.specs.declared.program_headers.ProgramHeader.{ProgramHeader}
 use Rattle.bl_elf.specs.Header.{header_fault, field_fault, header_of}
-use Rattle.bl_elf.specs.Program.{program_fault, program_header}
+use Rattle.bl_elf.specs.ProgramHeaders.{program_fault, program_header}
 use Rattle.bl_elf.specs.Elf.{IsFirstFaulty, HasFirstElfFault}
 
 field_kinds : (size : ℕ) (header : Header) (fault : ElfFault) → field_fault size header ≡ Some fault

@@ -5,7 +5,7 @@ use Rattle.bl_elf.specs.declared.header.Header.{Header}
 use Rattle.bl_elf.specs.Header.{header_of, has_table, field_fault, header_fault}
 use Rattle.bl_elf.specs.Header.{program_header_size}
 use Rattle.bl_elf.specs.Kept.{IsSoundHeaderOf}
-use Rattle.bl_elf.specs.Program.{header_place}
+use Rattle.bl_elf.specs.ProgramHeaders.{program_header_place}
 
 -- the table of a file of this size has at most 128 entries, and ends within it
 record HasTable (size : ℕ) (header : Header) : Type 0 where
@@ -27,11 +27,11 @@ pub few_program_headers : (bytes : List ℕ) → header_fault bytes ≡ None
 few_program_headers bytes sound = (header_parts bytes sound).few
 
 within_table : (size i : ℕ) (header : Header) → has_table size header ≡ true → i < header.e_phnum
-    → header_place header i + program_header_size header.class ≤ size
+    → program_header_place header i + program_header_size header.class ≤ size
 within_table size i header table within = grind (arith, nat_tests)
 
 pub within_file : (bytes : List ℕ) (header : Header) (i : ℕ) → IsSoundHeaderOf bytes header
-    → i < header.e_phnum → header_place header i + program_header_size header.class ≤ length bytes
+    → i < header.e_phnum → program_header_place header i + program_header_size header.class ≤ length bytes
 within_file bytes header i read within =
     let table : has_table (length bytes) header ≡ true =
     rw read.is (header_parts bytes read.sound).table in

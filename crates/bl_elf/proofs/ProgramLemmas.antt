@@ -4,11 +4,11 @@ use Rattle.std.proofs.Common.{[], ◌∷◌, ◌++◌, arith, refl, sym, ◌∙�
 use Rattle.std.specs.Prelude.{find}
 use Rattle.std.proofs.lemmas.Bool.Decides.{nat_tests}
 use Rattle.bl_mem.specs.declared.segment.Segment.{Segment}
-use Rattle.bl_elf.specs.declared.program.ProgramHeader.{ProgramHeader}
-use Rattle.bl_elf.specs.Program.{program_header, program_headers_from, is_loadable}
-use Rattle.bl_elf.specs.Program.{segment_by_header}
-use Rattle.bl_elf.specs.Program.{segments_of}
-use Rattle.bl_elf.specs.Program.{is_entered, program_fault}
+use Rattle.bl_elf.specs.declared.program_headers.ProgramHeader.{ProgramHeader}
+use Rattle.bl_elf.specs.ProgramHeaders.{program_header, program_headers_from, is_loadable}
+use Rattle.bl_elf.specs.ProgramHeaders.{segment_by_header}
+use Rattle.bl_elf.specs.ProgramHeaders.{segments_of}
+use Rattle.bl_elf.specs.ProgramHeaders.{is_entered, program_fault}
 
 -- the program headers from the i-th on are the i-th and those after it
 headers_more : (bytes : List ℕ) (i count : ℕ) → i < count

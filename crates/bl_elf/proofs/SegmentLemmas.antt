@@ -6,11 +6,11 @@ use Rattle.std.proofs.lemmas.Bool.Decides.{nat_tests}
 use Rattle.std.proofs.lemmas.List.Elements.{All-cons, All-nil}
 use Rattle.std.proofs.lemmas.List.Kept.{AllPairs-cons}
 use Rattle.bl_mem.specs.declared.segment.Segment.{Segment}
-use Rattle.bl_elf.specs.declared.program.ProgramHeader.{ProgramHeader}
-use Rattle.bl_elf.specs.Program.{program_header, program_headers_from, is_loadable}
-use Rattle.bl_elf.specs.Program.{segment_by_header}
-use Rattle.bl_elf.specs.Program.{segments_of}
-use Rattle.bl_elf.specs.Program.{program_fault, share_byte, share_at}
+use Rattle.bl_elf.specs.declared.program_headers.ProgramHeader.{ProgramHeader}
+use Rattle.bl_elf.specs.ProgramHeaders.{program_header, program_headers_from, is_loadable}
+use Rattle.bl_elf.specs.ProgramHeaders.{segment_by_header}
+use Rattle.bl_elf.specs.ProgramHeaders.{segments_of}
+use Rattle.bl_elf.specs.ProgramHeaders.{program_fault, segments_overlap, segments_overlap_at}
 use Rattle.bl_elf.specs.Elf.{IsSoundSegment, AreApartSegments, IsAddressOf}
 
 -- a loadable program header gives its segment
@@ -59,14 +59,14 @@ all_segments P bytes i (suc n) each =
 
 -- two that share no byte have segments apart
 apart_from : (p q : ProgramHeader) → is_loadable p ≡ true → is_loadable q ≡ true
-    → share_byte p q ≡ false → AreApartSegments (segment_by_header p) (segment_by_header q)
-unfolding share_byte
+    → segments_overlap p q ≡ false → AreApartSegments (segment_by_header p) (segment_by_header q)
+unfolding segments_overlap
 apart_from p q first second apart = λ a in_p in_q. grind (arith, nat_tests)
 
 -- two that share a byte have an address in common
-pub common_address : (p q : ProgramHeader) → share_byte p q ≡ true
+pub common_address : (p q : ProgramHeader) → segments_overlap p q ≡ true
     → (a : ℕ) × IsAddressOf (segment_by_header p) a × IsAddressOf (segment_by_header q) a
-unfolding share_byte
+unfolding segments_overlap
 common_address p q share = (
   max p.p_paddr q.p_paddr,
   (grind (arith, nat_tests), grind (arith, nat_tests)),
@@ -85,7 +85,7 @@ pairs_more R header rest false e one all =
 
 -- no two segments share a byte, where no two program headers do
 pub apart_segments : (bytes : List ℕ) (i n : ℕ)
-    → ((j k : ℕ) → i ≤ j → j < k → k < i + n → share_at bytes j k ≡ false)
+    → ((j k : ℕ) → i ≤ j → j < k → k < i + n → segments_overlap_at bytes j k ≡ false)
     → AllPairs AreApartSegments (segments_of (program_headers_from bytes i n))
 apart_segments bytes i zero apart = λ j k d above within. absurd (omega arith)
 apart_segments bytes i (suc n) apart =

@@ -6,9 +6,10 @@ use Rattle.bl_mem.proofs.LeastLaws.{SomeBelow, least_below}
 use Rattle.bl_elf.specs.declared.fault.ElfFault.{ElfFault}
 use Rattle.bl_elf.specs.declared.fault.ElfFault.TheVariants.{SegmentsOverlap, NoMemory}
 use Rattle.bl_elf.specs.Header.{header_of, header_fault}
-use Rattle.bl_elf.specs.Program.{program_fault_at, program_header, program_headers, segments_of}
-use Rattle.bl_elf.specs.Program.{share_at}
-use Rattle.bl_elf.specs.Elf.{ElfFacts, IsElf, IsProgramHeaderIndex, SharesNone, IsFirstFaulty}
+use Rattle.bl_elf.specs.ProgramHeaders.{program_fault_at, program_header, program_headers}
+use Rattle.bl_elf.specs.ProgramHeaders.{segments_of}
+use Rattle.bl_elf.specs.ProgramHeaders.{segments_overlap_at}
+use Rattle.bl_elf.specs.Elf.{ElfFacts, IsElf, IsProgramHeaderIndex, OverlapsNoLater, IsFirstFaulty}
 use Rattle.bl_elf.specs.Elf.{IsFirstOverlap}
 use Rattle.bl_elf.specs.Elf.{HasFirstElfFault, physical_entry}
 use Rattle.bl_elf.proofs.FaultLemmas.{header_kinds, program_kinds, header_first, program_first}
@@ -23,7 +24,7 @@ IsFaulty bytes i = (fault : ElfFault) × (program_fault_at bytes i ≡ Some faul
 
 -- program headers i and j, a later one, share a physical byte
 abbrev Share : List ℕ → ℕ → ℕ → Type 0
-Share bytes i j = (i < j) × (share_at bytes i j ≡ true)
+Share bytes i j = (i < j) × (segments_overlap_at bytes i j ≡ true)
 
 -- the least program header after the i-th that shares a physical byte with it
 abbrev SharesOne : List ℕ → ℕ → Type 0
@@ -41,7 +42,7 @@ none_left (Some f) none = absurd (none (f, refl))
 share_or_not : (bytes : List ℕ) (i j : ℕ) → Share bytes i j ⊎ (Share bytes i j → ⊥)
 share_or_not bytes i j =
     elim (cases_lt i j) [
-      | inl behind ↦ elim (cases_Bool (share_at bytes i j)) [
+      | inl behind ↦ elim (cases_Bool (segments_overlap_at bytes i j)) [
         | inl share ↦ inl (behind, share)
         | inr apart ↦ inr (λ both. let share = both.1 in cc)
       ]
@@ -55,9 +56,9 @@ one_or_not bytes i =
       | inr one ↦ inl one
     ]
 
-shares_none : (bytes : List ℕ) (i : ℕ) → (SharesOne bytes i → ⊥) → SharesNone bytes i
+shares_none : (bytes : List ℕ) (i : ℕ) → (SharesOne bytes i → ⊥) → OverlapsNoLater bytes i
 shares_none bytes i not_one j behind within =
-    false_from_ne_true (share_at bytes i j)
+    false_from_ne_true (segments_overlap_at bytes i j)
     (λ share.
     elim (least_below (Share bytes i) (share_or_not bytes i) (header_of bytes).e_phnum) [
       | inl none ↦ none j within (behind, share)
@@ -112,7 +113,7 @@ after_programs bytes header sound =
                 λ k below. shares_none bytes k (λ other. omega (arith, least.least k other));
             least_second =
                 λ k behind below.
-                false_from_ne_true (share_at bytes i k)
+                false_from_ne_true (segments_overlap_at bytes i k)
                 (λ share. omega (arith, one.2.least k (behind, share)));
           })
     ]

@@ -3,16 +3,17 @@
 use Rattle.std.specs.Prelude.{◌≡◌, ◌⊎◌, ◌+◌, ◌-◌, ◌<◌, ◌≤◌, ◌^◌, ℕ, true, false, if◌then◌else◌}
 use Rattle.std.specs.Prelude.{List, length, find, Option, Some, None}
 use Rattle.std.specs.List.{list_any}
-use Rattle.bl_mem.specs.Contents.{is_in_segment}
+use Rattle.bl_mem.specs.SegmentContents.{is_in_segment}
 use Rattle.bl_mem.specs.declared.segment.Segment.{Segment}
-use Rattle.bl_elf.specs.declared.program.ProgramHeader.{ProgramHeader}
+use Rattle.bl_elf.specs.declared.program_headers.ProgramHeader.{ProgramHeader}
 use Rattle.bl_elf.specs.declared.fault.ElfFault.{ElfFault}
 use Rattle.bl_elf.specs.declared.fault.ElfFault.TheVariants.{NotElf, BadElf, SegmentCut}
 use Rattle.bl_elf.specs.declared.fault.ElfFault.TheVariants.{AddressTooHigh, SegmentsOverlap}
 use Rattle.bl_elf.specs.declared.fault.ElfFault.TheVariants.{NoEntry, NoMemory}
 use Rattle.bl_elf.specs.Header.{header_of, header_fault}
-use Rattle.bl_elf.specs.Program.{program_headers, segments_of, program_fault_at, share_at}
-use Rattle.bl_elf.specs.Program.{is_entered}
+use Rattle.bl_elf.specs.ProgramHeaders.{program_headers, segments_of, program_fault_at}
+use Rattle.bl_elf.specs.ProgramHeaders.{segments_overlap_at}
+use Rattle.bl_elf.specs.ProgramHeaders.{is_entered}
 
 -- what loading needs of a file: its loadable segments in the order of its program headers, and the
 -- physical address at which it is entered
@@ -40,15 +41,16 @@ abbrev pub IsProgramHeaderIndex : List ℕ → ℕ → Type 0
 IsProgramHeaderIndex bytes i = i < (header_of bytes).e_phnum
 
 -- program header i shares no physical byte with a later one
-abbrev pub SharesNone : List ℕ → ℕ → Type 0
-SharesNone bytes i = (j : ℕ) → i < j → IsProgramHeaderIndex bytes j → share_at bytes i j ≡ false
+abbrev pub OverlapsNoLater : List ℕ → ℕ → Type 0
+OverlapsNoLater bytes i =
+    (j : ℕ) → i < j → IsProgramHeaderIndex bytes j → segments_overlap_at bytes i j ≡ false
 
 -- the header is sound and so is each program header, no two share a physical byte, and these are
 -- the facts
 pub record IsElf (bytes : List ℕ) (facts : ElfFacts) : Type 0 where
   pub header : header_fault bytes ≡ None
   pub sound : (i : ℕ) → IsProgramHeaderIndex bytes i → program_fault_at bytes i ≡ None
-  pub apart : (i : ℕ) → IsProgramHeaderIndex bytes i → SharesNone bytes i
+  pub apart : (i : ℕ) → IsProgramHeaderIndex bytes i → OverlapsNoLater bytes i
   pub segments : facts.segments ≡ segments_of (program_headers bytes)
   pub entry : facts.entry ≡ physical_entry bytes
 
@@ -66,9 +68,9 @@ pub record IsFirstOverlap (bytes : List ℕ) (i j : ℕ) : Type 0 where
   pub sound : (k : ℕ) → IsProgramHeaderIndex bytes k → program_fault_at bytes k ≡ None
   pub above : i < j
   pub within : IsProgramHeaderIndex bytes j
-  pub share : share_at bytes i j ≡ true
-  pub least_first : (k : ℕ) → k < i → SharesNone bytes k
-  pub least_second : (k : ℕ) → i < k → k < j → share_at bytes i k ≡ false
+  pub share : segments_overlap_at bytes i j ≡ true
+  pub least_first : (k : ℕ) → k < i → OverlapsNoLater bytes k
+  pub least_second : (k : ℕ) → i < k → k < j → segments_overlap_at bytes i k ≡ false
 
 -- this is the first fault of a file that is refused, or memory ran out
 abbrev pub HasFirstElfFault : List ℕ → ElfFault → Type 0

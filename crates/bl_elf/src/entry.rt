@@ -2,12 +2,13 @@
 ghost use Rattle.std.specs.Prelude.{◌≡◌, ◌≤◌, ◌<◌, ◌+◌, ◌-◌, ◌^◌, ℕ, None, IfSome, find};
 ghost use Rattle.std.specs.List.{list_any};
 ghost use Rattle.bl_elf.specs.Kept.{IsSoundHeaderOf};
-ghost use Rattle.bl_elf.specs.Program.{program_headers, segments_of, program_fault_at, is_entered};
-ghost use Rattle.bl_mem.specs.Contents.{is_in_segment};
+ghost use Rattle.bl_elf.specs.ProgramHeaders.{program_headers, segments_of, program_fault_at};
+ghost use Rattle.bl_elf.specs.ProgramHeaders.{is_entered};
+ghost use Rattle.bl_mem.specs.SegmentContents.{is_in_segment};
 ghost use Rattle.bl_elf.specs.Elf.{IsProgramHeaderIndex, physical_entry};
 
 use crate::header::Header;
-use crate::program::{ProgramHeader, program_header};
+use crate::program_headers::{ProgramHeader, program_header};
 use bl_mem::{ByteView, Segment};
 
 /// The physical address at which a sound file is entered, if some segment holds its entry.

@@ -2,7 +2,7 @@
 ghost use Rattle.std.specs.Prelude.{◌≡◌, ◌⊎◌, ℕ, List};
 ghost use Rattle.bl_elf.specs.declared.fault.ElfFault.{ElfFault};
 ghost use Rattle.bl_elf.specs.declared.fault.ElfFault.TheVariants.{SegmentsOverlap, NoMemory};
-ghost use Rattle.bl_elf.specs.Program.{program_header, segment_by_header};
+ghost use Rattle.bl_elf.specs.ProgramHeaders.{program_header, segment_by_header};
 ghost use Rattle.bl_elf.specs.Elf.{ElfFacts, IsElf, HasFirstElfFault, IsAddressOf};
 
 /// A file has exactly one of these: one reading as an executable, or one first fault. Want of

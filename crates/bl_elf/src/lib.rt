@@ -1,6 +1,7 @@
 //! Executables of ELF, 32-bit and 64-bit: their loadable segments, and where they are entered.
 #![tactic(auto)]
 
+mod bounds_checks;
 mod class;
 mod elf;
 mod entry;
@@ -9,9 +10,8 @@ mod fields;
 mod header;
 mod laws;
 mod overlap;
-mod program;
+mod program_headers;
 mod segments;
-mod sums;
 
 pub use elf::{Elf, read_elf};
 pub use fault::ElfFault;

@@ -1,12 +1,12 @@
 //! The loadable segments.
 ghost use Rattle.std.specs.Prelude.{◌≡◌, ℕ, None, IfOk, OnOk, IfErr};
 ghost use Rattle.bl_elf.specs.Kept.{IsSoundHeaderOf};
-ghost use Rattle.bl_elf.specs.Program.{program_headers, segments_of, program_fault_at};
+ghost use Rattle.bl_elf.specs.ProgramHeaders.{program_headers, segments_of, program_fault_at};
 ghost use Rattle.bl_elf.specs.Elf.{IsProgramHeaderIndex, HasFirstElfFault};
 
 use crate::fault::ElfFault;
 use crate::header::Header;
-use crate::program::program_header;
+use crate::program_headers::program_header;
 use bl_mem::{ByteView, Segment};
 use std::alloc::Allocator;
 

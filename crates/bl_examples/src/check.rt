@@ -1,6 +1,6 @@
 //! A check of an image, as a measured boot makes it before it trusts what an image hands over.
 ghost use Rattle.std.specs.Prelude.{IfOk};
-ghost use Rattle.bl_image.specs.ImageParts.{IsImage};
+ghost use Rattle.bl_image.specs.ImageHandover.{IsImage};
 ghost use Rattle.bl_image.specs.declared.version.Version.{Version};
 ghost use Rattle.bl_walk.specs.Faults.{IsSound};
 

@@ -3,9 +3,9 @@ ghost use Rattle.std.specs.Prelude.{◌≡◌, ◌+◌, ◌≤◌, length, map, 
 ghost use Rattle.std.specs.Prelude.{All, IfOk};
 ghost use Rattle.bl_session.specs.Ledger.{sliced_file};
 ghost use Rattle.bl_session.specs.Outcome.{IsOutcome, HasEnded};
-ghost use Rattle.bl_session.specs.Outcome as outcome;
+ghost use Rattle.bl_session.specs.MenuFiles as menu_files;
 ghost use Rattle.bl_session.specs.Phases.{boot_facts, state_at};
-ghost use Rattle.bl_session.specs.Run.{boot_end};
+ghost use Rattle.bl_session.specs.Run.{final_phase};
 
 use crate::disk::Disk;
 use bl_map::Machine;
@@ -23,12 +23,12 @@ pub fn boot_from_disk<M: PhysMem, A: Allocator + Copy>(
     menu: &Menu<A>,
 ) -> Result<Outcome<A>, BootFault<A>>
     requires { length (M.bytes memory.old) ≡ machine.now.size }
-    ensures outcome { HasEnded (state_at (M.bytes memory.new) (boot_end result))
+    ensures outcome { HasEnded (state_at (M.bytes memory.new) (final_phase result))
         → IsOutcome
         (boot_facts machine.now menu.now
-        (map outcome.size_of (map (λ file. sliced_file (option_copied file)) files.now)))
+        (map menu_files.size_of (map (λ file. sliced_file (option_copied file)) files.now)))
         (map (λ file. sliced_file (option_copied file)) files.now) (λ _. None)
-        (state_at (M.bytes memory.new) (boot_end result)) }
+        (state_at (M.bytes memory.new) (final_phase result)) }
     ensures inside { IfOk result (λ outcome.
         All (λ place. place.address + place.length ≤ machine.now.size) outcome.handoff.places) }
     ensures size { length (M.bytes memory.new) ≡ length (M.bytes memory.old) }

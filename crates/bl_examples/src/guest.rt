@@ -1,7 +1,7 @@
 //! A hypervisor's guest: one kernel comes into memory that the hypervisor has mapped for it.
 ghost use Rattle.std.specs.Prelude.{◌≡◌, ◌≤◌, IfOk, length, map};
 ghost use Rattle.bl_load.specs.Parts.{IsHandover};
-ghost use Rattle.bl_load.specs.PlanFacts.{handover_in};
+ghost use Rattle.bl_load.specs.PlanContents.{handover_in};
 ghost use Rattle.bl_load.specs.EntryValue.{value_of, file_count, IsWithinLimits};
 
 use bl_load::{Entry, Handoff, PrepFault, load_entry};

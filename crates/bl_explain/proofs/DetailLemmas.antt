@@ -9,7 +9,7 @@ use Rattle.bl_map.specs.PoolFrames.{open_frames}
 use Rattle.bl_plan.specs.Placed.{place_range}
 use Rattle.bl_load.specs.Loadable.{lengths_of, IsLoadable}
 use Rattle.bl_load.specs.Parts.{IsHandover}
-use Rattle.bl_load.specs.PlanFacts.{handover_by, places_of}
+use Rattle.bl_load.specs.PlanContents.{handover_by, places_of}
 use Rattle.bl_load.specs.EntryValue.{EntryValue, file_count, value_of}
 use Rattle.bl_load.specs.declared.entry.Entry as loaded
 use Rattle.bl_load.specs.declared.entry.Module.{Module}
@@ -23,14 +23,14 @@ use Rattle.bl_session.proofs.AttemptLemmas.{value_is}
 use Rattle.bl_desc.specs.declared.entry_row.EntryRow.{EntryRow}
 use Rattle.bl_desc.specs.Entries.{Entry}
 use Rattle.bl_desc.specs.Views.{entry_view}
-use Rattle.bl_menu.specs.Attempted.{entry_facts}
+use Rattle.bl_menu.specs.DescribedMenu.{entry_facts}
 use Rattle.bl_desc.specs.EntryNames.{file_names, file_index}
 use Rattle.bl_explain.specs.Details.{AreFramesBeside, IsRefusalDetail, IsRefusalDetailOrNothing}
 use Rattle.bl_explain.specs.Details.{value_sought}
 use Rattle.bl_say.specs.Sought.{SoughtFacts, bytes_found}
-use Rattle.bl_say.specs.declared.told.refusal_detail.RefusalDetail.{RefusalDetail}
-use Rattle.bl_say.specs.declared.told.refusal_detail.RefusalDetail.TheVariants.{Nothing}
-use Rattle.bl_say.specs.declared.told.refusal_detail.ToldRefusal.{ToldRefusal}
+use Rattle.bl_say.specs.declared.line_subjects.refusal_detail.RefusalDetail.{RefusalDetail}
+use Rattle.bl_say.specs.declared.line_subjects.refusal_detail.RefusalDetail.TheVariants.{Nothing}
+use Rattle.bl_say.specs.declared.line_subjects.refusal_detail.ToldRefusal.{ToldRefusal}
 use Rattle.bl_say.proofs.RowLemmas.{no_row, one_row}
 
 -- ---- an entry of a description

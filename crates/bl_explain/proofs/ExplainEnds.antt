@@ -2,27 +2,27 @@
 use Rattle.std.proofs.Common.{◌≡◌, ◌++◌, ℕ, List, Some, None, Result, Ok, Err, map, refl}
 use Rattle.std.proofs.Common.{inl, inr}
 use Rattle.bl_map.specs.MachineFacts.{MachineFacts}
-use Rattle.bl_session.specs.Outcome.{File, size_of}
+use Rattle.bl_session.specs.MenuFiles.{File, size_of}
 use Rattle.bl_session.specs.Phases.{boot_facts}
 use Rattle.bl_desc.specs.declared.desc.Description.{Description}
 use Rattle.bl_desc.specs.Described.{described}
 use Rattle.bl_desc.specs.Views.{view}
 use Rattle.bl_menu.specs.declared.boot_end.End.{End}
 use Rattle.bl_menu.specs.declared.boot_end.End.TheVariants.{Booted, NoEntryLeft}
-use Rattle.bl_blame.specs.declared.told.blame.Blame.{Blame}
-use Rattle.bl_blame.specs.declared.told.blame.Blame.TheVariants.{BadMachine}
+use Rattle.bl_blame.specs.declared.line_subjects.blame.Blame.{Blame}
+use Rattle.bl_blame.specs.declared.line_subjects.blame.Blame.TheVariants.{BadMachine}
 use Rattle.bl_explain.specs.declared.fault.ExplainFault.{ExplainFault}
 use Rattle.bl_explain.specs.declared.fault.ExplainFault.TheVariants.{Blamed, NoMemory}
-use Rattle.bl_menu.specs.Attempted.{menu_of, names_in}
+use Rattle.bl_menu.specs.DescribedMenu.{menu_of, attempted_file_names}
 use Rattle.bl_blame.specs.BlameLines.{blame_lines}
 use Rattle.bl_explain.specs.BlameConditions.{HasBlame}
 use Rattle.bl_menu.specs.DescribedMachine.{IsMachineOf}
-use Rattle.bl_menu.specs.Cases.{BootCase}
-use Rattle.bl_explain.specs.ExplainKept.{ExplainAsks, ExplainEnds, FoundExplains, IsMachineBlame}
+use Rattle.bl_menu.specs.BootCases.{BootCase}
+use Rattle.bl_explain.specs.ExplainKept.{ExplainAsks, ExplainEnds, ExplainFoundEnds, IsMachineBlame}
 use Rattle.bl_explain.specs.ExplainKept.{IsReadBlame, SaysLines}
-use Rattle.bl_menu.specs.Found.{AreFound}
+use Rattle.bl_menu.specs.FoundFiles.{AreFound}
 use Rattle.bl_say.specs.Segments.{no_segments}
-use Rattle.bl_explain.specs.Told.{sought_in}
+use Rattle.bl_explain.specs.ExplanationLines.{sought_in}
 use Rattle.bl_menu.proofs.AskedLemmas.{all_asked}
 
 -- a blame that stands of what describes nothing is said
@@ -62,7 +62,7 @@ module _ {F : Type 0} (answers : F → List ℕ → File → Type 0) (faults : F
       -- the boot of what was found is explained
       module _ (facts : MachineFacts) (machine : IsMachineOf (view d) facts) (before after : F)
           (files : List File)
-          (found : AreFound answers faults (view d).files (names_in (view d)) before after files)
+          (found : AreFound answers faults (view d).files (attempted_file_names (view d)) before after files)
         where
           abbrev case_of : BootCase answers faults desc before after
           case_of = record {
@@ -75,7 +75,7 @@ module _ {F : Type 0} (answers : F → List ℕ → File → Type 0) (faults : F
           }
 
           pub explained_by : (old new : List ℕ) (ended : Result End ExplainFault)
-              → FoundExplains (view d)
+              → ExplainFoundEnds (view d)
               (boot_facts facts (menu_of (view d)) (map size_of files)) files
               (sought_in (view d) files) old new ended
               → ExplainEnds answers faults desc before after old new ended

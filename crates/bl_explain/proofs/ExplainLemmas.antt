@@ -18,8 +18,8 @@ use Rattle.bl_explain.specs.BlameConditions.{after_byte, after_bytes}
 use Rattle.bl_explain.specs.Details.{AreToldRefusals}
 use Rattle.bl_say.specs.Sought.{SoughtFacts}
 use Rattle.bl_say.specs.AttemptLines.{attempt_lines, refused_attempt_lines}
-use Rattle.bl_blame.specs.declared.told.blame.TextPlace.{TextPlace}
-use Rattle.bl_say.specs.declared.told.refusal_detail.ToldRefusal.{ToldRefusal}
+use Rattle.bl_blame.specs.declared.line_subjects.blame.TextPlace.{TextPlace}
+use Rattle.bl_say.specs.declared.line_subjects.refusal_detail.ToldRefusal.{ToldRefusal}
 
 -- ---- places in a text
 

@@ -9,7 +9,7 @@ use Rattle.bl_map.specs.MachineFacts.{MachineFacts}
 use Rattle.bl_plan.specs.declared.part.Place.{Place}
 use Rattle.bl_plan.specs.Placed.{place_range}
 use Rattle.bl_load.specs.HandoffFacts.{HandoffFacts}
-use Rattle.bl_load.specs.PlanFacts.{part_in}
+use Rattle.bl_load.specs.PlanContents.{part_in}
 use Rattle.bl_image.proofs.Spelled.{EndsIn, length-place_bytes}
 use Rattle.bl_session.specs.declared.outcome.RefusedEntry.{RefusedEntry}
 use Rattle.bl_session.specs.AttemptResult.{part_range}
@@ -19,13 +19,14 @@ use Rattle.bl_desc.specs.declared.entry_row.EntryRow.{EntryRow}
 use Rattle.bl_desc.specs.Described.{Described}
 use Rattle.bl_desc.specs.Entries.{Entry}
 use Rattle.bl_desc.specs.Views.{entry_view}
-use Rattle.bl_say.specs.HandedLines.{SourceWords, handoff_lines, part_line, place_line}
+use Rattle.bl_say.specs.HandoffLines.{SourceWords, handoff_lines, part_line, place_line}
 use Rattle.bl_say.specs.Segments.{KernelSegmentsFacts}
 use Rattle.bl_say.specs.Sought.{SoughtFacts}
-use Rattle.bl_say.specs.Sources.{source_at}
-use Rattle.bl_explain.specs.Told.{booted_lines, entry_handoff_lines, entry_handover_lines}
-use Rattle.bl_explain.specs.Told.{told_lines}
-use Rattle.bl_say.specs.declared.told.refusal_detail.ToldRefusal.{ToldRefusal}
+use Rattle.bl_say.specs.PartSources.{source_at}
+use Rattle.bl_explain.specs.ExplanationLines.{booted_lines, entry_handoff_lines}
+use Rattle.bl_explain.specs.ExplanationLines.{entry_handover_lines}
+use Rattle.bl_explain.specs.ExplanationLines.{explanation_lines}
+use Rattle.bl_say.specs.declared.line_subjects.refusal_detail.ToldRefusal.{ToldRefusal}
 
 -- ---- part by part
 
@@ -76,7 +77,7 @@ pub told_booted : (description : Described) (facts : MachineFacts) (sought : Sou
     → All (λ place. place.address + place.length ≤ size) handoff.places
     → new ≡ old ++ booted_lines description facts sought entry told earlier
     (entry_handoff_lines description.entries sought kernel facts.pool entry handoff)
-    → new ≡ old ++ told_lines description facts sought told kernel
+    → new ≡ old ++ explanation_lines description facts sought told kernel
     (handed_over entry earlier (handover_held bytes handoff))
 told_booted description facts sought kernel entry told earlier bytes handoff old new size whole
     inside said =

@@ -5,7 +5,7 @@ use Rattle.std.specs.Prelude.{if◌then◌else◌, not, nat_le, nat_lt, option_m
 use Rattle.std.specs.List.{list_any}
 use Rattle.std.specs.Option.{option_or}
 use Rattle.std.proofs.lemmas.Option.{same_Some}
-use Rattle.bl_mem.specs.Contents.{is_in_segment}
+use Rattle.bl_mem.specs.SegmentContents.{is_in_segment}
 use Rattle.bl_mem.specs.declared.segment.Segment.{Segment}
 use Rattle.bl_map.specs.MachineFacts.{MachineFacts}
 use Rattle.bl_map.specs.declared.region.Region.{Region}
@@ -17,17 +17,18 @@ use Rattle.bl_bzimage.specs.Setup.{setup_fault, setup_of}
 use Rattle.bl_bzimage.specs.declared.fault.SetupFault.{SetupFault}
 use Rattle.bl_bzimage.specs.declared.fault.SetupFault.TheVariants as setups
 use Rattle.bl_bzimage.specs.declared.setup.Setup.{Setup}
-use Rattle.bl_params.specs.BootParamsFacts.{max_e820_entries}
+use Rattle.bl_params.specs.ParamsToWriteFacts.{max_e820_entries}
 use Rattle.bl_plan.specs.MenuLimits.{max_line}
 use Rattle.bl_plan.specs.declared.protocol.Protocol.{Protocol}
 use Rattle.bl_plan.specs.declared.protocol.Protocol.TheVariants.{Multiboot2, Linux, Linux64}
-use Rattle.bl_load.specs.Kernel.{HasKernelFault, HasElfRefusal, counted_entry, elf_refusal}
-use Rattle.bl_load.specs.Kernel.{entry_fault, head_refusal}
+use Rattle.bl_load.specs.Multiboot2Kernel.{HasMultiboot2Fault, HasElfRefusal, effective_entry_point}
+use Rattle.bl_load.specs.Multiboot2Kernel.{elf_refusal}
+use Rattle.bl_load.specs.Multiboot2Kernel.{entry_point_fault, head_refusal}
 use Rattle.bl_load.specs.Linux.{entering_fault, entry_64, has_64_bit_entry, linux_fault}
 use Rattle.bl_load.specs.Linux.{setup_refusal, telling_fault}
 use Rattle.bl_load.specs.Parts.{IsRefusal, OrRefused, handover_of}
-use Rattle.bl_load.specs.Reading.{HasReadFault}
-use Rattle.bl_load.specs.Unplaced.{IsUnplaced, IsReadingFault}
+use Rattle.bl_load.specs.KernelReading.{HasKernelFileFault}
+use Rattle.bl_load.specs.Unplaced.{IsUnplaced, IsFaultBeforePlacing}
 use Rattle.bl_load.specs.EntryValue.{EntryValue, kernel_file, line_fault, lines_fault, lines_of}
 use Rattle.bl_load.specs.declared.refusal.PrepFault.TheVariants.{Refused}
 use Rattle.bl_load.specs.declared.refusal.Refusal.{Refusal}
@@ -92,7 +93,7 @@ other_elf (elves.SegmentsOverlap i j) = other_is (refusals.SegmentsOverlap i j) 
 other_elf elves.NoEntry = other_is refusals.NoEntry refl
 other_elf elves.NoMemory = no_other
 
-other_entry : (segments : List Segment) (entry : Option ℕ) → IsOther (entry_fault segments entry)
+other_entry : (segments : List Segment) (entry : Option ℕ) → IsOther (entry_point_fault segments entry)
 other_entry segments None = other_is refusals.NoEntry refl
 other_entry segments (Some entry) =
     other_if (list_any (is_in_segment entry) segments) None (Some refusals.EntryOutside) no_other
@@ -103,11 +104,11 @@ other_load : (file : List ℕ) (segment : Option Segment) (r : Refusal)
 other_load file (Some segment) r has = absurd has
 other_load file None r (fault, same, has) = other_elf fault r same
 
-other_kernel : (file : List ℕ) (r : Refusal) → HasKernelFault file r → is_placing r ≡ false
+other_kernel : (file : List ℕ) (r : Refusal) → HasMultiboot2Fault file r → is_placing r ≡ false
 other_kernel file r (inl (fault, first, same)) = ap is_placing same ∙ other_head fault
 other_kernel file r (inr (inl (h, is, load))) = other_load file h.segment r load
 other_kernel file r (inr (inr (h, facts, is, loaded, same))) =
-    other_entry facts.segments (counted_entry h facts) r same
+    other_entry facts.segments (effective_entry_point h facts) r same
 
 -- ---- a Linux kernel
 
@@ -151,24 +152,24 @@ other_linux protocol runs line file =
 -- ---- whatever refuses before a place is looked for
 
 other_read : (facts : MachineFacts) (value : EntryValue) (r : Refusal)
-    → HasReadFault facts value r → is_placing r ≡ false
+    → HasKernelFileFault facts value r → is_placing r ≡ false
 other_read facts value r (inl (is, fault)) = other_kernel (kernel_file value) r fault
 other_read facts value r (inr (is, fault)) =
     other_linux value.protocol facts.runs value.line (kernel_file value) r fault
 
 other_early : (facts : MachineFacts) (value : EntryValue) (r : Refusal)
-    → OrRefused (lines_fault (lines_of value)) (HasReadFault facts value) r → is_placing r ≡ false
+    → OrRefused (lines_fault (lines_of value)) (HasKernelFileFault facts value) r → is_placing r ≡ false
 other_early facts value r (inl lines) = other_lines (lines_of value) r lines
 other_early facts value r (inr (none, read)) = other_read facts value r read
 
 as_refusal : (facts : MachineFacts) (value : EntryValue) (r : Refusal)
-    → OrRefused (lines_fault (lines_of value)) (HasReadFault facts value) r
+    → OrRefused (lines_fault (lines_of value)) (HasKernelFileFault facts value) r
     → IsRefusal facts value r
 as_refusal facts value r (inl lines) = inl lines
 as_refusal facts value r (inr (none, read)) = inr (none, inl read)
 
 not_early : (facts : MachineFacts) (value : EntryValue) (r s : Refusal) → is_placing r ≡ true
-    → IsRefusal facts value r → IsReadingFault facts value (Refused s) → ⊥
+    → IsRefusal facts value r → IsFaultBeforePlacing facts value (Refused s) → ⊥
 not_early facts value r s placing is fault =
     let same : r ≡ s = one_refusal facts value r s is (as_refusal facts value s fault) in
     let bad : true ≡ false =
@@ -192,7 +193,7 @@ not_placed facts value r is placed =
 
 -- is not refused earlier
 pub no_place_read : (facts : MachineFacts) (value : EntryValue) (s : Refusal)
-    → HasNoPlace facts value → IsReadingFault facts value (Refused s) → ⊥
+    → HasNoPlace facts value → IsFaultBeforePlacing facts value (Refused s) → ⊥
 no_place_read facts value s (inl is) fault =
     not_early facts value refusals.NotUsable s refl is fault
 no_place_read facts value s (inr is) fault = not_early facts value refusals.NoRoom s refl is fault

@@ -12,24 +12,27 @@ use Rattle.bl_load.specs.Parts.{IsRefusal}
 use Rattle.bl_load.specs.EntryValue.{EntryValue}
 use Rattle.bl_load.specs.declared.refusal.Refusal.{Refusal}
 use Rattle.bl_load.specs.declared.refusal.Refusal.TheVariants.{NoFile, FileTooLong, NoPool}
-use Rattle.bl_session.specs.AttemptResult.{AttemptResult, HasResult, UnlessRefused, handed, refused}
+use Rattle.bl_session.specs.AttemptResult.{AttemptResult, HasWholeFilesResult, UnlessRefused}
+use Rattle.bl_session.specs.AttemptResult.{handed, refused}
 use Rattle.bl_session.specs.AttemptResult.{file_limit, file_refusal, known_lengths, pool_refusal}
 use Rattle.bl_session.specs.AttemptResult.{size_refusal}
 use Rattle.bl_session.specs.BootSteps.{BootFacts, State, fresh, sizes_of}
 use Rattle.bl_session.specs.Menu.{EntryFacts, MenuFacts, entry_at, no_entry, value_with}
-use Rattle.bl_session.specs.Outcome.{EntryHasResult, File, IsFirst, IsOutcome, faulty_file}
-use Rattle.bl_session.specs.Outcome.{file_bytes, missing, no_fault, size_of, entry_value_in}
+use Rattle.bl_session.specs.MenuFiles.{File}
+use Rattle.bl_session.specs.Outcome.{EntryHasResult, IsFirst, IsOutcome, faulty_file}
+use Rattle.bl_session.specs.MenuFiles.{file_bytes, missing, size_of, entry_value_in}
+use Rattle.bl_session.specs.Schedules.{no_fault}
 use Rattle.bl_session.specs.Phases.{boot_facts}
 use Rattle.bl_session.specs.Pieces.{are_whole}
 use Rattle.bl_session.specs.declared.outcome.RefusedEntry.{RefusedEntry}
 use Rattle.bl_desc.specs.Described.{Described}
 use Rattle.bl_desc.specs.Entries.{Entry}
-use Rattle.bl_menu.specs.Attempted.{boot_of, entry_facts, menu_of, names_in}
+use Rattle.bl_menu.specs.DescribedMenu.{boot_of, entry_facts, menu_of, attempted_file_names}
 use Rattle.bl_desc.specs.EntryNames.{file_names, file_index}
 use Rattle.bl_explain.specs.Details.{value_sought}
 use Rattle.bl_explain.specs.ExplainKept.{HasPlaceRefusal, is_placing}
 use Rattle.bl_say.specs.Sought.{SoughtFacts}
-use Rattle.bl_explain.specs.Told.{refused_in, sought_in}
+use Rattle.bl_explain.specs.ExplanationLines.{refused_in, sought_in}
 use Rattle.bl_explain.proofs.NoPlaceLemmas.{IsOther, no_other, other_if, other_is, other_or}
 
 -- ---- by the sizes of its files
@@ -70,7 +73,7 @@ never_faulty facts entry =
     ]
 
 by_value : (facts : MachineFacts) (value : EntryValue) (r : Refusal) → is_placing r ≡ true
-    → HasResult facts value (refused r) → IsRefusal facts value r
+    → HasWholeFilesResult facts value (refused r) → IsRefusal facts value r
 by_value facts value r placing (inl is) = is
 by_value facts value r placing (inr (lacks, same)) =
     let bad : true ≡ false = sym placing ∙ ap is_placing same in absurd cc
@@ -111,13 +114,13 @@ pub value_of_entry : (d : Described) (facts : MachineFacts) (files : List File) 
     → slice_get d.entries index ≡ Some e
     → entry_value_in (boot_of d facts files) files index ≡ value_sought (sought_in d files) e
 value_of_entry d facts files index e here =
-    let facts_by = entry_facts (names_in d) in
+    let facts_by = entry_facts (attempted_file_names d) in
     let text = λ (file : ℕ). file_bytes (slice_index_or files file missing) in
     let at : entry_at (menu_of d) index ≡ facts_by e =
     get_or_from_slice_get (map facts_by d.entries) index (facts_by e) no_entry
     (slice_get-map facts_by d.entries index ∙ ap (option_map facts_by) here) in
     ap (λ (f : EntryFacts). value_with f (map text f.files)) at
-    ∙ ap (value_with (facts_by e)) (map-map text (file_index (names_in d)) (file_names e))
+    ∙ ap (value_with (facts_by e)) (map-map text (file_index (attempted_file_names d)) (file_names e))
 
 by_found : (d : Described) (facts : MachineFacts) (files : List File) (r : RefusedEntry)
     → IsResult (boot_of d facts files) files r

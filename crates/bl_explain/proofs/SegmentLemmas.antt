@@ -16,14 +16,16 @@ use Rattle.bl_mb2head.specs.declared.header.Header.{Header}
 use Rattle.bl_mb2head.proofs.HeaderLaws.{one_header}
 use Rattle.bl_plan.specs.declared.protocol.Protocol.TheVariants.{Multiboot2}
 use Rattle.bl_load.specs.Handover.{Handover}
-use Rattle.bl_load.specs.Kernel.{Multiboot2KernelFacts, IsKernel, IsLoadedBy}
+use Rattle.bl_load.specs.Multiboot2Kernel.{Multiboot2KernelFacts, IsMultiboot2Kernel, IsLoadedBy}
 use Rattle.bl_load.specs.Parts.{IsHandover}
 use Rattle.bl_load.specs.Protocols.{has_params}
-use Rattle.bl_load.specs.Reading.{Reading, multiboot2, linux, IsRead}
+use Rattle.bl_load.specs.KernelReading.{KernelReading, multiboot2, linux, IsKernelReading}
 use Rattle.bl_load.specs.EntryValue.{EntryValue, kernel_file}
 use Rattle.bl_session.specs.BootSteps.{handed_over}
 use Rattle.bl_session.specs.Menu.{MenuFacts}
-use Rattle.bl_session.specs.Outcome.{File, IsOutcome, no_fault, size_of}
+use Rattle.bl_session.specs.MenuFiles.{File, size_of}
+use Rattle.bl_session.specs.Schedules.{no_fault}
+use Rattle.bl_session.specs.Outcome.{IsOutcome}
 use Rattle.bl_session.specs.Phases.{boot_facts}
 use Rattle.bl_session.specs.declared.outcome.RefusedEntry.{RefusedEntry}
 use Rattle.bl_session.proofs.OutcomeLaws.{is_handover}
@@ -31,14 +33,14 @@ use Rattle.bl_desc.specs.declared.entry_row.EntryRow.{EntryRow}
 use Rattle.bl_desc.specs.Described.{Described}
 use Rattle.bl_desc.specs.Entries.{Entry}
 use Rattle.bl_desc.specs.Views.{entry_view}
-use Rattle.bl_menu.specs.Attempted.{boot_of, menu_of}
+use Rattle.bl_menu.specs.DescribedMenu.{boot_of, menu_of}
 use Rattle.bl_explain.specs.Details.{value_sought}
-use Rattle.bl_explain.specs.ExplainKept.{HasKernelAt}
+use Rattle.bl_explain.specs.ExplainKept.{HasKernelIfMultiboot2At}
 use Rattle.bl_explain.specs.KernelSegments.{AreEntrySegments, AreSegmentsAt, AreSegmentsIf}
 use Rattle.bl_explain.specs.KernelSegments.{told_segments}
 use Rattle.bl_say.specs.Segments.{KernelSegmentsFacts, no_segments}
 use Rattle.bl_say.specs.Sought.{SoughtFacts}
-use Rattle.bl_explain.specs.Told.{sought_in}
+use Rattle.bl_explain.specs.ExplanationLines.{sought_in}
 use Rattle.bl_say.proofs.RowLemmas.{no_row, one_row}
 use Rattle.bl_explain.proofs.RefusedLemmas.{value_of_entry}
 
@@ -65,7 +67,7 @@ only_memory bytes facts NoEntry is has = absurd has
 only_memory bytes facts NoMemory is has = refl
 
 -- a header that was found is the kernel's
-module _ (bytes : List ℕ) (kernel : Multiboot2KernelFacts) (is : IsKernel bytes kernel)
+module _ (bytes : List ℕ) (kernel : Multiboot2KernelFacts) (is : IsMultiboot2Kernel bytes kernel)
     (header : Header)
     (found : IsHeader bytes header) where
   same_header : is.header ≡ header
@@ -108,9 +110,9 @@ segments_at_if rows sought index row (Err e) within at are = are
 
 -- ---- the entry that is handed over
 
-kernel_read : (facts : MachineFacts) (value : EntryValue) (reading : Reading)
-    → value.protocol ≡ Multiboot2 → IsRead facts value reading
-    → (kernel : Multiboot2KernelFacts) × IsKernel (kernel_file value) kernel
+kernel_read : (facts : MachineFacts) (value : EntryValue) (reading : KernelReading)
+    → value.protocol ≡ Multiboot2 → IsKernelReading facts value reading
+    → (kernel : Multiboot2KernelFacts) × IsMultiboot2Kernel (kernel_file value) kernel
 kernel_read facts value (multiboot2 kernel) by read = (kernel, read.1)
 kernel_read facts value (linux setup) by read =
     let bad : false ≡ true = sym (ap has_params by) ∙ read.0 in absurd cc
@@ -118,7 +120,7 @@ kernel_read facts value (linux setup) by read =
 handed_kernel : (d : Described) (facts : MachineFacts) (files : List File) (entry : ℕ)
     (earlier : List RefusedEntry) (handover : Handover)
     → IsOutcome (boot_of d facts files) files no_fault (handed_over entry earlier handover)
-    → HasKernelAt d.entries (sought_in d files) entry
+    → HasKernelIfMultiboot2At d.entries (sought_in d files) entry
 handed_kernel d facts files entry earlier handover came = λ e here by.
     let value = value_sought (sought_in d files) e in
     let is : IsHandover facts value handover =
@@ -134,9 +136,9 @@ pub handed_kernel_for : (d : Described) (facts : MachineFacts) (files : List Fil
     (sought : SoughtFacts) → sought ≡ sought_in d files → menu ≡ menu_of d
     → IsOutcome (boot_facts facts menu (map size_of files)) files no_fault
     (handed_over entry earlier handover)
-    → HasKernelAt d.entries sought entry
+    → HasKernelIfMultiboot2At d.entries sought entry
 handed_kernel_for d facts files menu entry earlier handover sought found same came =
-    subst (λ (s : SoughtFacts). HasKernelAt d.entries s entry) (sym found)
+    subst (λ (s : SoughtFacts). HasKernelIfMultiboot2At d.entries s entry) (sym found)
     (handed_kernel d facts files entry earlier handover
     (subst
     (λ (m : MenuFacts). IsOutcome (boot_facts facts m (map size_of files)) files no_fault

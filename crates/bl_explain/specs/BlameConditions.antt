@@ -10,11 +10,11 @@ use Rattle.bl_map.specs.declared.fault.MapFault.TheVariants.{NoMemory}
 use Rattle.bl_desc.specs.Described.{Described, described, described_in}
 use Rattle.bl_desc.specs.BadKeys.{IsBadKey}
 use Rattle.bl_desc.specs.declared.bad_key.BadKey.{BadKey}
-use Rattle.bl_blame.specs.declared.told.blame.TextPlace.{TextPlace}
-use Rattle.bl_blame.specs.declared.told.blame.Blame.{Blame}
-use Rattle.bl_blame.specs.declared.told.blame.Blame.TheVariants as blames
-use Rattle.bl_blame.specs.declared.told.blame.Blame.TheVariants.{NotUtf8, NotToml}
-use Rattle.bl_blame.specs.declared.told.blame.Blame.TheVariants.{BadMachine}
+use Rattle.bl_blame.specs.declared.line_subjects.blame.TextPlace.{TextPlace}
+use Rattle.bl_blame.specs.declared.line_subjects.blame.Blame.{Blame}
+use Rattle.bl_blame.specs.declared.line_subjects.blame.Blame.TheVariants as blames
+use Rattle.bl_blame.specs.declared.line_subjects.blame.Blame.TheVariants.{NotUtf8, NotToml}
+use Rattle.bl_blame.specs.declared.line_subjects.blame.Blame.TheVariants.{BadMachine}
 
 -- ---- places in a text
 

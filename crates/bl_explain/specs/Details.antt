@@ -16,13 +16,14 @@ use Rattle.bl_load.specs.declared.refusal.Refusal.TheVariants.{NotUsable, NoRoom
 use Rattle.bl_session.specs.AttemptResult.{part_range}
 use Rattle.bl_session.specs.declared.outcome.RefusedEntry.{RefusedEntry}
 use Rattle.bl_desc.specs.Entries.{Entry}
-use Rattle.bl_menu.specs.Attempted.{entry_value}
+use Rattle.bl_menu.specs.DescribedMenu.{entry_value}
 use Rattle.bl_desc.specs.EntryNames.{file_names}
 use Rattle.bl_say.specs.Sought.{SoughtFacts, bytes_found}
-use Rattle.bl_say.specs.declared.told.refusal_detail.RefusalDetail.{RefusalDetail}
-use Rattle.bl_say.specs.declared.told.refusal_detail.RefusalDetail.TheVariants.{Nothing, NoPlace}
-use Rattle.bl_say.specs.declared.told.refusal_detail.RefusalDetail.TheVariants.{Frames}
-use Rattle.bl_say.specs.declared.told.refusal_detail.ToldRefusal.{ToldRefusal}
+use Rattle.bl_say.specs.declared.line_subjects.refusal_detail.RefusalDetail.{RefusalDetail}
+use Rattle.bl_say.specs.declared.line_subjects.refusal_detail.RefusalDetail.TheVariants.{Nothing}
+use Rattle.bl_say.specs.declared.line_subjects.refusal_detail.RefusalDetail.TheVariants.{NoPlace}
+use Rattle.bl_say.specs.declared.line_subjects.refusal_detail.RefusalDetail.TheVariants.{Frames}
+use Rattle.bl_say.specs.declared.line_subjects.refusal_detail.ToldRefusal.{ToldRefusal}
 
 -- the value of an entry with what was found for the names of its files
 abbrev pub value_sought : SoughtFacts → Entry → EntryValue

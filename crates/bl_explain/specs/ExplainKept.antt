@@ -7,30 +7,32 @@ use Rattle.bl_map.specs.declared.fault.MapFault.{MapFault}
 use Rattle.bl_map.specs.declared.fault.MapFault.TheVariants as map_fault
 use Rattle.bl_plan.specs.declared.protocol.Protocol.TheVariants.{Multiboot2}
 use Rattle.bl_load.specs.Handover.{Handover}
-use Rattle.bl_load.specs.Kernel.{Multiboot2KernelFacts, IsKernel}
+use Rattle.bl_load.specs.Multiboot2Kernel.{Multiboot2KernelFacts, IsMultiboot2Kernel}
 use Rattle.bl_load.specs.Parts.{IsRefusal}
 use Rattle.bl_load.specs.EntryValue.{EntryValue}
 use Rattle.bl_load.specs.declared.refusal.Refusal.{Refusal}
 use Rattle.bl_load.specs.declared.refusal.Refusal.TheVariants.{NotUsable, NoRoom}
 use Rattle.bl_session.specs.declared.outcome.RefusedEntry.{RefusedEntry}
 use Rattle.bl_session.specs.BootSteps.{BootFacts, handed_over, none_left}
-use Rattle.bl_session.specs.Outcome.{File, IsOutcome, no_fault}
+use Rattle.bl_session.specs.MenuFiles.{File}
+use Rattle.bl_session.specs.Schedules.{no_fault}
+use Rattle.bl_session.specs.Outcome.{IsOutcome}
 use Rattle.bl_desc.specs.Described.{Described}
 use Rattle.bl_desc.specs.Entries.{Entry}
 use Rattle.bl_menu.specs.declared.boot_end.End.{End}
 use Rattle.bl_menu.specs.declared.boot_end.End.TheVariants.{Booted, NoEntryLeft}
-use Rattle.bl_blame.specs.declared.told.blame.Blame.TheVariants.{BadMachine}
+use Rattle.bl_blame.specs.declared.line_subjects.blame.Blame.TheVariants.{BadMachine}
 use Rattle.bl_explain.specs.declared.fault.ExplainFault.{ExplainFault}
 use Rattle.bl_explain.specs.declared.fault.ExplainFault.TheVariants.{Blamed, NoMemory}
 use Rattle.bl_blame.specs.BlameLines.{blame_lines}
 use Rattle.bl_explain.specs.Explained.{ExplainsBlame, ExplainsBoot, ExplainsRefusals}
-use Rattle.bl_menu.specs.Found.{AsksPrefix}
+use Rattle.bl_menu.specs.FoundFiles.{AsksPrefix}
 use Rattle.bl_say.specs.Sought.{SoughtFacts, bytes_found}
 use Rattle.bl_explain.specs.Details.{AreToldRefusals, value_sought}
 use Rattle.bl_explain.specs.KernelSegments.{AreSegmentsAt}
 use Rattle.bl_say.specs.Segments.{KernelSegmentsFacts, no_segments}
-use Rattle.bl_explain.specs.Told.{told_lines}
-use Rattle.bl_say.specs.declared.told.refusal_detail.ToldRefusal.{ToldRefusal}
+use Rattle.bl_explain.specs.ExplanationLines.{explanation_lines}
+use Rattle.bl_say.specs.declared.line_subjects.refusal_detail.ToldRefusal.{ToldRefusal}
 
 -- why the bytes are not read: they are a bad description, for what is said, or memory ran out
 abbrev pub IsReadBlame : (desc old new : List ℕ) → ExplainFault → Type 0
@@ -69,37 +71,37 @@ HasPlaceRefusal facts entries sought refused =
     → IsRefusal facts (value_sought sought entry) refused.refusal
 
 -- an entry's kernel, as it was found, is one where its protocol is that of Multiboot2
-abbrev pub HasKernel : SoughtFacts → Entry → Type 0
-HasKernel sought entry =
+abbrev pub HasKernelIfMultiboot2 : SoughtFacts → Entry → Type 0
+HasKernelIfMultiboot2 sought entry =
     entry.form.protocol ≡ Multiboot2
-    → (kernel : Multiboot2KernelFacts) × IsKernel (bytes_found sought entry.kernel) kernel
+    → (kernel : Multiboot2KernelFacts) × IsMultiboot2Kernel (bytes_found sought entry.kernel) kernel
 
 -- so is that of the entry of a menu that has this index, if there is one
-abbrev pub HasKernelAt : List Entry → SoughtFacts → ℕ → Type 0
-HasKernelAt entries sought index =
-    (entry : Entry) → slice_get entries index ≡ Some entry → HasKernel sought entry
+abbrev pub HasKernelIfMultiboot2At : List Entry → SoughtFacts → ℕ → Type 0
+HasKernelIfMultiboot2At entries sought index =
+    (entry : Entry) → slice_get entries index ≡ Some entry → HasKernelIfMultiboot2 sought entry
 
 -- the boot of what was found for a description is explained so: what it came to, of these files,
 -- and what is said
-abbrev pub FoundExplains : Described → BootFacts → List File → SoughtFacts → (old new : List ℕ)
+abbrev pub ExplainFoundEnds : Described → BootFacts → List File → SoughtFacts → (old new : List ℕ)
     → Result End ExplainFault → Type 0
-FoundExplains description facts files sought old new (Ok Booted) =
+ExplainFoundEnds description facts files sought old new (Ok Booted) =
     (entry : ℕ) × (earlier : List RefusedEntry) × (handover : Handover)
     × IsOutcome facts files no_fault (handed_over entry earlier handover)
     × (told : List ToldRefusal)
     × AreToldRefusals facts.machine description.entries sought earlier told
     × (kernel : KernelSegmentsFacts) × AreSegmentsAt description.entries sought entry kernel
     × (new ≡ old
-    ++ told_lines description facts.machine sought told kernel
+    ++ explanation_lines description facts.machine sought told kernel
     (handed_over entry earlier handover))
-FoundExplains description facts files sought old new (Ok NoEntryLeft) =
+ExplainFoundEnds description facts files sought old new (Ok NoEntryLeft) =
     (refused : List RefusedEntry) × IsOutcome facts files no_fault (none_left refused)
     × (told : List ToldRefusal)
     × AreToldRefusals facts.machine description.entries sought refused told
     × (new ≡ old
-    ++ told_lines description facts.machine sought told no_segments (none_left refused))
-FoundExplains description facts files sought old new (Err Blamed) = ⊥
-FoundExplains description facts files sought old new (Err NoMemory) = new ≡ old
+    ++ explanation_lines description facts.machine sought told no_segments (none_left refused))
+ExplainFoundEnds description facts files sought old new (Err Blamed) = ⊥
+ExplainFoundEnds description facts files sought old new (Err NoMemory) = new ≡ old
 
 -- an explanation ends so
 abbrev pub ExplainEnds : {F : Type 0} → (F → List ℕ → File → Type 0) → (F → ℕ) → List ℕ

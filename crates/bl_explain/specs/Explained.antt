@@ -3,18 +3,18 @@ use Rattle.std.specs.Prelude.{◌≡◌, ℕ, List, ◌++◌}
 use Rattle.bl_load.specs.Handover.{Handover}
 use Rattle.bl_session.specs.declared.outcome.RefusedEntry.{RefusedEntry}
 use Rattle.bl_session.specs.BootSteps.{State, handed_over, none_left}
-use Rattle.bl_session.specs.Outcome.{File}
+use Rattle.bl_session.specs.MenuFiles.{File}
 use Rattle.bl_desc.specs.Described.{described}
-use Rattle.bl_blame.specs.declared.told.blame.Blame.{Blame}
+use Rattle.bl_blame.specs.declared.line_subjects.blame.Blame.{Blame}
 use Rattle.bl_explain.specs.BlameConditions.{HasBlame}
 use Rattle.bl_blame.specs.BlameLines.{blame_lines}
 use Rattle.bl_menu.specs.DescribedMachine.{IsBadDescription}
-use Rattle.bl_menu.specs.Cases.{BootCase, HasOutcome}
+use Rattle.bl_menu.specs.BootCases.{BootCase, HasOutcome}
 use Rattle.bl_explain.specs.Details.{AreToldRefusals}
 use Rattle.bl_explain.specs.KernelSegments.{AreToldSegments}
 use Rattle.bl_say.specs.Segments.{KernelSegmentsFacts}
-use Rattle.bl_explain.specs.Told.{refused_in, sought_in, told_lines}
-use Rattle.bl_say.specs.declared.told.refusal_detail.ToldRefusal.{ToldRefusal}
+use Rattle.bl_explain.specs.ExplanationLines.{refused_in, sought_in, explanation_lines}
+use Rattle.bl_say.specs.declared.line_subjects.refusal_detail.ToldRefusal.{ToldRefusal}
 
 -- with files of a type F: what they may answer for a name, and how many faults they had
 module _ {F : Type 0} (answers : F → List ℕ → File → Type 0) (faults : F → ℕ) where
@@ -31,7 +31,7 @@ module _ {F : Type 0} (answers : F → List ℕ → File → Type 0) (faults : F
     pub are_segments : AreToldSegments case.description.entries
         (sought_in case.description case.files) state kernel
     pub said : new
-        ≡ old ++ told_lines case.description case.facts
+        ≡ old ++ explanation_lines case.description case.facts
         (sought_in case.description case.files) told kernel state
 
   -- an entry would be handed over

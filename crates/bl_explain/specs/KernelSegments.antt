@@ -2,7 +2,7 @@
 use Rattle.std.specs.Prelude.{◌≡◌, ℕ, List, Option, Some, None, is_some, slice_get}
 use Rattle.bl_plan.specs.declared.protocol.Protocol.{Protocol}
 use Rattle.bl_plan.specs.declared.protocol.Protocol.TheVariants.{Multiboot2, Linux, Linux64}
-use Rattle.bl_load.specs.Kernel.{Multiboot2KernelFacts, IsKernel}
+use Rattle.bl_load.specs.Multiboot2Kernel.{Multiboot2KernelFacts, IsMultiboot2Kernel}
 use Rattle.bl_session.specs.BootSteps.{State, unstarted, running, handed_over, none_left}
 use Rattle.bl_session.specs.BootSteps.{out_of_memory}
 use Rattle.bl_desc.specs.Entries.{Entry}
@@ -17,7 +17,8 @@ told_segments kernel =
 -- these bytes are a kernel, and these are its segments
 abbrev pub AreKernelSegments : List ℕ → KernelSegmentsFacts → Type 0
 AreKernelSegments bytes segments =
-    (kernel : Multiboot2KernelFacts) × IsKernel bytes kernel × (segments ≡ told_segments kernel)
+    (kernel : Multiboot2KernelFacts) × IsMultiboot2Kernel bytes kernel
+    × (segments ≡ told_segments kernel)
 
 -- of a kernel of another protocol none is told
 abbrev pub AreSegmentsBy : Protocol → List ℕ → KernelSegmentsFacts → Type 0

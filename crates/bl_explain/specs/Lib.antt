@@ -1,6 +1,6 @@
 pub mod KernelSegments
 pub mod Details
-pub mod Told
+pub mod ExplanationLines
 pub mod BlameConditions
 pub mod Explained
 pub mod ExplainKept

@@ -2,8 +2,9 @@
 ghost use Rattle.std.specs.Prelude.{◌≡◌, IfOk, map};
 ghost use Rattle.bl_elf.specs.Elf.{ElfFacts, IsElf};
 ghost use Rattle.bl_elf.specs.declared.fault.ElfFault.TheVariants.{NoMemory};
-ghost use Rattle.bl_load.specs.Kernel.{Multiboot2KernelFacts, IsKernel, IsLoadedBy};
-ghost use Rattle.bl_explain.specs.ExplainKept.{HasKernel, HasKernelAt};
+ghost use Rattle.bl_load.specs.Multiboot2Kernel.{Multiboot2KernelFacts, IsMultiboot2Kernel};
+ghost use Rattle.bl_load.specs.Multiboot2Kernel.{IsLoadedBy};
+ghost use Rattle.bl_explain.specs.ExplainKept.{HasKernelIfMultiboot2, HasKernelIfMultiboot2At};
 ghost use Rattle.bl_explain.specs.KernelSegments.{AreEntrySegments, AreKernelSegments};
 ghost use Rattle.bl_explain.specs.KernelSegments.{AreSegmentsAt};
 ghost use Rattle.bl_desc.specs.Views.{entry_view};
@@ -66,7 +67,7 @@ fn kernel_segments<A: Allocator + Copy>(
     alloc: A,
     bytes: &[u8],
 ) -> Result<KernelSegments<A>, AllocError>
-    requires { (kernel : Multiboot2KernelFacts) × IsKernel bytes.now kernel }
+    requires { (kernel : Multiboot2KernelFacts) × IsMultiboot2Kernel bytes.now kernel }
     ensures { IfOk result (AreKernelSegments bytes.now) }
 {
     let file = SliceView::new(bytes);
@@ -85,7 +86,7 @@ fn entry_segments<A: Allocator + Copy>(
     sought: &Sought<'_, A>,
     row: &EntryRow<A>,
 ) -> Result<KernelSegments<A>, AllocError>
-    requires { HasKernel sought.now (entry_view row.now) }
+    requires { HasKernelIfMultiboot2 sought.now (entry_view row.now) }
     ensures { IfOk result (AreEntrySegments sought.now (entry_view row.now)) }
 {
     match &row.form {
@@ -101,7 +102,7 @@ pub fn find_segments<A: Allocator + Copy>(
     sought: &Sought<'_, A>,
     index: u32,
 ) -> Result<KernelSegments<A>, AllocError>
-    requires { HasKernelAt (map entry_view entries.now) sought.now index }
+    requires { HasKernelIfMultiboot2At (map entry_view entries.now) sought.now index }
     ensures { IfOk result (AreSegmentsAt (map entry_view entries.now) sought.now index) }
 {
     match entries.get(index as usize) {

@@ -1,15 +1,15 @@
 //! A boot, told for a person.
 #![tactic(auto)]
 
+mod booted_entry;
+mod description_blame;
 mod entry_texts;
+mod explained_boot;
+mod explanation;
 mod fault;
-mod found;
-mod handed;
 mod kernel_segments;
 mod placing_details;
-mod reading;
 mod refusal_details;
 mod text_place;
-mod whole;
 
-pub use whole::explain_to;
+pub use explanation::explain_to;

@@ -31,7 +31,7 @@ use Rattle.std.specs.Box.Ownership.{box_owns}
 use Rattle.std.proofs.ResultValues.{and_tt}
 use Rattle.bl_handle.specs.Handles.{session_type, handle_owns}
 use Rattle.bl_handle.specs.contracts.handle.Handle as handle
-use Rattle.bl_handle.proofs.LooseSteps.{two, al}
+use Rattle.bl_handle.proofs.RawBoxSteps.{two, al}
 
 abbrev pub R : RattleType
 R = session_type

@@ -1,3 +1,3 @@
 pub mod HandleSteps
-pub mod LooseSteps
+pub mod RawBoxSteps
 pub mod ToldLemmas

@@ -15,8 +15,8 @@ use Rattle.bl_session.specs.Phases.{SessionFacts}
 abbrev pub session_type : RattleType
 session_type = owned.the_row heap.the_row ghosts
 
-abbrev pub kept_coded : Coded (Option SessionFacts)
-kept_coded = coded_option session_type.coded
+abbrev pub coded_kept_session : Coded (Option SessionFacts)
+coded_kept_session = coded_option session_type.coded
 
 -- behind null there is nothing; behind another pointer the session that is kept, and the right to
 -- free its block
@@ -27,10 +27,10 @@ handle_owns alloc at (Some session) =
 
 -- a session is kept before and after, and the two stand so to each other; or none before and after,
 -- and the other holds
-abbrev pub Between :
+abbrev pub MatchKept :
     Option SessionFacts → Option SessionFacts → (none : Type 0)
     → (SessionFacts → SessionFacts → Type 0) → Type 0
-Between None None none some = none
-Between None (Some new) none some = ⊥
-Between (Some old) None none some = ⊥
-Between (Some old) (Some new) none some = some old new
+MatchKept None None none some = none
+MatchKept None (Some new) none some = ⊥
+MatchKept (Some old) None none some = ⊥
+MatchKept (Some old) (Some new) none some = some old new

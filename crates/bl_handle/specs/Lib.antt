@@ -1,4 +1,4 @@
 pub mod Faults
 pub mod Handles
-pub mod Told
-pub mod Turned
+pub mod RequestTold
+pub mod SessionSteps

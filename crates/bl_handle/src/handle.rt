@@ -1,9 +1,9 @@
 //! A handle to a session.
 ghost use Rattle.std.specs.Prelude.{◌≡◌, Option, None, Some, option_map};
 ghost use Rattle.bl_session.specs.Phases.{SessionFacts};
-ghost use Rattle.bl_handle.specs.Handles.{handle_owns, kept_coded};
+ghost use Rattle.bl_handle.specs.Handles.{handle_owns, coded_kept_session};
 
-use crate::loose::Loose;
+use crate::raw_box::RawBox;
 use bl_session::OwnedSession;
 use std::alloc::Global;
 use std::marker::{Model, Send};
@@ -19,7 +19,7 @@ use std::ptr::null_mut;
 pub struct Handle {
     at: *mut u8,
     alloc: Global,
-    pub ghost kept: { Option SessionFacts } by { kept_coded },
+    pub ghost kept: { Option SessionFacts } by { coded_kept_session },
 }
 
 impl Model for Handle {
@@ -40,24 +40,24 @@ impl Handle {
         }
     }
 
-    fn to(loose: Loose<OwnedSession<Global>, Global>) -> Handle
-        ensures { result.kept ≡ Some loose.value }
+    fn from_raw_box(raw_box: RawBox<OwnedSession<Global>, Global>) -> Handle
+        ensures { result.kept ≡ Some raw_box.value }
     {
-        let Loose { at, alloc } = loose;
+        let RawBox { at, alloc } = raw_box;
         Handle {
             at: at as *mut u8,
             alloc,
         }
     }
 
-    fn into_loose(self) -> Option<Loose<OwnedSession<Global>, Global>>
+    fn into_raw_box(self) -> Option<RawBox<OwnedSession<Global>, Global>>
         ensures { option_map (λ l. l.value) result ≡ self.kept }
     {
         let Handle { at, alloc } = self;
         if at.is_null() {
             None
         } else {
-            Some(Loose {
+            Some(RawBox {
                 at: at as *mut OwnedSession<Global>,
                 alloc,
             })
@@ -69,8 +69,8 @@ impl Handle {
         ensures session { option_map (λ boxed. boxed.value) result ≡ self.old.kept }
         ensures none { self.new.kept ≡ None }
     {
-        match mem::replace(self, Handle::empty(alloc)).into_loose() {
-            Some(loose) => Some(loose.into_box()),
+        match mem::replace(self, Handle::empty(alloc)).into_raw_box() {
+            Some(raw_box) => Some(raw_box.into_box()),
             None => None,
         }
     }
@@ -79,6 +79,6 @@ impl Handle {
     pub fn keep(&mut self, session: Box<OwnedSession<Global>, Global>)
         ensures { self.new.kept ≡ Some session.value }
     {
-        *self = Handle::to(Loose::of(session));
+        *self = Handle::from_raw_box(RawBox::of(session));
     }
 }

@@ -1,18 +1,18 @@
 //! A session that a caller keeps through a handle, as one in C must.
 #![tactic(auto)]
 
+mod c_calls;
 mod handle;
 mod handle_fault;
-mod keeping;
+mod handle_over_slice;
+mod kept_session;
 mod layouts;
-mod loose;
-mod over_slice;
+mod raw_box;
 mod records;
-mod slices;
-mod telling;
-mod told;
+mod request_telling;
+mod session_over_slice;
 
 pub use handle::Handle;
 pub use handle_fault::HandleFault;
 pub use records::RequestRecord;
-pub use told::{status_of, tell_request};
+pub use request_telling::{status_of, tell_request};

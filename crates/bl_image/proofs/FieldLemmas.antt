@@ -13,7 +13,7 @@ use Rattle.bl_image.specs.declared.fault.ImageFault.TheVariants.{BadMagic, BadVe
 use Rattle.bl_image.specs.declared.fault.ImageFault.TheVariants.{BadPart, WrongLength, DeviceFault}
 use Rattle.bl_image.specs.declared.fault.ImageFault.TheVariants.{NoMemory}
 use Rattle.bl_image.specs.Fields.{Field, u32_field, u64_field, fields_fault}
-use Rattle.bl_image.specs.Source.{SourceFacts, Comes, IsPossibleRest, Shows, IsInputFault}
+use Rattle.bl_image.specs.Source.{SourceFacts, Comes, IsPossibleRest, ShowsFault, IsInputFault}
 use Rattle.bl_image.specs.SourceKept.{EndsEarly, IsCut, Passes}
 use Rattle.bl_image.proofs.Inputs.{comes_nothing, comes_more}
 
@@ -62,7 +62,7 @@ field_short field fields bytes short =
 
 -- what shows a fault refuses
 pub shown : (fault_in : List ℕ → Option ImageFault) (old new : SourceFacts) (fault : ImageFault)
-    → Shows fault_in old new fault → IsInputFault fault_in old new fault
+    → ShowsFault fault_in old new fault → IsInputFault fault_in old new fault
 shown fault_in old new BadMagic s = s
 shown fault_in old new BadVersion s = s
 shown fault_in old new BadHeader s = s
@@ -78,7 +78,7 @@ nothing_follows rest bytes e may =
 
 ended_shows : (fault_in : List ℕ → Option ImageFault) (old new : SourceFacts) (count : ℕ)
     → ((bytes : List ℕ) → length bytes < count → fault_in bytes ≡ Some WrongLength)
-    → EndsEarly old new count → Shows fault_in old new WrongLength
+    → EndsEarly old new count → ShowsFault fault_in old new WrongLength
 ended_shows fault_in old new count short ends = record {
   came = ends.came;
   comes = ends.comes;
@@ -111,7 +111,7 @@ field_cut field fields old new fault h =
 -- a field that came and fails
 pub field_shows : (field : Field) (fields : List Field) (old new : SourceFacts) (a : List ℕ)
     → Comes old new a → length a ≡ field.size → field.passes a ≡ false
-    → Shows (fields_fault (field ∷ fields)) old new field.fault
+    → ShowsFault (fields_fault (field ∷ fields)) old new field.fault
 field_shows field fields old new a comes size fails = record {
   came = a;
   comes = comes;
@@ -146,8 +146,8 @@ passed_field field fields a p passes =
     (λ bytes. field_passes field fields a bytes passes.size passes.passes)
 
 passed_shows : {fault_in left : List ℕ → Option ImageFault} {old mid new : SourceFacts}
-    {fault : ImageFault} → Passed fault_in old mid left → Shows left mid new fault
-    → Shows fault_in old new fault
+    {fault : ImageFault} → Passed fault_in old mid left → ShowsFault left mid new fault
+    → ShowsFault fault_in old new fault
 passed_shows {fault_in = fault_in} p s = record {
   came = p.done ++ s.came;
   comes = comes_more p.comes s.comes;

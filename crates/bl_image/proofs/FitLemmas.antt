@@ -9,8 +9,8 @@ use Rattle.bl_load.specs.declared.registers.Registers.{Registers}
 use Rattle.bl_load.specs.HandoffFacts.{IsWellFormedHandoff}
 use Rattle.bl_load.specs.Protocols.{is_wide}
 use Rattle.bl_load.specs.Registers.{are_wide}
-use Rattle.bl_load.specs.PlanFacts.{part_in, handover_in}
-use Rattle.bl_image.specs.ImageParts.{IsKeptByImages}
+use Rattle.bl_load.specs.PlanContents.{part_in, handover_in}
+use Rattle.bl_image.specs.ImageHandover.{IsKeptByImages}
 use Rattle.bl_image.specs.Spellable.{FitsRecord, IsSpellable, AreFit}
 use Rattle.bl_image.specs.RecordsKept.{PlaceFits, AreSpellable}
 use Rattle.bl_image.proofs.PartLemmas.{memory_kept}

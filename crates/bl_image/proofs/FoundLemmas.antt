@@ -10,7 +10,7 @@ use Rattle.bl_plan.specs.declared.part.Place.{Place}
 use Rattle.bl_plan.specs.declared.protocol.Protocol.{Protocol}
 use Rattle.bl_plan.specs.Protocols as protocols
 use Rattle.bl_load.specs.declared.registers.Registers.{Registers}
-use Rattle.bl_load.specs.HandoffFacts.{MayStand}
+use Rattle.bl_load.specs.HandoffFacts.{IsRoleAllowed}
 use Rattle.bl_image.specs.Image.{magic, head, spelled_registers}
 use Rattle.bl_image.specs.Layouts.{max_role}
 use Rattle.bl_image.specs.Spellable.{AreRegistersOf}
@@ -109,7 +109,7 @@ pub record RecordFound (wide : Bool) (end : ℕ) (bytes : List ℕ) : Type 0 whe
   pub place : Place
   pub rest : List ℕ
   pub is : place_record place ++ rest ≡ bytes
-  pub may : MayStand wide place.role
+  pub may : IsRoleAllowed wide place.role
   pub next : IsNext end place
   pub small : IsSmall rest
 

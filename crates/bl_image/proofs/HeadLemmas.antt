@@ -13,7 +13,7 @@ use Rattle.bl_image.specs.declared.version.Version.{Version}
 use Rattle.bl_image.specs.Image.{magic}
 use Rattle.bl_image.specs.Fields.{fields_fault, opening_fields, magic_field, version_field}
 use Rattle.bl_image.specs.Fields.{protocol_field}
-use Rattle.bl_image.specs.ImageFaults.{first, head_fault}
+use Rattle.bl_image.specs.ImageFaults.{fault_or, head_fault}
 use Rattle.bl_image.specs.Layouts.{layout, layout_of, layout_fields}
 use Rattle.bl_image.specs.Source.{SourceFacts, Comes, IsInputFault}
 use Rattle.bl_image.specs.Versions.{version_number, max_protocol, HasProtocol}
@@ -42,7 +42,7 @@ protocol_passes v p has =
 
 abbrev pub after_version : ℕ → List ℕ → Option ImageFault
 after_version version bytes =
-    first (fields_fault (protocol_field version ∷ []) bytes)
+    fault_or (fields_fault (protocol_field version ∷ []) bytes)
     (fields_fault (layout_fields (layout version (u32_at bytes 0))) (drop 4 bytes))
 
 opened_by : (version : ℕ) (bytes x : List ℕ) → fields_fault opening_fields bytes ≡ None
@@ -127,7 +127,7 @@ unfolding head_fault
 opening_refuses old new fault s =
     first_refuses (fields_fault opening_fields)
     (λ bytes.
-    first (fields_fault (protocol_field (u32_at bytes 8) ∷ []) (drop 12 bytes))
+    fault_or (fields_fault (protocol_field (u32_at bytes 8) ∷ []) (drop 12 bytes))
     (fields_fault (layout_fields (layout_of bytes)) (drop 16 bytes))) old new fault s
 
 pub protocol_refuses : {old mid : SourceFacts} (version : ℕ)

@@ -9,7 +9,7 @@ use Rattle.std.proofs.lemmas.List.Elements.{All-tail}
 use Rattle.std.proofs.lemmas.List.Concat.{flat_map-cons}
 use Rattle.std.specs.List.{flat_map}
 use Rattle.bl_plan.proofs.OrderLemmas.{AreRelated, pairs_related}
-use Rattle.bl_load.specs.HandoffFacts.{Ascends, MayStand}
+use Rattle.bl_load.specs.HandoffFacts.{Ascends, IsRoleAllowed}
 use Rattle.bl_load.specs.Protocols.{is_wide}
 use Rattle.bl_image.specs.Layouts.{max_role}
 use Rattle.bl_image.specs.Versions.{HasProtocol}
@@ -20,11 +20,12 @@ use Rattle.bl_image.specs.declared.fault.ImageFault.TheVariants.{BadPart, WrongL
 use Rattle.bl_image.specs.declared.fault.ImageFault.TheVariants.{NoMemory}
 use Rattle.bl_image.specs.declared.version.Version.{Version}
 use Rattle.bl_image.specs.Image.{part_record, spelling}
-use Rattle.bl_image.specs.ImageFaults.{Before, and_record, parts_fault, end_fault, no_records}
+use Rattle.bl_image.specs.ImageFaults.{RecordsBefore, with_record, parts_fault, end_fault}
+use Rattle.bl_image.specs.ImageFaults.{no_records}
 use Rattle.bl_image.specs.ImageFaults.{image_fault}
-use Rattle.bl_image.specs.ImageParts.{part_place, PartAscends, IsKeptByImages, IsImage}
+use Rattle.bl_image.specs.ImageHandover.{part_place, PartAscends, IsKeptByImages, IsImage}
 use Rattle.bl_image.specs.RecordsKept.{IsNext}
-use Rattle.bl_image.specs.Source.{IsBytesFault, SourceFacts, IsOfTheMoment, IsInputFault}
+use Rattle.bl_image.specs.Source.{IsBytesFault, SourceFacts, IsTransient, IsInputFault}
 use Rattle.bl_image.proofs.FrontLemmas.{head_front}
 use Rattle.bl_image.proofs.KnownLemmas.{fails_known}
 use Rattle.bl_image.proofs.PartLemmas.{all_bytes, all_under, related_under}
@@ -33,12 +34,12 @@ use Rattle.bl_image.proofs.RecordLemmas.{parts_step}
 
 -- what each part of an image is by itself
 record IsSoundPart (wide : Bool) (part : Part) : Type 0 where
-  may : MayStand wide part.role
+  may : IsRoleAllowed wide part.role
   index : part.index < 2 ^ 32
   filled : 1 ≤ length part.bytes
   below : end_of part ≤ 2 ^ 32
 
-parts_sound : (wide : Bool) (parts : List Part) (before : Before) (x : List ℕ)
+parts_sound : (wide : Bool) (parts : List Part) (before : RecordsBefore) (x : List ℕ)
     → All (λ (part : Part). before.end ≤ part.address) parts → AreRelated PartAscends parts
     → All (IsSoundPart wide) parts
     → parts_fault (max_role wide) (length parts) before (flat_map part_record parts ++ x)
@@ -53,7 +54,7 @@ parts_sound wide (part ∷ parts) before x above related sound =
       filled = here.filled;
       below = here.below;
     } in
-    let after : Before = and_record before part.address (length part.bytes) in
+    let after : RecordsBefore = with_record before part.address (length part.bytes) in
     let size = length-append part.bytes (all_bytes parts) in
     let most = max_role wide in
     ap (λ (l : List ℕ). parts_fault most (suc (length parts)) before (l ++ x))
@@ -75,7 +76,7 @@ sound_parts h kept k d within =
     let fits = kept.spellable.parts k d within in
     record {
       may =
-          all_under (λ p. MayStand (is_wide h.protocol) p.role) h.parts kept.handoff.roles
+          all_under (λ p. IsRoleAllowed (is_wide h.protocol) p.role) h.parts kept.handoff.roles
           k d within;
       index = fits.index;
       filled = all_under (λ p. 1 ≤ p.length) h.parts kept.handoff.filled k d within;
@@ -104,7 +105,7 @@ no_fault : (bytes : List ℕ) (fault : ImageFault) → image_fault bytes ≡ Non
 no_fault bytes fault e f = let both : None ≡ Some fault = sym e ∙ f in cc
 
 refused_for_now : (bytes : List ℕ) (fault : ImageFault) → image_fault bytes ≡ None
-    → IsBytesFault image_fault bytes fault → IsOfTheMoment fault
+    → IsBytesFault image_fault bytes fault → IsTransient fault
 refused_for_now bytes BadMagic e f = no_fault bytes BadMagic e f
 refused_for_now bytes BadVersion e f = no_fault bytes BadVersion e f
 refused_for_now bytes BadHeader e f = no_fault bytes BadHeader e f
@@ -118,7 +119,7 @@ pub accepted_by : (r : Result Handover ImageFault) (bytes : List ℕ)
     → MatchResult r (λ image. (version : Version) × IsImage version bytes image)
     (IsBytesFault image_fault bytes)
     → (version : Version) (handover : Handover) → IsImage version bytes handover
-    → MatchResult r (λ image. image ≡ handover) IsOfTheMoment
+    → MatchResult r (λ image. image ≡ handover) IsTransient
 accepted_by (Ok image) bytes read version handover is =
     (image_is_read_again read.0 version image handover read.1.kept.spellable is.kept.spellable
     (sym read.1.is ∙ is.is)).1
@@ -130,7 +131,7 @@ accepted_by (Err fault) bytes fails version handover is =
 pub image_not_refused : (old new : SourceFacts) (fault : ImageFault) (bytes : List ℕ)
     (version : Version)
     (handover : Handover) → IsImage version bytes handover → old.rest ≡ Some bytes
-    → IsInputFault image_fault old new fault → IsOfTheMoment fault
+    → IsInputFault image_fault old new fault → IsTransient fault
 image_not_refused old new fault bytes version handover is e refuses =
     refused_for_now bytes fault
     (ap image_fault is.is ∙ image_sound version handover is.has is.kept)

@@ -12,9 +12,10 @@ use Rattle.bl_image.specs.declared.fault.ImageFault.TheVariants.{NoMemory}
 use Rattle.bl_image.specs.declared.version.Version.{Version}
 use Rattle.bl_image.specs.Image.{spelling}
 use Rattle.bl_image.specs.ImageFaults.{image_fault}
-use Rattle.bl_image.specs.ImageParts.{IsKeptByImages, IsImage}
+use Rattle.bl_image.specs.ImageHandover.{IsKeptByImages, IsImage}
 use Rattle.bl_image.specs.Versions.{HasProtocol}
-use Rattle.bl_image.specs.Source.{SourceFacts, Comes, IsEnded, IsPossibleRest, Shows, IsInputFault, IsBytesFault}
+use Rattle.bl_image.specs.Source.{SourceFacts, Comes, IsEnded, IsPossibleRest, ShowsFault}
+use Rattle.bl_image.specs.Source.{IsInputFault, IsBytesFault}
 
 all_came : (old new : Option (List ℕ)) (came bytes : List ℕ) → old ≡ Some bytes → new ≡ Some []
     → Consumes old new came → bytes ≡ came
@@ -30,7 +31,7 @@ what_follows None came bytes h = absurd h
 what_follows (Some more) came bytes h = (more, refl, h)
 
 shows_known : (fault_in : List ℕ → Option ImageFault) (old new : SourceFacts) (fault : ImageFault)
-    (bytes : List ℕ) → old.rest ≡ Some bytes → Shows fault_in old new fault
+    (bytes : List ℕ) → old.rest ≡ Some bytes → ShowsFault fault_in old new fault
     → fault_in bytes ≡ Some fault
 shows_known fault_in old new fault bytes e s =
     let P : Option (List ℕ) → Type 0 = λ o. Consumes o new.rest s.came in

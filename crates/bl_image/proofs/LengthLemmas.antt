@@ -10,7 +10,7 @@ use Rattle.bl_plan.specs.declared.part.Place.{Place}
 use Rattle.bl_plan.specs.declared.protocol.Protocol.{Protocol}
 use Rattle.bl_load.specs.declared.registers.Registers.{Registers}
 use Rattle.bl_load.specs.declared.registers.Registers.TheVariants.{Bits32, Bits64}
-use Rattle.bl_load.specs.PlanFacts.{handover_in}
+use Rattle.bl_load.specs.PlanContents.{handover_in}
 use Rattle.bl_image.specs.Image.{head, spelling}
 use Rattle.bl_image.specs.Lengths.{image_length}
 use Rattle.bl_image.specs.RecordsKept.{place_record, place_bytes}

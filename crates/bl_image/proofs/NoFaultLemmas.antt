@@ -20,14 +20,14 @@ use Rattle.bl_plan.specs.Roles as roles
 use Rattle.bl_plan.specs.declared.protocol.Protocol.{Protocol}
 use Rattle.bl_plan.specs.declared.protocol.Protocol.TheVariants.{Multiboot2, Linux, Linux64}
 use Rattle.bl_plan.specs.Protocols as protocols
-use Rattle.bl_load.specs.HandoffFacts.{MayStand}
+use Rattle.bl_load.specs.HandoffFacts.{IsRoleAllowed}
 use Rattle.bl_image.specs.declared.fault.ImageFault.{ImageFault}
 use Rattle.bl_image.specs.declared.version.Version.{Version}
 use Rattle.bl_image.specs.declared.version.Version.TheVariants.{One, Two}
 use Rattle.bl_image.specs.Layouts.{max_role}
 use Rattle.bl_image.specs.Versions.{version_number, max_protocol, HasProtocol}
 use Rattle.bl_image.specs.Fields.{Field, fields_fault}
-use Rattle.bl_image.specs.ImageFaults.{first}
+use Rattle.bl_image.specs.ImageFaults.{fault_or}
 
 -- each element is a byte
 abbrev pub IsSmall : List ℕ → Type 0
@@ -79,7 +79,7 @@ none_from true passes x y rest e = cc
 none_from false true x y rest e = (refl, refl, e)
 none_from false false x y rest e = cc
 
-pub first_none : (a b : Option ImageFault) → first a b ≡ None → (a ≡ None) × (b ≡ None)
+pub first_none : (a b : Option ImageFault) → fault_or a b ≡ None → (a ≡ None) × (b ≡ None)
 first_none None b e = (refl, e)
 first_none (Some x) b e = cc
 
@@ -153,7 +153,7 @@ protocol_by Two (suc (suc (suc (suc n)))) h k = absurd (omega arith)
 
 -- the role of a number that an image has
 pub role_by : (wide : Bool) (n : ℕ) → 1 ≤ n → n ≤ max_role wide
-    → (r : Role) × MayStand wide r × (roles.role_number r ≡ n)
+    → (r : Role) × IsRoleAllowed wide r × (roles.role_number r ≡ n)
 role_by wide zero h k = absurd (omega arith)
 role_by wide (suc zero) h k = (Kernel, tt, refl)
 role_by wide (suc (suc zero)) h k = (Module, tt, refl)

@@ -7,7 +7,7 @@ use Rattle.bl_plan.specs.declared.part.Role.TheVariants.{CommandLine, Gdt, Initr
 use Rattle.bl_plan.specs.Roles as roles
 use Rattle.bl_plan.specs.declared.protocol.Protocol.{Protocol}
 use Rattle.bl_plan.specs.declared.protocol.Protocol.TheVariants.{Multiboot2, Linux, Linux64}
-use Rattle.bl_load.specs.HandoffFacts.{MayStand}
+use Rattle.bl_load.specs.HandoffFacts.{IsRoleAllowed}
 use Rattle.bl_plan.specs.Protocols as protocols
 use Rattle.bl_image.specs.Layouts.{max_role}
 use Rattle.bl_image.specs.declared.version.Version.{Version}
@@ -33,7 +33,7 @@ role_again Initrd = refl
 role_again PageTables = refl
 
 -- a role that may stand in an image is one of its numbers
-pub role_between : (wide : Bool) (r : Role) → MayStand wide r
+pub role_between : (wide : Bool) (r : Role) → IsRoleAllowed wide r
     → nat_le 1 (roles.role_number r) && nat_le (roles.role_number r) (max_role wide) ≡ true
 role_between true Kernel may = refl
 role_between true Module may = refl

@@ -7,7 +7,8 @@ use Rattle.std.specs.List.{flat_map}
 use Rattle.std.proofs.lemmas.Bool.Decides.{Decides-eqb, nat_tests}
 use Rattle.std.proofs.lemmas.List.Elements.{All-nil, All-cons}
 use Rattle.bl_mem.specs.LittleEndian.{u64_at, u64_bytes}
-use Rattle.bl_image.specs.Fields.{Field, fields_fault, zero_extended_field, absent_field, wide_register_field}
+use Rattle.bl_image.specs.Fields.{Field, fields_fault, zero_extended_field, absent_field}
+use Rattle.bl_image.specs.Fields.{wide_register_field}
 use Rattle.bl_image.proofs.NoFaultLemmas.{IsSmall, small_drop, u64_split, u64_small, field_none}
 
 -- so many numbers below a limit, and what stands behind them

@@ -14,14 +14,14 @@ use Rattle.bl_plan.proofs.OrderLemmas.{AreRelated}
 use Rattle.bl_load.specs.declared.registers.Registers.{Registers}
 use Rattle.bl_load.specs.Handover.{Part, Handover}
 use Rattle.bl_load.specs.HandoffFacts.{Ascends, IsWellFormedHandoff}
-use Rattle.bl_load.specs.PlanFacts.{part_in, handover_in}
+use Rattle.bl_load.specs.PlanContents.{part_in, handover_in}
 use Rattle.bl_image.specs.declared.fault.ImageFault.{ImageFault}
 use Rattle.bl_image.specs.declared.fault.ImageFault.TheVariants.{WrongLength}
 use Rattle.bl_image.specs.declared.version.Version.{Version}
 use Rattle.bl_image.specs.Image.{head, part_record, spelling}
-use Rattle.bl_image.specs.RecordsKept.{place_record, bytes_at, PlaceFits, AreSpellable}
+use Rattle.bl_image.specs.RecordsKept.{place_record, total_length, PlaceFits, AreSpellable}
 use Rattle.bl_image.specs.ImageFaults.{end_fault}
-use Rattle.bl_image.specs.ImageParts.{part_place, handoff_of, PartAscends, IsKeptByImages}
+use Rattle.bl_image.specs.ImageHandover.{part_place, handoff_of, PartAscends, IsKeptByImages}
 use Rattle.bl_image.specs.Source.{SourceFacts, Comes}
 use Rattle.bl_image.specs.SourceKept.{IsCut}
 use Rattle.bl_image.specs.Spellable.{FitsRecord, AreFit}
@@ -32,12 +32,12 @@ abbrev pub all_bytes : List Part → List ℕ
 all_bytes parts = flat_map (λ (part : Part). part.bytes) parts
 
 bytes_at-take : (ps : List Place) (i : ℕ) (d : Place) → i < length ps
-    → bytes_at (take i ps) + (get_or ps i d).length ≤ bytes_at ps
+    → total_length (take i ps) + (get_or ps i d).length ≤ total_length ps
 bytes_at-take [] i d h = absurd (omega arith)
 bytes_at-take (p ∷ ps) zero d h = omega arith
 bytes_at-take (p ∷ ps) (suc i) d h = omega (arith, bytes_at-take ps i d (omega arith))
 
-pub parts_size : (parts : List Part) → length (all_bytes parts) ≡ bytes_at (map part_place parts)
+pub parts_size : (parts : List Part) → length (all_bytes parts) ≡ total_length (map part_place parts)
 parts_size [] = refl
 parts_size (part ∷ parts) =
     omega (arith, length-append part.bytes (all_bytes parts), parts_size parts)
@@ -46,12 +46,12 @@ parts_size (part ∷ parts) =
 pub part_cut : (ps : List Place) (parts : List Part) (i : ℕ) (d : Place) {old mid : SourceFacts}
     → map part_place parts ≡ take i ps → i < length ps → Comes old mid (all_bytes parts)
     → (new : SourceFacts) (fault : ImageFault) → IsCut mid new (get_or ps i d).length fault
-    → IsCut old new (bytes_at ps) fault
+    → IsCut old new (total_length ps) fault
 part_cut ps parts i d are inside comes new fault cut =
-    let size : length (all_bytes parts) ≡ bytes_at (take i ps) =
-    parts_size parts ∙ ap bytes_at are in
+    let size : length (all_bytes parts) ≡ total_length (take i ps) =
+    parts_size parts ∙ ap total_length are in
     let within = bytes_at-take ps i d inside in
-    cut_behind (get_or ps i d).length (bytes_at ps) comes (omega arith) new fault cut
+    cut_behind (get_or ps i d).length (total_length ps) comes (omega arith) new fault cut
 
 pub places_more : (ps : List Place) (parts : List Part) (i : ℕ) (d : Place) (part : Part)
     → map part_place parts ≡ take i ps → i < length ps → part_place part ≡ get_or ps i d

@@ -12,19 +12,20 @@ use Rattle.bl_image.specs.declared.fault.ImageFault.{ImageFault}
 use Rattle.bl_image.specs.declared.fault.ImageFault.TheVariants.{BadMagic, BadVersion, BadHeader}
 use Rattle.bl_image.specs.declared.fault.ImageFault.TheVariants.{BadPart, WrongLength, DeviceFault}
 use Rattle.bl_image.specs.declared.fault.ImageFault.TheVariants.{NoMemory}
-use Rattle.bl_load.specs.HandoffFacts.{MayStand}
+use Rattle.bl_load.specs.HandoffFacts.{IsRoleAllowed}
 use Rattle.bl_image.specs.Layouts.{max_role}
 use Rattle.bl_image.specs.RecordsKept.{place_record, IsNext}
 use Rattle.bl_image.specs.Fields.{Field, fields_fault, record_fields, role_field, index_field}
 use Rattle.bl_image.specs.Fields.{address_field, length_field}
-use Rattle.bl_image.specs.ImageFaults.{first, record_fault, Before, and_record, parts_fault}
-use Rattle.bl_image.specs.Source.{SourceFacts, Shows, IsInputFault}
+use Rattle.bl_image.specs.ImageFaults.{fault_or, record_fault, RecordsBefore, with_record}
+use Rattle.bl_image.specs.ImageFaults.{parts_fault}
+use Rattle.bl_image.specs.Source.{SourceFacts, ShowsFault, IsInputFault}
 use Rattle.bl_image.proofs.NumbersAgain.{role_fits, role_between}
 use Rattle.bl_image.proofs.FieldLemmas.{field_passes, word_tells, long_tells}
 
 shows_as : (fault_in other : List ℕ → Option ImageFault) (old new : SourceFacts) (fault : ImageFault)
     → ((bytes : List ℕ) → fault_in bytes ≡ Some fault → other bytes ≡ Some fault)
-    → Shows fault_in old new fault → Shows other old new fault
+    → ShowsFault fault_in old new fault → ShowsFault other old new fault
 shows_as fault_in other old new fault e s = record {
   came = s.came;
   comes = s.comes;
@@ -48,19 +49,19 @@ refuses_as fault_in other old new NoMemory e s = tt
 -- a fault in what comes first
 pub first_refuses : (fault_in later : List ℕ → Option ImageFault) (old new : SourceFacts)
     (fault : ImageFault) → IsInputFault fault_in old new fault
-    → IsInputFault (λ bytes. first (fault_in bytes) (later bytes)) old new fault
+    → IsInputFault (λ bytes. fault_or (fault_in bytes) (later bytes)) old new fault
 first_refuses fault_in later old new fault s =
-    refuses_as fault_in (λ bytes. first (fault_in bytes) (later bytes)) old new fault
-    (λ bytes e. ap (λ (o : Option ImageFault). first o (later bytes)) e) s
+    refuses_as fault_in (λ bytes. fault_or (fault_in bytes) (later bytes)) old new fault
+    (λ bytes e. ap (λ (o : Option ImageFault). fault_or o (later bytes)) e) s
 
 -- a record's fault among the records that are left
-pub record_refuses : (most n : ℕ) (before : Before) (old new : SourceFacts) (fault : ImageFault)
+pub record_refuses : (most n : ℕ) (before : RecordsBefore) (old new : SourceFacts) (fault : ImageFault)
     → IsInputFault (record_fault most before.count before.end) old new fault
     → IsInputFault (parts_fault most (suc n) before) old new fault
 record_refuses most n before old new fault s =
     first_refuses (record_fault most before.count before.end)
     (λ bytes.
-    parts_fault most n (and_record before (u64_at bytes 8) (u64_at bytes 16)) (drop 24 bytes))
+    parts_fault most n (with_record before (u64_at bytes 8) (u64_at bytes 16)) (drop 24 bytes))
     old new fault s
 
 pub four_pieces : (a b c x : List ℕ) → ((a ++ b) ++ c) ++ x ≡ a ++ (b ++ (c ++ x))
@@ -81,7 +82,7 @@ front role index address x =
     ((u32_bytes (roles.role_number role) ++ u32_bytes index) ++ u64_bytes address) ++ x
 
 front_passes : (wide : Bool) (part before : ℕ) (role : Role) (index address : ℕ) (x : List ℕ)
-    → MayStand wide role → index < 2 ^ 32 → address < 2 ^ 64 → before ≤ address
+    → IsRoleAllowed wide role → index < 2 ^ 32 → address < 2 ^ 64 → before ≤ address
     → fields_fault (record_fields (max_role wide) part before) (front role index address x) ≡ None
 unfolding role_field index_field address_field
 front_passes wide part before role index address x may hi ha above =
@@ -106,7 +107,7 @@ behind_front role index address x = refl
 
 -- they leave the length to be judged
 pub record_front : (wide : Bool) (part before : ℕ) (role : Role) (index address : ℕ) (x : List ℕ)
-    → MayStand wide role → index < 2 ^ 32 → address < 2 ^ 64 → before ≤ address
+    → IsRoleAllowed wide role → index < 2 ^ 32 → address < 2 ^ 64 → before ≤ address
     → record_fault (max_role wide) part before (front role index address x)
     ≡ fields_fault (length_field part address ∷ []) x
 record_front wide part before role index address x may hi ha above =
@@ -119,7 +120,7 @@ record_front wide part before role index address x may hi ha above =
 pub regroup : (r i a n x : List ℕ) → (r ++ (i ++ (a ++ n))) ++ x ≡ ((r ++ i) ++ a) ++ (n ++ x)
 regroup r i a n x = simp append_assoc
 
-record_passes : (wide : Bool) (part before : ℕ) (p : Place) (x : List ℕ) → MayStand wide p.role
+record_passes : (wide : Bool) (part before : ℕ) (p : Place) (x : List ℕ) → IsRoleAllowed wide p.role
     → IsNext before p → record_fault (max_role wide) part before (place_record p ++ x) ≡ None
 unfolding length_field
 record_passes wide part before p x may next =
@@ -155,10 +156,10 @@ unfolding u32_bytes u64_bytes
 behind_record p x = refl
 
 -- one record leaves the others to be judged
-pub parts_step : (wide : Bool) (n : ℕ) (before : Before) (p : Place) (x : List ℕ)
-    → MayStand wide p.role → IsNext before.end p
+pub parts_step : (wide : Bool) (n : ℕ) (before : RecordsBefore) (p : Place) (x : List ℕ)
+    → IsRoleAllowed wide p.role → IsNext before.end p
     → parts_fault (max_role wide) (suc n) before (place_record p ++ x)
-    ≡ parts_fault (max_role wide) n (and_record before p.address p.length) x
+    ≡ parts_fault (max_role wide) n (with_record before p.address p.length) x
 parts_step wide n before p x may next =
     let fits : p.address < 2 ^ 64 = omega (arith, next.below) in
     let small : p.length < 2 ^ 64 = omega (arith, next.below) in

@@ -11,15 +11,15 @@ use Rattle.bl_plan.specs.declared.part.Place.{Place}
 use Rattle.bl_plan.proofs.OrderLemmas.{AreRelated, pairs_related, related_pairs}
 use Rattle.bl_plan.specs.declared.protocol.Protocol.{Protocol}
 use Rattle.bl_load.specs.declared.registers.Registers.{Registers}
-use Rattle.bl_load.specs.HandoffFacts.{Ascends, IsWellFormedHandoff, MayStand}
+use Rattle.bl_load.specs.HandoffFacts.{Ascends, IsWellFormedHandoff, IsRoleAllowed}
 use Rattle.bl_load.specs.Protocols.{is_wide}
 use Rattle.bl_load.specs.Registers.{are_wide}
 use Rattle.bl_image.specs.Layouts.{max_role}
-use Rattle.bl_image.specs.RecordsKept.{place_record, IsNext, AreSound, bytes_at, PlaceFits}
-use Rattle.bl_image.specs.ImageFaults.{Before, parts_fault, no_records}
+use Rattle.bl_image.specs.RecordsKept.{place_record, IsNext, AreSound, total_length, PlaceFits}
+use Rattle.bl_image.specs.ImageFaults.{RecordsBefore, parts_fault, no_records}
 use Rattle.bl_image.proofs.RecordLemmas.{parts_step}
 
-pub bytes_at-more : (ps : List Place) (p : Place) → bytes_at (ps ++ p ∷ []) ≡ bytes_at ps + p.length
+pub bytes_at-more : (ps : List Place) (p : Place) → total_length (ps ++ p ∷ []) ≡ total_length ps + p.length
 bytes_at-more [] p = omega arith
 bytes_at-more (q ∷ ps) p = omega (arith, bytes_at-more ps p)
 
@@ -31,12 +31,12 @@ came_more ps p =
     (flat_map-cons place_record p [] ∙ append-nil (place_record p))
 
 -- what the records so far say
-abbrev pub so_far : ℕ → ℕ → List Place → Before
-so_far count end ps = record { count = count; end = end; bytes = bytes_at ps }
+abbrev pub so_far : ℕ → ℕ → List Place → RecordsBefore
+so_far count end ps = record { count = count; end = end; bytes = total_length ps }
 
 -- one more record came, and leaves the others to be judged
 pub judged_more : (wide : Bool) (count part : ℕ) (ps : List Place) (end : ℕ) (p : Place)
-    → part < count → MayStand wide p.role → IsNext end p
+    → part < count → IsRoleAllowed wide p.role → IsNext end p
     → ((bytes : List ℕ)
     → parts_fault (max_role wide) count no_records (flat_map place_record ps ++ bytes)
     ≡ parts_fault (max_role wide) (count - part) (so_far part end ps) bytes)
@@ -118,7 +118,7 @@ sound_low ps end sound = record {
 -- at most 256 of them, of roles that may stand there, are what a handoff keeps
 pub sound_kept : (protocol : Protocol) (registers : Registers) (ps : List Place) (end : ℕ)
     → are_wide registers ≡ is_wide protocol
-    → All (λ (p : Place). MayStand (is_wide protocol) p.role) ps
+    → All (λ (p : Place). IsRoleAllowed (is_wide protocol) p.role) ps
     → length ps ≤ 256 → AreSound ps end
     → IsWellFormedHandoff (record { protocol = protocol; registers = registers; places = ps })
 sound_kept protocol registers ps end width roles few sound = record {

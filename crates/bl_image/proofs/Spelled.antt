@@ -13,7 +13,7 @@ use Rattle.bl_plan.specs.declared.part.Place.{Place}
 use Rattle.bl_plan.specs.declared.protocol.Protocol.{Protocol}
 use Rattle.bl_load.specs.declared.registers.Registers.{Registers}
 use Rattle.bl_load.specs.Handover.{Part}
-use Rattle.bl_load.specs.PlanFacts.{part_in, handover_in}
+use Rattle.bl_load.specs.PlanContents.{part_in, handover_in}
 use Rattle.bl_image.specs.declared.version.Version.{Version}
 use Rattle.bl_image.specs.Image.{head, record_of, part_record, spelling}
 use Rattle.bl_image.specs.RecordsKept.{place_record, place_bytes}

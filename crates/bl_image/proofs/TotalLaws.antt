@@ -12,16 +12,17 @@ use Rattle.std.proofs.lemmas.List.Concat.{flat_map-cons}
 use Rattle.bl_plan.specs.declared.part.Place.{Place}
 use Rattle.bl_plan.proofs.OrderLemmas.{AreRelated, related_pairs}
 use Rattle.bl_load.specs.Handover.{Part, Handover}
-use Rattle.bl_load.specs.HandoffFacts.{Ascends, IsWellFormedHandoff, MayStand}
+use Rattle.bl_load.specs.HandoffFacts.{Ascends, IsWellFormedHandoff, IsRoleAllowed}
 use Rattle.bl_load.specs.Protocols.{is_wide}
 use Rattle.bl_image.specs.Layouts.{max_role}
 use Rattle.bl_image.specs.declared.fault.ImageFault.TheVariants.{WrongLength}
 use Rattle.bl_image.specs.declared.version.Version.{Version}
 use Rattle.bl_image.specs.Image.{head}
-use Rattle.bl_image.specs.RecordsKept.{place_record, bytes_at, PlaceFits}
-use Rattle.bl_image.specs.ImageFaults.{head_fault, image_fault, parts_fault, Before, and_record}
+use Rattle.bl_image.specs.RecordsKept.{place_record, total_length, PlaceFits}
+use Rattle.bl_image.specs.ImageFaults.{head_fault, image_fault, parts_fault, RecordsBefore}
+use Rattle.bl_image.specs.ImageFaults.{with_record}
 use Rattle.bl_image.specs.ImageFaults.{no_records, end_fault}
-use Rattle.bl_image.specs.ImageParts.{part_place, IsImage}
+use Rattle.bl_image.specs.ImageHandover.{part_place, IsImage}
 use Rattle.bl_image.proofs.FrontLemmas.{head_front}
 use Rattle.bl_image.proofs.PartLemmas.{all_bytes, spelled_by, image_kept}
 use Rattle.bl_image.proofs.RecordLemmas.{parts_step}
@@ -29,17 +30,17 @@ use Rattle.bl_image.proofs.NoFaultLemmas.{IsSmall, first_none}
 use Rattle.bl_image.proofs.FoundLemmas.{head_found, record_found}
 
 record IsSoundPlace (wide : Bool) (p : Place) : Type 0 where
-  may : MayStand wide p.role
+  may : IsRoleAllowed wide p.role
   index : p.index < 2 ^ 32
   filled : 1 ≤ p.length
   below : p.address + p.length ≤ 2 ^ 32
 
-record PlacesFound (wide : Bool) (count : ℕ) (before : Before) (bytes : List ℕ) : Type 0 where
+record PlacesFound (wide : Bool) (count : ℕ) (before : RecordsBefore) (bytes : List ℕ) : Type 0 where
   places : List Place
   tail : List ℕ
   is : flat_map place_record places ++ tail ≡ bytes
   size : length places ≡ count
-  long : length tail ≡ before.bytes + bytes_at places
+  long : length tail ≡ before.bytes + total_length places
   above : All (λ (p : Place). before.end ≤ p.address) places
   related : AreRelated Ascends places
   each : All (IsSoundPlace wide) places
@@ -51,7 +52,7 @@ kept_none false e = cc
 end_none : (count : ℕ) (bytes : List ℕ) → end_fault count bytes ≡ None → length bytes ≡ count
 end_none count bytes e = (Decides-eqb (length bytes) count).0 (kept_none (length bytes == count) e)
 
-places_found : (wide : Bool) (count : ℕ) (before : Before) (bytes : List ℕ) → IsSmall bytes
+places_found : (wide : Bool) (count : ℕ) (before : RecordsBefore) (bytes : List ℕ) → IsSmall bytes
     → parts_fault (max_role wide) count before bytes ≡ None → PlacesFound wide count before bytes
 places_found wide zero before bytes small none = record {
   places = [];
@@ -66,7 +67,7 @@ places_found wide zero before bytes small none = record {
 places_found wide (suc count) before bytes small none =
     let here = record_found wide before.count before.end bytes small (first_none _ _ none).0 in
     let p = here.place in
-    let after : Before = and_record before p.address p.length in
+    let after : RecordsBefore = with_record before p.address p.length in
     let left : parts_fault (max_role wide) count after here.rest ≡ None =
     sym (parts_step wide count before p here.rest here.may here.next)
     ∙ ap (parts_fault (max_role wide) (suc count) before) here.is ∙ none in
@@ -97,7 +98,7 @@ places_found wide (suc count) before bytes small none =
           }) others.each;
     }
 
-split_tail : (ps : List Place) (tail : List ℕ) → length tail ≡ bytes_at ps
+split_tail : (ps : List Place) (tail : List ℕ) → length tail ≡ total_length ps
     → (parts : List Part) × (map part_place parts ≡ ps) × (all_bytes parts ≡ tail)
 split_tail [] tail size = ([], refl, sym (drop_all 0 tail (omega arith)))
 split_tail (p ∷ ps) tail size =

@@ -2,7 +2,7 @@
 use Rattle.std.proofs.Common.{◌≡◌, ℕ, List, [], ◌++◌, Result, Ok, Err, OnErr, refl, sym, ap, ◌∙◌}
 use Rattle.std.proofs.Common.{subst, append_assoc}
 use Rattle.std.proofs.lemmas.List.{append-nil}
-use Rattle.bl_image.specs.Begun.{TookBeginning}
+use Rattle.bl_image.specs.SinkFacts.{TookBeginning}
 
 -- of these bytes all but the rest was taken
 pub record IsOnWay (old now rest whole : List ℕ) : Type 0 where

@@ -9,16 +9,17 @@ use Rattle.bl_image.specs.Fields.{length_field}
 use Rattle.bl_image.specs.Layouts.{layout_of, layout_fields, version_at, protocol_at, registers_at}
 
 -- what comes first, else what comes later
-abbrev pub first : Option ImageFault → Option ImageFault → Option ImageFault
-first None later = later
-first (Some fault) later = Some fault
+abbrev pub fault_or : Option ImageFault → Option ImageFault → Option ImageFault
+fault_or None later = later
+fault_or (Some fault) later = Some fault
 
 -- the first fault of a head: of what each image begins with; of the protocol, which must be one of
 -- the version; of what the layout tells
 unfoldable pub head_fault : List ℕ → Option ImageFault
 head_fault bytes =
-    first (fields_fault opening_fields bytes)
-    (first (fields_fault (protocol_field (u32_at bytes version_at) ∷ []) (drop protocol_at bytes))
+    fault_or (fields_fault opening_fields bytes)
+    (fault_or (fields_fault (protocol_field (u32_at bytes version_at) ∷ [])
+    (drop protocol_at bytes))
     (fields_fault (layout_fields (layout_of bytes)) (drop registers_at bytes)))
 
 -- where address and length stand in a record, and how many bytes it has
@@ -34,22 +35,22 @@ record_size = 24
 -- the first fault of a record whose role's number is at most this one; the part before ends there
 abbrev pub record_fault : ℕ → ℕ → ℕ → List ℕ → Option ImageFault
 record_fault most part before bytes =
-    first (fields_fault (record_fields most part before) bytes)
+    fault_or (fields_fault (record_fields most part before) bytes)
     (fields_fault (length_field part (u64_at bytes address_at) ∷ []) (drop length_at bytes))
 
 -- what the records so far say: how many they are, where the last one's part ends, how many bytes
 -- their parts have
-pub record Before : Type 0 where
+pub record RecordsBefore : Type 0 where
   pub count : ℕ
   pub end : ℕ
   pub bytes : ℕ
 
-abbrev pub no_records : Before
+abbrev pub no_records : RecordsBefore
 no_records = record { count = 0; end = 0; bytes = 0 }
 
 -- and one more record: its part's address, and how many bytes the part has
-abbrev pub and_record : Before → ℕ → ℕ → Before
-and_record before address count = record {
+abbrev pub with_record : RecordsBefore → ℕ → ℕ → RecordsBefore
+with_record before address count = record {
   count = before.count + 1;
   end = address + count;
   bytes = before.bytes + count;
@@ -61,17 +62,17 @@ end_fault count bytes = if length bytes == count then None else Some WrongLength
 
 -- the first fault where so many records must begin, with numbers of roles up to the first, and
 -- after them the bytes of all parts, and nothing else
-abbrev pub parts_fault : ℕ → ℕ → Before → List ℕ → Option ImageFault
+abbrev pub parts_fault : ℕ → ℕ → RecordsBefore → List ℕ → Option ImageFault
 parts_fault most zero before bytes = end_fault before.bytes bytes
 parts_fault most (suc n) before bytes =
-    first (record_fault most before.count before.end bytes)
+    fault_or (record_fault most before.count before.end bytes)
     (parts_fault most n
-    (and_record before (u64_at bytes address_at) (u64_at bytes length_at))
+    (with_record before (u64_at bytes address_at) (u64_at bytes length_at))
     (drop record_size bytes))
 
 -- the first fault of an image: of its head; of what follows, where the layout says
 unfoldable pub image_fault : List ℕ → Option ImageFault
 image_fault bytes =
-    first (head_fault bytes)
+    fault_or (head_fault bytes)
     (parts_fault (layout_of bytes).max_role (u32_at bytes (layout_of bytes).count_at) no_records
     (drop (layout_of bytes).records_at bytes))

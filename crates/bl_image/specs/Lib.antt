@@ -1,9 +1,9 @@
-pub mod Begun
+pub mod SinkFacts
 pub mod Faults
 pub mod Fields
 pub mod Image
 pub mod ImageFaults
-pub mod ImageParts
+pub mod ImageHandover
 pub mod Layouts
 pub mod Lengths
 pub mod RecordsKept

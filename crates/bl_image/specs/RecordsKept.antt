@@ -43,6 +43,6 @@ pub record AreSound (places : List Place) (end : ℕ) : Type 0 where
   pub fit : All PlaceFits places
 
 -- how many bytes the parts at these places have
-abbrev pub bytes_at : List Place → ℕ
-bytes_at [] = 0
-bytes_at (place ∷ places) = place.length + bytes_at places
+abbrev pub total_length : List Place → ℕ
+total_length [] = 0
+total_length (place ∷ places) = place.length + total_length places

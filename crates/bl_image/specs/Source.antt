@@ -28,7 +28,8 @@ abbrev pub FaultIn : Type 0
 FaultIn = List ℕ → Option ImageFault
 
 -- what came shows this fault, whatever may follow
-pub record Shows (fault_in : FaultIn) (old new : SourceFacts) (fault : ImageFault) : Type 0 where
+pub record ShowsFault (fault_in : FaultIn) (old new : SourceFacts)
+    (fault : ImageFault) : Type 0 where
   pub came : List ℕ
   pub comes : Comes old new came
   pub shown : (bytes : List ℕ) → IsPossibleRest new.rest bytes
@@ -38,7 +39,7 @@ pub record Shows (fault_in : FaultIn) (old new : SourceFacts) (fault : ImageFaul
 abbrev pub IsInputFault : FaultIn → SourceFacts → SourceFacts → ImageFault → Type 0
 IsInputFault fault_in old new DeviceFault = Unit {0}
 IsInputFault fault_in old new NoMemory = Unit {0}
-IsInputFault fault_in old new fault = Shows fault_in old new fault
+IsInputFault fault_in old new fault = ShowsFault fault_in old new fault
 
 -- the same of bytes that are known
 abbrev pub IsBytesFault : FaultIn → List ℕ → ImageFault → Type 0
@@ -47,10 +48,10 @@ IsBytesFault fault_in bytes NoMemory = Unit {0}
 IsBytesFault fault_in bytes fault = fault_in bytes ≡ Some fault
 
 -- a fault that says nothing of the bytes
-abbrev pub IsOfTheMoment : ImageFault → Type 0
-IsOfTheMoment DeviceFault = Unit {0}
-IsOfTheMoment NoMemory = Unit {0}
-IsOfTheMoment fault = ⊥
+abbrev pub IsTransient : ImageFault → Type 0
+IsTransient DeviceFault = Unit {0}
+IsTransient NoMemory = Unit {0}
+IsTransient fault = ⊥
 
 -- how many faults of the source a reader met
 abbrev pub faults_met : {T : Type 0} → Result T ImageFault → ℕ

@@ -3,14 +3,14 @@ ghost use Rattle.std.specs.Prelude.{◌≡◌, ◌+◌, ◌*◌, ◌<◌, ◌≤
 ghost use Rattle.std.specs.Prelude.{OnErr};
 ghost use Rattle.std.specs.List.{flat_map};
 ghost use Rattle.bl_load.specs.HandoffFacts.{IsWellFormedHandoff};
-ghost use Rattle.bl_image.specs.Begun.{TookBeginning};
+ghost use Rattle.bl_image.specs.SinkFacts.{TookBeginning};
 ghost use Rattle.bl_image.specs.Image.{head};
 ghost use Rattle.bl_image.specs.RecordsKept.{place_record, AreSpellable};
 ghost use Rattle.bl_image.specs.Spellable.{AreFit};
 ghost use Rattle.bl_image.specs.Versions.{written_version};
 
-use crate::numbers::{WIDE, numbers_of};
 use crate::places::Places;
+use crate::register_numbers::{WIDE, numbers_of};
 use crate::sink::{DeviceFault, Sink, write_all};
 use crate::version::Version;
 use bl_load::{Protocol, Registers};

@@ -84,7 +84,7 @@ pub struct Image<A: Allocator> {
 impl<A: Allocator> Model for Image<A> {
     ghost use Rattle.bl_load.specs.Handover.{Handover};
     ghost use Rattle.bl_load.specs.HandoffFacts.{IsWellFormedHandoff};
-    ghost use Rattle.bl_image.specs.ImageParts.{handoff_of};
+    ghost use Rattle.bl_image.specs.ImageHandover.{handoff_of};
 
     ghost Value = { Handover };
 
@@ -104,7 +104,7 @@ impl<A: Allocator> Model for Image<A> {
 impl<A: Allocator> Image<A> {
     ghost use Rattle.std.specs.Prelude.{◌≡◌, ◌<◌, length, slice_get, Some, AllPairs};
     ghost use Rattle.bl_load.specs.HandoffFacts.{IsWellFormedHandoff};
-    ghost use Rattle.bl_image.specs.ImageParts.{handoff_of, PartAscends};
+    ghost use Rattle.bl_image.specs.ImageHandover.{handoff_of, PartAscends};
 
     /// An image with these parts.
     pub(crate) fn new(

@@ -19,7 +19,7 @@ pub struct IoSink<W: Write + Drop> {
 
 impl<W: Write + Drop> Model for IoSink<W> {
     ghost use Rattle.std.specs.Prelude.{◌≡◌, Some};
-    ghost use Rattle.bl_image.specs.Begun.{IoSinkFacts, AlwaysTells};
+    ghost use Rattle.bl_image.specs.SinkFacts.{IoSinkFacts, AlwaysTells};
 
     ghost Value = { IoSinkFacts };
 
@@ -30,7 +30,7 @@ impl<W: Write + Drop> Model for IoSink<W> {
 
 impl<W: Write + Drop> IoSink<W> {
     ghost use Rattle.std.specs.Prelude.{◌≡◌, [], unwrap_or};
-    ghost use Rattle.bl_image.specs.Begun.{AlwaysTells};
+    ghost use Rattle.bl_image.specs.SinkFacts.{AlwaysTells};
 
     /// A sink that writes to `writer`. A writer that does not tell what it holds counts as empty.
     pub fn new(writer: W) -> IoSink<W>

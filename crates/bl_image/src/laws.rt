@@ -3,7 +3,7 @@ ghost use Rattle.std.specs.Prelude.{◌≡◌, ◌<◌, ℕ, List, slice_index, 
 ghost use Rattle.bl_load.specs.Handover.{Handover};
 ghost use Rattle.bl_image.specs.Image.{spelling};
 ghost use Rattle.bl_image.specs.ImageFaults.{image_fault};
-ghost use Rattle.bl_image.specs.ImageParts.{IsKeptByImages, IsImage};
+ghost use Rattle.bl_image.specs.ImageHandover.{IsKeptByImages, IsImage};
 ghost use Rattle.bl_image.specs.Spellable.{IsSpellable};
 ghost use Rattle.bl_image.specs.Versions.{HasProtocol};
 ghost use Rattle.bl_image.specs.declared.version.Version.{Version};

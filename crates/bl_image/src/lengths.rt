@@ -1,6 +1,6 @@
 //! How long an image is.
 ghost use Rattle.std.specs.Prelude.{◌≡◌, ◌+◌, ◌≤◌, ℕ, List, length, All};
-ghost use Rattle.bl_load.specs.PlanFacts.{handover_in};
+ghost use Rattle.bl_load.specs.PlanContents.{handover_in};
 ghost use Rattle.bl_image.specs.Image.{spelling};
 ghost use Rattle.bl_image.specs.Lengths.{image_length};
 ghost use Rattle.bl_image.specs.Versions.{written_version};

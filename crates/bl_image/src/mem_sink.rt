@@ -17,7 +17,7 @@ pub struct MemSink<A: Allocator> {
 
 impl<A: Allocator> Model for MemSink<A> {
     ghost use Rattle.std.specs.Prelude.{◌≤◌, vec_len, vec_capacity};
-    ghost use Rattle.bl_image.specs.Begun.{MemSinkFacts};
+    ghost use Rattle.bl_image.specs.SinkFacts.{MemSinkFacts};
 
     ghost Value = { MemSinkFacts };
 

@@ -2,8 +2,8 @@
 ghost use Rattle.std.specs.Prelude.{◌≡◌, ◌+◌, ◌≤◌, ◌<◌, ◌^◌, length, map, All, IfOk};
 ghost use Rattle.std.specs.Prelude.{OnOk, IfErr};
 ghost use Rattle.std.specs.List.{flat_map};
-ghost use Rattle.bl_image.specs.ImageParts.{part_place};
-ghost use Rattle.bl_image.specs.RecordsKept.{bytes_at};
+ghost use Rattle.bl_image.specs.ImageHandover.{part_place};
+ghost use Rattle.bl_image.specs.RecordsKept.{total_length};
 ghost use Rattle.bl_image.specs.Source.{Comes, faults_met};
 ghost use Rattle.bl_image.specs.SourceKept.{IsCut, IsReadBehind};
 
@@ -152,7 +152,7 @@ pub(crate) fn read_parts<S: Source, A: Allocator + Copy>(
         (flat_map (λ part. part.bytes) parts.items)) }
     ensures places { IfOk result (λ parts. map part_place parts.items ≡ places.now) }
     ensures cut { IfErr result
-        (IsCut (S.input source.old) (S.input source.new) (bytes_at places.now)) }
+        (IsCut (S.input source.old) (S.input source.new) (total_length places.now)) }
     ensures faults { S.faults source.new ≡ S.faults source.old + faults_met result }
 {
     let mut parts = Vec::new(alloc);

@@ -36,7 +36,7 @@ impl<A: Allocator> Places for Handoff<A> {
 
 impl<A: Allocator> Places for Image<A> {
     ghost use Rattle.std.specs.Prelude.{map};
-    ghost use Rattle.bl_image.specs.ImageParts.{part_place};
+    ghost use Rattle.bl_image.specs.ImageHandover.{part_place};
 
     ghost places = { λ i. map part_place i.parts };
 

@@ -4,9 +4,9 @@ ghost use Rattle.std.specs.Prelude.{MatchResult};
 ghost use Rattle.bl_load.specs.Handover.{Handover};
 ghost use Rattle.bl_image.specs.Image.{spelling};
 ghost use Rattle.bl_image.specs.ImageFaults.{image_fault, end_fault};
-ghost use Rattle.bl_image.specs.ImageParts.{IsKeptByImages, IsImage};
+ghost use Rattle.bl_image.specs.ImageHandover.{IsKeptByImages, IsImage};
 ghost use Rattle.bl_image.specs.Source.{Comes, IsEnded, IsInputFault, IsBytesFault, faults_met};
-ghost use Rattle.bl_image.specs.Source.{IsOfTheMoment};
+ghost use Rattle.bl_image.specs.Source.{IsTransient};
 ghost use Rattle.bl_image.specs.Versions.{HasProtocol};
 ghost use Rattle.bl_image.specs.declared.version.Version.{Version};
 
@@ -64,7 +64,7 @@ pub fn read_image<S: Source, A: Allocator + Copy>(
         (IsBytesFault image_fault bytes) }
     ensures accepts { (bytes : List ℕ) → (S.input source.old).rest ≡ Some bytes
         → (version : Version) (handover : Handover) → IsImage version bytes handover
-        → MatchResult result (λ image. image ≡ handover) IsOfTheMoment }
+        → MatchResult result (λ image. image ≡ handover) IsTransient }
 {
     let head = read_head(source)?;
     let places = read_records(alloc, source, head.registers.are_wide(), head.count)?;

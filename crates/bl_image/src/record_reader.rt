@@ -4,10 +4,10 @@ ghost use Rattle.std.specs.Prelude.{◌&&◌, All, IfOk, IfErr, IfSome, MatchOpt
 ghost use Rattle.std.specs.List.{flat_map};
 ghost use Rattle.bl_mem.specs.LittleEndian.{u32_bytes, u64_bytes};
 ghost use Rattle.bl_plan.specs.Roles as roles;
-ghost use Rattle.bl_load.specs.HandoffFacts.{max_parts, MayStand};
+ghost use Rattle.bl_load.specs.HandoffFacts.{max_parts, IsRoleAllowed};
 ghost use Rattle.bl_image.specs.Fields as fields;
 ghost use Rattle.bl_image.specs.Layouts.{max_role};
-ghost use Rattle.bl_image.specs.RecordsKept.{place_record, IsNext, AreSound, bytes_at};
+ghost use Rattle.bl_image.specs.RecordsKept.{place_record, IsNext, AreSound, total_length};
 ghost use Rattle.bl_image.specs.ImageFaults.{record_fault, parts_fault, end_fault, no_records};
 ghost use Rattle.bl_image.specs.Source.{Comes, IsInputFault, faults_met};
 ghost use Rattle.bl_image.specs.SourceKept.{ReadsField};
@@ -22,7 +22,7 @@ use std::alloc::Allocator;
 const MAX_END: u64 = 0x1_0000_0000;
 
 fn role_of(number: u32, wide: bool) -> Option<Role>
-    ensures may { IfSome result (MayStand wide) }
+    ensures may { IfSome result (IsRoleAllowed wide) }
     ensures number { MatchOption result
         ((1 ≤ number) × (number ≤ max_role wide) → ⊥)
         (λ role. roles.role_number role ≡ number) }
@@ -43,7 +43,7 @@ fn role_of(number: u32, wide: bool) -> Option<Role>
 /// Reads a role; page tables are a part where the registers are wide.
 fn read_role<S: Source>(source: &mut S, wide: bool, part: u32) -> Result<Role, ImageFault>
     requires { S.faults source.old < 2 ^ 63 }
-    ensures may { IfOk result (MayStand wide) }
+    ensures may { IfOk result (IsRoleAllowed wide) }
     ensures field { ReadsField (fields.role_field (max_role wide) part)
         (S.input source.old) (S.input source.new)
         (λ role. u32_bytes (roles.role_number role)) result }
@@ -123,7 +123,7 @@ fn read_record<S: Source>(
     ensures ok { IfOk result
         (λ place. Comes (S.input source.old) (S.input source.new) (place_record place)) }
     ensures next { IfOk result (IsNext before) }
-    ensures may { IfOk result (λ place. MayStand wide place.role) }
+    ensures may { IfOk result (λ place. IsRoleAllowed wide place.role) }
     ensures refused { IfErr result
         (IsInputFault (record_fault (max_role wide) part before)
         (S.input source.old) (S.input source.new)) }
@@ -154,11 +154,12 @@ pub(crate) fn read_records<S: Source, A: Allocator>(
         (flat_map place_record places.items)) }
     ensures count { IfOk result (λ places. length places.items ≡ count) }
     ensures sound { IfOk result (λ places. AreSound places.items (2 ^ 32)) }
-    ensures may { IfOk result (λ places. All (λ place. MayStand wide place.role) places.items) }
+    ensures may { IfOk result
+        (λ places. All (λ place. IsRoleAllowed wide place.role) places.items) }
     ensures judged { IfOk result (λ places. (bytes : List ℕ)
         → parts_fault (max_role wide) count no_records
         (flat_map place_record places.items ++ bytes)
-        ≡ end_fault (bytes_at places.items) bytes) }
+        ≡ end_fault (total_length places.items) bytes) }
     ensures refused { IfErr result (IsInputFault (parts_fault (max_role wide) count no_records)
         (S.input source.old) (S.input source.new)) }
     ensures faults { S.faults source.new ≡ S.faults source.old + faults_met result }

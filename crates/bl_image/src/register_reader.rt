@@ -16,7 +16,7 @@ ghost use Rattle.bl_image.specs.declared.version.Version.TheVariants as version;
 
 use crate::fault::ImageFault;
 use crate::fields::{read_u32s, read_u64, read_u64s};
-use crate::numbers::{WIDE, registers_of, wide_registers_of};
+use crate::register_numbers::{WIDE, registers_of, wide_registers_of};
 use crate::source::Source;
 use crate::version::Version;
 use bl_load::{Protocol, Registers, Registers32, Registers64};

@@ -1,7 +1,7 @@
 //! Where bytes are written to.
 ghost use Rattle.std.specs.Prelude.{◌≡◌, ℕ, List, ◌+◌, ◌-◌, ◌≤◌, ◌<◌, ◌^◌, ◌++◌, length, take};
 ghost use Rattle.std.specs.Prelude.{IfOk, OnOk, OnErr};
-ghost use Rattle.bl_image.specs.Begun.{TookBeginning};
+ghost use Rattle.bl_image.specs.SinkFacts.{TookBeginning};
 
 use thiserror::Error;
 

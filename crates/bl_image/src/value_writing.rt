@@ -1,9 +1,9 @@
 //! Writes the image of what an image says.
 ghost use Rattle.std.specs.Prelude.{◌≡◌, ◌+◌, ◌<◌, ◌^◌, ◌++◌, OnOk, OnErr, IfErr};
 ghost use Rattle.std.specs.List.{flat_map};
-ghost use Rattle.bl_image.specs.Begun.{TookBeginning};
+ghost use Rattle.bl_image.specs.SinkFacts.{TookBeginning};
 ghost use Rattle.bl_image.specs.Image.{spelling};
-ghost use Rattle.bl_image.specs.ImageParts.{IsKeptByImages};
+ghost use Rattle.bl_image.specs.ImageHandover.{IsKeptByImages};
 ghost use Rattle.bl_image.specs.Versions.{written_version};
 
 use crate::fault::ImageFault;

@@ -1,14 +1,14 @@
 //! Writes the image of a handoff.
 ghost use Rattle.std.specs.Prelude.{◌≡◌, ◌+◌, ◌≤◌, ◌<◌, ◌^◌, ◌++◌, length, All, OnOk, OnErr, IfErr};
-ghost use Rattle.bl_load.specs.PlanFacts.{handover_in};
-ghost use Rattle.bl_image.specs.Begun.{TookBeginning};
+ghost use Rattle.bl_load.specs.PlanContents.{handover_in};
+ghost use Rattle.bl_image.specs.SinkFacts.{TookBeginning};
 ghost use Rattle.bl_image.specs.Image.{spelling};
-ghost use Rattle.bl_image.specs.ImageParts.{IsKeptByImages};
+ghost use Rattle.bl_image.specs.ImageHandover.{IsKeptByImages};
 ghost use Rattle.bl_image.specs.Versions.{written_version};
 
 use crate::fault::ImageFault;
 use crate::front::write_front;
-use crate::parts::{MAX_COPIED, write_parts};
+use crate::part_writer::{MAX_COPIED, write_parts};
 use crate::sink::Sink;
 use bl_load::Handoff;
 use bl_mem::PhysMem;

@@ -24,7 +24,8 @@ use Rattle.clap.proofs.WalkLemmas.{first_value-rows}
 use Rattle.clap.specs.declared.error.Error.{Error}
 use Rattle.clap.specs.declared.error.kind.ErrorKind.{ErrorKind}
 use Rattle.bl_line.specs.declared.fault.LineFault.{LineFault}
-use Rattle.bl_line.specs.Lines.{IsOrderParser, RefusesLine, fault_of_kind, line_app, argument_text}
+use Rattle.bl_line.specs.CommandLineJobs.{IsOrderParser, RefusesLine, fault_of_kind, line_app}
+use Rattle.bl_line.specs.CommandLineJobs.{argument_text}
 
 -- clap's definition gives the matches of this command
 pub line_is_simple : (parser : ValueParser) → is_simple (line_app parser) ≡ true

@@ -3,8 +3,9 @@
 ghost use Rattle.std.specs.Prelude.{◌≡◌, true, false, IfOk};
 ghost use Rattle.clap.specs.Words.{app_of, new_app, new_rule, rule_of, with_rule, with_subcommand};
 ghost use Rattle.clap.specs.declared.builder.command.Command.TheViews.{out-Command as fields_of};
-ghost use Rattle.bl_line.specs.Lines.{HasOrderParser, boot_app, convert_app, explain_app, top_app};
-ghost use Rattle.bl_line.specs.Lines.{line_app, out_rule, order_rule};
+ghost use Rattle.bl_line.specs.CommandLineJobs.{HasOrderParser, boot_app, convert_app, explain_app};
+ghost use Rattle.bl_line.specs.CommandLineJobs.{top_app};
+ghost use Rattle.bl_line.specs.CommandLineJobs.{line_app, out_rule, order_rule};
 ghost use Rattle.clap.specs.declared.builder.value_parser.ValueParser.TheVariants.{Names};
 
 use clap::{Arg, Command};
@@ -13,7 +14,7 @@ use std::alloc::{AllocError, Global};
 static ORDERS: [&str; 2] = ["forward", "reverse"];
 
 /// An argument that must be given, by its place.
-fn given_arg<'a>(global: Global, id: &'a str) -> Arg<'a>
+fn required_arg<'a>(global: Global, id: &'a str) -> Arg<'a>
     ensures local { result.global ≡ false }
     ensures rule { rule_of result ≡ record (new_rule id.entry.now) { required = true } }
 {
@@ -42,7 +43,7 @@ fn command_of<'a>(global: Global, name: &'a str, id: &'a str) -> Result<Command<
     ensures app { IfOk result (λ c. app_of c
         ≡ with_rule (new_app name.entry.now) (record (new_rule id.entry.now) { required = true })) }
 {
-    Command::new(global, name).arg(given_arg(global, id))
+    Command::new(global, name).arg(required_arg(global, id))
 }
 
 fn boot_command<'a>(global: Global, orders: &'a [&'a str]) -> Result<Command<'a>, AllocError>
@@ -100,7 +101,7 @@ fn with_explain<'a>(
 }
 
 /// A command, with a subcommand of this name that has one argument, which must be given.
-fn with_file<'a>(
+fn with_single_arg_subcommand<'a>(
     global: Global,
     top: Command<'a>,
     name: &'a str,
@@ -117,8 +118,8 @@ fn command_with<'a>(global: Global, orders: &'a [&'a str]) -> Result<Command<'a>
     ensures { IfOk result (λ c. app_of c ≡ line_app (Names orders.entry)) }
 {
     let top = with_boot(global, orders)?;
-    let top = with_file(global, top, "map", "desc")?;
-    let top = with_file(global, top, "walk", "image")?;
+    let top = with_single_arg_subcommand(global, top, "map", "desc")?;
+    let top = with_single_arg_subcommand(global, top, "walk", "image")?;
     let convert = convert_command(global)?;
     let top = top.subcommand(convert)?;
     with_explain(global, top, orders)

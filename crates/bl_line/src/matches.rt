@@ -2,8 +2,8 @@
 ghost use Rattle.std.specs.Prelude.{◌≡◌, false, map, codes, IfOk, IfErr, MatchOption};
 ghost use Rattle.std.specs.Str.{bytes_eq};
 ghost use Rattle.clap.specs.Words.{found_of, rows_of};
-ghost use Rattle.bl_line.specs.Lines as lines;
-ghost use Rattle.bl_line.specs.Lines.{IsJobOf, IsTaken, IsJobOfWords, RefusesLine};
+ghost use Rattle.bl_line.specs.CommandLineJobs as lines;
+ghost use Rattle.bl_line.specs.CommandLineJobs.{IsJobOf, AreTakenByClap, IsJobOfWords, RefusesLine};
 
 use crate::command::line_command;
 use crate::fault::LineFault;
@@ -83,7 +83,7 @@ pub fn read_line<'a>(global: Global, words: &'a [&'a str]) -> Result<Job<'a>, Li
     ensures job { IfOk result (IsJobOfWords (map (λ word. word.now) words.entry.now)) }
     ensures fault { IfErr result (RefusesLine (map (λ word. word.now) words.entry.now)) }
     ensures taken { IfErr result (λ fault.
-        IsTaken (map (λ word. word.now) words.entry.now) → fault ≡ LineFault.NoMemory) }
+        AreTakenByClap (map (λ word. word.now) words.entry.now) → fault ≡ LineFault.NoMemory) }
 {
     let command = line_command(global)?;
     let matches = match command.try_get_matches_from(words) {

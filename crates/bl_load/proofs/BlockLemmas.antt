@@ -8,8 +8,8 @@ use Rattle.std.proofs.lemmas.List.Elements.{All-cons}
 use Rattle.std.proofs.lemmas.Bool.{cases_lt}
 use Rattle.std.proofs.lemmas.Bool.Decides.{nat_tests}
 use Rattle.bl_mem.specs.declared.segment.Segment.{Segment}
-use Rattle.bl_mem.specs.Contents.{contents_of, holds}
-use Rattle.bl_load.specs.Blocks.{low_of, high_of, span_of, block_byte, first_values, block_of}
+use Rattle.bl_mem.specs.SegmentContents.{contents_of, segment_holds}
+use Rattle.bl_load.specs.KernelBlock.{low_of, high_of, span_of, block_byte, first_values, block_of}
 use Rattle.bl_load.specs.Loadable.{IsCopyable, SegmentsAscend}
 
 -- segments from a linked address on, each after the zeros of the gap before it
@@ -34,13 +34,13 @@ length-contents_of text s copied =
     let fits = copied.fits in
     rw (length-append, length-replicate, length-filed text s copied) (omega arith)
 
-holds_in : (s : Segment) (a : ℕ) → s.address ≤ a → a < s.address + s.memsz → holds s a ≡ true
+holds_in : (s : Segment) (a : ℕ) → s.address ≤ a → a < s.address + s.memsz → segment_holds s a ≡ true
 holds_in s a low high = grind (arith, nat_tests)
 
-misses_below : (s : Segment) (a : ℕ) → a < s.address → holds s a ≡ false
+misses_below : (s : Segment) (a : ℕ) → a < s.address → segment_holds s a ≡ false
 misses_below s a below = grind (arith, nat_tests)
 
-misses_above : (s : Segment) (a : ℕ) → s.address + s.memsz ≤ a → holds s a ≡ false
+misses_above : (s : Segment) (a : ℕ) → s.address + s.memsz ≤ a → segment_holds s a ≡ false
 misses_above s a above = grind (arith, nat_tests)
 
 -- no segment holds an address below all of them

@@ -5,11 +5,11 @@ use Rattle.std.proofs.Common.{length-append}
 use Rattle.std.proofs.lemmas.List.{same_lists, length-replicate}
 use Rattle.std.proofs.lemmas.List.Elements.{All-cons}
 use Rattle.bl_mem.specs.Memory.{overwrite}
-use Rattle.bl_mem.specs.Files.{IsBeside, Agree}
+use Rattle.bl_mem.specs.Files.{IsApartFrom, Agree}
 use Rattle.bl_mem.proofs.Overwrites.{overwrite_more, beside_zeros}
 use Rattle.bl_mem.specs.declared.segment.Segment.{Segment}
-use Rattle.bl_mem.specs.Contents.{contents_of, holds}
-use Rattle.bl_load.specs.Blocks.{low_of, span_of, block_byte, first_values, block_of}
+use Rattle.bl_mem.specs.SegmentContents.{contents_of, segment_holds}
+use Rattle.bl_load.specs.KernelBlock.{low_of, span_of, block_byte, first_values, block_of}
 use Rattle.bl_load.specs.Loadable.{IsCopyable, SegmentsAscend}
 use Rattle.bl_load.proofs.BlockLemmas.{block_from, length-contents_of, length-first_values}
 use Rattle.bl_load.proofs.BlockLemmas.{get_or-first_values, length-block_from, get_or-block_from}
@@ -69,21 +69,21 @@ module _ (text m : List ℕ) (at low done : ℕ) (s : Segment) (rest : List Segm
       (omega arith)
 
   -- the gap lies beside what the whole block lies beside
-  pub gap_beside : (holds : ℕ → Type 0)
-      → IsBeside holds at (at + (done + length (block_from text (low + done) (s ∷ rest))))
-      → Agree holds m (overwrite m (at + done) (replicate (at + (s.address - low) - (at + done)) 0))
-  gap_beside holds beside =
+  pub gap_beside : (segment_holds : ℕ → Type 0)
+      → IsApartFrom segment_holds at (at + (done + length (block_from text (low + done) (s ∷ rest))))
+      → Agree segment_holds m (overwrite m (at + done) (replicate (at + (s.address - low) - (at + done)) 0))
+  gap_beside segment_holds beside =
       let left : s.address - low + s.memsz
       + length (block_from text (low + (s.address - low + s.memsz)) rest)
       ≡ done + length (block_from text (low + done) (s ∷ rest)) = left_behind in
-      beside_zeros holds m (at + done) (at + (s.address - low)) (omega arith) (omega arith)
+      beside_zeros segment_holds m (at + done) (at + (s.address - low)) (omega arith) (omega arith)
       (λ a from to. beside a (omega arith) (omega arith))
 
   -- and so does the segment
-  pub segment_beside : (holds : ℕ → Type 0)
-      → IsBeside holds at (at + (done + length (block_from text (low + done) (s ∷ rest))))
-      → IsBeside holds (at + (s.address - low)) (at + (s.address - low) + s.memsz)
-  segment_beside holds beside a from to =
+  pub segment_beside : (segment_holds : ℕ → Type 0)
+      → IsApartFrom segment_holds at (at + (done + length (block_from text (low + done) (s ∷ rest))))
+      → IsApartFrom segment_holds (at + (s.address - low)) (at + (s.address - low) + s.memsz)
+  segment_beside segment_holds beside a from to =
       let left : s.address - low + s.memsz
       + length (block_from text (low + (s.address - low + s.memsz)) rest)
       ≡ done + length (block_from text (low + done) (s ∷ rest)) = left_behind in

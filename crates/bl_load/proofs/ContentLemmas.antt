@@ -3,9 +3,9 @@ use Rattle.std.proofs.Common.{◌≡◌, ◌<◌, ◌≤◌, ◌+◌, ◌^◌, �
 use Rattle.std.proofs.Common.{sym, ap, subst, ◌∙◌, All, AllPairs}
 use Rattle.bl_mem.specs.declared.segment.Segment.{Segment}
 use Rattle.bl_mb2head.specs.declared.relocation.Relocation.{Relocation}
-use Rattle.bl_load.specs.Blocks.{low_of, high_of, span_of, block_of}
-use Rattle.bl_load.specs.KernelKept.{AreLoadable}
-use Rattle.bl_plan.specs.Order.{segment_key, ascending}
+use Rattle.bl_load.specs.KernelBlock.{low_of, high_of, span_of, block_of}
+use Rattle.bl_load.specs.Multiboot2KernelKept.{AreLoadable}
+use Rattle.bl_plan.specs.AddressOrder.{segment_key, segments_in_order}
 use Rattle.bl_load.specs.Parts.{kernel_content}
 use Rattle.bl_load.specs.Loadable.{IsCopyable, SegmentsAscend}
 use Rattle.bl_load.specs.PlacingKept.{HasKernelLength}
@@ -17,7 +17,7 @@ use Rattle.bl_load.proofs.SortedLemmas.{same_block, ascending_ascends, low_below
 -- the content is the kernel's
 pub block_content : (file : List ℕ) (segments items : List Segment) (r : Relocation)
     (relocation : Option Relocation) (i : ℕ)
-    → AreLoadable file segments → items ≡ ascending segments → relocation ≡ Some r
+    → AreLoadable file segments → items ≡ segments_in_order segments → relocation ≡ Some r
     → block_of file items ≡ kernel_content file segments relocation i
 block_content file segments items r relocation i h items_are is =
     ap (block_of file) items_are ∙ same_block file segments h.some h.apart
@@ -45,7 +45,7 @@ all_copied file segments h small k d within =
     }
 
 pub block_copied : (file : List ℕ) (segments items : List Segment) (relocation : Option Relocation)
-    (r : Relocation) (i count : ℕ) → AreLoadable file segments → items ≡ ascending segments
+    (r : Relocation) (i count : ℕ) → AreLoadable file segments → items ≡ segments_in_order segments
     → relocation ≡ Some r
     → HasKernelLength segments relocation i count → count ≤ 2 ^ 32
     → All (IsCopyable (length file)) items
@@ -56,19 +56,19 @@ block_copied file segments items relocation r i count h items_are is long small 
     (all_copied file segments h (omega arith)))
 
 pub block_ascends : (file : List ℕ) (segments items : List Segment) → AreLoadable file segments
-    → items ≡ ascending segments → AllPairs SegmentsAscend items
+    → items ≡ segments_in_order segments → AllPairs SegmentsAscend items
 block_ascends file segments items h items_are =
     subst (λ (ss : List Segment). AllPairs SegmentsAscend ss) (sym items_are)
     (ascending_ascends segments h.filled h.apart)
 
 pub block_some : (file : List ℕ) (segments items : List Segment) → AreLoadable file segments
-    → items ≡ ascending segments → 1 ≤ length items
+    → items ≡ segments_in_order segments → 1 ≤ length items
 block_some file segments items h items_are =
     let e = ap (λ (ss : List Segment). length ss) items_are in
     let f = length-in_order segment_key segments in let some = h.some in omega arith
 
 pub block_short : (file : List ℕ) (segments items : List Segment) (relocation : Option Relocation)
-    (r : Relocation) (i count : ℕ) → AreLoadable file segments → items ≡ ascending segments
+    (r : Relocation) (i count : ℕ) → AreLoadable file segments → items ≡ segments_in_order segments
     → relocation ≡ Some r
     → HasKernelLength segments relocation i count → span_of items ≤ count
 block_short file segments items relocation r i count h items_are is long =

@@ -6,7 +6,7 @@ use Rattle.std.specs.List.{list_any}
 use Rattle.std.proofs.lemmas.List.Elements.{All-nil, All-cons, All-head, All-tail}
 use Rattle.std.specs.declared.ops.Range.{Range}
 use Rattle.bl_mem.specs.declared.segment.Segment.{Segment}
-use Rattle.bl_mem.specs.Contents.{holds, is_in_segment}
+use Rattle.bl_mem.specs.SegmentContents.{segment_holds, is_in_segment}
 use Rattle.bl_map.specs.MachineFacts.{MachineFacts}
 use Rattle.bl_mb2head.specs.declared.relocation.Relocation.{Relocation}
 use Rattle.bl_plan.specs.PlannerFacts.{put_in}
@@ -18,10 +18,11 @@ use Rattle.bl_plan.specs.declared.part.Role.TheVariants.{Kernel}
 use Rattle.bl_plan.specs.declared.part.Role.{Role}
 use Rattle.bl_plan.specs.Roles.{role_number}
 use Rattle.bl_load.specs.EntryValue.{EntryValue}
-use Rattle.bl_load.specs.Reading.{multiboot2}
-use Rattle.bl_load.specs.Kernel.{Multiboot2KernelFacts, IsKernel, entry_fault, counted_entry}
-use Rattle.bl_load.specs.KernelKept.{AreLoadable}
-use Rattle.bl_load.specs.Blocks.{low_of, high_of, span_of}
+use Rattle.bl_load.specs.KernelReading.{multiboot2}
+use Rattle.bl_load.specs.Multiboot2Kernel.{Multiboot2KernelFacts, IsMultiboot2Kernel}
+use Rattle.bl_load.specs.Multiboot2Kernel.{entry_point_fault, effective_entry_point}
+use Rattle.bl_load.specs.Multiboot2KernelKept.{AreLoadable}
+use Rattle.bl_load.specs.KernelBlock.{low_of, high_of, span_of}
 use Rattle.bl_load.specs.Rows.{segment_rows, block_choice, kernel_rows, information_row, rows_of}
 use Rattle.bl_load.specs.Rows.{module_rows}
 use Rattle.bl_load.specs.Parts.{entered_at}
@@ -35,7 +36,7 @@ held_between : (segments : List Segment) (a low high : ℕ) → All (λ s. low �
     → (low ≤ a) × (a < high)
 held_between [] a low high above below held = absurd cc
 held_between (s ∷ segments) a low high above below held =
-    elim (holds s a) as (λ b. holds s a ≡ b → (b || list_any (is_in_segment a) segments) ≡ true
+    elim (segment_holds s a) as (λ b. segment_holds s a ≡ b → (b || list_any (is_in_segment a) segments) ≡ true
     → (low ≤ a) × (a < high)) [
       | true ↦ λ e h.
           let w = held_within s a e in
@@ -50,12 +51,12 @@ held_between (s ∷ segments) a low high above below held =
     ] refl held
 
 -- the entry of a kernel lies within the bounds of its segments
-pub entry_within : (file : List ℕ) (kernel : Multiboot2KernelFacts) → IsKernel file kernel
+pub entry_within : (file : List ℕ) (kernel : Multiboot2KernelFacts) → IsMultiboot2Kernel file kernel
     → (low_of kernel.segments ≤ kernel.entry) × (kernel.entry < high_of kernel.segments)
 entry_within file kernel is =
-    let sound : entry_fault kernel.segments (Some kernel.entry) ≡ None =
-    subst (λ (e : Option ℕ). entry_fault kernel.segments e ≡ None) is.entry
-    (subst (λ (ss : List Segment). entry_fault ss (counted_entry is.header is.facts) ≡ None)
+    let sound : entry_point_fault kernel.segments (Some kernel.entry) ≡ None =
+    subst (λ (e : Option ℕ). entry_point_fault kernel.segments e ≡ None) is.entry
+    (subst (λ (ss : List Segment). entry_point_fault ss (effective_entry_point is.header is.facts) ≡ None)
     (sym is.segments) is.sound) in
     held_between kernel.segments kernel.entry (low_of kernel.segments) (high_of kernel.segments)
     (low_below kernel.segments) (high_above_all kernel.segments)
@@ -140,7 +141,7 @@ entry_small_by facts file value segments (Some r) entry (p ∷ places) loadable 
 -- the entry lies in the block, and its sums stay small
 pub entry_small : (file : List ℕ) (facts : MachineFacts) (value : EntryValue)
     (kernel : Multiboot2KernelFacts)
-    (places : List Place) → IsKernel file kernel → AreLoadable file kernel.segments
+    (places : List Place) → IsMultiboot2Kernel file kernel → AreLoadable file kernel.segments
     → ArePlaced facts [] (rows_of facts value (multiboot2 kernel)) places
     → All (λ p. p.address + p.length ≤ 0xFFFFF000) places
     → (low_of kernel.segments ≤ kernel.entry) × (kernel.entry + address_of Kernel 0 places < 2 ^ 64)

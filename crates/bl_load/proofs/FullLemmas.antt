@@ -19,8 +19,9 @@ use Rattle.bl_mb2head.specs.declared.fault.HeadFault.TheVariants.{BadTag}
 use Rattle.bl_mb2head.specs.declared.header.Header.{Header}
 use Rattle.bl_mb2head.specs.declared.relocation.Relocation.{Relocation}
 use Rattle.bl_mb2head.specs.declared.tag.Tag.{Tag}
-use Rattle.bl_load.specs.Kernel.{Multiboot2KernelFacts, IsKernel, IsLoadedBy, entry_fault}
-use Rattle.bl_load.specs.Kernel.{counted_entry}
+use Rattle.bl_load.specs.Multiboot2Kernel.{Multiboot2KernelFacts, IsMultiboot2Kernel, IsLoadedBy}
+use Rattle.bl_load.specs.Multiboot2Kernel.{entry_point_fault}
+use Rattle.bl_load.specs.Multiboot2Kernel.{effective_entry_point}
 use Rattle.bl_load.specs.PlacingKept.{HasKernelLength}
 use Rattle.bl_load.specs.Parts.{kernel_content, no_segment}
 use Rattle.bl_load.proofs.KernelLaws.{some_segment, one_filled}
@@ -57,11 +58,11 @@ header_fits bytes header is =
 
 loaded_full : (file : List ℕ) (segment : Option Segment) (facts : ElfFacts) (entry : Option ℕ)
     → IfSome segment (λ s. s.filesz ≤ s.memsz) → IsLoadedBy file segment facts
-    → entry_fault facts.segments entry ≡ None → All IsFull facts.segments
+    → entry_point_fault facts.segments entry ≡ None → All IsFull facts.segments
 loaded_full file (Some s) facts entry fits loaded sound =
     let e : facts.segments ≡ s ∷ [] = ap (λ (f : ElfFacts). f.segments) loaded in
     let filled =
-    one_filled s entry (subst (λ (ss : List Segment). entry_fault ss entry ≡ None) e sound) in
+    one_filled s entry (subst (λ (ss : List Segment). entry_point_fault ss entry ≡ None) e sound) in
     subst (All IsFull) (sym e)
     (All-cons IsFull s [] (record { filled = filled; fits = fits }) (All-nil IsFull))
 loaded_full file None facts entry fits loaded sound =
@@ -69,10 +70,10 @@ loaded_full file None facts entry fits loaded sound =
     λ k d within. record { filled = (all k d within).filled; fits = (all k d within).fits }
 
 -- a kernel has a segment, and each of its segments is full
-pub kernel_full : (file : List ℕ) (kernel : Multiboot2KernelFacts) → IsKernel file kernel
+pub kernel_full : (file : List ℕ) (kernel : Multiboot2KernelFacts) → IsMultiboot2Kernel file kernel
     → (1 ≤ length kernel.segments) × All IsFull kernel.segments
 kernel_full file kernel is =
-    let counted = counted_entry is.header is.facts in (
+    let counted = effective_entry_point is.header is.facts in (
       subst (λ (ss : List Segment). 1 ≤ length ss) (sym is.segments)
           (some_segment is.facts.segments counted is.sound),
       subst (All IsFull) (sym is.segments)
@@ -87,7 +88,7 @@ loaded_few file (Some segment) facts loaded =
     subst (λ (f : ElfFacts). length f.segments ≤ 128) (sym loaded) (omega arith)
 loaded_few file None facts loaded = elf_few file facts loaded
 
-pub kernel_few : (file : List ℕ) (kernel : Multiboot2KernelFacts) → IsKernel file kernel
+pub kernel_few : (file : List ℕ) (kernel : Multiboot2KernelFacts) → IsMultiboot2Kernel file kernel
     → length kernel.segments ≤ 128
 kernel_few file kernel is =
     subst (λ (ss : List Segment). length ss ≤ 128) (sym is.segments)
@@ -101,7 +102,7 @@ loaded_apart file (Some segment) facts loaded =
     (λ i j d ij within. absurd (omega arith))
 loaded_apart file None facts loaded = elf_apart file facts loaded
 
-pub kernel_apart : (file : List ℕ) (kernel : Multiboot2KernelFacts) → IsKernel file kernel
+pub kernel_apart : (file : List ℕ) (kernel : Multiboot2KernelFacts) → IsMultiboot2Kernel file kernel
     → AllPairs AreApartSegments kernel.segments
 kernel_apart file kernel is =
     subst (λ (ss : List Segment). AllPairs AreApartSegments ss) (sym is.segments)

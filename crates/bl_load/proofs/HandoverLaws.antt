@@ -7,7 +7,7 @@ use Rattle.bl_plan.specs.declared.part.Row.{Row}
 use Rattle.bl_plan.proofs.OneListLaws as places
 use Rattle.bl_load.specs.declared.refusal.Refusal.{Refusal}
 use Rattle.bl_load.specs.EntryValue.{EntryValue, lines_fault, lines_of}
-use Rattle.bl_load.specs.Reading.{Reading, HasReadFault}
+use Rattle.bl_load.specs.KernelReading.{KernelReading, HasKernelFileFault}
 use Rattle.bl_load.specs.Rows.{rows_of}
 use Rattle.bl_load.specs.Handover.{Handover}
 use Rattle.bl_load.specs.Parts.{IsHandover, IsRefusal, HasRowFault, HasPlaceFault, OrRefused}
@@ -21,12 +21,12 @@ one_handover facts value h k a b =
     let reading : b.reading ≡ a.reading =
     one_reading facts value b.reading a.reading b.read a.read in
     let moved : ArePlaced facts [] (rows_of facts value a.reading) b.places =
-    subst (λ (x : Reading). ArePlaced facts [] (rows_of facts value x) b.places) reading
+    subst (λ (x : KernelReading). ArePlaced facts [] (rows_of facts value x) b.places) reading
     b.placed in
     let same : a.places ≡ b.places =
     places.one_list facts [] (rows_of facts value a.reading) a.places b.places a.placed moved in
     a.is ∙ ap (handover_of facts value a.reading) same
-    ∙ ap (λ (x : Reading). handover_of facts value x b.places) (sym reading) ∙ sym b.is
+    ∙ ap (λ (x : KernelReading). handover_of facts value x b.places) (sym reading) ∙ sym b.is
 
 -- rows are refused for one fault
 one_row_fault : (facts : MachineFacts) (rows : List Row) (r s : Refusal) → HasRowFault facts rows r
@@ -43,7 +43,7 @@ one_then first rest r s one (inr a) (inr b) = one a.1 b.1
 
 -- the kernel is refused, or one of the rows
 abbrev IsLateRefusal : MachineFacts → EntryValue → Refusal → Type 0
-IsLateRefusal facts value r = HasReadFault facts value r ⊎ HasPlaceFault facts value r
+IsLateRefusal facts value r = HasKernelFileFault facts value r ⊎ HasPlaceFault facts value r
 
 one_late : (facts : MachineFacts) (value : EntryValue) (r s : Refusal) → IsLateRefusal facts value r
     → IsLateRefusal facts value s → r ≡ s
@@ -52,7 +52,7 @@ one_late facts value r s (inl a) (inr (k, is, b)) = absurd (read_not_fault facts
 one_late facts value r s (inr (k, is, a)) (inl b) = absurd (read_not_fault facts value k s is b)
 one_late facts value r s (inr (k, is_k, a)) (inr (l, is_l, b)) =
     one_row_fault facts (rows_of facts value k) r s a
-    (subst (λ (x : Reading). HasRowFault facts (rows_of facts value x) s)
+    (subst (λ (x : KernelReading). HasRowFault facts (rows_of facts value x) s)
     (one_reading facts value l k is_l is_k) b)
 
 -- or have one first refusal
@@ -71,6 +71,6 @@ not_both facts value h r is (inr (lines, inl read)) =
     read_not_fault facts value is.reading r is.read read
 not_both facts value h r is (inr (lines, inr (k, is_k, (f, a, f_is)))) =
     let placed : ArePlaced facts [] (rows_of facts value k) is.places =
-    subst (λ (x : Reading). ArePlaced facts [] (rows_of facts value x) is.places)
+    subst (λ (x : KernelReading). ArePlaced facts [] (rows_of facts value x) is.places)
     (one_reading facts value is.reading k is.read is_k) is.placed in
     places.not_both facts [] (rows_of facts value k) is.places f placed a

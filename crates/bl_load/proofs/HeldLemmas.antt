@@ -9,7 +9,7 @@ use Rattle.std.proofs.lemmas.List.Elements.{All-map}
 use Rattle.std.proofs.lemmas.Bool.{cases_lt}
 use Rattle.std.proofs.lemmas.Simd.{map-map}
 use Rattle.std.specs.declared.ops.Range.{Range}
-use Rattle.bl_mem.specs.Files.{AllBeside, IsBeside, nth_file}
+use Rattle.bl_mem.specs.Files.{AllApartFrom, IsApartFrom, nth_file}
 use Rattle.bl_mem.specs.Memory.{AllHaveRoom, HasRoom}
 use Rattle.bl_plan.specs.declared.part.Place.{Place}
 use Rattle.bl_plan.specs.Placed.{Covers, place_range}
@@ -17,9 +17,9 @@ use Rattle.bl_load.specs.declared.plan.Content.{Content}
 use Rattle.bl_load.specs.declared.plan.Content.TheVariants.{Own, File, Block}
 use Rattle.bl_load.specs.declared.plan.PlannedPart.{PlannedPart}
 use Rattle.bl_load.specs.declared.plan.Plan.{Plan}
-use Rattle.bl_load.specs.Handover.{placed_part, written}
-use Rattle.bl_load.specs.Place.{planned_place}
-use Rattle.bl_load.specs.PlanFacts.{content_by, bytes_by, part_by, part_in, places_of}
+use Rattle.bl_load.specs.Handover.{placed_part, overwrite_parts}
+use Rattle.bl_load.specs.PlannedPlaceKept.{planned_place}
+use Rattle.bl_load.specs.PlanContents.{content_by, bytes_by, part_by, part_in, places_of}
 use Rattle.bl_load.specs.HandoffFacts.{Ascends}
 use Rattle.bl_load.specs.Kept.{CanLoad}
 use Rattle.bl_load.specs.Loadable.{lengths_of, content_length, IsInFiles, IsBacked, IsLoadable}
@@ -95,7 +95,7 @@ module _ {A : Type 0} (texts : List (List ℕ)) (size : ℕ) (plan : Plan A)
     (loadable : IsLoadable (lengths_of texts) size plan) where
   -- a loadable plan can be loaded once its places have room
   pub can_load : (room holds : ℕ → Type 0) → AllHaveRoom room (map place_range (places_of plan))
-      → AllBeside holds (map place_range (places_of plan))
+      → AllApartFrom holds (map place_range (places_of plan))
       → All (CanLoad (lengths_of texts) size room holds) plan.parts.items
   can_load room holds has beside k d within =
       let backed = loadable.backed k d within in
@@ -114,9 +114,9 @@ module _ {A : Type 0} (texts : List (List ℕ)) (size : ℕ) (plan : Plan A)
             k d within;
         beside =
             all_under
-            (λ (place : Place). IsBeside holds (place_range place).start (place_range place).end)
+            (λ (place : Place). IsApartFrom holds (place_range place).start (place_range place).end)
             planned_place plan.parts.items
-            (all_under (λ (r : Range ℕ). IsBeside holds r.start r.end) place_range (places_of plan)
+            (all_under (λ (r : Range ℕ). IsApartFrom holds r.start r.end) place_range (places_of plan)
             beside) k d within;
       }
 
@@ -140,7 +140,7 @@ module _ {A : Type 0} (texts : List (List ℕ)) (size : ℕ) (plan : Plan A)
 
   -- memory reads back as each part
   held_at : (m : List ℕ) (k : ℕ) (d : PlannedPart A) → length m ≡ size → k < length plan.parts.items
-      → part_in (written (map (part_by texts) plan.parts.items) m)
+      → part_in (overwrite_parts (map (part_by texts) plan.parts.items) m)
       (get_or plan.parts.items k d).place ≡ part_by texts (get_or plan.parts.items k d)
   held_at m k d is within =
       let parts = map (part_by texts) plan.parts.items in
@@ -151,7 +151,7 @@ module _ {A : Type 0} (texts : List (List ℕ)) (size : ℕ) (plan : Plan A)
       let count = length-bytes_by texts part (loadable.backed k d within) in
       let total = length-written size parts m is all_end_within in
       let read : List ℕ =
-      slice_range (written parts m) part.place.address
+      slice_range (overwrite_parts parts m) part.place.address
       (part.place.address + part.place.length) in
       let wide : length read ≡ part.place.length = search (rules, places) in
       let this : get_or parts k (part_by texts d) ≡ part_by texts part =
@@ -167,17 +167,17 @@ module _ {A : Type 0} (texts : List (List ℕ)) (size : ℕ) (plan : Plan A)
 
   -- memory reads back as the parts
   pub held : (m : List ℕ) → length m ≡ size
-      → map (part_in (written (map (part_by texts) plan.parts.items) m)) (places_of plan)
+      → map (part_in (overwrite_parts (map (part_by texts) plan.parts.items) m)) (places_of plan)
       ≡ map (part_by texts) plan.parts.items
   held m is =
-      map-map (part_in (written (map (part_by texts) plan.parts.items) m)) planned_place plan.parts.items
-      ∙ map_same (λ part. part_in (written (map (part_by texts) plan.parts.items) m) part.place)
+      map-map (part_in (overwrite_parts (map (part_by texts) plan.parts.items) m)) planned_place plan.parts.items
+      ∙ map_same (λ part. part_in (overwrite_parts (map (part_by texts) plan.parts.items) m) part.place)
       (part_by texts) plan.parts.items (λ k d within. held_at m k d is within)
 
   -- memory keeps what is in no place
   pub held_elsewhere : (m : List ℕ) (a : ℕ) → length m ≡ size
       → All (λ place. ¬ Covers place a) (places_of plan)
-      → get_or (written (map (part_by texts) plan.parts.items) m) a 0 ≡ get_or m a 0
+      → get_or (overwrite_parts (map (part_by texts) plan.parts.items) m) a 0 ≡ get_or m a 0
   held_elsewhere m a is out =
       written_elsewhere size (map (part_by texts) plan.parts.items) m a is all_end_within
       (All-map (λ p. Has p a → ⊥) (part_by texts) plan.parts.items (λ k d within. λ has.

@@ -6,7 +6,7 @@ use Rattle.std.proofs.lemmas.List.Sums.{sum_by-cons}
 use Rattle.std.proofs.lemmas.List.Elements.{All-head, All-tail}
 use Rattle.bl_map.specs.MachineFacts.{MachineFacts}
 use Rattle.bl_mb2head.specs.declared.relocation.Relocation.{Relocation}
-use Rattle.bl_mbi.specs.InformationFacts.{ModuleInfo, info_size}
+use Rattle.bl_mbi.specs.InfoToWriteFacts.{ModuleInfo, info_size}
 use Rattle.bl_mbi.specs.Size.{size_by_lengths, tag_size, copy_size, load_base_size}
 use Rattle.bl_mbi.specs.Spelling.{info_spelling}
 use Rattle.bl_mbi.proofs.Sizes.{length-spelling}
@@ -16,7 +16,7 @@ use Rattle.bl_load.specs.Addresses.{address_of}
 use Rattle.bl_load.specs.EntryValue.{EntryValue, IsRsdpCopy}
 use Rattle.bl_map.specs.PoolFrames.{round_up_to_frames}
 use Rattle.bl_load.specs.Rows.{told_modules, information_of}
-use Rattle.bl_load.specs.PlacingKept.{tags_size}
+use Rattle.bl_load.specs.PlacingKept.{module_tags_size}
 
 most_load_base : (b : Bool) → load_base_size b ≤ 16
 most_load_base true = omega arith
@@ -30,7 +30,7 @@ same_given None base = refl
 -- the tags of modules take what their lines ask for, wherever the modules stand
 pub tags_size_is : (files : List (List ℕ)) (places : List Place) (k : ℕ) (lines : List (List ℕ))
     → sum_by (λ n. tag_size (n + 9)) (map (λ m. length m.line) (told_modules files places k lines))
-    ≡ tags_size lines
+    ≡ module_tags_size lines
 tags_size_is files places k [] = refl
 tags_size_is files places k (line ∷ lines) =
     let more = told_modules files places (suc k) lines in
@@ -41,7 +41,7 @@ tags_size_is files places k (line ∷ lines) =
 
 -- at most 4120 bytes for each
 pub tags_small : (lines : List (List ℕ)) → All (λ line. length line ≤ 4095) lines
-    → tags_size lines ≤ 4120 * length lines
+    → module_tags_size lines ≤ 4120 * length lines
 tags_small [] short = omega arith
 tags_small (line ∷ lines) short =
     let first = All-head (λ (l : List ℕ). length l ≤ 4095) line lines short in
@@ -74,7 +74,7 @@ pub info_size_is : (facts : MachineFacts) (value : EntryValue) (relocation : Opt
     → info_size (information_of facts value relocation places)
     ≡ size_by_lengths (length value.line) [] (length facts.runs) (option_map length value.rsdp_old)
     (option_map length value.rsdp_new) (is_some relocation)
-    + tags_size value.module_lines
+    + module_tags_size value.module_lines
 info_size_is facts value relocation places =
     let tags = tags_size_is value.files places 0 value.module_lines in
     let given = same_given relocation (address_of Kernel 0 places) in

@@ -9,35 +9,35 @@ use Rattle.std.proofs.lemmas.List.Elements.{All-nil, All-cons, All-head, All-tai
 use Rattle.std.proofs.lemmas.Bool.Decides.{nat_tests}
 use Rattle.std.proofs.lemmas.Grind.{common_steps}
 use Rattle.bl_mem.specs.declared.segment.Segment.{Segment}
-use Rattle.bl_mem.specs.Contents.{holds, is_in_segment}
+use Rattle.bl_mem.specs.SegmentContents.{segment_holds, is_in_segment}
 use Rattle.bl_elf.specs.Elf.{ElfFacts, IsElf}
 use Rattle.bl_elf.proofs.ElfLaws.{elf_few, elf_loadable, elf_apart}
 use Rattle.bl_mb2head.specs.Header.{SegmentFitsFile, IsHeader}
 use Rattle.bl_mb2head.specs.declared.header.Header.{Header}
 use Rattle.bl_load.specs.declared.refusal.Refusal.TheVariants as refusal
-use Rattle.bl_load.specs.Blocks.{high_of}
+use Rattle.bl_load.specs.KernelBlock.{high_of}
 use Rattle.bl_load.specs.declared.refusal.PrepFault.{PrepFault}
 use Rattle.bl_load.specs.declared.refusal.PrepFault.TheVariants as prep
-use Rattle.bl_load.specs.Kernel.{IsLoadedBy, entry_fault}
-use Rattle.bl_load.specs.KernelKept.{IsElfRefusal, IsKernelFault, AreLoadable}
+use Rattle.bl_load.specs.Multiboot2Kernel.{IsLoadedBy, entry_point_fault}
+use Rattle.bl_load.specs.Multiboot2KernelKept.{IsElfRefusal, IsMultiboot2Fault, AreLoadable}
 
 none_when : {X : Type 0} (b : Bool) (x : X) → cond b None (Some x) ≡ None → b ≡ true
 none_when true x h = refl
 none_when false x h = absurd cc
 
 -- the entry that counts lies in a segment
-pub entry_held : (segments : List Segment) (entry : ℕ) → entry_fault segments (Some entry) ≡ None
+pub entry_held : (segments : List Segment) (entry : ℕ) → entry_point_fault segments (Some entry) ≡ None
     → list_any (is_in_segment entry) segments ≡ true
 entry_held segments entry h =
     none_when (list_any (is_in_segment entry) segments) refusal.EntryOutside h
 
 -- a segment that holds an address
-pub held_within : (s : Segment) (a : ℕ) → holds s a ≡ true
+pub held_within : (s : Segment) (a : ℕ) → segment_holds s a ≡ true
     → (s.address ≤ a) × (a < s.address + s.memsz)
 held_within s a h = (grind (arith, nat_tests, common_steps), grind (arith, nat_tests, common_steps))
 
 -- there is a segment
-pub some_segment : (segments : List Segment) (entry : Option ℕ) → entry_fault segments entry ≡ None
+pub some_segment : (segments : List Segment) (entry : Option ℕ) → entry_point_fault segments entry ≡ None
     → 1 ≤ length segments
 some_segment segments None h = absurd cc
 some_segment [] (Some entry) h = let e = entry_held [] entry h in absurd cc
@@ -52,15 +52,15 @@ high_below (s ∷ segments) n h =
     let rest =
     high_below segments n (All-tail (λ s. s.address + s.memsz ≤ n) s segments h) in omega arith
 
-pub one_filled : (s : Segment) (entry : Option ℕ) → entry_fault (s ∷ []) entry ≡ None → 1 ≤ s.memsz
+pub one_filled : (s : Segment) (entry : Option ℕ) → entry_point_fault (s ∷ []) entry ≡ None → 1 ≤ s.memsz
 one_filled s None h = absurd cc
 one_filled s (Some a) h =
     let w =
-    held_within s a (sym (or-false (holds s a)) ∙ entry_held (s ∷ []) a h) in
+    held_within s a (sym (or-false (segment_holds s a)) ∙ entry_held (s ∷ []) a h) in
     omega (arith, w.0, w.1)
 
 one_loadable : (file : List ℕ) (s : Segment) (entry : Option ℕ) → SegmentFitsFile file s
-    → entry_fault (s ∷ []) entry ≡ None → length file < 2 ^ 64 → AreLoadable file (s ∷ [])
+    → entry_point_fault (s ∷ []) entry ≡ None → length file < 2 ^ 64 → AreLoadable file (s ∷ [])
 one_loadable file s entry fits sound short =
     let size = fits.size in
     let low = fits.address in
@@ -79,7 +79,7 @@ one_loadable file s entry fits sound short =
     }
 
 elf_as_loadable : (file : List ℕ) (facts : ElfFacts) (entry : Option ℕ) → IsElf file facts
-    → entry_fault facts.segments entry ≡ None → AreLoadable file facts.segments
+    → entry_point_fault facts.segments entry ≡ None → AreLoadable file facts.segments
 elf_as_loadable file facts entry elf sound =
     let all = elf_loadable file facts elf in
     let high = high_below facts.segments (2 ^ 32) (λ k d within. (all k d within).low) in
@@ -99,18 +99,18 @@ elf_as_loadable file facts entry elf sound =
 -- the segments of a kernel with no fault can be loaded
 pub kernel_loadable : (file : List ℕ) (segment : Option Segment) (facts : ElfFacts)
     (entry : Option ℕ) → IfSome segment (SegmentFitsFile file) → IsLoadedBy file segment facts
-    → entry_fault facts.segments entry ≡ None → length file < 2 ^ 64
+    → entry_point_fault facts.segments entry ≡ None → length file < 2 ^ 64
     → AreLoadable file facts.segments
 kernel_loadable file (Some s) facts entry fits loaded sound short =
     let e : facts.segments ≡ s ∷ [] = ap (λ (f : ElfFacts). f.segments) loaded in
     subst (AreLoadable file) (sym e)
     (one_loadable file s entry fits
-    (subst (λ (ss : List Segment). entry_fault ss entry ≡ None) e sound) short)
+    (subst (λ (ss : List Segment). entry_point_fault ss entry ≡ None) e sound) short)
 kernel_loadable file None facts entry fits loaded sound short =
     elf_as_loadable file facts entry loaded sound
 
 -- a fault of what the header leads to refuses the kernel
 pub load_refused : (file : List ℕ) (head : Header) (fault : PrepFault) → IsHeader file head
-    → IsElfRefusal file head.segment fault → IsKernelFault file fault
+    → IsElfRefusal file head.segment fault → IsMultiboot2Fault file fault
 load_refused file head (prep.Refused refused) is h = inr (inl (head, is, h))
 load_refused file head prep.NoMemory is h = tt

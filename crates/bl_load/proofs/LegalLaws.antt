@@ -22,7 +22,7 @@ use Rattle.bl_load.specs.EntryValue.{EntryValue}
 use Rattle.bl_load.specs.Rows.{rows_of}
 use Rattle.bl_load.specs.Handover.{Handover}
 use Rattle.bl_load.specs.Parts.{IsHandover}
-use Rattle.bl_load.specs.Legal.{IsAllowed, AreAllowed, others, IsLegal}
+use Rattle.bl_load.specs.Legal.{IsAllowed, AreAllowed, other_ranges, IsLegal}
 
 -- what holds of each element but the i-th holds of each that is left without it
 All-remove : {X : Type 0} (P : X → Type 0) (xs : List X) (i : ℕ) → i < length xs
@@ -41,7 +41,7 @@ All-remove P xs i within each k d left =
 -- places that are apart leave the range of each free
 others_open : (places : List Place) (i : ℕ) (d : Place) → i < length places
     → AllPairs IsApart places
-    → AreUntaken (others places i) (get_or places i d).address
+    → AreUntaken (other_ranges places i) (get_or places i d).address
     ((get_or places i d).address + (get_or places i d).length)
 others_open places i d within apart a low high =
     All-map (λ (r : Range ℕ). ¬ IsIn r a) place_range (remove places i)
@@ -125,16 +125,16 @@ placed_allowed facts rows places placed i row place is_row is_place =
     let within = at_place.0 in
     let chosen = chosen_at facts [] rows places placed i row place within in
     let free = others_open places i place within (all_apart facts [] rows places placed) in
-    subst (λ (r : Row). IsAllowed facts (others places i) r.length r.choice place.address) at_row.1
+    subst (λ (r : Row). IsAllowed facts (other_ranges places i) r.length r.choice place.address) at_row.1
     (subst
     (λ (p : Place).
-    IsAllowed facts (others places i) (get_or rows i row).length (get_or rows i row).choice
+    IsAllowed facts (other_ranges places i) (get_or rows i row).length (get_or rows i row).choice
     p.address) at_place.1
-    (chosen_allowed facts chosen.0 (others places i) (get_or rows i row).length
+    (chosen_allowed facts chosen.0 (other_ranges places i) (get_or rows i row).length
     (get_or rows i row).choice (get_or places i place).address chosen.1
     (subst
     (λ (n : ℕ).
-    AreUntaken (others places i) (get_or places i place).address
+    AreUntaken (other_ranges places i) (get_or places i place).address
     ((get_or places i place).address + n)) chosen.2 free)))
 
 -- so what is handed over is legal

@@ -15,7 +15,7 @@ use Rattle.bl_bzimage.proofs.CheckLaws.{some_alignment}
 use Rattle.bl_bzimage.proofs.SetupLaws.{payload_is_tail}
 use Rattle.bl_mem.specs.Memory.{IsIn}
 use Rattle.bl_plan.specs.Permitted.{AreUntaken}
-use Rattle.bl_plan.specs.Placed.{ArePlaced, IsRow, IsFirstPlaceFault, HasChoiceFault}
+use Rattle.bl_plan.specs.Placed.{ArePlaced, IsWellFormedRow, IsFirstPlaceFault, HasChoiceFault}
 use Rattle.bl_plan.specs.declared.fault.PlanFault.TheVariants.{Overlap}
 use Rattle.bl_plan.specs.declared.part.Place.{Place}
 use Rattle.bl_plan.specs.declared.part.Role.{Role}
@@ -24,11 +24,12 @@ use Rattle.bl_plan.specs.declared.part.Row.{Row}
 use Rattle.bl_plan.specs.declared.protocol.Protocol.{Protocol}
 use Rattle.bl_plan.specs.declared.protocol.Protocol.TheVariants as protocols
 use Rattle.bl_plan.proofs.PlaceLaws.{as_many}
-use Rattle.bl_load.specs.LinuxRows.{moved_row, fixed_kernel_row, linux_kernel_row, frame_row}
-use Rattle.bl_load.specs.LinuxRows.{line_limit, paging_row, front_rows, initrd_rows, linux_rows}
-use Rattle.bl_load.specs.PlacingKept.{HasLength, IsRowed}
+use Rattle.bl_load.specs.LinuxRows.{relocatable_kernel_row, fixed_kernel_row, linux_kernel_row}
+use Rattle.bl_load.specs.LinuxRows.{frame_row}
+use Rattle.bl_load.specs.LinuxRows.{line_end_limit, paging_row, front_rows, initrd_rows, linux_rows}
+use Rattle.bl_load.specs.PlacingKept.{HasLength, HasRowLength}
 use Rattle.bl_load.specs.Protocols.{is_wide}
-use Rattle.bl_load.specs.Reading.{linux}
+use Rattle.bl_load.specs.KernelReading.{linux}
 use Rattle.bl_load.specs.Rows.{rows_of}
 use Rattle.bl_load.specs.EntryValue.{EntryValue, initrd_file}
 use Rattle.bl_load.proofs.RowLemmas.{some_frames}
@@ -37,57 +38,57 @@ use Rattle.bl_load.proofs.RowPlaceLemmas.{Anywhere, each_place}
 -- ---- they are rows
 
 pub kernel_row_is : (file : List ℕ) (setup : Setup) → IsSetup file setup
-    → IsRow (linux_kernel_row setup)
+    → IsWellFormedRow (linux_kernel_row setup)
 kernel_row_is file setup is =
     let payload = (payload_is_tail file setup is).1 in
-    cond_both (nat_eq setup.relocatable_kernel 0) (fixed_kernel_row setup) (moved_row setup) IsRow
+    cond_both (nat_eq setup.relocatable_kernel 0) (fixed_kernel_row setup) (relocatable_kernel_row setup) IsWellFormedRow
     (λ _. record { filled = omega arith; choice = tt })
     (λ moved. record { filled = omega arith; choice = some_alignment file setup is moved })
 
-frame_row_is : (role : Role) (high : ℕ) → IsRow (frame_row role high)
+frame_row_is : (role : Role) (high : ℕ) → IsWellFormedRow (frame_row role high)
 frame_row_is role high = record { filled = omega arith; choice = omega arith }
 
-initrd_rows_are : (setup : Setup) (initrd : List ℕ) → All IsRow (initrd_rows setup initrd)
-initrd_rows_are setup [] = All-nil IsRow
+initrd_rows_are : (setup : Setup) (initrd : List ℕ) → All IsWellFormedRow (initrd_rows setup initrd)
+initrd_rows_are setup [] = All-nil IsWellFormedRow
 initrd_rows_are setup (byte ∷ bytes) =
     let frames = some_frames (length (byte ∷ bytes)) (omega arith) in
-    All-cons IsRow _ [] (record { filled = omega arith; choice = omega arith }) (All-nil IsRow)
+    All-cons IsWellFormedRow _ [] (record { filled = omega arith; choice = omega arith }) (All-nil IsWellFormedRow)
 
 -- a protocol's page tables have some bytes and a choice
-paging_row_is : (protocol : Protocol) → All IsRow (option_to_list (paging_row protocol))
-paging_row_is protocols.Multiboot2 = All-nil IsRow
-paging_row_is protocols.Linux = All-nil IsRow
+paging_row_is : (protocol : Protocol) → All IsWellFormedRow (option_to_list (paging_row protocol))
+paging_row_is protocols.Multiboot2 = All-nil IsWellFormedRow
+paging_row_is protocols.Linux = All-nil IsWellFormedRow
 paging_row_is protocols.Linux64 =
-    All-cons IsRow _ [] (record { filled = omega arith; choice = omega arith }) (All-nil IsRow)
+    All-cons IsWellFormedRow _ [] (record { filled = omega arith; choice = omega arith }) (All-nil IsWellFormedRow)
 
 -- what holds of each row before the initrd's holds of all
 pub each_front : (P : Row → Type 0) (protocol : Protocol) (setup : Setup)
     → P (linux_kernel_row setup)
-    → P (frame_row BootParams max_size) → P (frame_row CommandLine line_limit)
+    → P (frame_row BootParams max_size) → P (frame_row CommandLine line_end_limit)
     → P (frame_row Gdt max_size)
     → All P (option_to_list (paging_row protocol)) → All P (front_rows protocol setup)
 each_front P protocol setup kernel params line gdt paging =
     let tables = option_to_list (paging_row protocol) in
     All-cons P (linux_kernel_row setup)
-    (frame_row BootParams max_size ∷ frame_row CommandLine line_limit ∷ frame_row Gdt max_size
+    (frame_row BootParams max_size ∷ frame_row CommandLine line_end_limit ∷ frame_row Gdt max_size
     ∷ tables) kernel
     (All-cons P (frame_row BootParams max_size)
-    (frame_row CommandLine line_limit ∷ frame_row Gdt max_size ∷ tables) params
-    (All-cons P (frame_row CommandLine line_limit) (frame_row Gdt max_size ∷ tables) line
+    (frame_row CommandLine line_end_limit ∷ frame_row Gdt max_size ∷ tables) params
+    (All-cons P (frame_row CommandLine line_end_limit) (frame_row Gdt max_size ∷ tables) line
     (All-cons P (frame_row Gdt max_size) tables gdt paging)))
 
 -- the rows of a setup have some bytes and a choice
 pub front_rows_are_rows : (protocol : Protocol) (file : List ℕ) (setup : Setup) → IsSetup file setup
-    → All IsRow (front_rows protocol setup)
+    → All IsWellFormedRow (front_rows protocol setup)
 front_rows_are_rows protocol file setup is =
-    each_front IsRow protocol setup (kernel_row_is file setup is)
+    each_front IsWellFormedRow protocol setup (kernel_row_is file setup is)
     (frame_row_is BootParams max_size)
-    (frame_row_is CommandLine line_limit) (frame_row_is Gdt max_size) (paging_row_is protocol)
+    (frame_row_is CommandLine line_end_limit) (frame_row_is Gdt max_size) (paging_row_is protocol)
 
 pub linux_rows_are_rows : (protocol : Protocol) (file : List ℕ) (setup : Setup) (initrd : List ℕ)
-    → IsSetup file setup → All IsRow (linux_rows protocol setup initrd)
+    → IsSetup file setup → All IsWellFormedRow (linux_rows protocol setup initrd)
 linux_rows_are_rows protocol file setup initrd is =
-    All-append IsRow (front_rows protocol setup) (initrd_rows setup initrd)
+    All-append IsWellFormedRow (front_rows protocol setup) (initrd_rows setup initrd)
     (front_rows_are_rows protocol file setup is) (initrd_rows_are setup initrd)
 
 -- ---- how many they are
@@ -115,48 +116,48 @@ linux_few facts protocol setup initrd taken places placed =
 -- ---- each place has the length that its role and its index ask for
 
 pub kernel_role : (fixed : Bool) (setup : Setup)
-    → (cond fixed (fixed_kernel_row setup) (moved_row setup)).role ≡ Kernel
+    → (cond fixed (fixed_kernel_row setup) (relocatable_kernel_row setup)).role ≡ Kernel
 kernel_role true setup = refl
 kernel_role false setup = refl
 
 module _ (facts : MachineFacts) (value : EntryValue) (setup : Setup) where
-  kernel_row_rowed : Anywhere (IsRowed facts value (linux setup)) (linux_kernel_row setup)
+  kernel_row_rowed : Anywhere (HasRowLength facts value (linux setup)) (linux_kernel_row setup)
   kernel_row_rowed a =
       let row = linux_kernel_row setup in
       subst (λ (r : Role). HasLength facts value (linux setup) r row.index row.length)
       (sym (kernel_role (nat_eq setup.relocatable_kernel 0) setup)) refl
 
   initrd_rows_rowed : (initrd : List ℕ) → initrd_file value.files ≡ initrd
-      → All (Anywhere (IsRowed facts value (linux setup))) (initrd_rows setup initrd)
-  initrd_rows_rowed [] is = All-nil (Anywhere (IsRowed facts value (linux setup)))
+      → All (Anywhere (HasRowLength facts value (linux setup))) (initrd_rows setup initrd)
+  initrd_rows_rowed [] is = All-nil (Anywhere (HasRowLength facts value (linux setup)))
   initrd_rows_rowed (byte ∷ bytes) is =
-      All-cons (Anywhere (IsRowed facts value (linux setup))) _ []
+      All-cons (Anywhere (HasRowLength facts value (linux setup))) _ []
       (λ a.
       subst
       (λ (all : List ℕ).
       (1 ≤ length all)
       × (round_up_to_frames (length (byte ∷ bytes)) ≡ round_up_to_frames (length all))) (sym is)
       (omega arith, refl))
-      (All-nil (Anywhere (IsRowed facts value (linux setup))))
+      (All-nil (Anywhere (HasRowLength facts value (linux setup))))
 
   paging_rowed : (protocol : Protocol) → protocol ≡ value.protocol
-      → All (Anywhere (IsRowed facts value (linux setup))) (option_to_list (paging_row protocol))
-  paging_rowed protocols.Multiboot2 is = All-nil (Anywhere (IsRowed facts value (linux setup)))
-  paging_rowed protocols.Linux is = All-nil (Anywhere (IsRowed facts value (linux setup)))
+      → All (Anywhere (HasRowLength facts value (linux setup))) (option_to_list (paging_row protocol))
+  paging_rowed protocols.Multiboot2 is = All-nil (Anywhere (HasRowLength facts value (linux setup)))
+  paging_rowed protocols.Linux is = All-nil (Anywhere (HasRowLength facts value (linux setup)))
   paging_rowed protocols.Linux64 is =
-      All-cons (Anywhere (IsRowed facts value (linux setup))) _ []
+      All-cons (Anywhere (HasRowLength facts value (linux setup))) _ []
       (λ a. (sym (ap is_wide is), refl))
-      (All-nil (Anywhere (IsRowed facts value (linux setup))))
+      (All-nil (Anywhere (HasRowLength facts value (linux setup))))
 
   pub linux_rowed : (taken : List (Range ℕ)) (places : List Place)
       → ArePlaced facts taken (rows_of facts value (linux setup)) places
-      → All (IsRowed facts value (linux setup)) places
+      → All (HasRowLength facts value (linux setup)) places
   linux_rowed taken places placed =
-      each_place facts (IsRowed facts value (linux setup)) taken (rows_of facts value (linux setup))
+      each_place facts (HasRowLength facts value (linux setup)) taken (rows_of facts value (linux setup))
       places
-      (All-append (Anywhere (IsRowed facts value (linux setup))) (front_rows value.protocol setup)
+      (All-append (Anywhere (HasRowLength facts value (linux setup))) (front_rows value.protocol setup)
       (initrd_rows setup (initrd_file value.files))
-      (each_front (Anywhere (IsRowed facts value (linux setup))) value.protocol setup
+      (each_front (Anywhere (HasRowLength facts value (linux setup))) value.protocol setup
       kernel_row_rowed (λ a. refl) (λ a. refl) (λ a. refl) (paging_rowed value.protocol refl))
       (initrd_rows_rowed (initrd_file value.files) refl))
       placed
@@ -170,7 +171,7 @@ kernel_no_overlap : (facts : MachineFacts) (setup : Setup)
     → HasChoiceFault facts [] (linux_kernel_row setup).length
     (linux_kernel_row setup).choice Overlap → ⊥
 kernel_no_overlap facts setup =
-    cond_both (nat_eq setup.relocatable_kernel 0) (fixed_kernel_row setup) (moved_row setup)
+    cond_both (nat_eq setup.relocatable_kernel 0) (fixed_kernel_row setup) (relocatable_kernel_row setup)
     (λ row. HasChoiceFault facts [] row.length row.choice Overlap → ⊥)
     (λ _ here. here.1 (nothing_taken high_start (high_start + (fixed_kernel_row setup).length)))
     (λ _ here. here)

@@ -22,7 +22,7 @@ use Rattle.bl_plan.specs.declared.part.Role.TheVariants.{Initrd}
 use Rattle.bl_plan.specs.declared.part.Row.{Row}
 use Rattle.bl_plan.specs.declared.protocol.Protocol.{Protocol}
 use Rattle.bl_load.specs.LinuxRows.{front_rows, initrd_rows, linux_rows}
-use Rattle.bl_load.specs.PlacingKept.{EndsLow, capped_length, told_initrd_rows, told_linux_rows}
+use Rattle.bl_load.specs.PlacingKept.{EndsLow, capped_length, capped_initrd_rows, capped_linux_rows}
 use Rattle.bl_load.proofs.NoRoomLemmas.{Alike, alike_lengths, behind_placed, behind_fault}
 use Rattle.bl_load.proofs.RowLemmas.{some_frames}
 
@@ -60,7 +60,7 @@ module _ (facts : MachineFacts) (protocol : Protocol) (setup : Setup) where
   no_room taken align low high count other NoMemory long has = has
 
   told_initrd_placed : (initrd : List ℕ) (taken : List (Range ℕ)) (places : List Place)
-      → ArePlaced facts taken (told_initrd_rows setup initrd) places
+      → ArePlaced facts taken (capped_initrd_rows setup initrd) places
       → ArePlaced facts taken (initrd_rows setup initrd) places
   told_initrd_placed [] taken places placed = placed
   told_initrd_placed (byte ∷ bytes) taken [] placed = absurd placed
@@ -87,7 +87,7 @@ module _ (facts : MachineFacts) (protocol : Protocol) (setup : Setup) where
       ]
 
   told_initrd_fault : (fault : PlanFault) (initrd : List ℕ) (taken : List (Range ℕ))
-      → IsFirstPlaceFault facts taken (told_initrd_rows setup initrd) fault
+      → IsFirstPlaceFault facts taken (capped_initrd_rows setup initrd) fault
       → IsFirstPlaceFault facts taken (initrd_rows setup initrd) fault
   told_initrd_fault fault [] taken has = has
   told_initrd_fault fault (byte ∷ bytes) taken (inl here) =
@@ -106,18 +106,18 @@ module _ (facts : MachineFacts) (protocol : Protocol) (setup : Setup) where
   told_initrd_fault fault (byte ∷ bytes) taken (inr (a, chosen, later)) = absurd later
 
   pub linux_as_placed : (initrd : List ℕ) (places : List Place)
-      → ArePlaced facts [] (told_linux_rows protocol setup initrd) places
+      → ArePlaced facts [] (capped_linux_rows protocol setup initrd) places
       → ArePlaced facts [] (linux_rows protocol setup initrd) places
   linux_as_placed initrd places placed =
-      behind_placed facts (front_rows protocol setup) (told_initrd_rows setup initrd)
+      behind_placed facts (front_rows protocol setup) (capped_initrd_rows setup initrd)
       (initrd_rows setup initrd)
       (told_initrd_placed initrd) [] places placed
 
   pub linux_as_fault : (fault : PlanFault) (initrd : List ℕ)
-      → IsFirstPlaceFault facts [] (told_linux_rows protocol setup initrd) fault
+      → IsFirstPlaceFault facts [] (capped_linux_rows protocol setup initrd) fault
       → IsFirstPlaceFault facts [] (linux_rows protocol setup initrd) fault
   linux_as_fault fault initrd has =
-      behind_fault facts fault (front_rows protocol setup) (told_initrd_rows setup initrd)
+      behind_fault facts fault (front_rows protocol setup) (capped_initrd_rows setup initrd)
       (initrd_rows setup initrd)
       (told_initrd_fault fault initrd) [] has
 

@@ -4,7 +4,7 @@ use Rattle.std.proofs.Common.{arith, refl, sym, ap, subst, ◌∙◌, ◌⊎◌,
 use Rattle.std.specs.Prelude.{max, ◌&&◌, map}
 use Rattle.std.proofs.lemmas.List.{append_assoc, get_or-map}
 use Rattle.std.proofs.lemmas.List.Elements.{All-head, All-tail}
-use Rattle.bl_mbi.specs.InformationFacts.{ModuleInfo}
+use Rattle.bl_mbi.specs.InfoToWriteFacts.{ModuleInfo}
 use Rattle.std.proofs.lemmas.Bool.{cond_both, cases_lt}
 use Rattle.std.proofs.lemmas.Bool.Decides.{nat_tests}
 use Rattle.std.proofs.lemmas.Grind.{common_steps}
@@ -21,10 +21,10 @@ use Rattle.bl_plan.specs.declared.part.Role.TheVariants.{CommandLine, Gdt, Initr
 use Rattle.bl_plan.specs.declared.part.Row.{Row}
 use Rattle.bl_load.specs.Addresses.{address_of}
 use Rattle.bl_load.specs.EntryValue.{EntryValue, module_file}
-use Rattle.bl_load.specs.Kernel.{Multiboot2KernelFacts}
-use Rattle.bl_load.specs.Reading.{multiboot2}
+use Rattle.bl_load.specs.Multiboot2Kernel.{Multiboot2KernelFacts}
+use Rattle.bl_load.specs.KernelReading.{multiboot2}
 use Rattle.bl_load.specs.Rows.{module_rows, kernel_rows, information_row, rows_of, told_modules}
-use Rattle.bl_load.specs.PlacingKept.{EndsLow, IsRowed, ModulesEndLow, HasLength}
+use Rattle.bl_load.specs.PlacingKept.{EndsLow, HasRowLength, ModulesEndLow, HasLength}
 
 -- ---- each module has a place, which is as long as its file
 
@@ -98,7 +98,7 @@ is_module PageTables h = absurd cc
 
 module_ends : (facts : MachineFacts) (value : EntryValue) (kernel : Multiboot2KernelFacts) (i : ℕ)
     (p : Place)
-    → IsRowed facts value (multiboot2 kernel) p → EndsLow p
+    → HasRowLength facts value (multiboot2 kernel) p → EndsLow p
     → EndsBy Module i (length (module_file value.files i)) 0xFFFFF000 p
 module_ends facts value kernel i p rowed low role index =
     let has =
@@ -112,7 +112,7 @@ module_ends facts value kernel i p rowed low role index =
 
 pub modules_end_low : (facts : MachineFacts) (value : EntryValue) (kernel : Multiboot2KernelFacts)
     (places : List Place) → ArePlaced facts [] (rows_of facts value (multiboot2 kernel)) places
-    → All (IsRowed facts value (multiboot2 kernel)) places → All EndsLow places
+    → All (HasRowLength facts value (multiboot2 kernel)) places → All EndsLow places
     → ModulesEndLow value.files places (length value.module_lines)
 modules_end_low facts value kernel places placed rowed low i within =
     let rest = information_row facts value kernel.relocation ∷ [] in

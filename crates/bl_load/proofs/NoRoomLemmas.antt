@@ -18,10 +18,11 @@ use Rattle.bl_plan.specs.declared.part.Place.{Place}
 use Rattle.bl_plan.specs.declared.part.Role.TheVariants.{Module}
 use Rattle.bl_plan.specs.declared.part.Row.{Row}
 use Rattle.bl_load.specs.EntryValue.{EntryValue, module_file}
-use Rattle.bl_load.specs.Kernel.{Multiboot2KernelFacts}
-use Rattle.bl_load.specs.Reading.{multiboot2}
+use Rattle.bl_load.specs.Multiboot2Kernel.{Multiboot2KernelFacts}
+use Rattle.bl_load.specs.KernelReading.{multiboot2}
 use Rattle.bl_load.specs.Rows.{module_rows, kernel_rows, information_row, rows_of}
-use Rattle.bl_load.specs.PlacingKept.{length_cap, capped_length, capped_rows, told_rows_of}
+use Rattle.bl_load.specs.PlacingKept.{length_cap, capped_length, capped_module_rows}
+use Rattle.bl_load.specs.PlacingKept.{capped_multiboot2_rows}
 
 -- ---- rows that no machine has room for
 
@@ -54,7 +55,7 @@ module _ (facts : MachineFacts) where
 
   told_placed : (files : List (List ℕ)) (rest : List Row) (k : ℕ) (lines : List (List ℕ))
       (taken : List (Range ℕ)) (places : List Place)
-      → ArePlaced facts taken (capped_rows files k lines ++ rest) places
+      → ArePlaced facts taken (capped_module_rows files k lines ++ rest) places
       → ArePlaced facts taken (module_rows files k lines ++ rest) places
   told_placed files rest k [] taken places placed = placed
   told_placed files rest k (line ∷ lines) taken [] placed = absurd placed
@@ -83,7 +84,7 @@ module _ (facts : MachineFacts) where
 
   told_fault : (files : List (List ℕ)) (rest : List Row) (fault : PlanFault) (k : ℕ)
       (lines : List (List ℕ)) (taken : List (Range ℕ))
-      → IsFirstPlaceFault facts taken (capped_rows files k lines ++ rest) fault
+      → IsFirstPlaceFault facts taken (capped_module_rows files k lines ++ rest) fault
       → IsFirstPlaceFault facts taken (module_rows files k lines ++ rest) fault
   told_fault files rest fault k [] taken has = has
   told_fault files rest fault k (line ∷ lines) taken (inl here) =
@@ -118,7 +119,7 @@ module _ (facts : MachineFacts) where
                 length = n;
                 choice = Lowest 4096 0x100000 max_size;
               }) a)) taken)
-              (capped_rows files (suc k) lines ++ rest) fault) same
+              (capped_module_rows files (suc k) lines ++ rest) fault) same
               later),
         )
         | inr long ↦ absurd (no_chosen taken 4096 0x100000 (capped_length size) a long.0 chosen)
@@ -150,27 +151,27 @@ module _ (facts : MachineFacts) where
 
   module _ (value : EntryValue) (kernel : Multiboot2KernelFacts) where
     pub as_placed : (places : List Place)
-        → ArePlaced facts [] (told_rows_of facts value kernel) places
+        → ArePlaced facts [] (capped_multiboot2_rows facts value kernel) places
         → ArePlaced facts [] (rows_of facts value (multiboot2 kernel)) places
     as_placed places placed =
         let rest = information_row facts value kernel.relocation ∷ [] in
         behind_placed (kernel_rows kernel.segments kernel.relocation)
-        (capped_rows value.files 0 value.module_lines ++ rest)
+        (capped_module_rows value.files 0 value.module_lines ++ rest)
         (module_rows value.files 0 value.module_lines ++ rest)
         (λ taken ps. told_placed value.files rest 0 value.module_lines taken ps) [] places placed
 
     as_fault : (fault : PlanFault)
-        → IsFirstPlaceFault facts [] (told_rows_of facts value kernel) fault
+        → IsFirstPlaceFault facts [] (capped_multiboot2_rows facts value kernel) fault
         → IsFirstPlaceFault facts [] (rows_of facts value (multiboot2 kernel)) fault
     as_fault fault has =
         let rest = information_row facts value kernel.relocation ∷ [] in
         behind_fault fault (kernel_rows kernel.segments kernel.relocation)
-        (capped_rows value.files 0 value.module_lines ++ rest)
+        (capped_module_rows value.files 0 value.module_lines ++ rest)
         (module_rows value.files 0 value.module_lines ++ rest)
         (λ taken. told_fault value.files rest fault 0 value.module_lines taken) [] has
 
     pub placing_fault : (fault : PlanFault)
-        → IsPlacingFault facts (told_rows_of facts value kernel) fault
+        → IsPlacingFault facts (capped_multiboot2_rows facts value kernel) fault
         → IsPlacingFault facts (rows_of facts value (multiboot2 kernel)) fault
     placing_fault NotUsable has = as_fault NotUsable has
     placing_fault Overlap has = as_fault Overlap has

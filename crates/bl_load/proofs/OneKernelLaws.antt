@@ -11,9 +11,11 @@ use Rattle.bl_mb2head.specs.declared.header.Header.{Header}
 use Rattle.bl_mb2head.specs.declared.relocation.Relocation.{Relocation}
 use Rattle.bl_mb2head.proofs.HeaderLaws as headers
 use Rattle.bl_load.specs.declared.refusal.Refusal.{Refusal}
-use Rattle.bl_load.specs.Kernel.{Multiboot2KernelFacts, IsLoadedBy, IsKernel, HasElfRefusal}
-use Rattle.bl_load.specs.Kernel.{HasKernelFault}
-use Rattle.bl_load.specs.Kernel.{entry_fault, counted_entry, head_refusal, elf_refusal}
+use Rattle.bl_load.specs.Multiboot2Kernel.{Multiboot2KernelFacts, IsLoadedBy, IsMultiboot2Kernel}
+use Rattle.bl_load.specs.Multiboot2Kernel.{HasElfRefusal}
+use Rattle.bl_load.specs.Multiboot2Kernel.{HasMultiboot2Fault}
+use Rattle.bl_load.specs.Multiboot2Kernel.{entry_point_fault, effective_entry_point, head_refusal}
+use Rattle.bl_load.specs.Multiboot2Kernel.{elf_refusal}
 
 -- ---- a Multiboot2 kernel's file
 
@@ -46,7 +48,7 @@ same_kernel a b segments entry relocation =
     ∙ ap (λ (r : Option Relocation). kernel_from b.segments b.entry r) relocation
 
 -- a file is one kernel
-pub one_kernel : (file : List ℕ) (a b : Multiboot2KernelFacts) → IsKernel file a → IsKernel file b
+pub one_kernel : (file : List ℕ) (a b : Multiboot2KernelFacts) → IsMultiboot2Kernel file a → IsMultiboot2Kernel file b
     → a ≡ b
 one_kernel file a b is_a is_b =
     let header : is_b.header ≡ is_a.header =
@@ -54,9 +56,9 @@ one_kernel file a b is_a is_b =
     let facts : is_b.facts ≡ is_a.facts =
     same_loaded file is_a.header is_b.header is_a.facts is_b.facts is_a.is_header is_b.is_header
     is_a.loaded is_b.loaded in
-    let entry : counted_entry is_a.header is_a.facts ≡ Some b.entry =
-    sym (ap (λ (h : Header). counted_entry h is_a.facts) header)
-    ∙ sym (ap (λ (f : ElfFacts). counted_entry is_b.header f) facts) ∙ is_b.entry in
+    let entry : effective_entry_point is_a.header is_a.facts ≡ Some b.entry =
+    sym (ap (λ (h : Header). effective_entry_point h is_a.facts) header)
+    ∙ sym (ap (λ (f : ElfFacts). effective_entry_point is_b.header f) facts) ∙ is_b.entry in
     same_kernel a b
     (is_a.segments ∙ sym (ap (λ (f : ElfFacts). f.segments) facts) ∙ sym is_b.segments)
     (same_Some a.entry b.entry (sym is_a.entry ∙ entry))
@@ -90,16 +92,16 @@ sound_no_fault file h k facts r is_h is_k is has =
 
 same_entry_fault : (file : List ℕ) (h k : Header) (f g : ElfFacts) → IsHeader file h
     → IsHeader file k → IsLoadedBy file h.segment f → IsLoadedBy file k.segment g
-    → entry_fault f.segments (counted_entry h f) ≡ entry_fault g.segments (counted_entry k g)
+    → entry_point_fault f.segments (effective_entry_point h f) ≡ entry_point_fault g.segments (effective_entry_point k g)
 same_entry_fault file h k f g is_h is_k a b =
-    ap (λ (x : Header). entry_fault f.segments (counted_entry x f))
+    ap (λ (x : Header). entry_point_fault f.segments (effective_entry_point x f))
     (sym (same_header file h k is_h is_k))
-    ∙ ap (λ (x : ElfFacts). entry_fault x.segments (counted_entry k x))
+    ∙ ap (λ (x : ElfFacts). entry_point_fault x.segments (effective_entry_point k x))
     (sym (same_loaded file h k f g is_h is_k a b))
 
 -- or it has one first fault
-pub one_kernel_fault : (file : List ℕ) (r s : Refusal) → HasKernelFault file r
-    → HasKernelFault file s
+pub one_kernel_fault : (file : List ℕ) (r s : Refusal) → HasMultiboot2Fault file r
+    → HasMultiboot2Fault file s
     → r ≡ s
 one_kernel_fault file r s (inl (f, a, r_is)) (inl (g, b, s_is)) =
     r_is ∙ ap head_refusal (headers.one_fault file f g a b) ∙ sym s_is
@@ -123,8 +125,8 @@ one_kernel_fault file r s (inr (inr (h, f, is_h, f_is, a))) (inr (inr (k, g, is_
 
 -- and never both
 pub kernel_not_fault : (file : List ℕ) (kernel : Multiboot2KernelFacts) (r : Refusal)
-    → IsKernel file kernel
-    → HasKernelFault file r → ⊥
+    → IsMultiboot2Kernel file kernel
+    → HasMultiboot2Fault file r → ⊥
 kernel_not_fault file kernel r is (inl (f, a, r_is)) =
     headers.not_both file is.header f is.is_header a
 kernel_not_fault file kernel r is (inr (inl (h, is_h, a))) =

@@ -8,7 +8,8 @@ use Rattle.bl_plan.specs.declared.protocol.Protocol.{Protocol}
 use Rattle.bl_plan.specs.declared.protocol.Protocol.TheVariants.{Multiboot2}
 use Rattle.bl_load.specs.declared.refusal.Refusal.{Refusal}
 use Rattle.bl_load.specs.EntryValue.{EntryValue, kernel_file}
-use Rattle.bl_load.specs.Reading.{Reading, multiboot2, linux, IsRead, HasReadFault}
+use Rattle.bl_load.specs.KernelReading.{KernelReading, multiboot2, linux, IsKernelReading}
+use Rattle.bl_load.specs.KernelReading.{HasKernelFileFault}
 use Rattle.bl_load.specs.Linux.{IsLinuxKernel, HasLinuxFault}
 use Rattle.bl_load.specs.Protocols.{has_params}
 use Rattle.bl_load.proofs.OneKernelLaws.{one_kernel, one_kernel_fault, kernel_not_fault}
@@ -32,8 +33,8 @@ linux_not_fault protocol runs line file setup r is has =
 not_two : (p : Protocol) → p ≡ Multiboot2 → has_params p ≡ true → ⊥
 not_two p is params = let bad : false ≡ true = sym (ap has_params is) ∙ params in absurd cc
 
-pub one_reading : (facts : MachineFacts) (value : EntryValue) (a b : Reading) → IsRead facts value a
-    → IsRead facts value b → a ≡ b
+pub one_reading : (facts : MachineFacts) (value : EntryValue) (a b : KernelReading) → IsKernelReading facts value a
+    → IsKernelReading facts value b → a ≡ b
 one_reading facts value (multiboot2 k) (multiboot2 l) a b =
     ap multiboot2 (one_kernel (kernel_file value) k l a.1 b.1)
 one_reading facts value (multiboot2 k) (linux y) a b = absurd (not_two value.protocol a.0 b.0)
@@ -43,15 +44,15 @@ one_reading facts value (linux x) (linux y) a b =
     (one_setup value.protocol facts.runs value.line (kernel_file value) x y a.1 b.1)
 
 pub one_read_fault : (facts : MachineFacts) (value : EntryValue) (r s : Refusal)
-    → HasReadFault facts value r → HasReadFault facts value s → r ≡ s
+    → HasKernelFileFault facts value r → HasKernelFileFault facts value s → r ≡ s
 one_read_fault facts value r s (inl a) (inl b) = one_kernel_fault (kernel_file value) r s a.1 b.1
 one_read_fault facts value r s (inl a) (inr b) = absurd (not_two value.protocol a.0 b.0)
 one_read_fault facts value r s (inr a) (inl b) = absurd (not_two value.protocol b.0 a.0)
 one_read_fault facts value r s (inr a) (inr b) =
     same_Some r s (sym a.1 ∙ b.1)
 
-pub read_not_fault : (facts : MachineFacts) (value : EntryValue) (reading : Reading) (r : Refusal)
-    → IsRead facts value reading → HasReadFault facts value r → ⊥
+pub read_not_fault : (facts : MachineFacts) (value : EntryValue) (reading : KernelReading) (r : Refusal)
+    → IsKernelReading facts value reading → HasKernelFileFault facts value r → ⊥
 read_not_fault facts value (multiboot2 kernel) r is (inl fault) =
     kernel_not_fault (kernel_file value) kernel r is.1 fault.1
 read_not_fault facts value (multiboot2 kernel) r is (inr fault) =

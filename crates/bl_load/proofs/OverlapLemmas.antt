@@ -18,9 +18,9 @@ use Rattle.bl_plan.specs.declared.part.Row.{Row}
 use Rattle.bl_plan.specs.declared.part.Role.TheVariants.{Kernel}
 use Rattle.bl_plan.proofs.PutLemmas.{All-put_in}
 use Rattle.bl_load.specs.EntryValue.{EntryValue}
-use Rattle.bl_load.specs.Reading.{multiboot2}
-use Rattle.bl_load.specs.Kernel.{Multiboot2KernelFacts}
-use Rattle.bl_load.specs.Blocks.{low_of, span_of}
+use Rattle.bl_load.specs.KernelReading.{multiboot2}
+use Rattle.bl_load.specs.Multiboot2Kernel.{Multiboot2KernelFacts}
+use Rattle.bl_load.specs.KernelBlock.{low_of, span_of}
 use Rattle.bl_load.specs.Rows.{segment_rows, align_of, block_choice, kernel_rows, information_row}
 use Rattle.bl_load.specs.Rows.{rows_of, module_rows}
 use Rattle.bl_plan.proofs.OrderLemmas.{AreRelated, pairs_related}

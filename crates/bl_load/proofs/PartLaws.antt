@@ -7,16 +7,16 @@ use Rattle.std.proofs.lemmas.List.Sums.{sum_by-cons}
 use Rattle.std.specs.Prelude.{cond}
 use Rattle.std.specs.List.{AllZip, count_by}
 use Rattle.bl_map.specs.MachineFacts.{MachineFacts, AllUsable}
-use Rattle.bl_plan.specs.Placed.{IsPlaceable, IsPlaceOf, IsRow}
+use Rattle.bl_plan.specs.Placed.{IsPlaceable, IsPlaceOf, IsWellFormedRow}
 use Rattle.bl_plan.specs.declared.part.Place.{Place}
 use Rattle.bl_plan.specs.declared.part.Role.{Role}
 use Rattle.bl_plan.specs.declared.part.Row.{Row}
 use Rattle.bl_plan.proofs.PlaceLaws as places_laws
 use Rattle.bl_load.specs.EntryValue.{EntryValue}
 use Rattle.bl_load.specs.Rows.{rows_of}
-use Rattle.bl_load.specs.PlacingKept.{IsRowed}
-use Rattle.bl_plan.specs.Order.{place_key, in_order}
-use Rattle.bl_load.specs.Handover.{Part, Handover, filled, end_of}
+use Rattle.bl_load.specs.PlacingKept.{HasRowLength}
+use Rattle.bl_plan.specs.AddressOrder.{place_key, places_in_order}
+use Rattle.bl_load.specs.Handover.{Part, Handover, zero_padded, end_of}
 use Rattle.bl_load.specs.Parts.{IsHandover, part_from}
 use Rattle.bl_load.proofs.HeldLemmas.{AllPairs-map}
 use Rattle.bl_plan.proofs.OrderLemmas.{in_order_all}
@@ -25,7 +25,7 @@ use Rattle.bl_load.proofs.ReadingLaws.{reading_rows, reading_rowed, reading_shor
 use Rattle.bl_load.proofs.PlaceBoundLemmas.{are_filled, in_order_ascends}
 
 length-filled : (count : ℕ) (content : List ℕ) → length content ≤ count
-    → length (filled count content) ≡ count
+    → length (zero_padded count content) ≡ count
 length-filled count content short = rw (length-append, length-replicate) (omega arith)
 
 abbrev counted : Bool → ℕ
@@ -78,12 +78,12 @@ module _ (facts : MachineFacts) (value : EntryValue) (h : Handover) (is : IsHand
     rows = rows_of facts value is.reading
 
     sorted : List Place
-    sorted = in_order is.places
+    sorted = places_in_order is.places
 
     part : Place → Part
     part = part_from facts value is.reading is.places
 
-    are_rows : All IsRow rows
+    are_rows : All IsWellFormedRow rows
     unfolding rows
     are_rows = reading_rows facts value is.reading is.read
 
@@ -100,7 +100,7 @@ module _ (facts : MachineFacts) (value : EntryValue) (h : Handover) (is : IsHand
     all_sized k d within =
         let place = get_or sorted k d in
         let rowed =
-        in_order_all place_key (IsRowed facts value is.reading) is.places
+        in_order_all place_key (HasRowLength facts value is.reading) is.places
         (reading_rowed facts value is.reading is.places is.placed) k d within in
         length-filled place.length
         _ (reading_short facts value is.reading is.places place is.lines is.read rowed)

@@ -8,12 +8,12 @@ use Rattle.bl_load.specs.declared.refusal.PrepFault.{PrepFault}
 use Rattle.bl_load.specs.declared.refusal.PrepFault.TheVariants as prep
 use Rattle.bl_plan.specs.declared.protocol.Protocol.{Protocol}
 use Rattle.bl_load.specs.Handover.{Handover}
-use Rattle.bl_load.specs.KernelKept.{IsKernelFault}
-use Rattle.bl_load.specs.ReadKept.{IsLinuxFault}
+use Rattle.bl_load.specs.Multiboot2KernelKept.{IsMultiboot2Fault}
+use Rattle.bl_load.specs.KernelReadingKept.{IsLinuxFault}
 use Rattle.bl_load.specs.EntryValue.{EntryValue, multiboot2_value, linux_value, lines_fault}
 use Rattle.bl_load.specs.EntryValue.{lines_of}
 use Rattle.bl_load.specs.Protocols.{has_params}
-use Rattle.bl_load.specs.Reading.{Reading, IsRead}
+use Rattle.bl_load.specs.KernelReading.{KernelReading, IsKernelReading}
 use Rattle.bl_load.specs.Rows.{rows_of}
 use Rattle.bl_load.specs.Parts.{IsHandover, IsPrepFault}
 use Rattle.bl_load.specs.PlacingKept.{IsPlaceFault, IsPlacedHandover}
@@ -29,7 +29,7 @@ first_text bytes files file some is =
 module _ (facts : MachineFacts) (value : EntryValue) (sound : lines_fault (lines_of value) ≡ None)
   where
     -- what its parts hand over, it hands over
-    pub prepared : (reading : Reading) (handover : Handover) → IsRead facts value reading
+    pub prepared : (reading : KernelReading) (handover : Handover) → IsKernelReading facts value reading
         → IsPlacedHandover facts value reading handover → IsHandover facts value handover
     prepared reading handover is placed = record {
       reading = reading;
@@ -41,7 +41,7 @@ module _ (facts : MachineFacts) (value : EntryValue) (sound : lines_fault (lines
     }
 
     -- and so does a fault of its places
-    pub refused_places : (reading : Reading) (fault : PrepFault) → IsRead facts value reading
+    pub refused_places : (reading : KernelReading) (fault : PrepFault) → IsKernelReading facts value reading
         → IsPlaceFault facts (rows_of facts value reading) fault → IsPrepFault facts value fault
     refused_places reading (prep.Refused refused) is has = inr (sound, inr (reading, is, has))
     refused_places reading prep.NoMemory is has = tt
@@ -49,7 +49,7 @@ module _ (facts : MachineFacts) (value : EntryValue) (sound : lines_fault (lines
 -- a fault of its kernel refuses an entry whose lines have none
 pub refused_multiboot2 : (facts : MachineFacts) (texts : List (List ℕ)) (line : List ℕ)
     (lines : List (List ℕ)) (old new : Option (List ℕ)) → lines_fault (line ∷ lines) ≡ None
-    → (fault : PrepFault) → IsKernelFault (nth_file texts 0) fault
+    → (fault : PrepFault) → IsMultiboot2Fault (nth_file texts 0) fault
     → IsPrepFault facts (multiboot2_value texts line lines old new) fault
 refused_multiboot2 facts texts line lines old new sound (prep.Refused refused) has =
     inr (sound, inl (inl (refl, has)))

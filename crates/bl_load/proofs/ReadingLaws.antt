@@ -9,8 +9,8 @@ use Rattle.bl_map.specs.MachineFacts.{MachineFacts}
 use Rattle.bl_bzimage.specs.declared.setup.Setup.{Setup}
 use Rattle.bl_params.proofs.Lengths.{length-boot_params}
 use Rattle.bl_params.proofs.PagingLemmas.{length-paging}
-use Rattle.bl_plan.specs.Order.{in_order}
-use Rattle.bl_plan.specs.Placed.{ArePlaced, IsRow, IsFirstPlaceFault, IsPlacingFault}
+use Rattle.bl_plan.specs.AddressOrder.{places_in_order}
+use Rattle.bl_plan.specs.Placed.{ArePlaced, IsWellFormedRow, IsFirstPlaceFault, IsPlacingFault}
 use Rattle.bl_plan.specs.declared.fault.PlanFault.{PlanFault}
 use Rattle.bl_plan.specs.declared.fault.PlanFault.TheVariants.{Overlap}
 use Rattle.bl_plan.specs.declared.part.Place.{Place}
@@ -21,13 +21,14 @@ use Rattle.bl_plan.specs.declared.part.Role.TheVariants.{CommandLine, Gdt, Initr
 use Rattle.bl_plan.specs.declared.protocol.Protocol.{Protocol}
 use Rattle.bl_plan.specs.declared.protocol.Protocol.TheVariants as protocols
 use Rattle.bl_load.specs.Addresses.{address_of}
-use Rattle.bl_load.specs.HandoffFacts.{IsWellFormedHandoff, MayStand, max_parts}
-use Rattle.bl_load.specs.Kernel.{Multiboot2KernelFacts}
-use Rattle.bl_load.specs.LinuxRows.{fixed_kernel_row, moved_row, linux_kernel_row, told_of}
+use Rattle.bl_load.specs.HandoffFacts.{IsWellFormedHandoff, IsRoleAllowed, max_parts}
+use Rattle.bl_load.specs.Multiboot2Kernel.{Multiboot2KernelFacts}
+use Rattle.bl_load.specs.LinuxRows.{fixed_kernel_row, relocatable_kernel_row, linux_kernel_row}
+use Rattle.bl_load.specs.LinuxRows.{boot_params_facts}
 use Rattle.bl_load.specs.Parts.{content_of, payload_of, registers_of}
-use Rattle.bl_load.specs.PlacingKept.{HasLength, IsRowed}
+use Rattle.bl_load.specs.PlacingKept.{HasLength, HasRowLength}
 use Rattle.bl_load.specs.Protocols.{descriptors_of, is_wide}
-use Rattle.bl_load.specs.Reading.{Reading, multiboot2, linux, IsRead}
+use Rattle.bl_load.specs.KernelReading.{KernelReading, multiboot2, linux, IsKernelReading}
 use Rattle.bl_load.specs.Registers.{are_wide}
 use Rattle.bl_load.specs.Rows.{rows_of}
 use Rattle.bl_load.specs.EntryValue.{EntryValue, kernel_file, module_file, initrd_file, line_fault}
@@ -46,8 +47,8 @@ use Rattle.bl_load.proofs.PlaceBoundLemmas.{handoff_kept}
 -- ---- its rows
 
 -- each row has some bytes and a choice
-pub reading_rows : (facts : MachineFacts) (value : EntryValue) (reading : Reading)
-    → IsRead facts value reading → All IsRow (rows_of facts value reading)
+pub reading_rows : (facts : MachineFacts) (value : EntryValue) (reading : KernelReading)
+    → IsKernelReading facts value reading → All IsWellFormedRow (rows_of facts value reading)
 reading_rows facts value (multiboot2 kernel) is =
     let full = kernel_full (kernel_file value) kernel is.1 in
     kernel_rows_are_rows facts value kernel full.0 (λ k d within. (full.1 k d within).filled)
@@ -56,15 +57,15 @@ reading_rows facts value (linux setup) is =
     (setup_is is.1)
 
 -- none overlaps another
-pub reading_no_overlap : (facts : MachineFacts) (value : EntryValue) (reading : Reading)
-    → IsRead facts value reading → IsFirstPlaceFault facts [] (rows_of facts value reading) Overlap
+pub reading_no_overlap : (facts : MachineFacts) (value : EntryValue) (reading : KernelReading)
+    → IsKernelReading facts value reading → IsFirstPlaceFault facts [] (rows_of facts value reading) Overlap
     → ⊥
 reading_no_overlap facts value (multiboot2 kernel) is has =
     no_overlap facts value kernel (kernel_apart (kernel_file value) kernel is.1) has
 reading_no_overlap facts value (linux setup) is has = linux_no_overlap facts value setup has
 
-pub reading_not_overlap : (facts : MachineFacts) (value : EntryValue) (reading : Reading)
-    (fault : PlanFault) → IsRead facts value reading
+pub reading_not_overlap : (facts : MachineFacts) (value : EntryValue) (reading : KernelReading)
+    (fault : PlanFault) → IsKernelReading facts value reading
     → IsPlacingFault facts (rows_of facts value reading) fault → fault ≢ Overlap
 reading_not_overlap facts value reading fault is has =
     λ e.
@@ -74,8 +75,8 @@ reading_not_overlap facts value reading fault is has =
 -- ---- their places
 
 -- they are few
-pub reading_few : (facts : MachineFacts) (value : EntryValue) (reading : Reading)
-    (places : List Place) → IsRead facts value reading → length value.module_lines ≤ 64
+pub reading_few : (facts : MachineFacts) (value : EntryValue) (reading : KernelReading)
+    (places : List Place) → IsKernelReading facts value reading → length value.module_lines ≤ 64
     → ArePlaced facts [] (rows_of facts value reading) places
     → length places ≤ max_parts
 reading_few facts value (multiboot2 kernel) places is few placed =
@@ -89,18 +90,18 @@ reading_few facts value (linux setup) places is few placed =
     omega (arith, most)
 
 -- each has the length that its role and its index ask for
-pub reading_rowed : (facts : MachineFacts) (value : EntryValue) (reading : Reading)
+pub reading_rowed : (facts : MachineFacts) (value : EntryValue) (reading : KernelReading)
     (places : List Place) → ArePlaced facts [] (rows_of facts value reading) places
-    → All (IsRowed facts value reading) places
+    → All (HasRowLength facts value reading) places
 reading_rowed facts value (multiboot2 kernel) places placed =
     each_rowed facts value kernel [] places placed
 reading_rowed facts value (linux setup) places placed =
     linux_rowed facts value setup [] places placed
 
 -- page tables are a part of an entry that enters with 64 bits
-may_stand : (facts : MachineFacts) (value : EntryValue) (reading : Reading) (role : Role)
+may_stand : (facts : MachineFacts) (value : EntryValue) (reading : KernelReading) (role : Role)
     (i count : ℕ) → HasLength facts value reading role i count
-    → MayStand (is_wide value.protocol) role
+    → IsRoleAllowed (is_wide value.protocol) role
 may_stand facts value (multiboot2 kernel) PageTables i count has = absurd has
 may_stand facts value (linux setup) PageTables i count has = has.0
 may_stand facts value reading Kernel i count has = tt
@@ -112,20 +113,20 @@ may_stand facts value reading Gdt i count has = tt
 may_stand facts value reading Initrd i count has = tt
 
 -- whose registers are those of 64 bits
-width_of : (protocol : Protocol) (reading : Reading) (places : List Place)
+width_of : (protocol : Protocol) (reading : KernelReading) (places : List Place)
     → are_wide (registers_of protocol reading places) ≡ is_wide protocol
 width_of protocols.Multiboot2 reading places = refl
 width_of protocols.Linux reading places = refl
 width_of protocols.Linux64 reading places = refl
 
 -- so they are what a handoff keeps
-pub reading_kept : (facts : MachineFacts) (value : EntryValue) (reading : Reading)
-    (places : List Place) → IsRead facts value reading → length value.module_lines ≤ 64
+pub reading_kept : (facts : MachineFacts) (value : EntryValue) (reading : KernelReading)
+    (places : List Place) → IsKernelReading facts value reading → length value.module_lines ≤ 64
     → ArePlaced facts [] (rows_of facts value reading) places
     → IsWellFormedHandoff (record {
       protocol = value.protocol;
       registers = registers_of value.protocol reading places;
-      places = in_order places;
+      places = places_in_order places;
     })
 reading_kept facts value reading places is few placed =
     let rowed = reading_rowed facts value reading places placed in
@@ -164,7 +165,7 @@ payload_short file setup =
 -- a kernel's part takes its payload
 pub payload_fits : (setup : Setup) → setup.payload_size ≤ (linux_kernel_row setup).length
 payload_fits setup =
-    cond_both (nat_eq setup.relocatable_kernel 0) (fixed_kernel_row setup) (moved_row setup)
+    cond_both (nat_eq setup.relocatable_kernel 0) (fixed_kernel_row setup) (relocatable_kernel_row setup)
     (λ row. setup.payload_size ≤ row.length) (λ _. omega arith) (λ _. omega arith)
 
 -- descriptors fit a frame
@@ -181,7 +182,7 @@ linux_short facts value setup places Kernel i count sound has =
     let most = payload_short (kernel_file value) setup in
     let fits = payload_fits setup in omega arith
 linux_short facts value setup places BootParams i count sound has =
-    let size = length-boot_params setup.header (told_of facts value places) in omega arith
+    let size = length-boot_params setup.header (boot_params_facts facts value places) in omega arith
 linux_short facts value setup places CommandLine i count sound has =
     let short = sound_short value.line sound in omega arith
 linux_short facts value setup places Gdt i count sound has =
@@ -194,9 +195,9 @@ linux_short facts value setup places PageTables i count sound has =
     let room : count ≡ 0x6000 = has.1 in omega (arith, size, room)
 linux_short facts value setup places _ i count sound has = absurd has
 
-pub reading_short : (facts : MachineFacts) (value : EntryValue) (reading : Reading)
+pub reading_short : (facts : MachineFacts) (value : EntryValue) (reading : KernelReading)
     (places : List Place) (place : Place) → lines_fault (lines_of value) ≡ None
-    → IsRead facts value reading → IsRowed facts value reading place
+    → IsKernelReading facts value reading → HasRowLength facts value reading place
     → length (content_of facts value reading places place.role place.index) ≤ place.length
 reading_short facts value (multiboot2 kernel) places place sound is rowed =
     multiboot2_short facts value kernel places place.role place.index place.length

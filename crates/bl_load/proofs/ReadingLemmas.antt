@@ -2,16 +2,16 @@
 use Rattle.std.proofs.Common.{ℕ, List, [], length, arith, All}
 use Rattle.std.proofs.lemmas.List.{length-map}
 use Rattle.bl_map.specs.MachineFacts.{MachineFacts}
-use Rattle.bl_plan.specs.Placed.{ArePlaced, IsPlacingFault, IsRow}
+use Rattle.bl_plan.specs.Placed.{ArePlaced, IsPlacingFault, IsWellFormedRow}
 use Rattle.bl_plan.specs.declared.fault.PlanFault.{PlanFault}
 use Rattle.bl_plan.specs.declared.fault.PlanFault.TheVariants.{NotUsable, Overlap, NoRoom, NoMemory}
 use Rattle.bl_plan.specs.declared.part.Place.{Place}
 use Rattle.bl_load.specs.declared.entry.Module.{Module}
 use Rattle.bl_load.specs.Kept.{lines_by}
-use Rattle.bl_load.specs.PlacingKept.{EndsLow, IsRowed, ModulesEndLow, told_rows_by}
-use Rattle.bl_load.specs.Reading.{Reading, multiboot2, linux, IsRead}
+use Rattle.bl_load.specs.PlacingKept.{EndsLow, HasRowLength, ModulesEndLow, capped_rows_of}
+use Rattle.bl_load.specs.KernelReading.{KernelReading, multiboot2, linux, IsKernelReading}
 use Rattle.bl_load.specs.Rows.{rows_of}
-use Rattle.bl_load.specs.ReadKept.{EntersBy, HasFiles, FitsTold, CanEnter}
+use Rattle.bl_load.specs.KernelReadingKept.{EntersBy, HasFiles, FitsTold, EntryPointFits32Bits}
 use Rattle.bl_load.specs.EntryValue.{EntryValue, kernel_file, initrd_file}
 use Rattle.bl_load.proofs.EntryLemmas.{entry_small}
 use Rattle.bl_load.proofs.LinuxKernelLemmas.{setup_is}
@@ -24,14 +24,14 @@ use Rattle.bl_load.proofs.RowLemmas.{told_rows_are_rows}
 
 module _ (facts : MachineFacts) (value : EntryValue) where
   -- it is entered by the entry's protocol
-  pub enters_by : (reading : Reading) → IsRead facts value reading
+  pub enters_by : (reading : KernelReading) → IsKernelReading facts value reading
       → EntersBy value.protocol reading
   enters_by (multiboot2 kernel) is = is.0
   enters_by (linux setup) is = is.0
 
   -- the rows as the code tells them are rows
-  pub told_are_rows : (reading : Reading) (modules : ℕ) → IsRead facts value reading
-      → HasFiles value.files modules reading → All IsRow (told_rows_by facts value reading)
+  pub told_are_rows : (reading : KernelReading) (modules : ℕ) → IsKernelReading facts value reading
+      → HasFiles value.files modules reading → All IsWellFormedRow (capped_rows_of facts value reading)
   told_are_rows (multiboot2 kernel) modules is has =
       told_rows_are_rows (kernel_file value) facts value kernel has.1
   told_are_rows (linux setup) modules is has =
@@ -39,16 +39,16 @@ module _ (facts : MachineFacts) (value : EntryValue) where
       (setup_is is.1)
 
   -- their places are those of the entry's rows
-  pub told_placed : (reading : Reading) (places : List Place)
-      → ArePlaced facts [] (told_rows_by facts value reading) places
+  pub told_placed : (reading : KernelReading) (places : List Place)
+      → ArePlaced facts [] (capped_rows_of facts value reading) places
       → ArePlaced facts [] (rows_of facts value reading) places
   told_placed (multiboot2 kernel) places placed = as_placed facts value kernel places placed
   told_placed (linux setup) places placed =
       linux_as_placed facts value.protocol setup (initrd_file value.files) places placed
 
   -- and so is their fault
-  pub told_fault : (reading : Reading) (fault : PlanFault)
-      → IsPlacingFault facts (told_rows_by facts value reading) fault
+  pub told_fault : (reading : KernelReading) (fault : PlanFault)
+      → IsPlacingFault facts (capped_rows_of facts value reading) fault
       → IsPlacingFault facts (rows_of facts value reading) fault
   told_fault (multiboot2 kernel) fault has = placing_fault facts value kernel fault has
   told_fault (linux setup) NotUsable has =
@@ -60,9 +60,9 @@ module _ (facts : MachineFacts) (value : EntryValue) where
   told_fault (linux setup) NoMemory has = tt
 
   -- what is told of the parts fits 32 bits
-  pub fits_told : (reading : Reading) (places : List Place)
+  pub fits_told : (reading : KernelReading) (places : List Place)
       → ArePlaced facts [] (rows_of facts value reading) places
-      → All (IsRowed facts value reading) places → All EndsLow places
+      → All (HasRowLength facts value reading) places → All EndsLow places
       → FitsTold value reading places
   fits_told (multiboot2 kernel) places placed rowed low =
       modules_end_low facts value kernel places placed rowed low
@@ -72,10 +72,10 @@ module _ (facts : MachineFacts) (value : EntryValue) where
   )
 
   -- and so does the entry
-  pub can_enter : (reading : Reading) (modules : ℕ) (places : List Place)
-      → IsRead facts value reading → HasFiles value.files modules reading
+  pub can_enter : (reading : KernelReading) (modules : ℕ) (places : List Place)
+      → IsKernelReading facts value reading → HasFiles value.files modules reading
       → ArePlaced facts [] (rows_of facts value reading) places → All EndsLow places
-      → CanEnter reading places
+      → EntryPointFits32Bits reading places
   can_enter (multiboot2 kernel) modules places is has placed low =
       entry_small (kernel_file value) facts value kernel places is.1 has.1 placed low
   can_enter (linux setup) modules places is has placed low = tt

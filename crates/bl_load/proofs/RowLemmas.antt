@@ -8,8 +8,8 @@ use Rattle.std.specs.declared.ops.Range.{Range}
 use Rattle.bl_mem.specs.declared.segment.Segment.{Segment}
 use Rattle.bl_map.specs.MachineFacts.{MachineFacts}
 use Rattle.bl_mb2head.specs.declared.relocation.Relocation.{Relocation}
-use Rattle.bl_mbi.specs.InformationFacts.{InformationFacts, info_size}
-use Rattle.bl_plan.specs.Placed.{ArePlaced, HasPositiveAlignment, IsRow}
+use Rattle.bl_mbi.specs.InfoToWriteFacts.{InfoToWriteFacts, info_size}
+use Rattle.bl_plan.specs.Placed.{ArePlaced, HasPositiveAlignment, IsWellFormedRow}
 use Rattle.bl_plan.specs.declared.part.Choice.TheVariants.{Fixed, Lowest, Highest, Preferred}
 use Rattle.bl_plan.specs.declared.part.Place.{Place}
 use Rattle.bl_plan.specs.declared.part.Role.TheVariants.{Kernel}
@@ -17,11 +17,11 @@ use Rattle.bl_plan.proofs.PlaceLaws.{as_many}
 use Rattle.std.specs.Prelude.{min, max}
 use Rattle.bl_plan.specs.declared.part.Row.{Row}
 use Rattle.bl_load.specs.EntryValue.{EntryValue, module_file}
-use Rattle.bl_load.specs.PlacingKept.{length_cap, capped_rows, told_rows_of}
-use Rattle.bl_load.specs.Reading.{multiboot2}
-use Rattle.bl_load.specs.Kernel.{Multiboot2KernelFacts}
-use Rattle.bl_load.specs.KernelKept.{AreLoadable}
-use Rattle.bl_load.specs.Blocks.{low_of, high_of, span_of}
+use Rattle.bl_load.specs.PlacingKept.{length_cap, capped_module_rows, capped_multiboot2_rows}
+use Rattle.bl_load.specs.KernelReading.{multiboot2}
+use Rattle.bl_load.specs.Multiboot2Kernel.{Multiboot2KernelFacts}
+use Rattle.bl_load.specs.Multiboot2KernelKept.{AreLoadable}
+use Rattle.bl_load.specs.KernelBlock.{low_of, high_of, span_of}
 use Rattle.bl_map.specs.PoolFrames.{round_up_to_frames}
 use Rattle.bl_load.specs.Rows.{segment_rows, align_of, block_choice, kernel_rows, information_of}
 use Rattle.bl_load.specs.Rows.{information_row, rows_of, module_rows}
@@ -30,10 +30,10 @@ use Rattle.bl_load.proofs.SortedLemmas.{low_below, high_above_all}
 -- ---- each row has some bytes and a choice
 
 segment_rows_are : (k : ℕ) (segments : List Segment) → All (λ s. 1 ≤ s.memsz) segments
-    → All IsRow (segment_rows k segments)
-segment_rows_are k [] filled = All-nil IsRow
+    → All IsWellFormedRow (segment_rows k segments)
+segment_rows_are k [] filled = All-nil IsWellFormedRow
 segment_rows_are k (s ∷ segments) filled =
-    All-cons IsRow (record { role = Kernel; index = k; length = s.memsz; choice = Fixed s.address })
+    All-cons IsWellFormedRow (record { role = Kernel; index = k; length = s.memsz; choice = Fixed s.address })
     (segment_rows (suc k) segments)
     (record { filled = All-head (λ (t : Segment). 1 ≤ t.memsz) s segments filled; choice = tt })
     (segment_rows_are (suc k) segments (All-tail (λ (t : Segment). 1 ≤ t.memsz) s segments filled))
@@ -67,64 +67,64 @@ block_choice_is r linked =
 pub some_frames : (n : ℕ) → 1 ≤ n → n ≤ round_up_to_frames n
 some_frames n some = omega arith
 
-some_info : (info : InformationFacts) → 1 ≤ info_size info
+some_info : (info : InfoToWriteFacts) → 1 ≤ info_size info
 some_info info = omega arith
 
 kernel_rows_are : (segments : List Segment) (relocation : Option Relocation) → 1 ≤ length segments
-    → All (λ s. 1 ≤ s.memsz) segments → All IsRow (kernel_rows segments relocation)
+    → All (λ s. 1 ≤ s.memsz) segments → All IsWellFormedRow (kernel_rows segments relocation)
 kernel_rows_are segments None some filled = segment_rows_are 0 segments filled
 kernel_rows_are segments (Some r) some filled =
     let span = some_span segments some filled in
-    All-cons IsRow
+    All-cons IsWellFormedRow
     (record {
       role = Kernel;
       index = 0;
       length = span_of segments;
       choice = block_choice r (low_of segments);
     }) []
-    (record { filled = omega arith; choice = block_choice_is r (low_of segments) }) (All-nil IsRow)
+    (record { filled = omega arith; choice = block_choice_is r (low_of segments) }) (All-nil IsWellFormedRow)
 
 information_row_is : (facts : MachineFacts) (value : EntryValue) (relocation : Option Relocation)
-    → IsRow (information_row facts value relocation)
+    → IsWellFormedRow (information_row facts value relocation)
 information_row_is facts value relocation =
     let size = some_info (information_of facts value relocation []) in
     let frames = some_frames (info_size (information_of facts value relocation [])) size in
     record { filled = omega arith; choice = omega arith }
 
 module_rows_are : (files : List (List ℕ)) (k : ℕ) (lines : List (List ℕ))
-    → All IsRow (module_rows files k lines)
-module_rows_are files k [] = All-nil IsRow
+    → All IsWellFormedRow (module_rows files k lines)
+module_rows_are files k [] = All-nil IsWellFormedRow
 module_rows_are files k (line ∷ lines) =
     let frames = some_frames (max (length (module_file files k)) 1) (omega arith) in
-    All-cons IsRow _ (module_rows files (suc k) lines)
+    All-cons IsWellFormedRow _ (module_rows files (suc k) lines)
     (record { filled = omega arith; choice = omega arith })
     (module_rows_are files (suc k) lines)
 
 told_rows_are : (files : List (List ℕ)) (k : ℕ) (lines : List (List ℕ))
-    → All IsRow (capped_rows files k lines)
-told_rows_are files k [] = All-nil IsRow
+    → All IsWellFormedRow (capped_module_rows files k lines)
+told_rows_are files k [] = All-nil IsWellFormedRow
 told_rows_are files k (line ∷ lines) =
     let frames =
     some_frames (max (min (length (module_file files k)) length_cap) 1) (omega arith) in
-    All-cons IsRow _ (capped_rows files (suc k) lines)
+    All-cons IsWellFormedRow _ (capped_module_rows files (suc k) lines)
     (record { filled = omega arith; choice = omega arith }) (told_rows_are files (suc k) lines)
 
 -- modules and the information
 behind_kernel : (facts : MachineFacts) (value : EntryValue) (relocation : Option Relocation)
-    (rows : List Row) → All IsRow rows
-    → All IsRow (rows ++ information_row facts value relocation ∷ [])
+    (rows : List Row) → All IsWellFormedRow rows
+    → All IsWellFormedRow (rows ++ information_row facts value relocation ∷ [])
 behind_kernel facts value relocation rows are =
-    All-append IsRow rows (information_row facts value relocation ∷ []) are
-    (All-cons IsRow (information_row facts value relocation) []
-    (information_row_is facts value relocation) (All-nil IsRow))
+    All-append IsWellFormedRow rows (information_row facts value relocation ∷ []) are
+    (All-cons IsWellFormedRow (information_row facts value relocation) []
+    (information_row_is facts value relocation) (All-nil IsWellFormedRow))
 
 -- the rows of a kernel whose segments take memory are rows of some bytes
 pub kernel_rows_are_rows : (facts : MachineFacts) (value : EntryValue)
     (kernel : Multiboot2KernelFacts)
     → 1 ≤ length kernel.segments → All (λ s. 1 ≤ s.memsz) kernel.segments
-    → All IsRow (rows_of facts value (multiboot2 kernel))
+    → All IsWellFormedRow (rows_of facts value (multiboot2 kernel))
 kernel_rows_are_rows facts value kernel some filled =
-    All-append IsRow (kernel_rows kernel.segments kernel.relocation)
+    All-append IsWellFormedRow (kernel_rows kernel.segments kernel.relocation)
     (module_rows value.files 0 value.module_lines
     ++ information_row facts value kernel.relocation ∷ [])
     (kernel_rows_are kernel.segments kernel.relocation some filled)
@@ -134,18 +134,18 @@ kernel_rows_are_rows facts value kernel some filled =
 -- and so are the rows as the code tells them
 pub told_rows_are_rows : (file : List ℕ) (facts : MachineFacts) (value : EntryValue)
     (kernel : Multiboot2KernelFacts) → AreLoadable file kernel.segments
-    → All IsRow (told_rows_of facts value kernel)
+    → All IsWellFormedRow (capped_multiboot2_rows facts value kernel)
 told_rows_are_rows file facts value kernel loadable =
-    All-append IsRow (kernel_rows kernel.segments kernel.relocation)
-    (capped_rows value.files 0 value.module_lines ++ information_row facts value kernel.relocation
+    All-append IsWellFormedRow (kernel_rows kernel.segments kernel.relocation)
+    (capped_module_rows value.files 0 value.module_lines ++ information_row facts value kernel.relocation
     ∷ [])
     (kernel_rows_are kernel.segments kernel.relocation loadable.some loadable.filled)
-    (behind_kernel facts value kernel.relocation (capped_rows value.files 0 value.module_lines)
+    (behind_kernel facts value kernel.relocation (capped_module_rows value.files 0 value.module_lines)
     (told_rows_are value.files 0 value.module_lines))
 
 pub rows_are_rows : (file : List ℕ) (facts : MachineFacts) (value : EntryValue)
     (kernel : Multiboot2KernelFacts) → AreLoadable file kernel.segments
-    → All IsRow (rows_of facts value (multiboot2 kernel))
+    → All IsWellFormedRow (rows_of facts value (multiboot2 kernel))
 rows_are_rows file facts value kernel loadable =
     kernel_rows_are_rows facts value kernel loadable.some loadable.filled
 

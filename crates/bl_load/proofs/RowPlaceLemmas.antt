@@ -14,13 +14,13 @@ use Rattle.bl_plan.specs.declared.part.Row.{Row}
 use Rattle.bl_plan.specs.declared.part.Place.{Place}
 use Rattle.bl_plan.specs.declared.part.Role.TheVariants.{Kernel}
 use Rattle.bl_load.specs.EntryValue.{EntryValue}
-use Rattle.bl_load.specs.Reading.{multiboot2}
-use Rattle.bl_load.specs.Kernel.{Multiboot2KernelFacts}
-use Rattle.bl_load.specs.Blocks.{low_of, span_of}
+use Rattle.bl_load.specs.KernelReading.{multiboot2}
+use Rattle.bl_load.specs.Multiboot2Kernel.{Multiboot2KernelFacts}
+use Rattle.bl_load.specs.KernelBlock.{low_of, span_of}
 use Rattle.bl_load.specs.Rows.{segment_rows, block_choice, kernel_rows, information_row, rows_of}
 use Rattle.bl_load.specs.Rows.{module_rows}
 use Rattle.bl_load.specs.Parts.{no_segment}
-use Rattle.bl_load.specs.PlacingKept.{HasKernelLength, IsRowed}
+use Rattle.bl_load.specs.PlacingKept.{HasKernelLength, HasRowLength}
 
 -- ---- each place has what its row has
 
@@ -48,9 +48,9 @@ AreFrom all k segments =
 segment_rows_rowed : (facts : MachineFacts) (value : EntryValue) (kernel : Multiboot2KernelFacts)
     (k : ℕ)
     (segments : List Segment) → kernel.relocation ≡ None → AreFrom kernel.segments k segments
-    → All (Anywhere (IsRowed facts value (multiboot2 kernel))) (segment_rows k segments)
+    → All (Anywhere (HasRowLength facts value (multiboot2 kernel))) (segment_rows k segments)
 segment_rows_rowed facts value kernel k [] fixed from =
-    All-nil (Anywhere (IsRowed facts value (multiboot2 kernel)))
+    All-nil (Anywhere (HasRowLength facts value (multiboot2 kernel)))
 segment_rows_rowed facts value kernel k (s ∷ segments) fixed from =
     let first = from 0 s (omega arith) in
     let same : k + 0 ≡ k = omega arith in
@@ -58,7 +58,7 @@ segment_rows_rowed facts value kernel k (s ∷ segments) fixed from =
     ap (λ (n : ℕ). get_or kernel.segments n no_segment) (sym same) ∙ first.1 in
     let size = ap (λ (t : Segment). t.memsz) is in
     let has : HasKernelLength kernel.segments None k s.memsz = (omega (arith, first.0), sym size) in
-    All-cons (Anywhere (IsRowed facts value (multiboot2 kernel)))
+    All-cons (Anywhere (HasRowLength facts value (multiboot2 kernel)))
     (record { role = Kernel; index = k; length = s.memsz; choice = Fixed s.address })
     (segment_rows (suc k) segments)
     (λ a.
@@ -71,7 +71,7 @@ segment_rows_rowed facts value kernel k (s ∷ segments) fixed from =
 
 kernel_rows_rowed : (facts : MachineFacts) (value : EntryValue) (kernel : Multiboot2KernelFacts)
     (relocation : Option Relocation) → kernel.relocation ≡ relocation
-    → All (Anywhere (IsRowed facts value (multiboot2 kernel)))
+    → All (Anywhere (HasRowLength facts value (multiboot2 kernel)))
     (kernel_rows kernel.segments relocation)
 kernel_rows_rowed facts value kernel None is =
     segment_rows_rowed facts value kernel 0 kernel.segments is
@@ -81,7 +81,7 @@ kernel_rows_rowed facts value kernel None is =
           ∙ get_or_default kernel.segments i no_segment d within,
     ))
 kernel_rows_rowed facts value kernel (Some r) is =
-    All-cons (Anywhere (IsRowed facts value (multiboot2 kernel)))
+    All-cons (Anywhere (HasRowLength facts value (multiboot2 kernel)))
     (record {
       role = Kernel;
       index = 0;
@@ -92,41 +92,41 @@ kernel_rows_rowed facts value kernel (Some r) is =
     subst
     (λ (o : Option Relocation).
     HasKernelLength kernel.segments o 0 (span_of kernel.segments)) (sym is) refl)
-    (All-nil (Anywhere (IsRowed facts value (multiboot2 kernel))))
+    (All-nil (Anywhere (HasRowLength facts value (multiboot2 kernel))))
 
 module_rows_rowed : (facts : MachineFacts) (value : EntryValue) (kernel : Multiboot2KernelFacts)
     (k : ℕ)
     (lines : List (List ℕ)) → k + length lines ≤ length value.module_lines
-    → All (Anywhere (IsRowed facts value (multiboot2 kernel))) (module_rows value.files k lines)
+    → All (Anywhere (HasRowLength facts value (multiboot2 kernel))) (module_rows value.files k lines)
 module_rows_rowed facts value kernel k [] most =
-    All-nil (Anywhere (IsRowed facts value (multiboot2 kernel)))
+    All-nil (Anywhere (HasRowLength facts value (multiboot2 kernel)))
 module_rows_rowed facts value kernel k (line ∷ lines) most =
-    All-cons (Anywhere (IsRowed facts value (multiboot2 kernel)))
+    All-cons (Anywhere (HasRowLength facts value (multiboot2 kernel)))
     _ (module_rows value.files (suc k) lines) (λ a. (omega (arith, most), refl))
     (module_rows_rowed facts value kernel (suc k) lines (omega (arith, most)))
 
 rows_rowed : (facts : MachineFacts) (value : EntryValue) (kernel : Multiboot2KernelFacts)
-    → All (Anywhere (IsRowed facts value (multiboot2 kernel)))
+    → All (Anywhere (HasRowLength facts value (multiboot2 kernel)))
     (rows_of facts value (multiboot2 kernel))
 rows_rowed facts value kernel =
-    All-append (Anywhere (IsRowed facts value (multiboot2 kernel)))
+    All-append (Anywhere (HasRowLength facts value (multiboot2 kernel)))
     (kernel_rows kernel.segments kernel.relocation)
     (module_rows value.files 0 value.module_lines
     ++ information_row facts value kernel.relocation ∷ [])
     (kernel_rows_rowed facts value kernel kernel.relocation refl)
-    (All-append (Anywhere (IsRowed facts value (multiboot2 kernel)))
+    (All-append (Anywhere (HasRowLength facts value (multiboot2 kernel)))
     (module_rows value.files 0 value.module_lines)
     (information_row facts value kernel.relocation ∷ [])
     (module_rows_rowed facts value kernel 0 value.module_lines (omega arith))
-    (All-cons (Anywhere (IsRowed facts value (multiboot2 kernel)))
+    (All-cons (Anywhere (HasRowLength facts value (multiboot2 kernel)))
     (information_row facts value kernel.relocation) [] (λ a. refl)
-    (All-nil (Anywhere (IsRowed facts value (multiboot2 kernel))))))
+    (All-nil (Anywhere (HasRowLength facts value (multiboot2 kernel))))))
 
 -- each place has the length that its role and its index ask for
 pub each_rowed : (facts : MachineFacts) (value : EntryValue) (kernel : Multiboot2KernelFacts)
     (taken : List (Range ℕ)) (places : List Place)
     → ArePlaced facts taken (rows_of facts value (multiboot2 kernel)) places
-    → All (IsRowed facts value (multiboot2 kernel)) places
+    → All (HasRowLength facts value (multiboot2 kernel)) places
 each_rowed facts value kernel taken places placed =
-    each_place facts (IsRowed facts value (multiboot2 kernel)) taken
+    each_place facts (HasRowLength facts value (multiboot2 kernel)) taken
     (rows_of facts value (multiboot2 kernel)) places (rows_rowed facts value kernel) placed

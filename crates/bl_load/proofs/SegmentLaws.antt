@@ -8,13 +8,13 @@ use Rattle.bl_plan.specs.declared.protocol.Protocol.{Protocol}
 use Rattle.bl_plan.specs.declared.protocol.Protocol.TheVariants.{Multiboot2, Linux, Linux64}
 use Rattle.bl_load.specs.declared.segment_registers.SegmentName.{SegmentName}
 use Rattle.bl_load.specs.declared.segment_registers.SegmentName.TheVariants.{Cs, Ds, Es, Fs, Gs, Ss}
-use Rattle.bl_load.specs.Reading.{Reading}
+use Rattle.bl_load.specs.KernelReading.{KernelReading}
 use Rattle.bl_load.specs.Parts.{registers_of}
 use Rattle.bl_load.specs.Protocols.{descriptors_of}
 use Rattle.bl_load.specs.SegmentRegisters.{segment_in, descriptor}
 
 -- by each protocol and each register: all is computed
-pub named : (protocol : Protocol) (reading : Reading) (places : List Place) (name : SegmentName)
+pub named : (protocol : Protocol) (reading : KernelReading) (places : List Place) (name : SegmentName)
     → let segment = segment_in (registers_of protocol reading places) name in
     IfSome (descriptors_of protocol)
     (λ bytes. u64_at bytes segment.selector ≡ descriptor segment)

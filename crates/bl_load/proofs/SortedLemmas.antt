@@ -7,11 +7,11 @@ use Rattle.std.specs.List.{list_any}
 use Rattle.std.proofs.lemmas.List.Elements.{All-nil, All-cons, All-head, All-tail}
 use Rattle.std.proofs.lemmas.Bool.{cond_both, cases_lt, or_parts}
 use Rattle.bl_mem.specs.declared.segment.Segment.{Segment}
-use Rattle.bl_mem.specs.Contents.{contents_of, holds, is_in_segment}
+use Rattle.bl_mem.specs.SegmentContents.{contents_of, segment_holds, is_in_segment}
 use Rattle.bl_elf.specs.Elf.{AreApartSegments}
-use Rattle.bl_load.specs.Blocks.{low_of, high_of, span_of, block_byte, first_values, block_of}
+use Rattle.bl_load.specs.KernelBlock.{low_of, high_of, span_of, block_byte, first_values, block_of}
 use Rattle.bl_load.specs.Loadable.{SegmentsAscend}
-use Rattle.bl_plan.specs.Order.{segment_key, ascending}
+use Rattle.bl_plan.specs.AddressOrder.{segment_key, segments_in_order}
 use Rattle.bl_load.proofs.KernelLaws.{held_within}
 use Rattle.bl_plan.proofs.OrderLemmas.{AreRelated, pairs_related, in_order_all, in_order_pairs}
 use Rattle.bl_plan.proofs.OrderLemmas.{in_order_sorted}
@@ -23,14 +23,14 @@ abbrev byte_of : List ℕ → Segment → ℕ → ℕ
 byte_of file s a = slice_index (contents_of file s) (a - s.address)
 
 abbrev Gives : List ℕ → ℕ → ℕ → Segment → Type 0
-Gives file a b s = holds s a ≡ true → byte_of file s a ≡ b
+Gives file a b s = segment_holds s a ≡ true → byte_of file s a ≡ b
 
 byte_none : (file : List ℕ) (segments : List Segment) (a : ℕ)
     → list_any (is_in_segment a) segments ≡ false → block_byte file segments a ≡ 0
 byte_none file [] a h = refl
 byte_none file (s ∷ segments) a h =
-    let parts = or_parts (holds s a) (list_any (is_in_segment a) segments) h in
-    cond_both (holds s a) (byte_of file s a) (block_byte file segments a) (λ n. n ≡ 0)
+    let parts = or_parts (segment_holds s a) (list_any (is_in_segment a) segments) h in
+    cond_both (segment_holds s a) (byte_of file s a) (block_byte file segments a) (λ n. n ≡ 0)
     (λ e. let bad = parts.0 in absurd cc) (λ e. byte_none file segments a parts.1)
 
 byte_some : (file : List ℕ) (segments : List Segment) (a b : ℕ)
@@ -38,13 +38,13 @@ byte_some : (file : List ℕ) (segments : List Segment) (a b : ℕ)
     → block_byte file segments a ≡ b
 byte_some file [] a b h each = absurd cc
 byte_some file (s ∷ segments) a b h each =
-    cond_both (holds s a) (byte_of file s a) (block_byte file segments a) (λ n. n ≡ b)
+    cond_both (segment_holds s a) (byte_of file s a) (block_byte file segments a) (λ n. n ≡ b)
     (λ e. All-head (Gives file a b) s segments each e)
     (λ e.
-    byte_some file segments a b (or_rest (holds s a) (list_any (is_in_segment a) segments) h e)
+    byte_some file segments a b (or_rest (segment_holds s a) (list_any (is_in_segment a) segments) h e)
     (All-tail (Gives file a b) s segments each))
 
-held_once : (s t : Segment) (a : ℕ) → AreApartSegments s t → holds t a ≡ true → holds s a ≡ true → ⊥
+held_once : (s t : Segment) (a : ℕ) → AreApartSegments s t → segment_holds t a ≡ true → segment_holds s a ≡ true → ⊥
 held_once s t a apart ht hs = apart a (held_within s a hs) (held_within t a ht)
 
 byte_each : (file : List ℕ) (segments : List Segment) (a : ℕ) → AreRelated AreApartSegments segments
@@ -54,10 +54,10 @@ byte_each file (s ∷ segments) a h =
     let all = block_byte file (s ∷ segments) a in
     All-cons (Gives file a all) s segments
     (λ e.
-    cond_both (holds s a) (byte_of file s a) (block_byte file segments a)
+    cond_both (segment_holds s a) (byte_of file s a) (block_byte file segments a)
     (λ n. byte_of file s a ≡ n) (λ _. refl) (λ bad. absurd cc))
     (λ k d within e.
-    cond_both (holds s a) (byte_of file s a) (block_byte file segments a)
+    cond_both (segment_holds s a) (byte_of file s a) (block_byte file segments a)
     (λ n. byte_of file (get_or segments k d) a ≡ n)
     (λ hs. absurd (held_once s (get_or segments k d) a (h.0 k d within) e hs))
     (λ _. byte_each file segments a h.1 k d within e))
@@ -72,9 +72,9 @@ same_byte_by file segments sorted a false h k each =
     byte_none file sorted a k ∙ sym (byte_none file segments a h)
 
 same_byte : (file : List ℕ) (segments : List Segment) (a : ℕ) → AllPairs AreApartSegments segments
-    → block_byte file (ascending segments) a ≡ block_byte file segments a
+    → block_byte file (segments_in_order segments) a ≡ block_byte file segments a
 same_byte file segments a apart =
-    same_byte_by file segments (ascending segments) a (list_any (is_in_segment a) segments) refl
+    same_byte_by file segments (segments_in_order segments) a (list_any (is_in_segment a) segments) refl
     (list_any-in_order segment_key (is_in_segment a) segments)
     (in_order_all segment_key (Gives file a (block_byte file segments a)) segments
     (byte_each file segments a (pairs_related AreApartSegments segments apart)))
@@ -88,20 +88,20 @@ same_values (suc n) f g h = ap₂ (λ (xs : List ℕ) (x : ℕ). xs ++ x ∷ [])
 
 -- segments in address order make the same block
 pub same_block : (file : List ℕ) (segments : List Segment) → 1 ≤ length segments
-    → AllPairs AreApartSegments segments → block_of file (ascending segments)
+    → AllPairs AreApartSegments segments → block_of file (segments_in_order segments)
     ≡ block_of file segments
 unfolding block_of
 same_block file segments some apart =
     let low = same_low segments some in
     let span = same_span segments some in
     ap (λ (n : ℕ).
-    first_values n (λ i. block_byte file (ascending segments) (low_of (ascending segments) + i)))
+    first_values n (λ i. block_byte file (segments_in_order segments) (low_of (segments_in_order segments) + i)))
     span
     ∙ same_values (span_of segments)
-    (λ i. block_byte file (ascending segments) (low_of (ascending segments) + i))
+    (λ i. block_byte file (segments_in_order segments) (low_of (segments_in_order segments) + i))
     (λ i. block_byte file segments (low_of segments + i))
     (λ i.
-    same_byte file segments (low_of (ascending segments) + i) apart
+    same_byte file segments (low_of (segments_in_order segments) + i) apart
     ∙ ap (λ (n : ℕ). block_byte file segments (n + i)) low)
 
 apart_back : (s t : Segment) → AreApartSegments s t → AreApartSegments t s
@@ -109,9 +109,9 @@ apart_back s t h = λ a x y. h a y x
 
 -- segments that are apart and not empty ascend once they are in order
 pub ascending_ascends : (segments : List Segment) → All (λ s. 1 ≤ s.memsz) segments
-    → AllPairs AreApartSegments segments → AllPairs SegmentsAscend (ascending segments)
+    → AllPairs AreApartSegments segments → AllPairs SegmentsAscend (segments_in_order segments)
 ascending_ascends segments filled apart i j d ij within =
-    let sorted = ascending segments in
+    let sorted = segments_in_order segments in
     let some = in_order_all segment_key (λ s. 1 ≤ s.memsz) segments filled j d within in
     let order = in_order_sorted segment_key segments i j d ij within in
     let other =

@@ -7,8 +7,8 @@ use Rattle.std.proofs.lemmas.List.Elements.{All-nil, All-cons, All-head, All-tai
 use Rattle.std.proofs.lemmas.Bool.{cases_lt, or_left, or_right}
 use Rattle.std.proofs.lemmas.Bool.Decides.{nat_tests}
 use Rattle.bl_mem.specs.declared.segment.Segment.{Segment}
-use Rattle.bl_load.specs.Blocks.{low_of, high_of, span_of}
-use Rattle.bl_plan.specs.Order.{segment_key, ascending}
+use Rattle.bl_load.specs.KernelBlock.{low_of, high_of, span_of}
+use Rattle.bl_plan.specs.AddressOrder.{segment_key, segments_in_order}
 use Rattle.bl_plan.proofs.OrderLemmas.{in_order_all}
 use Rattle.bl_plan.proofs.OrderCountLemmas.{list_any-in_order, length-in_order}
 
@@ -75,9 +75,9 @@ not_below (s ∷ segments) n m h found =
     ] refl
 
 pub same_low : (segments : List Segment) → 1 ≤ length segments
-    → low_of (ascending segments) ≡ low_of segments
+    → low_of (segments_in_order segments) ≡ low_of segments
 same_low segments some =
-    let sorted = ascending segments in
+    let sorted = segments_in_order segments in
     let many = length-in_order segment_key segments in
     let up : low_of segments ≤ low_of sorted =
     not_below sorted (low_of segments) (low_of sorted)
@@ -137,9 +137,9 @@ not_above (s ∷ segments) n m h found =
     ] refl
 
 pub same_high : (segments : List Segment) → 1 ≤ length segments
-    → high_of (ascending segments) ≡ high_of segments
+    → high_of (segments_in_order segments) ≡ high_of segments
 same_high segments some =
-    let sorted = ascending segments in
+    let sorted = segments_in_order segments in
     let many = length-in_order segment_key segments in
     let down : high_of sorted ≤ high_of segments =
     not_above sorted (high_of segments) (high_of sorted)
@@ -153,6 +153,6 @@ same_high segments some =
 
 -- so they span as much
 pub same_span : (segments : List Segment) → 1 ≤ length segments
-    → span_of (ascending segments) ≡ span_of segments
+    → span_of (segments_in_order segments) ≡ span_of segments
 same_span segments some =
     ap₂ (λ (h l : ℕ). h - l) (same_high segments some) (same_low segments some)

@@ -22,10 +22,13 @@ use Rattle.bl_plan.specs.declared.protocol.Protocol.TheVariants as protocol
 use Rattle.bl_load.specs.declared.refusal.Refusal.{Refusal}
 use Rattle.bl_load.specs.declared.refusal.Refusal.TheVariants as refusal
 use Rattle.bl_load.specs.EntryValue.{EntryValue, kernel_file, lines_fault, lines_of}
-use Rattle.bl_load.specs.Kernel.{Multiboot2KernelFacts, IsLoadedBy, IsKernel, HasElfRefusal}
-use Rattle.bl_load.specs.Kernel.{HasKernelFault}
-use Rattle.bl_load.specs.Kernel.{entry_fault, counted_entry, head_refusal, elf_refusal}
-use Rattle.bl_load.specs.Reading.{Reading, multiboot2, linux, IsRead, HasReadFault}
+use Rattle.bl_load.specs.Multiboot2Kernel.{Multiboot2KernelFacts, IsLoadedBy, IsMultiboot2Kernel}
+use Rattle.bl_load.specs.Multiboot2Kernel.{HasElfRefusal}
+use Rattle.bl_load.specs.Multiboot2Kernel.{HasMultiboot2Fault}
+use Rattle.bl_load.specs.Multiboot2Kernel.{entry_point_fault, effective_entry_point, head_refusal}
+use Rattle.bl_load.specs.Multiboot2Kernel.{elf_refusal}
+use Rattle.bl_load.specs.KernelReading.{KernelReading, multiboot2, linux, IsKernelReading}
+use Rattle.bl_load.specs.KernelReading.{HasKernelFileFault}
 use Rattle.bl_load.specs.Linux.{IsLinuxKernel, HasLinuxFault, linux_fault}
 use Rattle.bl_load.specs.Protocols.{has_params}
 use Rattle.bl_load.specs.Rows.{rows_of}
@@ -61,17 +64,17 @@ loaded_or_fault file None =
           inr ((elf_refused fault some).0, (fault, (elf_refused fault some).1, has))
     ]
 
-entry_given : (segments : List Segment) (entry : Option ℕ) → entry_fault segments entry ≡ None
+entry_given : (segments : List Segment) (entry : Option ℕ) → entry_point_fault segments entry ≡ None
     → (a : ℕ) × (entry ≡ Some a)
 entry_given segments None sound = absurd cc
 entry_given segments (Some a) sound = (a, refl)
 
 kernel_of : (file : List ℕ) (header : Header) (facts : ElfFacts) → IsHeader file header
     → IsLoadedBy file header.segment facts
-    → entry_fault facts.segments (counted_entry header facts) ≡ None
-    → (kernel : Multiboot2KernelFacts) × IsKernel file kernel
+    → entry_point_fault facts.segments (effective_entry_point header facts) ≡ None
+    → (kernel : Multiboot2KernelFacts) × IsMultiboot2Kernel file kernel
 kernel_of file header facts is loaded sound =
-    let entry = entry_given facts.segments (counted_entry header facts) sound in (
+    let entry = entry_given facts.segments (effective_entry_point header facts) sound in (
       record { segments = facts.segments; entry = entry.0; relocation = header.relocation },
       record {
         header = header;
@@ -86,15 +89,15 @@ kernel_of file header facts is loaded sound =
     )
 
 kernel_or_fault : (file : List ℕ)
-    → ((kernel : Multiboot2KernelFacts) × IsKernel file kernel)
-    ⊎ ((r : Refusal) × HasKernelFault file r)
+    → ((kernel : Multiboot2KernelFacts) × IsMultiboot2Kernel file kernel)
+    ⊎ ((r : Refusal) × HasMultiboot2Fault file r)
 kernel_or_fault file =
     elim (header_or_fault file) [
       | inr (fault, has) ↦ inr (head_refusal fault, inl (fault, has, refl))
       | inl (header, is) ↦ elim (loaded_or_fault file header.segment) [
         | inr (r, has) ↦ inr (r, inr (inl (header, is, has)))
         | inl (facts, loaded) ↦
-            elim (some_or_none (entry_fault facts.segments (counted_entry header facts))) [
+            elim (some_or_none (entry_point_fault facts.segments (effective_entry_point header facts))) [
               | inl (r, has) ↦ inr (r, inr (inr (header, facts, is, loaded, has)))
               | inr sound ↦ inl (kernel_of file header facts is loaded sound)
             ]
@@ -121,8 +124,8 @@ is_either protocol.Linux = inr refl
 is_either protocol.Linux64 = inr refl
 
 read_or_fault : (facts : MachineFacts) (value : EntryValue)
-    → ((reading : Reading) × IsRead facts value reading)
-    ⊎ ((r : Refusal) × HasReadFault facts value r)
+    → ((reading : KernelReading) × IsKernelReading facts value reading)
+    ⊎ ((r : Refusal) × HasKernelFileFault facts value r)
 read_or_fault facts value =
     elim (is_either value.protocol) [
       | inl is ↦ elim (kernel_or_fault (kernel_file value)) [
@@ -137,8 +140,8 @@ read_or_fault facts value =
 
 -- ---- the rest names none
 
-row_refused : (facts : MachineFacts) (value : EntryValue) (reading : Reading) (fault : PlanFault)
-    → IsRead facts value reading → fault ≢ plan_fault.NoMemory
+row_refused : (facts : MachineFacts) (value : EntryValue) (reading : KernelReading) (fault : PlanFault)
+    → IsKernelReading facts value reading → fault ≢ plan_fault.NoMemory
     → IsFirstPlaceFault facts [] (rows_of facts value reading) fault
     → (r : Refusal) × HasRowFault facts (rows_of facts value reading) r
 row_refused facts value reading plan_fault.NotUsable is some has =

@@ -20,17 +20,17 @@ use Rattle.bl_plan.specs.declared.part.Role.TheVariants.{Module, Initrd}
 use Rattle.bl_plan.specs.declared.part.Row.{Row}
 use Rattle.bl_plan.specs.declared.protocol.Protocol.{Protocol}
 use Rattle.bl_load.specs.LinuxRows.{front_rows, initrd_rows}
-use Rattle.bl_load.specs.PlacingKept.{capped_length, capped_rows, told_initrd_rows}
-use Rattle.bl_load.specs.PlacingKept.{told_rows_by}
-use Rattle.bl_load.specs.Reading.{Reading, multiboot2, linux, IsRead}
+use Rattle.bl_load.specs.PlacingKept.{capped_length, capped_module_rows, capped_initrd_rows}
+use Rattle.bl_load.specs.PlacingKept.{capped_rows_of}
+use Rattle.bl_load.specs.KernelReading.{KernelReading, multiboot2, linux, IsKernelReading}
 use Rattle.bl_load.specs.Rows.{module_rows, kernel_rows, information_row, rows_of}
 use Rattle.bl_load.specs.Unplaced.{IsToldAs, IsFirstUnplaced, IsUnplacedOf, IsUnplaced}
-use Rattle.bl_load.specs.Unplaced.{IsReadingFault}
+use Rattle.bl_load.specs.Unplaced.{IsFaultBeforePlacing}
 use Rattle.bl_load.specs.EntryValue.{EntryValue, module_file, initrd_file, multiboot2_value}
 use Rattle.bl_load.specs.EntryValue.{linux_value}
 use Rattle.bl_load.specs.EntryValue.{lines_fault, lines_of}
-use Rattle.bl_load.specs.KernelKept.{IsKernelFault}
-use Rattle.bl_load.specs.ReadKept.{IsLinuxFault}
+use Rattle.bl_load.specs.Multiboot2KernelKept.{IsMultiboot2Fault}
+use Rattle.bl_load.specs.KernelReadingKept.{IsLinuxFault}
 use Rattle.bl_load.specs.Protocols.{has_params}
 use Rattle.bl_load.specs.declared.refusal.PrepFault.{PrepFault}
 use Rattle.bl_load.specs.declared.refusal.PrepFault.TheVariants as prep
@@ -64,7 +64,7 @@ itself_told row = record { role = refl; index = refl; choice = refl; length = in
 module _ (facts : MachineFacts) (which : Row) where
   told_unplaced : (files : List (List ℕ)) (rest : List Row) (k : ℕ) (lines : List (List ℕ))
       (taken : List (Range ℕ))
-      → IsFirstUnplaced facts taken (capped_rows files k lines ++ rest) which
+      → IsFirstUnplaced facts taken (capped_module_rows files k lines ++ rest) which
       → IsFirstUnplaced facts taken (module_rows files k lines ++ rest) which
   told_unplaced files rest k [] taken has = has
   told_unplaced files rest k (line ∷ lines) taken (inl (kind, (fault, here))) =
@@ -99,7 +99,7 @@ module _ (facts : MachineFacts) (which : Row) where
               (λ (n : ℕ).
               IsFirstUnplaced facts
               (put_in (place_range (row_place (row_of Module k choice n) a)) taken)
-              (capped_rows files (suc k) lines ++ rest) which) same
+              (capped_module_rows files (suc k) lines ++ rest) which) same
               later),
         )
         | inr long ↦
@@ -109,7 +109,7 @@ module _ (facts : MachineFacts) (which : Row) where
 
   told_initrd_unplaced : (protocol : Protocol) (setup : Setup) (initrd : List ℕ)
       (taken : List (Range ℕ))
-      → IsFirstUnplaced facts taken (told_initrd_rows setup initrd) which
+      → IsFirstUnplaced facts taken (capped_initrd_rows setup initrd) which
       → IsFirstUnplaced facts taken (initrd_rows setup initrd) which
   told_initrd_unplaced protocol setup [] taken has = has
   told_initrd_unplaced protocol setup (byte ∷ bytes) taken (inl (kind, (fault, here))) =
@@ -144,25 +144,25 @@ module _ (facts : MachineFacts) (which : Row) where
   behind_unplaced (row ∷ first) told rest each taken (inr (a, chosen, later)) =
       inr (a, chosen, behind_unplaced first told rest each _ later)
 
-  as_unplaced : (value : EntryValue) (reading : Reading)
-      → IsFirstUnplaced facts [] (told_rows_by facts value reading) which
+  as_unplaced : (value : EntryValue) (reading : KernelReading)
+      → IsFirstUnplaced facts [] (capped_rows_of facts value reading) which
       → IsFirstUnplaced facts [] (rows_of facts value reading) which
   as_unplaced value (multiboot2 kernel) has =
       let rest = information_row facts value kernel.relocation ∷ [] in
       behind_unplaced (kernel_rows kernel.segments kernel.relocation)
-      (capped_rows value.files 0 value.module_lines ++ rest)
+      (capped_module_rows value.files 0 value.module_lines ++ rest)
       (module_rows value.files 0 value.module_lines ++ rest)
       (λ taken. told_unplaced value.files rest 0 value.module_lines taken) [] has
   as_unplaced value (linux setup) has =
       let initrd = initrd_file value.files in
-      behind_unplaced (front_rows value.protocol setup) (told_initrd_rows setup initrd)
+      behind_unplaced (front_rows value.protocol setup) (capped_initrd_rows setup initrd)
       (initrd_rows setup initrd)
       (λ taken. told_initrd_unplaced value.protocol setup initrd taken) [] has
 
 -- which of the rows has no place as the code tells them, has none
-pub as_unplaced_of : (facts : MachineFacts) (value : EntryValue) (reading : Reading)
+pub as_unplaced_of : (facts : MachineFacts) (value : EntryValue) (reading : KernelReading)
     (which : Option Row)
-    → IsUnplacedOf facts [] (told_rows_by facts value reading) which
+    → IsUnplacedOf facts [] (capped_rows_of facts value reading) which
     → IsUnplacedOf facts [] (rows_of facts value reading) which
 as_unplaced_of facts value reading None has =
     (has.0, told_placed facts value reading has.0 has.1)
@@ -171,8 +171,8 @@ as_unplaced_of facts value reading (Some which) has = as_unplaced facts which va
 -- what its kernel's file refuses, where its lines have no fault
 pub reading_multiboot2 : (facts : MachineFacts) (texts : List (List ℕ)) (line : List ℕ)
     (lines : List (List ℕ)) (old new : Option (List ℕ)) → lines_fault (line ∷ lines) ≡ None
-    → (fault : PrepFault) → IsKernelFault (nth_file texts 0) fault
-    → IsReadingFault facts (multiboot2_value texts line lines old new) fault
+    → (fault : PrepFault) → IsMultiboot2Fault (nth_file texts 0) fault
+    → IsFaultBeforePlacing facts (multiboot2_value texts line lines old new) fault
 reading_multiboot2 facts texts line lines old new sound (prep.Refused refused) has =
     inr (sound, inl (refl, has))
 reading_multiboot2 facts texts line lines old new sound prep.NoMemory has = tt
@@ -181,20 +181,20 @@ pub reading_linux : (facts : MachineFacts) (protocol : Protocol) (texts : List (
     (line : List ℕ) → has_params protocol ≡ true → lines_fault (line ∷ []) ≡ None
     → (fault : PrepFault)
     → IsLinuxFault protocol facts.runs line (nth_file texts 0) fault
-    → IsReadingFault facts (linux_value protocol texts line) fault
+    → IsFaultBeforePlacing facts (linux_value protocol texts line) fault
 reading_linux facts protocol texts line params sound (prep.Refused refused) has =
     inr (sound, inr (params, has))
 reading_linux facts protocol texts line params sound prep.NoMemory has = tt
 
 -- want of memory is no refusal
 pub reading_no_memory : (facts : MachineFacts) (value : EntryValue) (fault : PrepFault)
-    → fault ≡ prep.NoMemory → IsReadingFault facts value fault
-reading_no_memory facts value fault is = subst (IsReadingFault facts value) (sym is) tt
+    → fault ≡ prep.NoMemory → IsFaultBeforePlacing facts value fault
+reading_no_memory facts value fault is = subst (IsFaultBeforePlacing facts value) (sym is) tt
 
 -- what has no place, where its lines have no fault and its kernel was read
 pub unplaced_read : (facts : MachineFacts) (value : EntryValue)
-    → lines_fault (lines_of value) ≡ None → (reading : Reading) (which : Option Row)
-    → IsRead facts value reading → IsUnplacedOf facts [] (rows_of facts value reading) which
+    → lines_fault (lines_of value) ≡ None → (reading : KernelReading) (which : Option Row)
+    → IsKernelReading facts value reading → IsUnplacedOf facts [] (rows_of facts value reading) which
     → IsUnplaced facts value which
 unplaced_read facts value sound reading which is has =
     record { reading = reading; lines = sound; read = is; is = has }

@@ -6,7 +6,7 @@ use Rattle.std.proofs.lemmas.Bool.{cases_lt}
 use Rattle.bl_mem.specs.Memory.{overwrite}
 use Rattle.bl_mem.proofs.Overwrites.{length-overwrite, get_or-overwrite_in, get_or-overwrite_below}
 use Rattle.bl_mem.proofs.Overwrites.{get_or-overwrite_above, overwrite_more}
-use Rattle.bl_load.specs.Handover.{Part, written}
+use Rattle.bl_load.specs.Handover.{Part, overwrite_parts}
 
 -- zeros right after what was written
 pub zeros_behind : (m content : List ℕ) (at count wide : ℕ) → length content ≡ count → count ≤ wide
@@ -48,7 +48,7 @@ other_kept size m p a is ends out =
 
 -- writing parts leaves the length
 pub length-written : (size : ℕ) (parts : List Part) (m : List ℕ) → length m ≡ size
-    → All (EndsWithin size) parts → length (written parts m) ≡ size
+    → All (EndsWithin size) parts → length (overwrite_parts parts m) ≡ size
 length-written size [] m is ends = is
 length-written size (p ∷ ps) m is ends =
     length-written size ps _ (size_kept size m p is (ends 0 p (omega arith)))
@@ -57,7 +57,7 @@ length-written size (p ∷ ps) m is ends =
 -- an address in no part keeps its byte
 pub written_elsewhere : (size : ℕ) (parts : List Part) (m : List ℕ) (a : ℕ) → length m ≡ size
     → All (EndsWithin size) parts → All (λ p. Has p a → ⊥) parts
-    → get_or (written parts m) a 0 ≡ get_or m a 0
+    → get_or (overwrite_parts parts m) a 0 ≡ get_or m a 0
 written_elsewhere size [] m a is ends out = refl
 written_elsewhere size (p ∷ ps) m a is ends out =
     let first = ends 0 p (omega arith) in
@@ -69,7 +69,7 @@ written_elsewhere size (p ∷ ps) m a is ends out =
 pub written_in : (size : ℕ) (parts : List Part) (m : List ℕ) (k a : ℕ) (d : Part) → length m ≡ size
     → All (EndsWithin size) parts → AllPairs IsBefore parts → k < length parts
     → Has (get_or parts k d) a
-    → get_or (written parts m) a 0
+    → get_or (overwrite_parts parts m) a 0
     ≡ get_or (get_or parts k d).bytes (a - (get_or parts k d).address) 0
 written_in size [] m k a d is ends before within has = absurd (omega arith)
 written_in size (p ∷ ps) m zero a d is ends before within has =

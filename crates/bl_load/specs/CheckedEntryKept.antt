@@ -3,8 +3,8 @@ use Rattle.std.specs.Prelude.{ℕ, List, length, map}
 use Rattle.bl_mem.specs.declared.byte_view.ByteView.{Ghosts}
 use Rattle.bl_load.specs.declared.checked_entry.CheckedEntry.{CheckedEntry}
 use Rattle.bl_load.specs.Kept.{lines_by}
-use Rattle.bl_load.specs.ReadKept.{HasFiles}
-use Rattle.bl_load.specs.Reading.{Reading, IsRead}
+use Rattle.bl_load.specs.KernelReadingKept.{HasFiles}
+use Rattle.bl_load.specs.KernelReading.{KernelReading, IsKernelReading}
 use Rattle.bl_load.specs.EntryValue.{EntryValue}
 
 -- the files' bytes
@@ -25,7 +25,7 @@ value_of_files entry = record {
 }
 
 -- the kernel was read so, and there is what it needs
-pub record IsReady {A : Type 0} {V : Type 0} {view : Ghosts V}
-    (entry : CheckedEntry A V view) (reading : Reading) : Type 0 where
-  pub read : IsRead entry.machine.now (value_of_files entry) reading
+pub record IsReadWithFiles {A : Type 0} {V : Type 0} {view : Ghosts V}
+    (entry : CheckedEntry A V view) (reading : KernelReading) : Type 0 where
+  pub read : IsKernelReading entry.machine.now (value_of_files entry) reading
   pub files : HasFiles (texts_in entry) (length entry.modules.now) reading

@@ -3,7 +3,7 @@ use Rattle.std.specs.Prelude.{ℕ, ◌+◌, ◌≤◌, if◌then◌else◌, ◌=
 use Rattle.std.specs.Prelude.{slice_index_or, Option, Some, None, IfSome, option_to_list}
 use Rattle.std.specs.List.{list_any}
 use Rattle.std.specs.Option.{option_or}
-use Rattle.bl_plan.specs.MenuLimits.{max_copy, max_line, max_modules}
+use Rattle.bl_plan.specs.MenuLimits.{max_rsdp_length, max_line, max_modules}
 use Rattle.bl_plan.specs.Protocols.{of_linux}
 use Rattle.bl_plan.specs.declared.protocol.Protocol.{Protocol}
 use Rattle.bl_plan.specs.declared.protocol.Protocol.TheVariants as protocols
@@ -74,7 +74,7 @@ file_count (Linux kernel line initrd wide) = 1 + length (option_to_list initrd)
 -- what may be a copy of an RSDP: 1 to 256 bytes
 pub record IsRsdpCopy (copy : List ℕ) : Type 0 where
   pub filled : 1 ≤ length copy
-  pub short : length copy ≤ max_copy
+  pub short : length copy ≤ max_rsdp_length
 
 -- what an entry may hold: not too many modules, and copies that are neither empty nor too long
 pub record HasLimits (value : EntryValue) : Type 0 where

@@ -23,16 +23,16 @@ abbrev pub max_parts : ℕ
 max_parts = 256
 
 -- page tables are a part where a kernel is entered with 64 bits alone
-abbrev pub MayStand : Bool → Role → Type 0
-MayStand wide PageTables = wide ≡ true
-MayStand wide role = Unit {0}
+abbrev pub IsRoleAllowed : Bool → Role → Type 0
+IsRoleAllowed wide PageTables = wide ≡ true
+IsRoleAllowed wide role = Unit {0}
 
 -- what a handoff keeps, and the handover of an image too: its registers are those of 64 bits under
 -- such a protocol and no other; its places are few, none is empty, each ends at most at 4 GiB, and
 -- they ascend
 pub record IsWellFormedHandoff (handoff : HandoffFacts) : Type 0 where
   pub width : are_wide handoff.registers ≡ is_wide handoff.protocol
-  pub roles : All (λ place. MayStand (is_wide handoff.protocol) place.role) handoff.places
+  pub roles : All (λ place. IsRoleAllowed (is_wide handoff.protocol) place.role) handoff.places
   pub few : length handoff.places ≤ max_parts
   pub filled : All (λ place. 1 ≤ place.length) handoff.places
   pub below : All (λ place. place.address + place.length ≤ 2 ^ 32) handoff.places

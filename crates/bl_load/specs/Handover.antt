@@ -29,10 +29,10 @@ placed_part place bytes =
     record { role = place.role; index = place.index; address = place.address; bytes = bytes }
 
 -- a content and zeros after it, up to a length; one that is longer stays as it is
-abbrev pub filled : ℕ → List ℕ → List ℕ
-filled count content = content ++ replicate (count - length content) 0
+abbrev pub zero_padded : ℕ → List ℕ → List ℕ
+zero_padded count content = content ++ replicate (count - length content) 0
 
 -- memory once these parts are written, one after the other
-abbrev pub written : List Part → List ℕ → List ℕ
-written [] old = old
-written (part ∷ parts) old = written parts (overwrite old part.address part.bytes)
+abbrev pub overwrite_parts : List Part → List ℕ → List ℕ
+overwrite_parts [] old = old
+overwrite_parts (part ∷ parts) old = overwrite_parts parts (overwrite old part.address part.bytes)

@@ -1,6 +1,6 @@
 -- What the code keeps of a plan. It speaks of the files' lengths alone, and not of their bytes.
 use Rattle.std.specs.Prelude.{ℕ, ◌+◌, ◌≤◌, List, map}
-use Rattle.bl_mem.specs.Files.{IsBeside}
+use Rattle.bl_mem.specs.Files.{IsApartFrom}
 use Rattle.bl_mem.specs.Memory.{HasRoom}
 use Rattle.bl_load.specs.declared.plan.PlannedPart.{PlannedPart}
 use Rattle.bl_load.specs.declared.entry.Module.{Module}
@@ -13,7 +13,7 @@ pub record CanLoad {A : Type 0} (lengths : List ℕ) (size : ℕ) (room holds : 
   pub short : content_length part.content ≤ part.place.length
   pub inside : part.place.address + part.place.length ≤ size
   pub writable : HasRoom room part.place.address (part.place.address + part.place.length)
-  pub beside : IsBeside holds part.place.address (part.place.address + part.place.length)
+  pub beside : IsApartFrom holds part.place.address (part.place.address + part.place.length)
 
 -- the lines of modules
 abbrev pub lines_by : {A : Type 0} → List (Module A) → List (List ℕ)

@@ -10,7 +10,7 @@ use Rattle.bl_plan.specs.declared.part.Choice.TheVariants.{Fixed, Lowest, Highes
 use Rattle.bl_plan.specs.declared.part.Row.{Row}
 use Rattle.bl_plan.specs.declared.part.Place.{Place}
 use Rattle.bl_load.specs.EntryValue.{EntryValue, lines_fault, lines_of}
-use Rattle.bl_load.specs.Reading.{Reading, IsRead}
+use Rattle.bl_load.specs.KernelReading.{KernelReading, IsKernelReading}
 use Rattle.bl_load.specs.Rows.{rows_of}
 use Rattle.bl_load.specs.Handover.{Handover}
 use Rattle.bl_load.specs.Parts.{handover_of}
@@ -28,24 +28,24 @@ IsAllowed facts ranges length (Preferred at align low high) a =
     IsPermitted facts ranges length align low high a
 
 -- the ranges of all places but the i-th
-abbrev pub others : List Place → ℕ → List (Range ℕ)
-others places i = map place_range (remove places i)
+abbrev pub other_ranges : List Place → ℕ → List (Range ℕ)
+other_ranges places i = map place_range (remove places i)
 
 -- each place is allowed for its row, which has the same index, beside all others
 abbrev pub AreAllowed : MachineFacts → List Row → List Place → Type 0
 AreAllowed facts rows places =
     (i : ℕ) (row : Row) (place : Place) → slice_get rows i ≡ Some row
     → slice_get places i ≡ Some place
-    → IsAllowed facts (others places i) row.length row.choice place.address
+    → IsAllowed facts (other_ranges places i) row.length row.choice place.address
 
 -- the entry's kernel is read so; there is one place for each of its rows and no other, each allowed
 -- beside all others; and what is handed over are the parts at these places, with the registers for
 -- them
 pub record IsLegal (facts : MachineFacts) (value : EntryValue) (handover : Handover) : Type 0 where
-  pub reading : Reading
+  pub reading : KernelReading
   pub places : List Place
   pub lines : lines_fault (lines_of value) ≡ None
-  pub read : IsRead facts value reading
+  pub read : IsKernelReading facts value reading
   pub of_rows : AllZip IsPlaceOf (rows_of facts value reading) places
   pub allowed : AreAllowed facts (rows_of facts value reading) places
   pub is : handover ≡ handover_of facts value reading places

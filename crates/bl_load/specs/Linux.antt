@@ -10,7 +10,7 @@ use Rattle.bl_bzimage.specs.declared.fault.SetupFault.{SetupFault}
 use Rattle.bl_bzimage.specs.declared.fault.SetupFault.TheVariants as setup_fault
 use Rattle.bl_bzimage.specs.Setup.{setup_of}
 use Rattle.bl_bzimage.specs.Setup as bzimage
-use Rattle.bl_params.specs.BootParamsFacts.{max_e820_entries}
+use Rattle.bl_params.specs.ParamsToWriteFacts.{max_e820_entries}
 use Rattle.bl_plan.specs.declared.protocol.Protocol.{Protocol}
 use Rattle.bl_plan.specs.declared.protocol.Protocol.TheVariants.{Multiboot2, Linux, Linux64}
 use Rattle.bl_load.specs.declared.refusal.Refusal.{Refusal}

@@ -7,8 +7,8 @@ use Rattle.bl_map.specs.MachineFacts.{MachineFacts}
 use Rattle.bl_map.specs.Limits.{frame_size, first_usable, max_size, high_start}
 use Rattle.bl_map.specs.PoolFrames.{round_up_to_frames}
 use Rattle.bl_bzimage.specs.declared.setup.Setup.{Setup}
-use Rattle.bl_params.specs.BootParamsFacts.{BootParamsFacts}
-use Rattle.bl_params.specs.SizesAndOffsets.{tables_size}
+use Rattle.bl_params.specs.ParamsToWriteFacts.{ParamsToWriteFacts}
+use Rattle.bl_params.specs.SizesAndOffsets.{page_tables_size}
 use Rattle.bl_plan.specs.declared.protocol.Protocol.{Protocol}
 use Rattle.bl_plan.specs.declared.protocol.Protocol.TheVariants as protocols
 use Rattle.bl_plan.specs.declared.part.Row.{Row}
@@ -23,8 +23,8 @@ use Rattle.bl_load.specs.EntryValue.{EntryValue, initrd_file}
 -- a kernel that is loaded high lies from 1 MiB on ("loadflags", LOADED_HIGH); a relocatable one
 -- that is loaded below "pref_address" moves itself up to it, so it is not
 -- placed below; it needs "init_size" bytes where it lies
-abbrev pub moved_row : Setup → Row
-moved_row setup = record {
+abbrev pub relocatable_kernel_row : Setup → Row
+relocatable_kernel_row setup = record {
   role = Kernel;
   index = 0;
   length = max setup.payload_size setup.init_size;
@@ -43,7 +43,7 @@ fixed_kernel_row setup = record {
 
 abbrev pub linux_kernel_row : Setup → Row
 linux_kernel_row setup =
-    if setup.relocatable_kernel == 0 then fixed_kernel_row setup else moved_row setup
+    if setup.relocatable_kernel == 0 then fixed_kernel_row setup else relocatable_kernel_row setup
 
 -- a part of one frame, at the lowest place below a limit
 abbrev pub frame_row : Role → ℕ → Row
@@ -55,8 +55,8 @@ frame_row role high = record {
 }
 
 -- the line lies below 0xA0000 ("cmd_line_ptr")
-abbrev pub line_limit : ℕ
-line_limit = 0xA0000
+abbrev pub line_end_limit : ℕ
+line_end_limit = 0xA0000
 
 -- page tables of six frames are a part where a kernel is entered with paging ("64-bit Boot
 -- Protocol"); else it is entered without ("32-bit Boot Protocol")
@@ -66,7 +66,7 @@ paging_row protocols.Linux = None
 paging_row protocols.Linux64 = Some (record {
   role = PageTables;
   index = 0;
-  length = tables_size;
+  length = page_tables_size;
   choice = Lowest frame_size first_usable max_size;
 })
 
@@ -75,7 +75,7 @@ abbrev pub front_rows : Protocol → Setup → List Row
 front_rows protocol setup =
     linux_kernel_row setup
     ∷ frame_row BootParams max_size
-    ∷ frame_row CommandLine line_limit
+    ∷ frame_row CommandLine line_end_limit
     ∷ frame_row Gdt max_size
     ∷ option_to_list (paging_row protocol)
 
@@ -96,8 +96,8 @@ linux_rows protocol setup initrd = front_rows protocol setup ++ initrd_rows setu
 
 -- what boot parameters tell, where the parts have these places: without an initrd its address and
 -- its length are 0
-abbrev pub told_of : MachineFacts → EntryValue → List Place → BootParamsFacts
-told_of facts value places = record {
+abbrev pub boot_params_facts : MachineFacts → EntryValue → List Place → ParamsToWriteFacts
+boot_params_facts facts value places = record {
   code32_start = address_of Kernel 0 places;
   ramdisk_image = address_of Initrd 0 places;
   ramdisk_size = length (initrd_file value.files);

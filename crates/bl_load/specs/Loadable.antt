@@ -8,9 +8,9 @@ use Rattle.bl_load.specs.declared.plan.Content.{Content}
 use Rattle.bl_load.specs.declared.plan.Content.TheVariants.{Own, File, Block}
 use Rattle.bl_load.specs.declared.plan.PlannedPart.{PlannedPart}
 use Rattle.bl_load.specs.declared.plan.Plan.{Plan}
-use Rattle.bl_load.specs.Blocks.{span_of}
+use Rattle.bl_load.specs.KernelBlock.{span_of}
 use Rattle.bl_load.specs.HandoffFacts.{IsWellFormedHandoff}
-use Rattle.bl_load.specs.PlanFacts.{places_of, handoff_by}
+use Rattle.bl_load.specs.PlanContents.{places_of, handoff_by}
 
 -- the lengths of files
 abbrev pub lengths_of : List (List ℕ) → List ℕ

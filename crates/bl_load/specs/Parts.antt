@@ -1,7 +1,7 @@
 -- What an entry hands over on a machine, or its first refusal.
 use Rattle.std.specs.Prelude.{◌≡◌, ℕ, ◌+◌, ◌-◌, List, [], map, slice_index_or, slice_range, ◌⊎◌}
 use Rattle.std.specs.Prelude.{Option, Some, None, unwrap_or, codes}
-use Rattle.bl_mem.specs.Contents.{file_part}
+use Rattle.bl_mem.specs.SegmentContents.{file_part}
 use Rattle.bl_mem.specs.declared.segment.Segment.{Segment}
 use Rattle.bl_map.specs.MachineFacts.{MachineFacts}
 use Rattle.bl_mb2head.specs.declared.relocation.Relocation.{Relocation}
@@ -26,15 +26,16 @@ use Rattle.bl_params.specs.BootParams.{boot_params}
 use Rattle.bl_params.specs.Paging.{paging}
 use Rattle.bl_load.specs.EntryValue.{EntryValue, kernel_file, module_file, initrd_file, lines_fault}
 use Rattle.bl_load.specs.EntryValue.{lines_of}
-use Rattle.bl_load.specs.Reading.{Reading, multiboot2, linux, IsRead, HasReadFault}
-use Rattle.bl_load.specs.Blocks.{low_of, block_of}
+use Rattle.bl_load.specs.KernelReading.{KernelReading, multiboot2, linux, IsKernelReading}
+use Rattle.bl_load.specs.KernelReading.{HasKernelFileFault}
+use Rattle.bl_load.specs.KernelBlock.{low_of, block_of}
 use Rattle.bl_load.specs.Rows.{rows_of, information_of}
-use Rattle.bl_load.specs.LinuxRows.{told_of}
+use Rattle.bl_load.specs.LinuxRows.{boot_params_facts}
 use Rattle.bl_load.specs.Registers.{multiboot2_registers, linux_registers, linux64_registers}
 use Rattle.bl_load.specs.Linux.{entry_64}
 use Rattle.bl_load.specs.Protocols.{descriptors_of}
-use Rattle.bl_plan.specs.Order.{in_order}
-use Rattle.bl_load.specs.Handover.{Part, Handover, placed_part, filled}
+use Rattle.bl_plan.specs.AddressOrder.{places_in_order}
+use Rattle.bl_load.specs.Handover.{Part, Handover, placed_part, zero_padded}
 use Rattle.bl_load.specs.declared.refusal.PrepFault.{PrepFault}
 use Rattle.bl_load.specs.declared.refusal.PrepFault.TheVariants as prep_fault
 
@@ -56,7 +57,7 @@ payload_of file setup =
 
 -- what a part holds before its zeros, where the parts have these places; the zeros of a line's part
 -- end the line
-abbrev pub content_of : MachineFacts → EntryValue → Reading → List Place → Role → ℕ → List ℕ
+abbrev pub content_of : MachineFacts → EntryValue → KernelReading → List Place → Role → ℕ → List ℕ
 content_of facts value (multiboot2 kernel) places Kernel i =
     kernel_content (kernel_file value) kernel.segments kernel.relocation i
 content_of facts value (multiboot2 kernel) places Module i = module_file value.files i
@@ -71,7 +72,7 @@ content_of facts value (linux setup) places Kernel i = payload_of (kernel_file v
 content_of facts value (linux setup) places Module i = []
 content_of facts value (linux setup) places Information i = []
 content_of facts value (linux setup) places BootParams i =
-    boot_params setup.header (told_of facts value places)
+    boot_params setup.header (boot_params_facts facts value places)
 content_of facts value (linux setup) places CommandLine i = value.line
 content_of facts value (linux setup) places Gdt i = unwrap_or (descriptors_of value.protocol) []
 content_of facts value (linux setup) places Initrd i = initrd_file value.files
@@ -79,10 +80,10 @@ content_of facts value (linux setup) places PageTables i =
     paging (address_of PageTables 0 places)
 
 -- the part of an entry at one of its places
-abbrev pub part_from : MachineFacts → EntryValue → Reading → List Place → Place → Part
+abbrev pub part_from : MachineFacts → EntryValue → KernelReading → List Place → Place → Part
 part_from facts value reading places place =
     placed_part place
-    (filled place.length (content_of facts value reading places place.role place.index))
+    (zero_padded place.length (content_of facts value reading places place.role place.index))
 
 -- where a Multiboot2 kernel is entered: a block moves its entry with it
 abbrev pub entered_at : ℕ → List Segment → Option Relocation → ℕ → ℕ
@@ -91,13 +92,13 @@ entered_at entry segments (Some r) base = entry - low_of segments + base
 
 -- where the kernel begins, where the parts have these places: a Linux kernel with its first byte,
 -- behind which its 64-bit entry lies
-abbrev pub kernel_entry_base : Reading → List Place → ℕ
+abbrev pub kernel_entry_base : KernelReading → List Place → ℕ
 kernel_entry_base (multiboot2 kernel) places =
     entered_at kernel.entry kernel.segments kernel.relocation (address_of Kernel 0 places)
 kernel_entry_base (linux setup) places = address_of Kernel 0 places
 
 -- the registers as the kernel begins, where the parts have these places
-abbrev pub registers_of : Protocol → Reading → List Place → Registers
+abbrev pub registers_of : Protocol → KernelReading → List Place → Registers
 registers_of protocols.Multiboot2 reading places =
     Bits32
     (multiboot2_registers
@@ -114,20 +115,20 @@ registers_of protocols.Linux64 reading places =
     (address_of PageTables 0 places))
 
 -- what an entry hands over, where its rows have these places
-abbrev pub handover_of : MachineFacts → EntryValue → Reading → List Place → Handover
+abbrev pub handover_of : MachineFacts → EntryValue → KernelReading → List Place → Handover
 handover_of facts value reading places = record {
   protocol = value.protocol;
   registers = registers_of value.protocol reading places;
-  parts = map (part_from facts value reading places) (in_order places);
+  parts = map (part_from facts value reading places) (places_in_order places);
 }
 
 -- this is what an entry of this value hands over on a machine of these facts
 pub record IsHandover (facts : MachineFacts) (value : EntryValue)
     (handover : Handover) : Type 0 where
-  pub reading : Reading
+  pub reading : KernelReading
   pub places : List Place
   pub lines : lines_fault (lines_of value) ≡ None
-  pub read : IsRead facts value reading
+  pub read : IsKernelReading facts value reading
   pub placed : ArePlaced facts [] (rows_of facts value reading) places
   pub is : handover ≡ handover_of facts value reading places
 
@@ -147,7 +148,7 @@ HasRowFault facts rows refused =
 -- the kernel is read, and one of the entry's rows is refused so
 abbrev pub HasPlaceFault : MachineFacts → EntryValue → Refusal → Type 0
 HasPlaceFault facts value refused =
-    (reading : Reading) × IsRead facts value reading
+    (reading : KernelReading) × IsKernelReading facts value reading
     × HasRowFault facts (rows_of facts value reading) refused
 
 -- the first check refuses; or it does not, and the rest does
@@ -158,7 +159,7 @@ OrRefused first rest refused = (first ≡ Some refused) ⊎ ((first ≡ None) ×
 abbrev pub IsRefusal : MachineFacts → EntryValue → Refusal → Type 0
 IsRefusal facts value =
     OrRefused (lines_fault (lines_of value))
-    (λ r. HasReadFault facts value r ⊎ HasPlaceFault facts value r)
+    (λ r. HasKernelFileFault facts value r ⊎ HasPlaceFault facts value r)
 
 -- why an entry is not prepared, unless memory ran out
 abbrev pub IsPrepFault : MachineFacts → EntryValue → PrepFault → Type 0

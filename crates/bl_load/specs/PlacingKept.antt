@@ -5,15 +5,15 @@ use Rattle.bl_mem.specs.declared.segment.Segment.{Segment}
 use Rattle.bl_map.specs.MachineFacts.{MachineFacts}
 use Rattle.bl_map.specs.PoolFrames.{round_up_to_frames}
 use Rattle.bl_mb2head.specs.declared.relocation.Relocation.{Relocation}
-use Rattle.bl_mbi.specs.InformationFacts.{info_size}
+use Rattle.bl_mbi.specs.InfoToWriteFacts.{info_size}
 use Rattle.bl_plan.specs.declared.part.Role.{Role}
 use Rattle.bl_plan.specs.declared.part.Role.TheVariants.{Kernel, Module, Information, BootParams}
 use Rattle.bl_plan.specs.declared.part.Role.TheVariants.{CommandLine, Gdt, Initrd, PageTables}
 use Rattle.bl_plan.specs.declared.part.Choice.TheVariants.{Lowest, Highest}
 use Rattle.bl_map.specs.Limits.{frame_size, first_usable, max_size, high_start, usable_limit}
 use Rattle.bl_mbi.specs.Size.{tag_size}
-use Rattle.bl_params.specs.SizesAndOffsets.{tables_size}
-use Rattle.bl_load.specs.Kernel.{Multiboot2KernelFacts}
+use Rattle.bl_params.specs.SizesAndOffsets.{page_tables_size}
+use Rattle.bl_load.specs.Multiboot2Kernel.{Multiboot2KernelFacts}
 use Rattle.bl_plan.specs.declared.protocol.Protocol.{Protocol}
 use Rattle.bl_plan.specs.declared.part.Row.{Row}
 use Rattle.bl_plan.specs.declared.part.Place.{Place}
@@ -24,10 +24,10 @@ use Rattle.bl_load.specs.declared.refusal.PrepFault.{PrepFault}
 use Rattle.bl_load.specs.declared.refusal.PrepFault.TheVariants as prep_fault
 use Rattle.bl_load.specs.Addresses.{address_of}
 use Rattle.bl_load.specs.EntryValue.{EntryValue, module_file, initrd_file}
-use Rattle.bl_load.specs.Reading.{Reading, multiboot2, linux}
+use Rattle.bl_load.specs.KernelReading.{KernelReading, multiboot2, linux}
 use Rattle.bl_bzimage.specs.declared.setup.Setup.{Setup}
 use Rattle.bl_load.specs.LinuxRows.{linux_kernel_row, front_rows}
-use Rattle.bl_load.specs.Blocks.{span_of}
+use Rattle.bl_load.specs.KernelBlock.{span_of}
 use Rattle.bl_load.specs.Protocols.{is_wide}
 use Rattle.bl_load.specs.Rows.{kernel_rows, module_length, information_row, rows_of, information_of}
 use Rattle.bl_load.specs.Handover.{Handover}
@@ -44,7 +44,7 @@ HasKernelLength segments None i count =
 HasKernelLength segments (Some r) i count = count ≡ span_of segments
 
 -- the length of the part of a role and an index
-abbrev pub HasLength : MachineFacts → EntryValue → Reading → Role → ℕ → ℕ → Type 0
+abbrev pub HasLength : MachineFacts → EntryValue → KernelReading → Role → ℕ → ℕ → Type 0
 HasLength facts value (multiboot2 kernel) Kernel i count =
     HasKernelLength kernel.segments kernel.relocation i count
 HasLength facts value (multiboot2 kernel) Information i count =
@@ -66,10 +66,10 @@ HasLength facts value (linux setup) Initrd i count =
     (1 ≤ length (initrd_file value.files))
     × (count ≡ round_up_to_frames (length (initrd_file value.files)))
 HasLength facts value (linux setup) PageTables i count =
-    (is_wide value.protocol ≡ true) × (count ≡ tables_size)
+    (is_wide value.protocol ≡ true) × (count ≡ page_tables_size)
 
-abbrev pub IsRowed : MachineFacts → EntryValue → Reading → Place → Type 0
-IsRowed facts value reading place =
+abbrev pub HasRowLength : MachineFacts → EntryValue → KernelReading → Place → Type 0
+HasRowLength facts value reading place =
     HasLength facts value reading place.role place.index place.length
 
 -- why its parts are not placed, unless memory ran out
@@ -83,7 +83,7 @@ as_prep_fault plan_fault.NoMemory = Some prep_fault.NoMemory
 as_prep_fault fault = option_map (λ refused. prep_fault.Refused refused) (placing_refusal fault)
 
 -- the rows have these places, and this is handed over
-pub record IsPlacedHandover (facts : MachineFacts) (value : EntryValue) (reading : Reading)
+pub record IsPlacedHandover (facts : MachineFacts) (value : EntryValue) (reading : KernelReading)
     (handover : Handover) : Type 0 where
   pub places : List Place
   pub placed : ArePlaced facts [] (rows_of facts value reading) places
@@ -99,50 +99,51 @@ abbrev pub capped_length : ℕ → ℕ
 capped_length size = round_up_to_frames (max (min size length_cap) 1)
 
 -- the rows of modules as the code tells them
-abbrev pub capped_rows : List (List ℕ) → ℕ → List (List ℕ) → List Row
-capped_rows files k [] = []
-capped_rows files k (line ∷ lines) = record {
+abbrev pub capped_module_rows : List (List ℕ) → ℕ → List (List ℕ) → List Row
+capped_module_rows files k [] = []
+capped_module_rows files k (line ∷ lines) = record {
   role = Module;
   index = k;
   length = capped_length (length (module_file files k));
   choice = Lowest frame_size high_start max_size;
-} ∷ capped_rows files (suc k) lines
+} ∷ capped_module_rows files (suc k) lines
 
 -- the rows of an entry as the code tells them
-abbrev pub told_rows_of : MachineFacts → EntryValue → Multiboot2KernelFacts → List Row
-told_rows_of facts value kernel =
+abbrev pub capped_multiboot2_rows : MachineFacts → EntryValue → Multiboot2KernelFacts → List Row
+capped_multiboot2_rows facts value kernel =
     kernel_rows kernel.segments kernel.relocation
-    ++ (capped_rows value.files 0 value.module_lines
+    ++ (capped_module_rows value.files 0 value.module_lines
     ++ information_row facts value kernel.relocation ∷ [])
 
 -- the row of an initrd of so many bytes as the code tells it
-abbrev pub told_initrd_row : Setup → ℕ → Row
-told_initrd_row setup size = record {
+abbrev pub capped_initrd_row : Setup → ℕ → Row
+capped_initrd_row setup size = record {
   role = Initrd;
   index = 0;
   length = capped_length size;
   choice = Highest frame_size first_usable (setup.initrd_addr_max + 1);
 }
 
-abbrev pub told_initrd_rows : Setup → List ℕ → List Row
-told_initrd_rows setup [] = []
-told_initrd_rows setup (byte ∷ bytes) = told_initrd_row setup (length (byte ∷ bytes)) ∷ []
+abbrev pub capped_initrd_rows : Setup → List ℕ → List Row
+capped_initrd_rows setup [] = []
+capped_initrd_rows setup (byte ∷ bytes) = capped_initrd_row setup (length (byte ∷ bytes)) ∷ []
 
 -- the rows of a Linux entry as the code tells them
-abbrev pub told_linux_rows : Protocol → Setup → List ℕ → List Row
-told_linux_rows protocol setup initrd = front_rows protocol setup ++ told_initrd_rows setup initrd
+abbrev pub capped_linux_rows : Protocol → Setup → List ℕ → List Row
+capped_linux_rows protocol setup initrd =
+    front_rows protocol setup ++ capped_initrd_rows setup initrd
 
 -- by what was read of the kernel
-abbrev pub told_rows_by : MachineFacts → EntryValue → Reading → List Row
-told_rows_by facts value (multiboot2 kernel) = told_rows_of facts value kernel
-told_rows_by facts value (linux setup) =
-    told_linux_rows value.protocol setup (initrd_file value.files)
+abbrev pub capped_rows_of : MachineFacts → EntryValue → KernelReading → List Row
+capped_rows_of facts value (multiboot2 kernel) = capped_multiboot2_rows facts value kernel
+capped_rows_of facts value (linux setup) =
+    capped_linux_rows value.protocol setup (initrd_file value.files)
 
 -- ---- how long the tags of modules are
 
-abbrev pub tags_size : List (List ℕ) → ℕ
-tags_size [] = 0
-tags_size (line ∷ lines) = tag_size (length line + 9) + tags_size lines
+abbrev pub module_tags_size : List (List ℕ) → ℕ
+module_tags_size [] = 0
+module_tags_size (line ∷ lines) = tag_size (length line + 9) + module_tags_size lines
 
 -- each of so many modules ends below the last frame of 4 GiB
 abbrev pub ModulesEndLow : List (List ℕ) → List Place → ℕ → Type 0

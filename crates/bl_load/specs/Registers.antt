@@ -129,6 +129,6 @@ gdt_in (Bits32 r) = r.gdt_base
 gdt_in (Bits64 r) = r.gdt_base
 
 -- where the page tables stand: cr3; 32 bits are entered without
-abbrev pub tables_in : Registers → ℕ
-tables_in (Bits32 r) = 0
-tables_in (Bits64 r) = r.cr3
+abbrev pub page_tables_in : Registers → ℕ
+page_tables_in (Bits32 r) = 0
+page_tables_in (Bits64 r) = r.cr3

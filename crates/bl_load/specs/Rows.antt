@@ -8,7 +8,7 @@ use Rattle.bl_map.specs.NormalMap.{low_kib, high_kib}
 use Rattle.bl_map.specs.Limits.{frame_size, first_usable, max_size, high_start}
 use Rattle.bl_map.specs.PoolFrames.{round_up_to_frames}
 use Rattle.bl_mb2head.specs.declared.relocation.Relocation.{Relocation}
-use Rattle.bl_mbi.specs.InformationFacts.{ModuleInfo, InformationFacts, info_size}
+use Rattle.bl_mbi.specs.InfoToWriteFacts.{ModuleInfo, InfoToWriteFacts, info_size}
 use Rattle.bl_plan.specs.declared.part.Row.{Row}
 use Rattle.bl_plan.specs.declared.part.Place.{Place}
 use Rattle.bl_plan.specs.declared.part.Role.TheVariants.{Kernel, Module, Information}
@@ -16,9 +16,9 @@ use Rattle.bl_plan.specs.declared.part.Choice.{Choice}
 use Rattle.bl_plan.specs.declared.part.Choice.TheVariants.{Fixed, Lowest, Highest, Preferred}
 use Rattle.bl_load.specs.Addresses.{address_of}
 use Rattle.bl_load.specs.EntryValue.{EntryValue, module_file, initrd_file}
-use Rattle.bl_load.specs.Reading.{Reading, multiboot2, linux}
+use Rattle.bl_load.specs.KernelReading.{KernelReading, multiboot2, linux}
 use Rattle.bl_load.specs.LinuxRows.{linux_rows}
-use Rattle.bl_load.specs.Blocks.{low_of, span_of}
+use Rattle.bl_load.specs.KernelBlock.{low_of, span_of}
 
 -- segments at their own addresses, numbered from k on
 abbrev pub segment_rows : ℕ → List Segment → List Row
@@ -83,7 +83,7 @@ told_modules files places k (line ∷ lines) = record {
 -- what the information tells, where the parts have these places: the copies of the RSDP as they
 -- stand, the load base only with a relocatable tag
 abbrev pub information_of : MachineFacts → EntryValue → Option Relocation → List Place
-    → InformationFacts
+    → InfoToWriteFacts
 information_of facts value relocation places = record {
   line = value.line;
   modules = told_modules value.files places 0 value.module_lines;
@@ -106,7 +106,7 @@ information_row facts value relocation = record {
 }
 
 -- the rows of an entry, by what was read of its kernel
-abbrev pub rows_of : MachineFacts → EntryValue → Reading → List Row
+abbrev pub rows_of : MachineFacts → EntryValue → KernelReading → List Row
 rows_of facts value (multiboot2 kernel) =
     kernel_rows kernel.segments kernel.relocation
     ++ (module_rows value.files 0 value.module_lines

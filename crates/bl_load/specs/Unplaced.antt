@@ -11,7 +11,7 @@ use Rattle.bl_plan.specs.PlannerFacts.{put_in}
 use Rattle.bl_load.specs.declared.refusal.PrepFault.{PrepFault}
 use Rattle.bl_load.specs.declared.refusal.PrepFault.TheVariants as prep_fault
 use Rattle.bl_load.specs.Parts.{OrRefused}
-use Rattle.bl_load.specs.Reading.{Reading, IsRead, HasReadFault}
+use Rattle.bl_load.specs.KernelReading.{KernelReading, IsKernelReading, HasKernelFileFault}
 use Rattle.bl_load.specs.Rows.{rows_of}
 use Rattle.bl_load.specs.EntryValue.{EntryValue, lines_fault, lines_of}
 
@@ -41,13 +41,13 @@ IsUnplacedOf facts taken rows (Some which) = IsFirstUnplaced facts taken rows wh
 -- the entry's lines have no fault, its kernel is read, and this of its rows has no place
 pub record IsUnplaced (facts : MachineFacts) (value : EntryValue)
     (which : Option Row) : Type 0 where
-  pub reading : Reading
+  pub reading : KernelReading
   pub lines : lines_fault (lines_of value) ≡ None
-  pub read : IsRead facts value reading
+  pub read : IsKernelReading facts value reading
   pub is : IsUnplacedOf facts [] (rows_of facts value reading) which
 
 -- why no place is looked for: the first refusal of its lines and its kernel, or want of memory
-abbrev pub IsReadingFault : MachineFacts → EntryValue → PrepFault → Type 0
-IsReadingFault facts value (prep_fault.Refused refused) =
-    OrRefused (lines_fault (lines_of value)) (HasReadFault facts value) refused
-IsReadingFault facts value prep_fault.NoMemory = Unit {0}
+abbrev pub IsFaultBeforePlacing : MachineFacts → EntryValue → PrepFault → Type 0
+IsFaultBeforePlacing facts value (prep_fault.Refused refused) =
+    OrRefused (lines_fault (lines_of value)) (HasKernelFileFault facts value) refused
+IsFaultBeforePlacing facts value prep_fault.NoMemory = Unit {0}

@@ -1,6 +1,6 @@
 //! A file's bytes come into memory, which may hold the file.
 ghost use Rattle.std.specs.Prelude.{◌≡◌, ◌+◌, ◌<◌, ◌≤◌, length, slice_range};
-ghost use Rattle.bl_mem.specs.Files.{nth_file, AreAddressesBelow, IsBeside};
+ghost use Rattle.bl_mem.specs.Files.{nth_file, AreAddressesBelow, IsApartFrom};
 ghost use Rattle.bl_mem.specs.Memory.{overwrite, HasRoom, KeepsSizeAndRoom};
 
 use bl_mem::{FileSet, PhysMem};
@@ -22,7 +22,7 @@ fn copy_piece<M: PhysMem, F: FileSet>(
         ≤ length (nth_file (F.texts files.now (M.bytes memory.old)) file) }
     requires inside { at + length buffer.old ≤ length (M.bytes memory.old) }
     requires room { HasRoom (M.room memory.old) at (at + length buffer.old) }
-    requires beside { IsBeside (F.holds files.now) at (at + length buffer.old) }
+    requires beside { IsApartFrom (F.holds files.now) at (at + length buffer.old) }
     ensures after { M.bytes memory.new ≡ overwrite (M.bytes memory.old) at (slice_range
         (nth_file (F.texts files.now (M.bytes memory.old)) file)
         offset (offset + length buffer.old)) }
@@ -55,7 +55,7 @@ fn copy_by_pieces<M: PhysMem, F: FileSet>(
         ≤ length (nth_file (F.texts files.now (M.bytes memory.old)) file) }
     requires inside { at + count ≤ length (M.bytes memory.old) }
     requires room { HasRoom (M.room memory.old) at (at + count) }
-    requires beside { IsBeside (F.holds files.now) at (at + count) }
+    requires beside { IsApartFrom (F.holds files.now) at (at + count) }
     ensures after { M.bytes memory.new ≡ overwrite (M.bytes memory.old) at (slice_range
         (nth_file (F.texts files.now (M.bytes memory.old)) file) offset (offset + count)) }
     ensures texts { F.texts files.now (M.bytes memory.new)
@@ -87,7 +87,7 @@ fn write_lent<M: PhysMem, F: FileSet>(memory: &mut M, at: u64, files: &F, lent: 
     requires held { AreAddressesBelow (F.holds files.now) (length (M.bytes memory.old)) }
     requires inside { at + length lent.now ≤ length (M.bytes memory.old) }
     requires room { HasRoom (M.room memory.old) at (at + length lent.now) }
-    requires beside { IsBeside (F.holds files.now) at (at + length lent.now) }
+    requires beside { IsApartFrom (F.holds files.now) at (at + length lent.now) }
     ensures after { M.bytes memory.new ≡ overwrite (M.bytes memory.old) at lent.now }
     ensures texts { F.texts files.now (M.bytes memory.new)
         ≡ F.texts files.now (M.bytes memory.old) }
@@ -112,7 +112,7 @@ pub(crate) fn copy<M: PhysMem, F: FileSet>(
         ≤ length (nth_file (F.texts files.now (M.bytes memory.old)) file) }
     requires inside { at + count ≤ length (M.bytes memory.old) }
     requires room { HasRoom (M.room memory.old) at (at + count) }
-    requires beside { IsBeside (F.holds files.now) at (at + count) }
+    requires beside { IsApartFrom (F.holds files.now) at (at + count) }
     ensures after { M.bytes memory.new ≡ overwrite (M.bytes memory.old) at (slice_range
         (nth_file (F.texts files.now (M.bytes memory.old)) file) offset (offset + count)) }
     ensures texts { F.texts files.now (M.bytes memory.new)

@@ -4,7 +4,7 @@ ghost use Rattle.bl_load.specs.EntryValue.{file_count, IsRsdpCopy, IsWithinLimit
 ghost use Rattle.bl_load.specs.declared.entry.Entry.TheVariants.{Multiboot2, Linux};
 
 use bl_mem::Bytes;
-use bl_plan::{MAX_COPY, MAX_MODULES};
+use bl_plan::{MAX_MODULES, MAX_RSDP_LENGTH};
 use std::alloc::{AllocError, Allocator};
 
 /// A module of a Multiboot2 entry: a file of the menu, by its index, and the module's line.
@@ -54,7 +54,7 @@ fn is_copy<A: Allocator>(copy: &Option<Bytes<A>>) -> bool
     ensures { IsTrue result ↔ IfSome copy.now IsRsdpCopy }
 {
     match copy {
-        Some(bytes) => !bytes.is_empty() && bytes.len() <= MAX_COPY,
+        Some(bytes) => !bytes.is_empty() && bytes.len() <= MAX_RSDP_LENGTH,
         None => true,
     }
 }

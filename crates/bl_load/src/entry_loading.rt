@@ -3,9 +3,9 @@ ghost use Rattle.std.specs.Prelude.{◌≡◌, ℕ, ◌+◌, ◌≤◌, length, 
 ghost use Rattle.bl_mem.specs.Memory.{KeepsSizeAndRoom};
 ghost use Rattle.bl_plan.specs.Placed.{Covers};
 ghost use Rattle.bl_load.specs.EntryValue.{value_of, file_count, IsWithinLimits};
-ghost use Rattle.bl_load.specs.Handover.{written};
+ghost use Rattle.bl_load.specs.Handover.{overwrite_parts};
 ghost use Rattle.bl_load.specs.Parts.{IsHandover, IsPrepFault};
-ghost use Rattle.bl_load.specs.PlanFacts.{handover_in};
+ghost use Rattle.bl_load.specs.PlanContents.{handover_in};
 
 use crate::entry::Entry;
 use crate::handoff::Handoff;
@@ -42,7 +42,7 @@ pub fn load_entry<A: Allocator + Copy, M: PhysMem, V: ByteView>(
 
     // Memory is what it was, with those parts written into it; by address: all that no part covers
     // is as it was.
-    ensures after { IfOk result (λ handoff. M.bytes memory.new ≡ written
+    ensures after { IfOk result (λ handoff. M.bytes memory.new ≡ overwrite_parts
         (handover_in (M.bytes memory.new) handoff.protocol handoff.registers handoff.places).parts
         (M.bytes memory.old)) }
     ensures elsewhere { IfOk result (λ handoff. (a : ℕ)

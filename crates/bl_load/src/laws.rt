@@ -8,7 +8,7 @@ ghost use Rattle.bl_load.specs.EntryValue.{EntryValue};
 ghost use Rattle.bl_load.specs.Handover.{Handover, end_of};
 ghost use Rattle.bl_load.specs.Parts.{IsHandover, IsRefusal};
 ghost use Rattle.bl_load.specs.Legal.{IsLegal};
-ghost use Rattle.bl_load.specs.Reading.{Reading, IsRead};
+ghost use Rattle.bl_load.specs.KernelReading.{KernelReading, IsKernelReading};
 ghost use Rattle.bl_load.specs.Rows.{rows_of};
 
 /// Equal facts and equal values give one handover, or one first refusal, and never both: nothing
@@ -40,7 +40,7 @@ pub fn handovers_are_legal()
 /// role, index and length, so that each row's part stands once among them.
 pub fn parts_are_of_the_rows()
     ensures { (facts : MachineFacts) (value : EntryValue) (h : Handover)
-        → IsHandover facts value h → (reading : Reading) × IsRead facts value reading
+        → IsHandover facts value h → (reading : KernelReading) × IsKernelReading facts value reading
         × ((p : Role → ℕ → ℕ → Bool)
         → count_by (λ part. p part.role part.index (length part.bytes)) h.parts
         ≡ count_by (λ row. p row.role row.index row.length) (rows_of facts value reading)) }

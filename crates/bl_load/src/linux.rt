@@ -1,12 +1,12 @@
 //! A Linux entry.
 ghost use Rattle.std.specs.Prelude.{◌≡◌, ◌≤◌, true, IfOk, IfErr, length, map};
-ghost use Rattle.bl_load.specs.Reading.{linux};
+ghost use Rattle.bl_load.specs.KernelReading.{linux};
 ghost use Rattle.bl_load.specs.EntryValue.{linux_value};
 ghost use Rattle.bl_load.specs.Protocols.{has_params};
 ghost use Rattle.bl_load.specs.Parts.{IsHandover, IsPrepFault};
-ghost use Rattle.bl_load.specs.PlanFacts.{handover_by};
+ghost use Rattle.bl_load.specs.PlanContents.{handover_by};
 ghost use Rattle.bl_load.specs.Loadable.{lengths_of, IsLoadable, IsLean};
-ghost use Rattle.bl_load.specs.Unplaced.{IsUnplaced, IsReadingFault};
+ghost use Rattle.bl_load.specs.Unplaced.{IsUnplaced, IsFaultBeforePlacing};
 
 use crate::addresses::address_of;
 use crate::checked_entry::CheckedEntry;
@@ -14,13 +14,13 @@ use crate::line_checks::check_line;
 use crate::linux::contents::linux_content;
 use crate::linux::kernel::{ENTRY_64, read_linux};
 use crate::linux::rows::linux_rows;
+use crate::loadable_kernel::LoadableKernel;
 use crate::placing::plan_parts;
 use crate::plan::{Content, Plan};
-use crate::reading::ReadKernel;
 use crate::refusal::PrepFault;
 use crate::registers::{Registers, linux_registers};
 use crate::registers64::linux64_registers;
-use crate::searching::unplaced_part;
+use crate::unplaced_row::unplaced_part;
 use bl_bzimage::Setup;
 use bl_map::Machine;
 use bl_mem::ByteView;
@@ -31,7 +31,7 @@ mod contents;
 mod kernel;
 mod rows;
 
-impl ReadKernel for Setup {
+impl LoadableKernel for Setup {
     ghost reading = { λ setup. linux setup };
 
     fn rows<A: Allocator + Copy, V: ByteView>(
@@ -120,7 +120,7 @@ pub(crate) fn unplaced<A: Allocator + Copy, V: ByteView>(
     requires files { 1 ≤ length files.now }
     ensures which { IfOk result (IsUnplaced machine.now
         (linux_value protocol (map V.bytes files.now) line.now)) }
-    ensures fault { IfErr result (IsReadingFault machine.now
+    ensures fault { IfErr result (IsFaultBeforePlacing machine.now
         (linux_value protocol (map V.bytes files.now) line.now)) }
 {
     check_line(line)?;

@@ -1,17 +1,17 @@
 //! The parts of a plan come into memory.
 ghost use Rattle.std.specs.Prelude.{◌≡◌, ℕ, ◌+◌, ◌-◌, ◌<◌, ◌≤◌, length, map, slice_index, All};
-ghost use Rattle.bl_mem.specs.Files.{AreAddressesBelow, IsBeside, AllBeside};
+ghost use Rattle.bl_mem.specs.Files.{AreAddressesBelow, IsApartFrom, AllApartFrom};
 ghost use Rattle.bl_mem.specs.Memory.{overwrite, HasRoom, AllHaveRoom, KeepsSizeAndRoom};
 ghost use Rattle.bl_plan.specs.Placed.{Covers, place_range};
-ghost use Rattle.bl_load.specs.Handover.{written};
-ghost use Rattle.bl_load.specs.PlanFacts.{content_by, bytes_by, part_by, handover_by};
-ghost use Rattle.bl_load.specs.PlanFacts.{handover_in, places_of};
+ghost use Rattle.bl_load.specs.Handover.{overwrite_parts};
+ghost use Rattle.bl_load.specs.PlanContents.{content_by, bytes_by, part_by, handover_by};
+ghost use Rattle.bl_load.specs.PlanContents.{handover_in, places_of};
 ghost use Rattle.bl_load.specs.Kept.{CanLoad};
 ghost use Rattle.bl_load.specs.Loadable.{lengths_of, content_length, IsInFiles, IsLoadable};
 
-use crate::blocks::load_block;
 use crate::copying::copy;
 use crate::handoff::Handoff;
+use crate::kernel_block::load_block;
 use crate::plan::{Content, Plan, PlannedPart};
 use bl_mem::{FileSet, PhysMem};
 use std::alloc::Allocator;
@@ -27,7 +27,7 @@ fn load_content<M: PhysMem, F: FileSet, A: Allocator>(
     requires there { IsInFiles (lengths_of (F.texts files.now (M.bytes memory.old))) content.now }
     requires inside { at + content_length content.now ≤ length (M.bytes memory.old) }
     requires room { HasRoom (M.room memory.old) at (at + content_length content.now) }
-    requires beside { IsBeside (F.holds files.now) at (at + content_length content.now) }
+    requires beside { IsApartFrom (F.holds files.now) at (at + content_length content.now) }
     ensures count { result ≡ content_length content.now }
     ensures after { M.bytes memory.new ≡ overwrite (M.bytes memory.old) at
         (content_by (F.texts files.now (M.bytes memory.old)) content.now) }
@@ -82,7 +82,7 @@ fn load_parts<M: PhysMem, F: FileSet, A: Allocator>(
     requires held { AreAddressesBelow (F.holds files.now) (length (M.bytes memory.old)) }
     requires can { All (CanLoad (lengths_of (F.texts files.now (M.bytes memory.old)))
         (length (M.bytes memory.old)) (M.room memory.old) (F.holds files.now)) parts.now }
-    ensures after { M.bytes memory.new ≡ written
+    ensures after { M.bytes memory.new ≡ overwrite_parts
         (map (part_by (F.texts files.now (M.bytes memory.old))) parts.now)
         (M.bytes memory.old) }
     ensures texts { F.texts files.now (M.bytes memory.new)
@@ -111,8 +111,8 @@ pub fn load<M: PhysMem, F: FileSet, A: Allocator>(
     requires loadable { IsLoadable (lengths_of (F.texts files.now (M.bytes memory.old)))
         (length (M.bytes memory.old)) plan }
     requires room { AllHaveRoom (M.room memory.old) (map place_range (places_of plan)) }
-    requires beside { AllBeside (F.holds files.now) (map place_range (places_of plan)) }
-    ensures after { M.bytes memory.new ≡ written
+    requires beside { AllApartFrom (F.holds files.now) (map place_range (places_of plan)) }
+    ensures after { M.bytes memory.new ≡ overwrite_parts
         (handover_by (F.texts files.now (M.bytes memory.old)) plan).parts (M.bytes memory.old) }
     ensures protocol { result.protocol ≡ plan.protocol }
     ensures registers { result.registers ≡ plan.registers }

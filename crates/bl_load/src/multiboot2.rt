@@ -1,30 +1,30 @@
 //! A Multiboot2 entry.
 ghost use Rattle.std.specs.Prelude.{◌≡◌, ◌≤◌, ◌<◌, ◌+◌, ◌^◌, IfOk, IfErr, IfSome, length, map};
-ghost use Rattle.bl_load.specs.Blocks as blocks;
-ghost use Rattle.bl_load.specs.KernelKept.{kernel_by};
-ghost use Rattle.bl_load.specs.Reading.{multiboot2};
+ghost use Rattle.bl_load.specs.KernelBlock as blocks;
+ghost use Rattle.bl_load.specs.Multiboot2KernelKept.{kernel_by};
+ghost use Rattle.bl_load.specs.KernelReading.{multiboot2};
 ghost use Rattle.bl_load.specs.EntryValue.{multiboot2_value, IsRsdpCopy};
 ghost use Rattle.bl_load.specs.Parts as parts;
 ghost use Rattle.bl_load.specs.Parts.{IsHandover, IsPrepFault};
-ghost use Rattle.bl_load.specs.PlanFacts.{handover_by};
+ghost use Rattle.bl_load.specs.PlanContents.{handover_by};
 ghost use Rattle.bl_load.specs.Kept.{lines_by};
 ghost use Rattle.bl_load.specs.Loadable.{lengths_of, IsLoadable, IsLean};
-ghost use Rattle.bl_load.specs.Unplaced.{IsUnplaced, IsReadingFault};
+ghost use Rattle.bl_load.specs.Unplaced.{IsUnplaced, IsFaultBeforePlacing};
 ghost use Rattle.bl_plan.specs.MenuLimits.{max_modules};
 
 use crate::addresses::address_of;
 use crate::checked_entry::{CheckedEntry, Rsdps};
 use crate::entry::Module;
 use crate::line_checks::check_lines;
+use crate::loadable_kernel::LoadableKernel;
 use crate::multiboot2::contents::multiboot2_content;
 use crate::multiboot2::kernel::{Kernel, read_kernel};
 use crate::multiboot2::rows::{low_of, multiboot2_rows};
 use crate::placing::plan_parts;
 use crate::plan::{Content, Plan};
-use crate::reading::ReadKernel;
 use crate::refusal::PrepFault;
 use crate::registers::{Registers, multiboot2_registers};
-use crate::searching::unplaced_part;
+use crate::unplaced_row::unplaced_part;
 use bl_map::Machine;
 use bl_mem::ByteView;
 use bl_plan::{Place, Protocol, Role, Row};
@@ -48,7 +48,7 @@ fn entered_at<A: Allocator>(kernel: &Kernel<A>, base: u64) -> u64
     }
 }
 
-impl<B: Allocator> ReadKernel for Kernel<B> {
+impl<B: Allocator> LoadableKernel for Kernel<B> {
     ghost reading = { λ kernel. multiboot2 (kernel_by kernel) };
 
     fn rows<A: Allocator + Copy, V: ByteView>(
@@ -133,7 +133,7 @@ pub(crate) fn unplaced<A: Allocator + Copy, V: ByteView>(
     ensures which { IfOk result (IsUnplaced machine.now
         (multiboot2_value (map V.bytes files.now) line.now (lines_by modules.now) rsdps.now.old.now
         rsdps.now.new.now)) }
-    ensures fault { IfErr result (IsReadingFault machine.now
+    ensures fault { IfErr result (IsFaultBeforePlacing machine.now
         (multiboot2_value (map V.bytes files.now) line.now (lines_by modules.now) rsdps.now.old.now
         rsdps.now.new.now)) }
 {

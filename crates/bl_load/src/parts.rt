@@ -1,32 +1,32 @@
 //! The parts of an entry, at their places.
 ghost use Rattle.std.specs.Prelude.{◌≡◌, ◌≤◌, ◌^◌, All, IfOk, map};
 ghost use Rattle.bl_load.specs.Parts.{part_from};
-ghost use Rattle.bl_load.specs.Place.{planned_place};
-ghost use Rattle.bl_load.specs.PlanFacts.{part_by};
+ghost use Rattle.bl_load.specs.PlannedPlaceKept.{planned_place};
+ghost use Rattle.bl_load.specs.PlanContents.{part_by};
 ghost use Rattle.bl_load.specs.Loadable.{lengths_of, IsBacked, IsLean};
-ghost use Rattle.bl_load.specs.PlacingKept.{IsRowed, EndsLow};
-ghost use Rattle.bl_load.specs.ReadKept.{FitsTold};
-ghost use Rattle.bl_load.specs.CheckedEntryKept.{texts_in, value_of_files, IsReady};
+ghost use Rattle.bl_load.specs.PlacingKept.{HasRowLength, EndsLow};
+ghost use Rattle.bl_load.specs.KernelReadingKept.{FitsTold};
+ghost use Rattle.bl_load.specs.CheckedEntryKept.{texts_in, value_of_files, IsReadWithFiles};
 
 use crate::checked_entry::CheckedEntry;
+use crate::loadable_kernel::LoadableKernel;
 use crate::plan::PlannedPart;
-use crate::reading::ReadKernel;
 use bl_mem::ByteView;
 use bl_plan::Place;
 use std::alloc::{AllocError, Allocator};
 
 /// The parts at these places, in this order.
-pub fn parts_at<A: Allocator + Copy, V: ByteView, K: ReadKernel>(
+pub fn parts_at<A: Allocator + Copy, V: ByteView, K: LoadableKernel>(
     alloc: A,
     entry: &CheckedEntry<'_, A, V>,
     kernel: &K,
     places: &[Place],
     sorted: &[Place],
 ) -> Result<Vec<PlannedPart<A>, A>, AllocError>
-    requires ready { IsReady entry.now (K.reading kernel.now) }
+    requires ready { IsReadWithFiles entry.now (K.reading kernel.now) }
     requires fits { FitsTold (value_of_files entry.now) (K.reading kernel.now) places.now }
     requires low { All EndsLow places.now }
-    requires rowed { All (IsRowed entry.now.machine.now (value_of_files entry.now)
+    requires rowed { All (HasRowLength entry.now.machine.now (value_of_files entry.now)
         (K.reading kernel.now)) sorted.now }
     requires small { All (λ place. place.length ≤ 2 ^ 32) sorted.now }
     ensures parts { IfOk result (λ parts. map (part_by (texts_in entry.now)) parts.items

@@ -5,15 +5,15 @@ ghost use Rattle.bl_plan.specs.Placed.{place_range};
 ghost use Rattle.bl_plan.specs.declared.fault.PlanFault.TheVariants.{Overlap};
 ghost use Rattle.bl_load.specs.PlacingKept as kept;
 ghost use Rattle.bl_load.specs.PlacingKept.{IsPlacedHandover, IsPlaceFault};
-ghost use Rattle.bl_load.specs.Place.{planned_place};
-ghost use Rattle.bl_load.specs.PlanFacts.{handover_by};
+ghost use Rattle.bl_load.specs.PlannedPlaceKept.{planned_place};
+ghost use Rattle.bl_load.specs.PlanContents.{handover_by};
 ghost use Rattle.bl_load.specs.Loadable.{lengths_of, IsLoadable, IsLean};
-ghost use Rattle.bl_load.specs.CheckedEntryKept.{texts_in, value_of_files, IsReady};
+ghost use Rattle.bl_load.specs.CheckedEntryKept.{texts_in, value_of_files, IsReadWithFiles};
 
 use crate::checked_entry::CheckedEntry;
+use crate::loadable_kernel::LoadableKernel;
 use crate::parts::parts_at;
 use crate::plan::{Plan, PlannedPart};
-use crate::reading::ReadKernel;
 use crate::refusal::{PrepFault, Refusal};
 use bl_mem::ByteView;
 use bl_plan::{PlanFault, in_order, place_rows};
@@ -49,12 +49,12 @@ fn ranges_of<A: Allocator + Copy>(
 }
 
 /// The parts of an entry whose kernel was read, at their places, or the first fault of placing.
-pub fn plan_parts<A: Allocator + Copy, V: ByteView, K: ReadKernel>(
+pub fn plan_parts<A: Allocator + Copy, V: ByteView, K: LoadableKernel>(
     alloc: A,
     entry: &CheckedEntry<'_, A, V>,
     kernel: &K,
 ) -> Result<Plan<A>, PrepFault>
-    requires { IsReady entry.now (K.reading kernel.now) }
+    requires { IsReadWithFiles entry.now (K.reading kernel.now) }
     ensures handover { IfOk result (λ plan. IsPlacedHandover entry.now.machine.now
         (value_of_files entry.now) (K.reading kernel.now) (handover_by (texts_in entry.now) plan)) }
     ensures loadable { IfOk result (λ plan. IsLoadable

@@ -1,7 +1,7 @@
 //! What is going to be loaded.
 ghost use Rattle.std.specs.Prelude.{◌≡◌, map};
 ghost use Rattle.bl_plan.specs.Placed.{place_range};
-ghost use Rattle.bl_load.specs.Place.{planned_place};
+ghost use Rattle.bl_load.specs.PlannedPlaceKept.{planned_place};
 
 use crate::registers::Registers;
 use bl_mem::{Bytes, Segment};
@@ -50,7 +50,7 @@ pub struct Plan<A: Allocator> {
 impl<A: Allocator> Plan<A> {
     ghost use Rattle.std.specs.Prelude.{◌≡◌, map};
     ghost use Rattle.bl_plan.specs.Placed.{place_range};
-    ghost use Rattle.bl_load.specs.PlanFacts.{places_of};
+    ghost use Rattle.bl_load.specs.PlanContents.{places_of};
 
     /// The ranges of the parts, in address order.
     pub fn ranges(&self) -> &[Range<u64>]

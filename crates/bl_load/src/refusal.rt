@@ -1,6 +1,6 @@
 //! Why an entry is not booted.
 ghost use Rattle.std.specs.Prelude.{◌≡◌};
-ghost use Rattle.bl_load.specs.Numbers as numbers;
+ghost use Rattle.bl_load.specs.RefusalNumbers as numbers;
 ghost use Rattle.bl_load.specs.declared.refusal.PrepFault.TheVariants.{Refused, NoMemory};
 
 use std::alloc::{AllocError, AllocFailed};

@@ -7,7 +7,7 @@ use Rattle.std.proofs.lemmas.List.Folds.{list_all_at}
 use Rattle.std.proofs.lemmas.List.Sums.{list_all-from_AllPass}
 use Rattle.std.specs.declared.ops.Range.{Range}
 use Rattle.std.specs.Prelude.{max}
-use Rattle.bl_map.specs.Kept.{AreMet}
+use Rattle.bl_map.specs.Kept.{AreFramesMet}
 use Rattle.bl_map.specs.PoolFrames.{frames_in, misses_frame, is_open, open_among, AreAscending}
 
 -- frames of which each is open are counted
@@ -69,7 +69,7 @@ module _ (pool : Range ℕ) (ranges : List (Range ℕ)) (ascend : AreAscending r
             ]
       ])
 
-  module _ (d met : Range ℕ) (is : AreMet pool (get_or ranges k d) met) (later : ℕ) where
+  module _ (d met : Range ℕ) (is : AreFramesMet pool (get_or ranges k d) met) (later : ℕ) where
     -- the frames that the k-th range decides: those before it are open, and those that it meets are
     -- not
     pub counted : (n total : ℕ) → next ≤ frames_in pool → n ≡ open_among ranges pool.start next

@@ -9,7 +9,7 @@ use Rattle.bl_map.specs.declared.kind.Kind.{Kind}
 use Rattle.bl_map.specs.declared.region.Region.{Region}
 use Rattle.bl_map.specs.Kinds.{kind_number}
 use Rattle.bl_map.specs.NormalMap.{region_end, kind_at, ComesBefore, AreRuns, IsNormalMap}
-use Rattle.bl_map.specs.Faults.{IsLowRegion}
+use Rattle.bl_map.specs.Faults.{HasAllowedEnd}
 use Rattle.bl_map.proofs.KindLemmas.{held, not_held_before, number_in, number_in-held}
 use Rattle.bl_map.proofs.KindLemmas.{number_in-not_held, kind_at-push, none_behind, number_positive}
 
@@ -78,7 +78,7 @@ abbrev pub run_of : ℕ → ℕ → Kind → Region
 run_of at end kind = record { base = at; length = end - at; kind = kind }
 
 module _ (regions runs : List Region) (at end : ℕ) (kind : Kind)
-    (low : All IsLowRegion regions) (upto : IsMapUpto regions runs at)
+    (low : All HasAllowedEnd regions) (upto : IsMapUpto regions runs at)
     (run : IsRunEnd regions at end)
     (is : kind_number kind ≡ kind_at regions at) where
   end_is : region_end (run_of at end kind) ≡ end
@@ -140,7 +140,7 @@ module _ (regions runs : List Region) (at end : ℕ) (kind : Kind)
         same_kinds = kinds_after;
       }
 
-pub upto_all : (regions runs : List Region) (at : ℕ) → All IsLowRegion regions
+pub upto_all : (regions runs : List Region) (at : ℕ) → All HasAllowedEnd regions
     → IsMapUpto regions runs at
     → 2 ^ 52 ≤ at → IsNormalMap regions runs
 upto_all regions runs at low upto over =

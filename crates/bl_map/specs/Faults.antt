@@ -17,8 +17,8 @@ map_fault_number BadPool = 4
 map_fault_number NoMemory = 5
 
 -- a region ends at most at 2^52
-abbrev pub IsLowRegion : Region → Type 0
-IsLowRegion region = region_end region ≤ max_region_end
+abbrev pub HasAllowedEnd : Region → Type 0
+HasAllowedEnd region = region_end region ≤ max_region_end
 
 -- the first fault of a machine, in the order of these lines; memory may run out at any growth
 abbrev pub HasFirstMapFault : ℕ → List Region → Range ℕ → MapFault → Type 0
@@ -26,10 +26,10 @@ HasFirstMapFault size regions pool BadSize = ¬ IsSize size
 HasFirstMapFault size regions pool TooManyRegions = IsSize size × (max_regions < length regions)
 HasFirstMapFault size regions pool (BadRegion i) =
     IsSize size × (length regions ≤ max_regions) × (i < length regions)
-    × All IsLowRegion (take i regions)
-    × IfSome (slice_get regions i) (λ region. ¬ IsLowRegion region)
+    × All HasAllowedEnd (take i regions)
+    × IfSome (slice_get regions i) (λ region. ¬ HasAllowedEnd region)
 HasFirstMapFault size regions pool BadPool =
-    IsSize size × (length regions ≤ max_regions) × All IsLowRegion regions
+    IsSize size × (length regions ≤ max_regions) × All HasAllowedEnd regions
     × (¬ IsPool regions size pool)
 HasFirstMapFault size regions pool NoMemory = Unit {0}
 
@@ -37,5 +37,5 @@ HasFirstMapFault size regions pool NoMemory = Unit {0}
 pub record IsAccepted (size : ℕ) (regions : List Region) (pool : Range ℕ) : Type 0 where
   pub size_is : IsSize size
   pub few : length regions ≤ max_regions
-  pub low : All IsLowRegion regions
+  pub low : All HasAllowedEnd regions
   pub pool_is : IsPool regions size pool

@@ -6,7 +6,7 @@ use Rattle.bl_map.specs.PoolFrames.{frames_in, misses_frame}
 
 -- of a pool's frames a range meets those with these numbers, from 0 on; each before them ends
 -- before the range begins
-pub record AreMet (pool range met : Range ℕ) : Type 0 where
+pub record AreFramesMet (pool range met : Range ℕ) : Type 0 where
   pub forward : met.start ≤ met.end
   pub within : met.end ≤ frames_in pool
   pub before : (i : ℕ) → i < met.start → pool.start + frame_size * i + frame_size ≤ range.start

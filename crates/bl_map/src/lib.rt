@@ -6,10 +6,10 @@ mod kind;
 mod laws;
 mod limits;
 mod machine;
+mod normalization;
 mod pool_frames;
 mod region;
 mod rules;
-mod sweep;
 
 pub use fault::MapFault;
 pub use kind::Kind;

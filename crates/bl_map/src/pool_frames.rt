@@ -1,6 +1,6 @@
 //! Whether the pool has frames enough beside the parts.
 ghost use Rattle.std.specs.Prelude.{◌≡◌, ◌≤◌, ◌<◌, ◌+◌, ◌*◌, ◌^◌, length};
-ghost use Rattle.bl_map.specs.Kept.{AreMet};
+ghost use Rattle.bl_map.specs.Kept.{AreFramesMet};
 ghost use Rattle.bl_map.specs.PoolFrames as spec;
 
 use crate::limits::FRAME_SIZE;
@@ -34,7 +34,7 @@ pub fn frames_in(pool: &Range<u64>) -> u64
 fn frames_met(pool: &Range<u64>, range: &Range<u64>) -> Range<u64>
     requires pool { pool.now.start ≤ pool.now.end }
     requires range { range.now.start ≤ range.now.end }
-    ensures { AreMet pool.now range.now result }
+    ensures { AreFramesMet pool.now range.now result }
 {
     let frames = frames_in(pool);
     let first = (range.start.saturating_sub(pool.start) / FRAME_SIZE).min(frames);

@@ -24,7 +24,7 @@ impl Region {
     }
 
     /// Whether the region ends at most at 2^52.
-    pub(crate) fn is_low(&self) -> bool
+    pub(crate) fn has_allowed_end(&self) -> bool
         ensures { MatchBool result (IsLowRegion self.now) (¬ IsLowRegion self.now) }
     {
         self.base <= MAX_REGION_END && self.length <= MAX_REGION_END - self.base

@@ -2,13 +2,13 @@
 ghost use Rattle.std.specs.Prelude.{◌≡◌, ℕ, ◌<◌, ◌≤◌, All, IfSome, MatchBool, MatchOption, length};
 ghost use Rattle.std.specs.Prelude.{slice_get, take};
 ghost use Rattle.bl_map.specs.MachineFacts.{IsPool, IsSize, IsUsableAmong};
-ghost use Rattle.bl_map.specs.Faults.{IsLowRegion};
+ghost use Rattle.bl_map.specs.Faults.{HasAllowedEnd};
 ghost use Rattle.bl_map.specs.NormalMap as normal_map;
 
 use crate::kind::Kind;
 use crate::limits::{FIRST_USABLE, FRAME_SIZE, MAX_SIZE, MIN_SIZE, USABLE_LIMIT};
+use crate::normalization::{greatest_kind, run_end};
 use crate::region::Region;
-use crate::sweep::{greatest_kind, run_end};
 use std::ops::Range;
 
 /// Whether this is 1 MiB to 4 GiB in whole frames.
@@ -21,13 +21,13 @@ pub fn is_size(size: u64) -> bool
 /// The first region that ends above 2^52.
 pub fn first_high(regions: &[Region]) -> Option<usize>
     ensures { MatchOption result
-        (All IsLowRegion regions.now)
+        (All HasAllowedEnd regions.now)
         (λ i. (i < length regions.now)
-        × All IsLowRegion (take i regions.now)
-        × IfSome (slice_get regions.now i) (λ region. ¬ IsLowRegion region)) }
+        × All HasAllowedEnd (take i regions.now)
+        × IfSome (slice_get regions.now i) (λ region. ¬ HasAllowedEnd region)) }
 {
     for (i, region) in regions.iter().enumerate() {
-        if !region.is_low() {
+        if !region.has_allowed_end() {
             return Some(i);
         }
     }
@@ -37,7 +37,7 @@ pub fn first_high(regions: &[Region]) -> Option<usize>
 /// Whether each byte from `start` up to `end` is usable in a machine of this size and these
 /// regions.
 pub fn is_usable_among(regions: &[Region], size: u64, start: u64, end: u64) -> bool
-    requires low { All IsLowRegion regions.now }
+    requires low { All HasAllowedEnd regions.now }
     requires size { size ≤ MAX_SIZE }
     requires forward { start ≤ end }
     ensures { MatchBool result
@@ -58,7 +58,7 @@ pub fn is_usable_among(regions: &[Region], size: u64, start: u64, end: u64) -> b
 
 /// Whether the pool is whole usable frames, perhaps none.
 pub fn is_pool(regions: &[Region], size: u64, pool: &Range<u64>) -> bool
-    requires low { All IsLowRegion regions.now }
+    requires low { All HasAllowedEnd regions.now }
     requires size { size ≤ MAX_SIZE }
     ensures { MatchBool result
         (IsPool regions.now size pool.now)
@@ -72,7 +72,7 @@ pub fn is_pool(regions: &[Region], size: u64, pool: &Range<u64>) -> bool
 
 /// Where the run of usable memory ends that holds an address, 0 where there is none.
 pub fn usable_end(runs: &[Region], a: u64) -> u64
-    requires low { All IsLowRegion runs.now }
+    requires low { All HasAllowedEnd runs.now }
     ensures { result ≡ normal_map.usable_end runs.now a }
 {
     for run in runs {

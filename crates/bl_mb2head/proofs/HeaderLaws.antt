@@ -15,9 +15,10 @@ use Rattle.bl_mb2head.specs.declared.header.Header.{Header}
 use Rattle.bl_mb2head.specs.declared.relocation.Relocation.{Relocation}
 use Rattle.bl_mb2head.specs.declared.tag.Tag.{Tag}
 use Rattle.bl_mb2head.specs.Address.{address_fault, address_segment}
-use Rattle.bl_mb2head.specs.Place.{IsHeaderAt}
+use Rattle.bl_mb2head.specs.HeaderPlace.{IsHeaderAt}
 use Rattle.bl_mb2head.specs.Tags.{AreAllTags, IsFirstTagFault, last_of}
-use Rattle.bl_mb2head.specs.Header.{tags_end, is_cut, architecture_at, entry_address_of, relocation_of}
+use Rattle.bl_mb2head.specs.Header.{tags_end, is_cut, architecture_at, entry_address_of}
+use Rattle.bl_mb2head.specs.Header.{relocation_of}
 use Rattle.bl_mb2head.specs.Header.{BeginsAt, IsAddressFault, IsHeader, HasFirstHeadFault}
 use Rattle.bl_mb2head.proofs.TagLaws as tags
 

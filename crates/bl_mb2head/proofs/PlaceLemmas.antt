@@ -1,7 +1,7 @@
 -- A step of the scan for a header.
 use Rattle.std.proofs.Common.{◌≡◌, ◌≤◌, ◌+◌, ◌%◌, ℕ, List, arith, subst, inl, inr}
 use Rattle.std.proofs.lemmas.Bool.{cases_lt}
-use Rattle.bl_mb2head.specs.Place.{IsHeaderAt}
+use Rattle.bl_mb2head.specs.HeaderPlace.{IsHeaderAt}
 
 -- where no header stands at a multiple of 8 or before it, none stands before the next multiple
 pub none_before_next : (bytes : List ℕ) (at : ℕ) → at % 8 ≡ 0 → (IsHeaderAt bytes at → ⊥)

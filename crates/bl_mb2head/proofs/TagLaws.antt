@@ -5,7 +5,8 @@ use Rattle.std.proofs.lemmas.Option.{same_Some}
 use Rattle.bl_mem.specs.LittleEndian.{u16_at}
 use Rattle.bl_mb2head.specs.declared.tag.Tag.{Tag}
 use Rattle.bl_mb2head.specs.declared.fault.HeadFault.{HeadFault}
-use Rattle.bl_mb2head.specs.Tags.{after, tag_fault_at, AreTags, AreAllTags, IsFirstTagFault}
+use Rattle.bl_mb2head.specs.Tags.{next_tag_place, tag_fault_at, AreTags, AreAllTags}
+use Rattle.bl_mb2head.specs.Tags.{IsFirstTagFault}
 
 -- a place at which no further tag is passed: that of the last tag, or of one with a fault
 abbrev pub Stops : List ℕ → ℕ → ℕ → Type 0
@@ -27,9 +28,9 @@ same_run bytes end at p q (t ∷ ts) [] a b p_stops q_stops =
     let bad : nat_eq 0 0 ≡ false = subst (λ (k : ℕ). nat_eq k 0 ≡ false) ends a.2 in absurd cc
 same_run bytes end at p q (t ∷ ts) (u ∷ us) a b p_stops q_stops =
     let same : u ≡ t = b.0 ∙ sym a.0 in
-    let rest : AreTags bytes end (after t) q us =
-    subst (λ (s : Tag). AreTags bytes end (after s) q us) same b.3 in
-    let behind = same_run bytes end (after t) p q ts us a.3 rest p_stops q_stops in
+    let rest : AreTags bytes end (next_tag_place t) q us =
+    subst (λ (s : Tag). AreTags bytes end (next_tag_place s) q us) same b.3 in
+    let behind = same_run bytes end (next_tag_place t) p q ts us a.3 rest p_stops q_stops in
     (behind.0, ap₂ (λ (x : Tag) (xs : List Tag). x ∷ xs) (sym same) behind.1)
 
 stops_at_fault : (bytes : List ℕ) (end p : ℕ) (f : HeadFault) → tag_fault_at bytes end p ≡ Some f

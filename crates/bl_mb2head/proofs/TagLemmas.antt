@@ -5,7 +5,8 @@ use Rattle.std.specs.List.{find}
 use Rattle.std.proofs.lemmas.Bool.Decides.{nat_tests}
 use Rattle.bl_mem.specs.LittleEndian.{u32_at}
 use Rattle.bl_mb2head.specs.declared.tag.Tag.{Tag}
-use Rattle.bl_mb2head.specs.Tags.{tag_at, after, words_at, can_be_given, tag_fault_at, AreTags}
+use Rattle.bl_mb2head.specs.Tags.{tag_at, next_tag_place, words_at, can_be_given, tag_fault_at}
+use Rattle.bl_mb2head.specs.Tags.{AreTags}
 
 -- the words from the i-th on are the i-th and those from the next on
 words_from : (bytes : List ℕ) (at count i : ℕ) → i < count
@@ -33,7 +34,7 @@ unknown_from bytes at count i lt known = rw (words_from bytes at count i lt, kno
 
 push : (bytes : List ℕ) (end at next : ℕ) (ts : List Tag) (t : Tag) → AreTags bytes end at next ts
     → t ≡ tag_at bytes next → tag_fault_at bytes end next ≡ None → nat_eq t.kind 0 ≡ false
-    → AreTags bytes end at (after t) (ts ++ t ∷ [])
+    → AreTags bytes end at (next_tag_place t) (ts ++ t ∷ [])
 push bytes end at next [] t tags is sound more = (
   subst (λ (p : ℕ). t ≡ tag_at bytes p) (sym tags) is,
   subst (λ (p : ℕ). tag_fault_at bytes end p ≡ None) (sym tags) sound,
@@ -41,7 +42,7 @@ push bytes end at next [] t tags is sound more = (
   refl,
 )
 push bytes end at next (s ∷ ts) t tags is sound more =
-    (tags.0, tags.1, tags.2, push bytes end (after s) next ts t tags.3 is sound more)
+    (tags.0, tags.1, tags.2, push bytes end (next_tag_place s) next ts t tags.3 is sound more)
 
 -- one more tag after the tags up to a place
 pub AreTags-push : (bytes : List ℕ) (end at next : ℕ) (ts : List Tag) (t : Tag)

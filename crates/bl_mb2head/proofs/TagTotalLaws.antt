@@ -6,7 +6,7 @@ use Rattle.std.proofs.lemmas.Bool.Decides.{nat_tests}
 use Rattle.bl_mem.specs.LittleEndian.{u16_at, u32_at}
 use Rattle.bl_mb2head.specs.declared.fault.HeadFault.{HeadFault}
 use Rattle.bl_mb2head.specs.declared.tag.Tag.{Tag}
-use Rattle.bl_mb2head.specs.Tags.{tag_at, after, is_well_formed, tag_fault_at, AreAllTags}
+use Rattle.bl_mb2head.specs.Tags.{tag_at, next_tag_place, is_well_formed, tag_fault_at, AreAllTags}
 use Rattle.bl_mb2head.specs.Tags.{IsFirstTagFault}
 
 pub some_or_none : (fault : Option HeadFault)
@@ -36,7 +36,7 @@ Tagged bytes end at =
     ⊎ ((fault : HeadFault) × IsFirstTagFault bytes end at fault)
 
 one_more : (bytes : List ℕ) (end at : ℕ) → tag_fault_at bytes end at ≡ None
-    → nat_eq (u16_at bytes at) 0 ≡ false → Tagged bytes end (after (tag_at bytes at))
+    → nat_eq (u16_at bytes at) 0 ≡ false → Tagged bytes end (next_tag_place (tag_at bytes at))
     → Tagged bytes end at
 one_more bytes end at sound more (inl (ts, all)) =
     inl (
@@ -60,7 +60,7 @@ one_more bytes end at sound more (inr (fault, first)) =
     )
 
 tagged_at : (bytes : List ℕ) (end at : ℕ)
-    → (HasRoom bytes end at → Tagged bytes end (after (tag_at bytes at))) → Tagged bytes end at
+    → (HasRoom bytes end at → Tagged bytes end (next_tag_place (tag_at bytes at))) → Tagged bytes end at
 tagged_at bytes end at rest =
     elim (some_or_none (tag_fault_at bytes end at)) [
       | inl (fault, faulty) ↦
@@ -87,7 +87,7 @@ tagged_by zero bytes end at near =
 tagged_by (suc n) bytes end at near =
     tagged_at bytes end at
     (λ room.
-    tagged_by n bytes end (after (tag_at bytes at)) (omega (arith, room.before, room.size)))
+    tagged_by n bytes end (next_tag_place (tag_at bytes at)) (omega (arith, room.before, room.size)))
 
 pub tags_or_fault : (bytes : List ℕ) (end at : ℕ)
     → ((ts : List Tag) × AreAllTags bytes end at ts)

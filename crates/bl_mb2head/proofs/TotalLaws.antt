@@ -10,9 +10,10 @@ use Rattle.bl_mb2head.specs.declared.fault.HeadFault.TheVariants.{BadArchitectur
 use Rattle.bl_mb2head.specs.declared.header.Header.{Header}
 use Rattle.bl_mb2head.specs.declared.tag.Tag.{Tag}
 use Rattle.bl_mb2head.specs.Address.{address_fault, address_segment}
-use Rattle.bl_mb2head.specs.Place.{IsHeaderAt, sum_at}
+use Rattle.bl_mb2head.specs.HeaderPlace.{IsHeaderAt, sum_at}
 use Rattle.bl_mb2head.specs.Tags.{AreAllTags, last_of}
-use Rattle.bl_mb2head.specs.Header.{tags_end, is_cut, architecture_at, entry_address_of, relocation_of}
+use Rattle.bl_mb2head.specs.Header.{tags_end, is_cut, architecture_at, entry_address_of}
+use Rattle.bl_mb2head.specs.Header.{relocation_of}
 use Rattle.bl_mb2head.specs.Header.{BeginsAt, IsHeader, HasFirstHeadFault}
 use Rattle.bl_mb2head.proofs.FaultLemmas.{tag_fault_first, address_fault_first}
 use Rattle.bl_mb2head.proofs.TagTotalLaws.{some_or_none, tags_or_fault}

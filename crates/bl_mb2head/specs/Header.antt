@@ -5,7 +5,7 @@ use Rattle.std.specs.Prelude.{max, List, length, Option, Some, None}
 use Rattle.bl_mem.specs.Least.{IsLeast}
 use Rattle.bl_mem.specs.LittleEndian.{u32_at}
 use Rattle.bl_mem.specs.declared.segment.Segment.{Segment}
-use Rattle.bl_mb2head.specs.Place.{IsHeaderAt, search_end}
+use Rattle.bl_mb2head.specs.HeaderPlace.{IsHeaderAt, search_end}
 use Rattle.bl_mb2head.specs.Tags.{AreAllTags, IsFirstTagFault, last_of, address_type, entry_type}
 use Rattle.bl_mb2head.specs.Tags.{relocatable_type}
 use Rattle.bl_mb2head.specs.Address.{address_fault, address_segment}

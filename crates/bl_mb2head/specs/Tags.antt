@@ -44,8 +44,8 @@ tag_at bytes at = record {
 }
 
 -- the next multiple of 8 after a tag: padding is not part of its size (3.1.3)
-abbrev pub after : Tag → ℕ
-after t = (t.place + t.size + 7) / 8 * 8
+abbrev pub next_tag_place : Tag → ℕ
+next_tag_place t = (t.place + t.size + 7) / 8 * 8
 
 -- the least size of a kind of tag: that of the fields which are read (3.1.5, 3.1.6, 3.1.9, 3.1.13)
 abbrev pub min_tag_size : ℕ → ℕ
@@ -105,7 +105,7 @@ abbrev pub AreTags : List ℕ → ℕ → ℕ → ℕ → List Tag → Type 0
 AreTags bytes end at next [] = at ≡ next
 AreTags bytes end at next (t ∷ ts) =
     (t ≡ tag_at bytes at) × (tag_fault_at bytes end at ≡ None) × (nat_eq t.kind end_type ≡ false)
-    × AreTags bytes end (after t) next ts
+    × AreTags bytes end (next_tag_place t) next ts
 
 -- these are all tags from at on, up to the tag of type 0 at some place
 pub record AreAllTags (bytes : List ℕ) (end at : ℕ) (ts : List Tag) : Type 0 where

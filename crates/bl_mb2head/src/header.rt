@@ -11,8 +11,8 @@ use crate::fields::{
     ALIGN, ARCHITECTURE, ENTRY_ADDR, ENTRY_SIZE, HEADER_LENGTH, I386, MAX_ADDR, MIN_ADDR,
     MIN_LENGTH, PREFERENCE, RELOCATABLE_SIZE, SEARCH_END, TAGS,
 };
-use crate::last::last_tags;
-use crate::place::find_place;
+use crate::header_place::find_header_place;
+use crate::last_of_type::last_tags;
 use crate::relocation::Relocation;
 use crate::tag::Tag;
 use bl_mem::{ByteView, Segment, u32_at};
@@ -46,7 +46,7 @@ fn checked_place<V: ByteView>(view: &V) -> Result<u64, HeadFault>
     ensures begins { IfOk result (BeginsAt (V.bytes view.now)) }
     ensures first_fault { IfErr result (HasFirstHeadFault (V.bytes view.now)) }
 {
-    let Some(place) = find_place(view) else {
+    let Some(place) = find_header_place(view) else {
         return Err(HeadFault::NoHeader);
     };
     if is_cut(view, place) {

@@ -5,9 +5,9 @@ mod address;
 mod fault;
 mod fields;
 mod header;
-mod last;
+mod header_place;
+mod last_of_type;
 mod laws;
-mod place;
 mod relocation;
 mod tag;
 

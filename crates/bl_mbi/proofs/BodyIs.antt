@@ -9,10 +9,10 @@ use Rattle.std.proofs.lemmas.Bool.Decides.{nat_tests}
 use Rattle.std.proofs.lemmas.List.{drop-drop, drop_all, take-append-drop, append-nil}
 use Rattle.std.proofs.lemmas.List.Elements.{All-nil, All-cons, All-head, All-tail}
 use Rattle.std.proofs.Math.Seq.{drop-cons}
-use Rattle.bl_mbi.specs.InformationFacts.{ModuleInfo, IsModule, IsText, AreBytes}
+use Rattle.bl_mbi.specs.InfoToWriteFacts.{ModuleInfo, IsModule, IsText, AreBytes}
 use Rattle.bl_mem.specs.LittleEndian.{u32_bytes}
 use Rattle.bl_mbi.specs.Tags.{text_body, module_body, memory_body}
-use Rattle.bl_mbi.specs.Fields.{first_u32}
+use Rattle.bl_mbi.specs.ReadingSteps.{first_u32}
 use Rattle.bl_mbi.specs.Bodies.{text_of_body, module_of, memory_of, load_base_of}
 use Rattle.bl_mbi.proofs.Inverse.{passed_some, mapped, same_some}
 use Rattle.bl_mbi.proofs.WordLaws.{word_then, word_small}

@@ -14,10 +14,10 @@ use Rattle.bl_map.specs.declared.kind.Kind.TheVariants.{Usable, Reserved, Acpi, 
 use Rattle.bl_map.specs.declared.region.Region.{Region}
 use Rattle.bl_map.specs.Kinds.{kind_number, kind_of}
 use Rattle.bl_map.specs.NormalMap.{region_end}
-use Rattle.bl_mbi.specs.InformationFacts.{ModuleInfo, IsModule, IsText}
+use Rattle.bl_mbi.specs.InfoToWriteFacts.{ModuleInfo, IsModule, IsText}
 use Rattle.bl_mem.specs.LittleEndian.{u32_bytes, u64_bytes}
 use Rattle.bl_mbi.specs.Tags.{text_body, module_body, memory_body, run_bytes, map_body}
-use Rattle.bl_mbi.specs.Fields.{first_u32, first_u64}
+use Rattle.bl_mbi.specs.ReadingSteps.{first_u32, first_u64}
 use Rattle.bl_mbi.specs.Bodies.{text_of_body, module_of, memory_of, run_of, runs_of, map_of}
 use Rattle.bl_mbi.specs.Bodies.{load_base_of}
 use Rattle.bl_mem.proofs.LittleEndianLaws.{length-u32_bytes}

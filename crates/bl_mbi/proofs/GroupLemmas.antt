@@ -5,8 +5,8 @@ use Rattle.std.specs.Prelude.{codes}
 use Rattle.std.specs.List.{flat_map}
 use Rattle.std.proofs.lemmas.List.Sums.{sum_by-cons}
 use Rattle.bl_mbi.specs.Size.{tag_size}
-use Rattle.bl_mbi.specs.InformationFacts.{InformationFacts, HasSpelling, ModuleInfo, info_size}
-use Rattle.bl_mbi.specs.GroupSizesKept.{texts_size, map_tags_size, last_size}
+use Rattle.bl_mbi.specs.InfoToWriteFacts.{InfoToWriteFacts, HasSpelling, ModuleInfo, info_size}
+use Rattle.bl_mbi.specs.GroupSizesKept.{texts_size, map_tags_size, closing_tags_size}
 use Rattle.bl_mem.specs.LittleEndian.{u32_bytes}
 use Rattle.bl_mbi.specs.Tags.{tag, text_body, module_tag, memory_body, map_body, copy_tag}
 use Rattle.bl_mbi.specs.Tags.{load_base_tag}
@@ -26,25 +26,25 @@ sum_lines (m ∷ modules) =
       sum_by-cons (λ (m : ModuleInfo). tag_size (length m.line + 9)) m modules,
     )
 
-pub info_size_is : (facts : InformationFacts)
-    → info_size facts ≡ 8 + texts_size facts + map_tags_size facts + last_size facts
+pub info_size_is : (facts : InfoToWriteFacts)
+    → info_size facts ≡ 8 + texts_size facts + map_tags_size facts + closing_tags_size facts
 info_size_is facts = omega (arith, sum_lines facts.modules)
 
 -- what holds of the fields that facts keep
-pub groups_below : (inside facts : InformationFacts) → HasSpelling inside → inside ≡ facts
-    → 8 + texts_size facts + map_tags_size facts + last_size facts < 2 ^ 32
+pub groups_below : (inside facts : InfoToWriteFacts) → HasSpelling inside → inside ≡ facts
+    → 8 + texts_size facts + map_tags_size facts + closing_tags_size facts < 2 ^ 32
 groups_below inside facts is same =
-    let below : 8 + texts_size inside + map_tags_size inside + last_size inside < 2 ^ 32 =
+    let below : 8 + texts_size inside + map_tags_size inside + closing_tags_size inside < 2 ^ 32 =
     omega (arith, info_size_is inside, is.small) in
-    subst (λ (f : InformationFacts). 8 + texts_size f + map_tags_size f + last_size f < 2 ^ 32) same
+    subst (λ (f : InfoToWriteFacts). 8 + texts_size f + map_tags_size f + closing_tags_size f < 2 ^ 32) same
     below
 
-pub modules_small : (facts : InformationFacts) → HasSpelling facts
+pub modules_small : (facts : InfoToWriteFacts) → HasSpelling facts
     → sum_by (λ m. tag_size (length m.line + 9)) facts.modules < 2 ^ 32
 modules_small facts is = omega (arith, sum_lines facts.modules, is.small)
 
 -- the groups, one after the other, are the spelling
-pub spelled : (o p q r s t : List ℕ) (facts : InformationFacts) (size : ℕ) → size ≡ info_size facts
+pub spelled : (o p q r s t : List ℕ) (facts : InfoToWriteFacts) (size : ℕ) → size ≡ info_size facts
     → p ≡ o ++ u32_bytes size → q ≡ p ++ u32_bytes 0
     → r
     ≡ q

@@ -5,12 +5,12 @@ use Rattle.std.specs.Prelude.{nat_eq, nat_lt, not}
 use Rattle.std.proofs.lemmas.Bool.{not-false}
 use Rattle.std.proofs.lemmas.Bool.Decides.{nat_tests}
 use Rattle.std.proofs.lemmas.List.{drop-drop}
-use Rattle.bl_mbi.specs.InformationFacts.{InformationFacts, IsText, AreBytes, FitsFields}
+use Rattle.bl_mbi.specs.InfoToWriteFacts.{InfoToWriteFacts, IsText, AreBytes, FitsInfoFields}
 use Rattle.bl_mbi.specs.InfoFacts.{InfoFacts, IsSpelling}
 use Rattle.bl_mem.specs.LittleEndian.{u32_bytes}
 use Rattle.bl_mbi.specs.Tags.{tag}
 use Rattle.bl_mbi.specs.Spelling.{tags, info_spelling}
-use Rattle.bl_mbi.specs.Fields.{RestFacts, first_u32}
+use Rattle.bl_mbi.specs.ReadingSteps.{RestFacts, first_u32}
 use Rattle.bl_mbi.specs.Reading.{text_tag_at, modules_at, memory_at, map_at, copy_at, load_base_at}
 use Rattle.bl_mbi.specs.Reading.{end_at, info_of_tags, info_of}
 use Rattle.bl_mbi.proofs.Inverse.{passed, made, same_ok}
@@ -24,7 +24,7 @@ use Rattle.bl_mbi.proofs.ReadIs.{map_at_is, copy_at_is, load_base_at_is, end_at_
 record IsInOrder (left : RestFacts) (info : InfoFacts) : Type 0 where
   bytes : left.bytes ≡ tags info.name info.facts
   name : IsText info.name
-  facts : FitsFields info.facts
+  facts : FitsInfoFields info.facts
 
 end_stands : 1 ≤ length (tag 0 [])
 end_stands = omega (arith, length-tag 0 [])
@@ -66,7 +66,7 @@ tags_are left info small h =
     let new = copy_at_is 15 s6.0.1 s7.0 old.0.small s7.1 in
     let base = load_base_at_is s7.0.1 s8.0 new.0.small s8.1 in
     let end : s8.0.1.bytes ≡ tag 0 [] = end_at_is s8.0.1 base.0.small s9.1 in
-    let facts : InformationFacts =
+    let facts : InfoToWriteFacts =
     record {
       line = s1.0.0;
       modules = s3.0.0;

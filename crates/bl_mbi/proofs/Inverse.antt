@@ -3,7 +3,7 @@ use Rattle.std.proofs.Common.{◌≡◌, ℕ, Bool, true, false, Option, Some, N
 use Rattle.std.proofs.Common.{option_map, cond, ◌⊎◌, inl, inr}
 use Rattle.std.specs.Prelude.{option_and_then}
 use Rattle.bl_mbi.specs.declared.fault.InfoFault.{InfoFault}
-use Rattle.bl_mbi.specs.Fields.{◌>>=◌, or_bad}
+use Rattle.bl_mbi.specs.ReadingSteps.{◌>>=◌, or_bad}
 
 -- a check that was passed
 pub passed : {A : Type 0} (b : Bool) (e : InfoFault) (x : Result A InfoFault) (y : A)

@@ -13,10 +13,10 @@ use Rattle.bl_map.specs.declared.kind.Kind.TheVariants.{Usable, Reserved, Acpi, 
 use Rattle.bl_map.specs.declared.region.Region.{Region}
 use Rattle.bl_map.specs.Kinds.{kind_number, kind_of}
 use Rattle.bl_map.specs.NormalMap.{region_end}
-use Rattle.bl_mbi.specs.InformationFacts.{AreBytes}
+use Rattle.bl_mbi.specs.InfoToWriteFacts.{AreBytes}
 use Rattle.bl_mem.specs.LittleEndian.{u32_bytes, u64_bytes}
 use Rattle.bl_mbi.specs.Tags.{run_bytes, map_body}
-use Rattle.bl_mbi.specs.Fields.{first_u32, first_u64}
+use Rattle.bl_mbi.specs.ReadingSteps.{first_u32, first_u64}
 use Rattle.bl_mbi.specs.Bodies.{run_of, runs_of, map_of}
 use Rattle.bl_mbi.proofs.Inverse.{passed_some, mapped, then, same_some}
 use Rattle.bl_mbi.proofs.WordLaws.{word_then, long_then}

@@ -1,6 +1,6 @@
 -- Pieces appended one after the other are the tags.
 use Rattle.std.proofs.Common.{◌≡◌, ◌+◌, ℕ, List, [], ◌∷◌, ◌++◌, length, arith, append_assoc}
-use Rattle.bl_mbi.specs.InformationFacts.{ModuleInfo}
+use Rattle.bl_mbi.specs.InfoToWriteFacts.{ModuleInfo}
 use Rattle.bl_mem.specs.LittleEndian.{u32_bytes}
 use Rattle.bl_mbi.specs.Tags.{padding, module_body, module_tag}
 use Rattle.bl_mbi.proofs.Sizes.{length-module_body}

@@ -4,12 +4,12 @@ use Rattle.std.proofs.Common.{length, drop, Ok, lit<, arith, length-append}
 use Rattle.std.specs.Prelude.{nat_eq, nat_lt}
 use Rattle.std.specs.List.{flat_map}
 use Rattle.std.proofs.lemmas.Bool.Decides.{nat_tests}
-use Rattle.bl_mbi.specs.InformationFacts.{InformationFacts, IsText, FitsFields}
+use Rattle.bl_mbi.specs.InfoToWriteFacts.{InfoToWriteFacts, IsText, FitsInfoFields}
 use Rattle.bl_mem.specs.LittleEndian.{u32_bytes}
 use Rattle.bl_mbi.specs.Tags.{tag, text_body, module_tag, memory_body, map_body, copy_tag}
 use Rattle.bl_mbi.specs.Tags.{load_base_tag}
 use Rattle.bl_mbi.specs.Spelling.{tags, info_spelling}
-use Rattle.bl_mbi.specs.Fields.{first_u32}
+use Rattle.bl_mbi.specs.ReadingSteps.{first_u32}
 use Rattle.bl_mbi.specs.Reading.{info_of_tags, info_of}
 use Rattle.bl_mem.proofs.LittleEndianLaws.{length-u32_bytes}
 use Rattle.bl_mbi.proofs.Sizes.{length-tag, length-tags, length-text_body, length-map_body}
@@ -20,8 +20,8 @@ use Rattle.bl_mbi.proofs.TagsAgain.{memory_at_again, map_at_again, copy_at_again
 use Rattle.bl_mbi.proofs.TagsAgain.{load_base_at_again, end_at_again, no_base, no_new, no_old}
 use Rattle.bl_mbi.proofs.TagsAgain.{in_order}
 
-pub tags_again : (at : ℕ) (name : List ℕ) (facts : InformationFacts) → IsText name
-    → FitsFields facts → 8 + length (tags name facts) < 2 ^ 32
+pub tags_again : (at : ℕ) (name : List ℕ) (facts : InfoToWriteFacts) → IsText name
+    → FitsInfoFields facts → 8 + length (tags name facts) < 2 ^ 32
     → info_of_tags (from at (tags name facts)) ≡ Ok record { name = name; facts = facts }
 tags_again at name facts name_is is fits =
     let line = tag 1 (text_body facts.line) in
@@ -85,7 +85,7 @@ tags_again at name facts name_is is fits =
     (load_base_at_again l7.at facts.load_base r8 is.load_base (no_base l8.at))
     (end_at_again l8.at)
 
-pub spelled_is_read : (name : List ℕ) (facts : InformationFacts) → IsText name → FitsFields facts
+pub spelled_is_read : (name : List ℕ) (facts : InfoToWriteFacts) → IsText name → FitsInfoFields facts
     → length (info_spelling name facts) < 2 ^ 32
     → info_of (info_spelling name facts) ≡ Ok record { name = name; facts = facts }
 unfolding info_of info_spelling

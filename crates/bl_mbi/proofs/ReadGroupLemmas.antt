@@ -2,12 +2,12 @@
 use Rattle.std.proofs.Common.{◌≡◌, ℕ, Option, List, Result, Ok, Err, refl, sym, ◌∙◌}
 use Rattle.bl_map.specs.declared.region.Region.{Region}
 use Rattle.bl_mbi.specs.declared.fault.InfoFault.{InfoFault}
-use Rattle.bl_mbi.specs.InformationFacts.{ModuleInfo}
+use Rattle.bl_mbi.specs.InfoToWriteFacts.{ModuleInfo}
 use Rattle.bl_mbi.specs.InfoFacts.{InfoFacts}
-use Rattle.bl_mbi.specs.Fields.{◌>>=◌, RestFacts}
+use Rattle.bl_mbi.specs.ReadingSteps.{◌>>=◌, RestFacts}
 use Rattle.bl_mbi.specs.Reading.{text_tag_at, modules_at, memory_at, map_at, copy_at, load_base_at}
 use Rattle.bl_mbi.specs.Reading.{end_at, info_of_tags}
-use Rattle.bl_mbi.specs.GroupsKept.{texts_at, map_tags_at, last_at}
+use Rattle.bl_mbi.specs.GroupsKept.{text_and_module_tags_at, map_tags_at, closing_tags_at}
 
 abbrev Texts : Type 0
 Texts = List ℕ × List ℕ × List ModuleInfo
@@ -30,12 +30,12 @@ same_next (Ok a) f g same = same a
 same_next (Err e) f g same = refl
 
 texts_then : {B : Type 0} (left : RestFacts) (next : Texts × RestFacts → Result B InfoFault)
-    → (texts_at left >>= next)
+    → (text_and_module_tags_at left >>= next)
     ≡ (text_tag_at 1 left
     >>= (λ line.
     text_tag_at 2 line.1
     >>= (λ name. modules_at name.1 >>= (λ ms. next ((line.0, name.0, ms.0), ms.1)))))
-unfolding texts_at
+unfolding text_and_module_tags_at
 texts_then left next =
     steps (text_tag_at 1 left) _ next
     ∙ same_next (text_tag_at 1 left) _ _
@@ -53,14 +53,14 @@ maps_then left next =
     ∙ same_next (memory_at left) _ _ (λ memory. steps (map_at memory.1) _ next)
 
 last_then : {B : Type 0} (left : RestFacts) (next : Last → Result B InfoFault)
-    → (last_at left >>= next)
+    → (closing_tags_at left >>= next)
     ≡ (copy_at 14 left
     >>= (λ old.
     copy_at 15 old.1
     >>= (λ new.
     load_base_at new.1
     >>= (λ base. end_at base.1 >>= (λ end. next (old.0, new.0, base.0))))))
-unfolding last_at
+unfolding closing_tags_at
 last_then left next =
     steps (copy_at 14 left) _ next
     ∙ same_next (copy_at 14 left) _ _
@@ -88,10 +88,10 @@ info_with texts maps last = record {
 
 pub tags_by_groups : (left : RestFacts)
     → info_of_tags left
-    ≡ (texts_at left
+    ≡ (text_and_module_tags_at left
     >>= (λ texts.
     map_tags_at texts.1
-    >>= (λ maps. last_at maps.1 >>= (λ last. Ok (info_with texts.0 maps.0 last)))))
+    >>= (λ maps. closing_tags_at maps.1 >>= (λ last. Ok (info_with texts.0 maps.0 last)))))
 unfolding info_of_tags
 tags_by_groups left =
     sym

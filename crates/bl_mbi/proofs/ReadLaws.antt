@@ -6,9 +6,9 @@ use Rattle.std.proofs.lemmas.List.Elements.{All-from_get_or}
 use Rattle.bl_mbi.specs.declared.fault.InfoFault.{InfoFault}
 use Rattle.bl_mbi.specs.declared.fault.InfoFault.TheVariants.{WrongLength, BadReserved, BadTag}
 use Rattle.bl_mbi.specs.declared.fault.InfoFault.TheVariants.{BadOrder, NoMemory}
-use Rattle.bl_mbi.specs.InformationFacts.{AreBytes}
+use Rattle.bl_mbi.specs.InfoToWriteFacts.{AreBytes}
 use Rattle.bl_mbi.specs.InfoFacts.{InfoFacts, IsSpelling}
-use Rattle.bl_mbi.specs.Fields.{MatchesReading}
+use Rattle.bl_mbi.specs.ReadingSteps.{MatchesReading}
 use Rattle.bl_mbi.specs.Reading.{info_of}
 use Rattle.bl_mbi.proofs.Inverse.{same_ok}
 use Rattle.bl_mbi.proofs.ReadAgain.{spelled_is_read}

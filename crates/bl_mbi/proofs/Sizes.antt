@@ -9,7 +9,7 @@ use Rattle.std.proofs.lemmas.List.Sums.{sum_by-cons}
 use Rattle.bl_map.specs.declared.region.Region.{Region}
 use Rattle.bl_mem.proofs.LittleEndianLaws.{length-u32_bytes, length-u64_bytes}
 use Rattle.bl_mbi.specs.Size.{tag_size, copy_size, load_base_size}
-use Rattle.bl_mbi.specs.InformationFacts.{InformationFacts, ModuleInfo, info_size}
+use Rattle.bl_mbi.specs.InfoToWriteFacts.{InfoToWriteFacts, ModuleInfo, info_size}
 use Rattle.bl_mem.specs.LittleEndian.{u32_bytes}
 use Rattle.bl_mbi.specs.Tags.{padding, tag, text_body, module_body, module_tag, memory_body}
 use Rattle.bl_mbi.specs.Tags.{run_bytes, map_body, copy_tag, load_base_tag}
@@ -72,7 +72,7 @@ length-load_base_tag None = refl
 length-load_base_tag (Some base) =
     length-tag 21 (u32_bytes base) ∙ ap tag_size (length-u32_bytes base)
 
-pub length-tags : (name : List ℕ) (facts : InformationFacts)
+pub length-tags : (name : List ℕ) (facts : InfoToWriteFacts)
     → length (tags name facts) + 32 ≡ info_size facts + tag_size (length name + 1)
 length-tags name facts =
     let line = length-tag 1 (text_body facts.line) ∙ ap tag_size (length-text_body facts.line) in
@@ -96,19 +96,19 @@ length-tags name facts =
     )
 
 -- by any loader's name
-pub length-spelling_by : (name : List ℕ) (facts : InformationFacts)
+pub length-spelling_by : (name : List ℕ) (facts : InfoToWriteFacts)
     → length (info_spelling name facts) + 24 ≡ info_size facts + tag_size (length name + 1)
 unfolding info_spelling
 length-spelling_by name facts =
     omega (arith, length-append {A = ℕ}, length-u32_bytes, length-tags name facts)
 
 -- with the name that is written
-pub length-spelling : (facts : InformationFacts)
+pub length-spelling : (facts : InfoToWriteFacts)
     → length (info_spelling (codes "bootcore") facts) ≡ info_size facts
 length-spelling facts = omega (arith, length-spelling_by (codes "bootcore") facts)
 
 -- no address and no number has a part in the size
-pub same_size : (i j : InformationFacts) → length i.line ≡ length j.line
+pub same_size : (i j : InfoToWriteFacts) → length i.line ≡ length j.line
     → map (λ m. length m.line) i.modules ≡ map (λ m. length m.line) j.modules
     → length i.runs ≡ length j.runs
     → option_map length i.rsdp_old ≡ option_map length j.rsdp_old

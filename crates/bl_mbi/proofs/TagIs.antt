@@ -9,10 +9,10 @@ use Rattle.std.proofs.lemmas.Bool.Decides.{nat_tests}
 use Rattle.std.proofs.lemmas.List.{drop-drop, places, take-append-drop}
 use Rattle.std.proofs.lemmas.List.Elements.{All-take, All-drop}
 use Rattle.bl_mbi.specs.Size.{padded}
-use Rattle.bl_mbi.specs.InformationFacts.{AreBytes}
+use Rattle.bl_mbi.specs.InfoToWriteFacts.{AreBytes}
 use Rattle.bl_mem.specs.LittleEndian.{u32_bytes}
 use Rattle.bl_mbi.specs.Tags.{padding, tag}
-use Rattle.bl_mbi.specs.Fields.{RestFacts, first_u32, next_info_tag}
+use Rattle.bl_mbi.specs.ReadingSteps.{RestFacts, first_u32, next_info_tag}
 use Rattle.bl_mbi.proofs.Inverse.{passed, same_ok}
 use Rattle.bl_mbi.proofs.WordLaws.{word_then}
 

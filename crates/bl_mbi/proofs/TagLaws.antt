@@ -9,7 +9,7 @@ use Rattle.std.proofs.lemmas.List.{take_at, drop_at, drop-drop}
 use Rattle.bl_mbi.specs.Size.{padded}
 use Rattle.bl_mem.specs.LittleEndian.{u32_bytes}
 use Rattle.bl_mbi.specs.Tags.{padding, tag}
-use Rattle.bl_mbi.specs.Fields.{RestFacts, first_u32, is_next, next_info_tag}
+use Rattle.bl_mbi.specs.ReadingSteps.{RestFacts, first_u32, is_next, next_info_tag}
 use Rattle.bl_mbi.proofs.Sizes.{length-padding, length-tag}
 use Rattle.bl_mbi.proofs.WordLaws.{word_front, behind_word}
 

@@ -10,11 +10,11 @@ use Rattle.std.proofs.lemmas.List.Elements.{All-head, All-tail}
 use Rattle.bl_map.specs.declared.region.Region.{Region}
 use Rattle.bl_map.specs.NormalMap.{region_end}
 use Rattle.bl_mbi.specs.declared.fault.InfoFault.{InfoFault}
-use Rattle.bl_mbi.specs.InformationFacts.{InformationFacts, ModuleInfo, IsModule, IsText}
+use Rattle.bl_mbi.specs.InfoToWriteFacts.{InfoToWriteFacts, ModuleInfo, IsModule, IsText}
 use Rattle.bl_mem.specs.LittleEndian.{u32_bytes}
 use Rattle.bl_mbi.specs.Tags.{tag, text_body, module_body, module_tag, memory_body, map_body}
 use Rattle.bl_mbi.specs.Tags.{copy_tag, load_base_tag}
-use Rattle.bl_mbi.specs.Fields.{◌>>=◌, RestFacts, is_next, next_info_tag}
+use Rattle.bl_mbi.specs.ReadingSteps.{◌>>=◌, RestFacts, is_next, next_info_tag}
 use Rattle.bl_mbi.specs.Reading.{text_tag_at, module_at, modules_upto, modules_at, memory_at}
 use Rattle.bl_mbi.specs.Reading.{map_at, copy_at, load_base_at, end_at, info_of_tags}
 use Rattle.bl_mem.proofs.LittleEndianLaws.{length-u32_bytes}
@@ -183,7 +183,7 @@ no_old at None None = next_end 14 at
 no_old at None (Some base) = next_tag 14 21 at (u32_bytes base) (tag 0 []) (lit< tt)
 
 -- the tags, one after the other
-pub in_order : (l0 l1 l2 l3 l4 l5 l6 l7 l8 : RestFacts) (name : List ℕ) (facts : InformationFacts)
+pub in_order : (l0 l1 l2 l3 l4 l5 l6 l7 l8 : RestFacts) (name : List ℕ) (facts : InfoToWriteFacts)
     → text_tag_at 1 l0 ≡ Ok (facts.line, l1) → text_tag_at 2 l1 ≡ Ok (name, l2)
     → modules_at l2 ≡ Ok (facts.modules, l3)
     → memory_at l3 ≡ Ok ((facts.mem_lower, facts.mem_upper), l4) → map_at l4 ≡ Ok (facts.runs, l5)

@@ -6,10 +6,10 @@ use Rattle.std.proofs.lemmas.List.Elements.{All-get_or, All-take}
 use Rattle.std.proofs.lemmas.Bool.{cases_lt}
 use Rattle.std.proofs.lemmas.Nat.{le_bytes_4, le_bytes_8}
 use Rattle.std.specs.Int.{w32, w64, from_le_bytes}
-use Rattle.bl_mbi.specs.InformationFacts.{AreBytes}
+use Rattle.bl_mbi.specs.InfoToWriteFacts.{AreBytes}
 use Rattle.bl_mem.specs.LittleEndian.{number_at, u32_bytes, u64_bytes}
 use Rattle.bl_mem.proofs.LittleEndianLaws.{u32_again, u64_again}
-use Rattle.bl_mbi.specs.Fields.{first_u32, first_u64}
+use Rattle.bl_mbi.specs.ReadingSteps.{first_u32, first_u64}
 
 pub word_front : (n : ℕ) (rest : List ℕ) → n < 2 ^ 32 → first_u32 (u32_bytes n ++ rest) ≡ n
 word_front n rest fits = u32_again n rest fits

@@ -7,8 +7,8 @@ use Rattle.std.specs.List.{list_any}
 use Rattle.bl_map.specs.declared.region.Region.{Region}
 use Rattle.bl_map.specs.Kinds.{kind_of}
 use Rattle.bl_map.specs.Limits.{max_region_end, max_low_kib}
-use Rattle.bl_mbi.specs.InformationFacts.{ModuleInfo}
-use Rattle.bl_mbi.specs.Fields.{first_u32, first_u64}
+use Rattle.bl_mbi.specs.InfoToWriteFacts.{ModuleInfo}
+use Rattle.bl_mbi.specs.ReadingSteps.{first_u32, first_u64}
 use Rattle.bl_mbi.specs.Size.{map_entry_size}
 
 -- 3.6.5 "Boot command line", 3.6.9 "Boot loader name": a text with its one zero after it

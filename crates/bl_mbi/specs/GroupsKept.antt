@@ -2,15 +2,15 @@
 use Rattle.std.specs.Prelude.{ℕ, List, Option, Result, Ok}
 use Rattle.bl_map.specs.declared.region.Region.{Region}
 use Rattle.bl_mbi.specs.declared.fault.InfoFault.{InfoFault}
-use Rattle.bl_mbi.specs.InformationFacts.{ModuleInfo}
-use Rattle.bl_mbi.specs.Fields.{◌>>=◌, RestFacts}
+use Rattle.bl_mbi.specs.InfoToWriteFacts.{ModuleInfo}
+use Rattle.bl_mbi.specs.ReadingSteps.{◌>>=◌, RestFacts}
 use Rattle.bl_mbi.specs.Reading.{text_tag_at, modules_at, memory_at, map_at, copy_at, load_base_at}
 use Rattle.bl_mbi.specs.Reading.{end_at}
 
 -- the command line (type 1), the loader's name (2) and the modules (3)
-unfoldable pub texts_at : RestFacts
+unfoldable pub text_and_module_tags_at : RestFacts
     → Result ((List ℕ × List ℕ × List ModuleInfo) × RestFacts) InfoFault
-texts_at left = do
+text_and_module_tags_at left = do
   line ← text_tag_at 1 left
   name ← text_tag_at 2 line.1
   modules ← modules_at name.1
@@ -24,9 +24,9 @@ map_tags_at left = do
   Ok ((memory.0, map.0), map.1)
 
 -- the copies of the RSDP (14, 15), the load base (21) and the end (0)
-unfoldable pub last_at : RestFacts
+unfoldable pub closing_tags_at : RestFacts
     → Result (Option (List ℕ) × Option (List ℕ) × Option ℕ) InfoFault
-last_at left = do
+closing_tags_at left = do
   old ← copy_at 14 left
   new ← copy_at 15 old.1
   base ← load_base_at new.1

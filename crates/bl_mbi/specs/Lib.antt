@@ -1,8 +1,8 @@
 pub mod Bodies
 pub mod Faults
-pub mod Fields
+pub mod ReadingSteps
 pub mod GroupSizesKept
-pub mod InformationFacts
+pub mod InfoToWriteFacts
 pub mod GroupsKept
 pub mod Reading
 pub mod Size

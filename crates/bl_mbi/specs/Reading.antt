@@ -6,8 +6,8 @@ use Rattle.bl_map.specs.declared.region.Region.{Region}
 use Rattle.bl_mbi.specs.declared.fault.InfoFault.{InfoFault}
 use Rattle.bl_mbi.specs.declared.fault.InfoFault.TheVariants.{WrongLength, BadReserved, BadTag}
 use Rattle.bl_mbi.specs.declared.fault.InfoFault.TheVariants.{BadOrder}
-use Rattle.bl_mbi.specs.InformationFacts.{ModuleInfo}
-use Rattle.bl_mbi.specs.Fields.{◌>>=◌, RestFacts, first_u32, is_next, next_info_tag, or_bad}
+use Rattle.bl_mbi.specs.InfoToWriteFacts.{ModuleInfo}
+use Rattle.bl_mbi.specs.ReadingSteps.{◌>>=◌, RestFacts, first_u32, is_next, next_info_tag, or_bad}
 use Rattle.bl_mbi.specs.Bodies.{text_of_body, module_of, memory_of, map_of, load_base_of}
 use Rattle.bl_mbi.specs.InfoFacts.{InfoFacts}
 use Rattle.bl_mbi.specs.Size.{min_info_size}

@@ -1,6 +1,6 @@
 -- The bytes that the code has still to read, as the definitions see them.
 use Rattle.bl_mbi.specs.declared.rest.Rest.{Rest}
-use Rattle.bl_mbi.specs.Fields.{RestFacts}
+use Rattle.bl_mbi.specs.ReadingSteps.{RestFacts}
 
 abbrev pub rest_facts : Rest → RestFacts
 rest_facts rest = record { at = rest.at; bytes = rest.bytes.now }

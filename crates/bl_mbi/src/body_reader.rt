@@ -1,14 +1,14 @@
 //! What the bodies of tags tell.
 ghost use Rattle.std.specs.Prelude.{◌≡◌, ◌≤◌, ◌%◌, ◌/◌, ◌==◌, length, option_map, IfSome};
 ghost use Rattle.std.specs.List.{list_all, list_any};
-ghost use Rattle.bl_mbi.specs.Fields.{MatchesReading, or_bad};
-ghost use Rattle.bl_mbi.specs.Fields as fields;
+ghost use Rattle.bl_mbi.specs.ReadingSteps.{MatchesReading, or_bad};
+ghost use Rattle.bl_mbi.specs.ReadingSteps as fields;
 ghost use Rattle.bl_mbi.specs.Bodies as spec;
 ghost use Rattle.bl_mbi.specs.Size.{map_entry_size};
 
 use crate::fault::InfoFault;
+use crate::fields::ENTRY_SIZE;
 use crate::module::Module;
-use crate::numbers::ENTRY_SIZE;
 use bl_map::{Kind, MAX_LOW_KIB, MAX_REGION_END, Region};
 use bl_mem::{Bytes, SliceView, u32_at, u64_at};
 use std::alloc::Allocator;

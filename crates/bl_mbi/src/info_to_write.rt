@@ -21,7 +21,7 @@ pub struct InfoToWrite<'a> {
 
 impl<'a> Model for InfoToWrite<'a> {
     ghost use Rattle.std.specs.Prelude.{option_copied};
-    ghost use Rattle.bl_mbi.specs.InformationFacts.{InformationFacts, HasSpelling};
+    ghost use Rattle.bl_mbi.specs.InfoToWriteFacts.{InformationFacts, HasSpelling};
 
     ghost Value = { InformationFacts };
 

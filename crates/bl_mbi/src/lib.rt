@@ -8,27 +8,27 @@
 
 mod body_reader;
 mod fault;
+mod fields;
 mod info;
 mod info_to_write;
 mod laws;
 mod module;
 mod module_to_write;
-mod numbers;
-mod read;
 mod reader;
 mod rest;
 mod size;
 mod tag_groups;
-mod tags;
+mod tag_reader;
+mod tag_writer;
 mod write;
 
 pub use fault::InfoFault;
+pub use fields::MIN_INFO_SIZE;
 pub use info::Info;
 pub use info_to_write::InfoToWrite;
 pub use laws::{read_is_spelled, spelled_is_read};
 pub use module::Module;
 pub use module_to_write::ModuleToWrite;
-pub use numbers::MIN_INFO_SIZE;
 pub use reader::read_info;
 pub use size::{module_size, size_by_lengths};
 pub use write::{info_size, write_info};

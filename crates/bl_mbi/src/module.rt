@@ -14,7 +14,7 @@ pub struct Module<A: Allocator> {
 }
 
 impl<A: Allocator> Model for Module<A> {
-    ghost use Rattle.bl_mbi.specs.InformationFacts.{ModuleInfo};
+    ghost use Rattle.bl_mbi.specs.InfoToWriteFacts.{ModuleInfo};
 
     ghost Value = { ModuleInfo };
 

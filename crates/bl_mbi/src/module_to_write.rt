@@ -12,7 +12,7 @@ pub struct ModuleToWrite<'a> {
 }
 
 impl<'a> Model for ModuleToWrite<'a> {
-    ghost use Rattle.bl_mbi.specs.InformationFacts.{ModuleInfo};
+    ghost use Rattle.bl_mbi.specs.InfoToWriteFacts.{ModuleInfo};
 
     ghost Value = { ModuleInfo };
 

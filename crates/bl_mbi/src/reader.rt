@@ -3,25 +3,25 @@ ghost use Rattle.std.specs.Prelude.{◌≡◌, ◌^◌, ◌<◌, length, Err, If
 ghost use Rattle.std.specs.Prelude.{MatchResult};
 ghost use Rattle.bl_mbi.specs.InfoFacts.{InfoFacts, IsSpelling};
 ghost use Rattle.bl_mbi.specs.declared.fault.InfoFault.TheVariants.{NoMemory};
-ghost use Rattle.bl_mbi.specs.Fields.{MatchesReading};
+ghost use Rattle.bl_mbi.specs.ReadingSteps.{MatchesReading};
 ghost use Rattle.bl_mbi.specs.RestKept.{rest_facts};
 ghost use Rattle.bl_mbi.specs.Reading as spec;
 
 use crate::body_reader::word;
 use crate::fault::InfoFault;
+use crate::fields::MIN_INFO_SIZE;
 use crate::info::Info;
-use crate::numbers::MIN_INFO_SIZE;
 use crate::rest::Rest;
-use crate::tag_groups::{last_at, map_tags_at, texts_at};
+use crate::tag_groups::{closing_tags_at, map_tags_at, text_and_module_tags_at};
 use std::alloc::Allocator;
 
 /// What the tags tell.
 fn info_of_tags<A: Allocator + Copy>(alloc: A, rest: Rest) -> Result<Info<A>, InfoFault>
     ensures { MatchesReading (λ info. info) result (spec.info_of_tags (rest_facts rest.entry)) }
 {
-    let ((line, name, modules), rest) = texts_at(alloc, rest)?;
+    let ((line, name, modules), rest) = text_and_module_tags_at(alloc, rest)?;
     let (((mem_lower, mem_upper), runs), rest) = map_tags_at(alloc, rest)?;
-    let (rsdp_old, rsdp_new, load_base) = last_at(alloc, rest)?;
+    let (rsdp_old, rsdp_new, load_base) = closing_tags_at(alloc, rest)?;
     Ok(Info {
         name,
         line,

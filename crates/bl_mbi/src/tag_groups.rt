@@ -1,25 +1,27 @@
 //! The groups of tags, each read where it stands.
-ghost use Rattle.bl_mbi.specs.Fields.{MatchesReading};
+ghost use Rattle.bl_mbi.specs.ReadingSteps.{MatchesReading};
 ghost use Rattle.bl_mbi.specs.RestKept.{rest_facts};
 ghost use Rattle.bl_mbi.specs.GroupsKept as spec;
 
 use crate::fault::InfoFault;
+use crate::fields::{TAG_ACPI_NEW, TAG_ACPI_OLD, TAG_BOOT_LOADER_NAME, TAG_COMMAND_LINE};
 use crate::module::Module;
-use crate::numbers::{TAG_ACPI_NEW, TAG_ACPI_OLD, TAG_BOOT_LOADER_NAME, TAG_COMMAND_LINE};
-use crate::read::{copy_at, end_at, load_base_at, map_at, memory_at, modules_at, text_tag_at};
 use crate::rest::Rest;
+use crate::tag_reader::{
+    copy_at, end_at, load_base_at, map_at, memory_at, modules_at, text_tag_at,
+};
 use bl_map::Region;
 use bl_mem::Bytes;
 use std::alloc::Allocator;
 
 /// The texts: the line, the loader's name, the modules.
-#[tactic(auto, unfolding(crate::specs::GroupsKept::texts_at))]
-pub(crate) fn texts_at<'a, A: Allocator + Copy>(
+#[tactic(auto, unfolding(crate::specs::GroupsKept::text_and_module_tags_at))]
+pub(crate) fn text_and_module_tags_at<'a, A: Allocator + Copy>(
     alloc: A,
     rest: Rest<'a>,
 ) -> Result<((Bytes<A>, Bytes<A>, Vec<Module<A>, A>), Rest<'a>), InfoFault>
     ensures { MatchesReading (λ x. ((x.0.0, x.0.1, x.0.2.items), rest_facts x.1)) result
-        (spec.texts_at (rest_facts rest.entry)) }
+        (spec.text_and_module_tags_at (rest_facts rest.entry)) }
 {
     let (line, rest) = text_tag_at(alloc, TAG_COMMAND_LINE, rest)?;
     let (name, rest) = text_tag_at(alloc, TAG_BOOT_LOADER_NAME, rest)?;
@@ -42,12 +44,13 @@ pub(crate) fn map_tags_at<'a, A: Allocator>(
 }
 
 /// The tags that do not always stand, and the one that ends the information, with nothing after it.
-#[tactic(auto, unfolding(crate::specs::GroupsKept::last_at))]
-pub(crate) fn last_at<A: Allocator + Copy>(
+#[tactic(auto, unfolding(crate::specs::GroupsKept::closing_tags_at))]
+pub(crate) fn closing_tags_at<A: Allocator + Copy>(
     alloc: A,
     rest: Rest,
 ) -> Result<(Option<Bytes<A>>, Option<Bytes<A>>, Option<u32>), InfoFault>
-    ensures { MatchesReading (λ x. (x.0, x.1, x.2)) result (spec.last_at (rest_facts rest.entry)) }
+    ensures { MatchesReading (λ x. (x.0, x.1, x.2)) result
+        (spec.closing_tags_at (rest_facts rest.entry)) }
 {
     let (rsdp_old, rest) = copy_at(alloc, TAG_ACPI_OLD, rest)?;
     let (rsdp_new, rest) = copy_at(alloc, TAG_ACPI_NEW, rest)?;

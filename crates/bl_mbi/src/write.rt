@@ -4,19 +4,21 @@ ghost use Rattle.std.specs.Prelude.{option_map, option_copied, vec_len, vec_capa
 ghost use Rattle.std.specs.Prelude.{OnErr};
 ghost use Rattle.std.specs.List.{flat_map};
 ghost use Rattle.bl_mbi.specs.Size.{tag_size, copy_size};
-ghost use Rattle.bl_mbi.specs.InformationFacts.{info_size as size_of_info};
+ghost use Rattle.bl_mbi.specs.InfoToWriteFacts.{info_size as size_of_info};
 ghost use Rattle.bl_mbi.specs.Spelling.{info_spelling};
 ghost use Rattle.bl_mbi.specs.Tags.{tag, text_body, module_tag, memory_body, map_body, copy_tag};
 ghost use Rattle.bl_mbi.specs.Tags.{load_base_tag};
-ghost use Rattle.bl_mbi.specs.GroupSizesKept.{texts_size, map_tags_size, last_size};
+ghost use Rattle.bl_mbi.specs.GroupSizesKept.{texts_size, map_tags_size, closing_tags_size};
 
-use crate::info_to_write::InfoToWrite;
-use crate::module_to_write::ModuleToWrite;
-use crate::numbers::{
+use crate::fields::{
     ENTRY_SIZE, TAG_ACPI_NEW, TAG_ACPI_OLD, TAG_BOOT_LOADER_NAME, TAG_COMMAND_LINE,
 };
+use crate::info_to_write::InfoToWrite;
+use crate::module_to_write::ModuleToWrite;
 use crate::size::tag_len;
-use crate::tags::{put_copy, put_end, put_load_base, put_map, put_memory, put_modules, put_text};
+use crate::tag_writer::{
+    put_copy, put_end, put_load_base, put_map, put_memory, put_modules, put_text,
+};
 use bl_mem::put_u32;
 use std::alloc::{AllocError, Allocator};
 
@@ -56,8 +58,8 @@ fn texts_len(facts: &InfoToWrite<'_>) -> u64
 /// How many bytes the last tags take: those that do not always stand, and the one that ends the
 /// information.
 fn last_len(facts: &InfoToWrite<'_>) -> u64
-    requires { last_size facts.now < 2 ^ 32 }
-    ensures { result ≡ last_size facts.now }
+    requires { closing_tags_size facts.now < 2 ^ 32 }
+    ensures { result ≡ closing_tags_size facts.now }
 {
     let load_base = if facts.load_base.is_some() { 16 } else { 0 };
     copy_len(facts.rsdp_old) + copy_len(facts.rsdp_new) + load_base + 8
@@ -101,7 +103,7 @@ fn put_map_tags<A: Allocator>(facts: &InfoToWrite<'_>, out: &mut Vec<u8, A>)
 
 /// Appends the tags that do not always stand, and the one that ends the information.
 fn put_last<A: Allocator>(facts: &InfoToWrite<'_>, out: &mut Vec<u8, A>)
-    requires { vec_len out.old + last_size facts.now ≤ vec_capacity out.old }
+    requires { vec_len out.old + closing_tags_size facts.now ≤ vec_capacity out.old }
     ensures { out.new.items ≡ out.old.items ++ (copy_tag 14 facts.now.rsdp_old
         ++ (copy_tag 15 facts.now.rsdp_new ++ (load_base_tag facts.now.load_base ++ tag 0 []))) }
 {

@@ -11,7 +11,7 @@ use Rattle.bl_mem.specs.declared.frame_state.FrameState.TheVariants.{Borrowed}
 use Rattle.bl_mem.specs.FrameState.{has_room, slot_read}
 use Rattle.bl_mem.specs.SparseFrames.{SparseFramesFacts, IsShared}
 use Rattle.bl_mem.specs.Kept.{slot_of, owed_slots, partner, ArePair, ArePaired, AreSoundSlots}
-use Rattle.bl_mem.specs.Kept.{IsReleased}
+use Rattle.bl_mem.specs.Kept.{IsUnshared}
 use Rattle.bl_mem.proofs.FrameLemmas.{in_table, set_room, byte_read}
 
 never : (j : ℕ) → None ≡ Some j → ⊥
@@ -349,7 +349,7 @@ module _ (fill : ℕ) (table : List FrameState) (kept : List ℕ) (len owed capa
     -- whichever of the two lends
     module _ (not : j ≡ i → ⊥) (in_i : i < length table) (in_j : j < length table)
         (reads : slot_read (get_or table j Bare) ≡ Some s) where
-      is_released : IsReleased old after i
+      is_released : IsUnshared old after i
       is_released = record {
         alone = ap partner (at_second table j i (Kept s) (Plain 0) not in_j in_i);
         beside = λ a other. elim (cases_eq (a / 4096) j) [
@@ -364,7 +364,7 @@ module _ (fill : ℕ) (table : List FrameState) (kept : List ℕ) (len owed capa
       }
 
     pub leaves : ArePair old i j s
-        → AreSoundSlots parted len owed capacity × IsReleased old after i
+        → AreSoundSlots parted len owed capacity × IsUnshared old after i
     leaves (inl (lends, borrows)) =
         let not : j ≡ i → ⊥ = λ e. not_one table i j s lends borrows (sym e) in
         let in_i = in_table table i (ap has_room lends) in

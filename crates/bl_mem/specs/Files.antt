@@ -11,12 +11,12 @@ abbrev pub AreAddressesBelow : (ℕ → Type 0) → ℕ → Type 0
 AreAddressesBelow holds size = (a : ℕ) → holds a → a < size
 
 -- none of the addresses from start on is one of these, up to end
-abbrev pub IsBeside : (ℕ → Type 0) → ℕ → ℕ → Type 0
-IsBeside holds start end = (a : ℕ) → start ≤ a → a < end → ¬ holds a
+abbrev pub IsApartFrom : (ℕ → Type 0) → ℕ → ℕ → Type 0
+IsApartFrom holds start end = (a : ℕ) → start ≤ a → a < end → ¬ holds a
 
 -- none of the addresses of all these ranges is one of these
-abbrev pub AllBeside : (ℕ → Type 0) → List (Range ℕ) → Type 0
-AllBeside holds ranges = All (λ range. IsBeside holds range.start range.end) ranges
+abbrev pub AllApartFrom : (ℕ → Type 0) → List (Range ℕ) → Type 0
+AllApartFrom holds ranges = All (λ range. IsApartFrom holds range.start range.end) ranges
 
 -- two memories have the same byte at each of these addresses
 abbrev pub Agree : (ℕ → Type 0) → List ℕ → List ℕ → Type 0

@@ -7,7 +7,7 @@ use Rattle.bl_mem.specs.declared.frame_state.FrameState.TheVariants.{Bare, Plain
 use Rattle.bl_mem.specs.declared.frame_state.FrameState.TheVariants.{Borrowed}
 use Rattle.bl_mem.specs.Memory.{KeepsRoom}
 use Rattle.bl_mem.specs.FrameState.{has_room, byte_in, slot_read}
-use Rattle.bl_mem.specs.SparseFrames.{SparseFramesFacts, frame_numbered, frame_byte, IsHeld}
+use Rattle.bl_mem.specs.SparseFrames.{SparseFramesFacts, frame_numbered, frame_byte, HasRoomAt}
 
 -- the slot that is a frame's own
 abbrev pub slot_of : FrameState → Option ℕ
@@ -61,7 +61,7 @@ pub record IsKeptIn (old : SparseFramesFacts) (new : SparseFramesFacts) (number 
     (slot : ℕ) : Type 0 where
   pub here : frame_numbered new number ≡ Kept slot
   pub beside : (a : ℕ) → ¬ (a / 4096 ≡ number) → frame_byte new a ≡ frame_byte old a
-  pub room : KeepsRoom (IsHeld old) (IsHeld new)
+  pub room : KeepsRoom (HasRoomAt old) (HasRoomAt new)
 
 -- these two frames share a slot
 abbrev pub ArePair : SparseFramesFacts → ℕ → ℕ → ℕ → Type 0
@@ -70,11 +70,11 @@ ArePair facts i j slot =
     ⊎ ((frame_numbered facts i ≡ Borrowed slot j) × (frame_numbered facts j ≡ Lent slot i))
 
 -- a frame shares no slot, the bytes of all other frames stay, and it has room if it had
-pub record IsReleased (old : SparseFramesFacts) (new : SparseFramesFacts) (number : ℕ)
+pub record IsUnshared (old : SparseFramesFacts) (new : SparseFramesFacts) (number : ℕ)
     : Type 0 where
   pub alone : partner (frame_numbered new number) ≡ None
   pub beside : (a : ℕ) → ¬ (a / 4096 ≡ number) → frame_byte new a ≡ frame_byte old a
-  pub room : KeepsRoom (IsHeld old) (IsHeld new)
+  pub room : KeepsRoom (HasRoomAt old) (HasRoomAt new)
 
 -- a slot has the bytes of a part
 abbrev pub IsPutAt : List ℕ → ℕ → List ℕ → Type 0

@@ -1,7 +1,7 @@
 pub mod Memory
 pub mod LittleEndian
 pub mod Least
-pub mod Contents
+pub mod SegmentContents
 pub mod FrameState
 pub mod SparseFrames
 pub mod Kept

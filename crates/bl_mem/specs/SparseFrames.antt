@@ -20,12 +20,12 @@ abbrev pub frame_byte : SparseFramesFacts → ℕ → ℕ
 frame_byte facts a = byte_in facts.fill facts.kept (frame_numbered facts (a / 4096)) (a % 4096)
 
 -- the address's frame has room
-abbrev pub IsHeld : SparseFramesFacts → ℕ → Type 0
-IsHeld facts a = has_room (frame_numbered facts (a / 4096)) ≡ true
+abbrev pub HasRoomAt : SparseFramesFacts → ℕ → Type 0
+HasRoomAt facts a = has_room (frame_numbered facts (a / 4096)) ≡ true
 
 -- the frames from `first` on have room, up to `end`
-abbrev pub AreOpen : SparseFramesFacts → ℕ → ℕ → Type 0
-AreOpen facts first end =
+abbrev pub FramesHaveRoom : SparseFramesFacts → ℕ → ℕ → Type 0
+FramesHaveRoom facts first end =
     (number : ℕ) → first ≤ number → number < end → has_room (frame_numbered facts number) ≡ true
 
 -- all bytes are as they were
@@ -48,7 +48,7 @@ pub record IsWritten (old : SparseFramesFacts) (new : SparseFramesFacts) (at : �
       → frame_byte new a ≡ slice_index_or part (a - at) 0
   pub below : (a : ℕ) → a < at → frame_byte new a ≡ frame_byte old a
   pub above : (a : ℕ) → at + length part ≤ a → frame_byte new a ≡ frame_byte old a
-  pub room : KeepsRoom (IsHeld old) (IsHeld new)
+  pub room : KeepsRoom (HasRoomAt old) (HasRoomAt new)
 
 -- a frame's bytes are those of another frame, and nothing else changed
 pub record IsShared (old : SparseFramesFacts) (new : SparseFramesFacts) (from : ℕ) (to : ℕ)
@@ -56,11 +56,11 @@ pub record IsShared (old : SparseFramesFacts) (new : SparseFramesFacts) (from : 
   pub here : (place : ℕ) → place < 4096
       → frame_byte new (4096 * to + place) ≡ frame_byte old (4096 * from + place)
   pub beside : (a : ℕ) → ¬ (a / 4096 ≡ to) → frame_byte new a ≡ frame_byte old a
-  pub room : KeepsRoom (IsHeld old) (IsHeld new)
+  pub room : KeepsRoom (HasRoomAt old) (HasRoomAt new)
 
 -- a frame's bytes are a part's, and nothing else changed
 pub record IsStored (old : SparseFramesFacts) (new : SparseFramesFacts) (number : ℕ) (part : List ℕ)
     : Type 0 where
   pub here : (a : ℕ) → a / 4096 ≡ number → frame_byte new a ≡ slice_index_or part (a % 4096) 0
   pub beside : (a : ℕ) → ¬ (a / 4096 ≡ number) → frame_byte new a ≡ frame_byte old a
-  pub room : KeepsRoom (IsHeld old) (IsHeld new)
+  pub room : KeepsRoom (HasRoomAt old) (HasRoomAt new)

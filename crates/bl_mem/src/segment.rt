@@ -1,6 +1,6 @@
 //! What a kernel file asks to be loaded.
 ghost use Rattle.std.specs.Prelude.{◌≡◌};
-ghost use Rattle.bl_mem.specs.Contents as contents;
+ghost use Rattle.bl_mem.specs.SegmentContents as contents;
 
 /// What one program header loads (System V gABI, "Program Header"), or one address tag (Multiboot2
 /// 2.0, "3.1.5 The address tag of Multiboot2 header").
@@ -18,7 +18,7 @@ pub struct Segment {
 impl Segment {
     /// Whether the address lies in the segment, where that is linked.
     pub fn holds(&self, a: u64) -> bool
-        ensures { result ≡ contents.holds self.now a }
+        ensures { result ≡ contents.segment_holds self.now a }
     {
         self.address <= a && a - self.address < self.memsz
     }

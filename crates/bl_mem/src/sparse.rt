@@ -3,7 +3,7 @@ ghost use Rattle.std.specs.Prelude.{◌≡◌, ◌+◌, ◌%◌, ◌≤◌, leng
 ghost use Rattle.std.specs.Prelude.{true, false};
 ghost use Rattle.std.specs.Prelude.{IfOk, OnOk, IsOk};
 ghost use Rattle.bl_mem.specs.Memory.{overwrite, HasRoom, KeepsRoom};
-ghost use Rattle.bl_mem.specs.SparseFrames.{IsHeld};
+ghost use Rattle.bl_mem.specs.SparseFrames.{HasRoomAt};
 ghost use Rattle.bl_mem.specs.Sparse.{bytes_of};
 
 use crate::frame_state::FRAME_SIZE;
@@ -57,8 +57,8 @@ impl<A: Allocator + Copy> Sparse<A> {
         ensures same { bytes_of self.new.frames self.new.size
             ≡ bytes_of self.old.frames self.old.size }
         ensures size { self.new.size ≡ self.old.size }
-        ensures kept { KeepsRoom (IsHeld self.old.frames) (IsHeld self.new.frames) }
-        ensures made { OnOk result (HasRoom (IsHeld self.new.frames) start end) }
+        ensures kept { KeepsRoom (HasRoomAt self.old.frames) (HasRoomAt self.new.frames) }
+        ensures made { OnOk result (HasRoom (HasRoomAt self.new.frames) start end) }
     {
         if start < end {
             self.frames
@@ -81,10 +81,10 @@ impl<A: Allocator + Copy> Sparse<A> {
     fn write_frame(&mut self, at: u64, part: &[u8])
         requires inside { at + length part.now ≤ self.old.size }
         requires one { at % 4096 + length part.now ≤ 4096 }
-        requires held { IsHeld self.old.frames at }
+        requires held { HasRoomAt self.old.frames at }
         ensures after { bytes_of self.new.frames self.new.size
             ≡ overwrite (bytes_of self.old.frames self.old.size) at part.now }
-        ensures kept { KeepsRoom (IsHeld self.old.frames) (IsHeld self.new.frames) }
+        ensures kept { KeepsRoom (HasRoomAt self.old.frames) (HasRoomAt self.new.frames) }
         ensures size { self.new.size ≡ self.old.size }
     {
         self.frames.write(at, part);
@@ -100,7 +100,7 @@ impl<A: Allocator + Copy> Sparse<A> {
             ≡ overwrite (bytes_of self.old.frames self.old.size) to
             (slice_range (bytes_of self.old.frames self.old.size) from (from + 4096)) }
         ensures same { result ≡ false → self.new ≡ self.old }
-        ensures kept { KeepsRoom (IsHeld self.old.frames) (IsHeld self.new.frames) }
+        ensures kept { KeepsRoom (HasRoomAt self.old.frames) (HasRoomAt self.new.frames) }
         ensures size { self.new.size ≡ self.old.size }
     {
         self.frames.share(from / FRAME_SIZE, to / FRAME_SIZE)
@@ -110,10 +110,10 @@ impl<A: Allocator + Copy> Sparse<A> {
     fn zero_frame(&mut self, at: u64, count: usize)
         requires inside { at + count ≤ self.old.size }
         requires one { at % 4096 + count ≤ 4096 }
-        requires held { IsHeld self.old.frames at }
+        requires held { HasRoomAt self.old.frames at }
         ensures after { bytes_of self.new.frames self.new.size
             ≡ overwrite (bytes_of self.old.frames self.old.size) at (replicate count 0) }
-        ensures kept { KeepsRoom (IsHeld self.old.frames) (IsHeld self.new.frames) }
+        ensures kept { KeepsRoom (HasRoomAt self.old.frames) (HasRoomAt self.new.frames) }
         ensures size { self.new.size ≡ self.old.size }
     {
         self.frames.zero(at, count);
@@ -124,7 +124,7 @@ impl<A: Allocator + Copy> Sparse<A> {
 impl<A: Allocator + Copy> PhysMem for Sparse<A> {
     ghost bytes = { λ memory. bytes_of memory.frames memory.size };
 
-    ghost room = { λ memory. IsHeld memory.frames };
+    ghost room = { λ memory. HasRoomAt memory.frames };
 
     ghost lender = { λ _. 0 };
 

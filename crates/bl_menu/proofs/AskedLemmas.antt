@@ -6,9 +6,9 @@ use Rattle.std.proofs.lemmas.Option.{same_Some}
 use Rattle.bl_desc.specs.declared.desc.Description.{Description}
 use Rattle.bl_desc.specs.Described.{Described, described, file_named}
 use Rattle.bl_desc.specs.Views.{view}
-use Rattle.bl_menu.specs.Attempted.{names_in}
-use Rattle.bl_menu.specs.Cases.{HasInlineFiles, names_sought, names_fetched}
-use Rattle.bl_menu.specs.Found.{AsksPrefix, names_asked}
+use Rattle.bl_menu.specs.DescribedMenu.{attempted_file_names}
+use Rattle.bl_menu.specs.BootCases.{HasInlineFiles, names_sought, names_fetched}
+use Rattle.bl_menu.specs.FoundFiles.{AsksPrefix, names_asked}
 
 -- none of them is a beginning of them, and so are all
 pub none_asked : (names before : List (List ℕ)) → AsksPrefix names before before
@@ -29,14 +29,14 @@ module _ {A : Type 0} (desc : List ℕ) (d : Description A) (is : described desc
   where
     -- its files stand in the description
     pub inline_in : HasInlineFiles desc
-        → All (λ name. IsSome (file_named name (view d).files)) (names_in (view d))
+        → All (λ name. IsSome (file_named name (view d).files)) (attempted_file_names (view d))
     inline_in has =
         let same : has.description ≡ view d = same_Some _ _ (sym has.is_described ∙ is) in
-        subst (λ (x : Described). All (λ name. IsSome (file_named name x.files)) (names_in x)) same
+        subst (λ (x : Described). All (λ name. IsSome (file_named name x.files)) (attempted_file_names x)) same
         has.inline
 
-    pub sought : names_sought (described desc) ≡ names_in (view d)
+    pub sought : names_sought (described desc) ≡ attempted_file_names (view d)
     sought = rw is refl
 
-    pub fetched : names_fetched (described desc) ≡ names_asked (view d).files (names_in (view d))
+    pub fetched : names_fetched (described desc) ≡ names_asked (view d).files (attempted_file_names (view d))
     fetched = rw is refl

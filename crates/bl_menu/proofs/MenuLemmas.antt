@@ -6,7 +6,7 @@ use Rattle.std.proofs.lemmas.List.{length-append, map-append, take_more}
 use Rattle.bl_load.specs.declared.entry.Entry.{Entry}
 use Rattle.bl_load.specs.declared.entry.Module.{Module}
 use Rattle.bl_load.specs.EntryValue.{IsRsdpCopy}
-use Rattle.bl_desc.specs.Forms.{HasCopyLength}
+use Rattle.bl_desc.specs.EntryFormViews.{HasCopyLength}
 use Rattle.bl_session.specs.Attempts.{AreWithinLimits, AreEntryIndices, HasMenuFault}
 use Rattle.bl_session.specs.Menu.{EntryFacts, facts_of}
 use Rattle.bl_session.specs.declared.menu.fault.MenuFault.{MenuFault}
@@ -14,7 +14,7 @@ use Rattle.bl_session.specs.declared.menu.fault.MenuFault.TheVariants.{BadIndex,
 use Rattle.bl_desc.specs.declared.entry_row.EntryRow.{EntryRow}
 use Rattle.bl_desc.specs.declared.entry_form.ModuleRow.{ModuleRow}
 use Rattle.bl_desc.specs.Views.{entry_view, module_view}
-use Rattle.bl_menu.specs.Attempted.{entry_facts}
+use Rattle.bl_menu.specs.DescribedMenu.{entry_facts}
 use Rattle.bl_desc.specs.EntryNames.{file_index}
 
 -- a menu that is small, and whose indices name entries, has no fault; memory may run out

@@ -16,7 +16,7 @@ use Rattle.bl_desc.specs.declared.entry_form.EntryForm.TheVariants.{Multiboot2, 
 use Rattle.bl_desc.specs.declared.entry_form.ModuleRow.{ModuleRow}
 use Rattle.bl_desc.specs.Views.{HasMenu, entry_view, form_view, module_view, view}
 use Rattle.bl_session.specs.Attempts.{without_repeats_by}
-use Rattle.bl_menu.specs.Attempted.{absent_entry, entry_of, names_in}
+use Rattle.bl_menu.specs.DescribedMenu.{absent_entry, described_entry, attempted_file_names}
 use Rattle.bl_menu.specs.NamesKept.{with_new_names}
 use Rattle.bl_desc.specs.EntryNames.{file_names, names_beside}
 
@@ -96,7 +96,7 @@ few_at (row ∷ rows) zero = few_files row
 few_at (row ∷ rows) (suc index) = few_at rows index
 
 few_together : {A : Type 0} (d : Description A) (indices : List ℕ)
-    → length (flat_map (λ index. file_names (entry_of (view d) index)) indices)
+    → length (flat_map (λ index. file_names (described_entry (view d) index)) indices)
     ≤ length indices * 65
 few_together d [] = omega arith
 few_together d (index ∷ indices) =
@@ -117,12 +117,12 @@ few_once earlier (name ∷ names) =
     (without_repeats_by bytes_eq (earlier ++ name ∷ []) names) names
     (few_once earlier names) (few_once (earlier ++ name ∷ []) names)
 
-pub few_names : {A : Type 0} (d : Description A) → HasMenu d → length (names_in (view d)) ≤ 32 * 65
+pub few_names : {A : Type 0} (d : Description A) → HasMenu d → length (attempted_file_names (view d)) ≤ 32 * 65
 few_names d menu =
     let indices : List ℕ = attempt_order d.default d.fallbacks.items in
     let attempts =
     few_attempts (length d.entries.items) d.default d.fallbacks.items menu.2 menu.3 in
-    let once = few_once [] (flat_map (λ index. file_names (entry_of (view d) index)) indices) in
+    let once = few_once [] (flat_map (λ index. file_names (described_entry (view d) index)) indices) in
     let all = few_together d indices in
     let entries = menu.1 in
     omega (arith, attempts, once, all, entries)

@@ -4,7 +4,7 @@ use Rattle.std.specs.Prelude.{Option, Some, None}
 use Rattle.bl_session.specs.declared.fetched.Fetched.{Fetched}
 use Rattle.bl_session.specs.declared.fetched.Fetched.TheVariants as fetched
 use Rattle.bl_session.specs.AttemptResult.{file_limit}
-use Rattle.bl_session.specs.Outcome.{File, missing, too_long, whole}
+use Rattle.bl_session.specs.MenuFiles.{File, missing, too_long, whole}
 use Rattle.bl_desc.specs.Described.{InlineFile, file_named}
 
 -- a file of these bytes: if they are too many, only how many is found

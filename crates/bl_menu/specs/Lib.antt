@@ -1,6 +1,6 @@
 pub mod Files
-pub mod Found
-pub mod Attempted
+pub mod FoundFiles
+pub mod DescribedMenu
 pub mod DescribedMachine
-pub mod Cases
+pub mod BootCases
 pub mod NamesKept

@@ -1,10 +1,10 @@
 //! The files of a menu are found.
 ghost use Rattle.std.specs.Prelude.{◌≡◌, ℕ, List, ◌+◌, ◌-◌, ◌<◌, ◌≤◌, ◌^◌, All, IfOk, IsSome};
 ghost use Rattle.std.specs.Prelude.{length, map, [], ◌∷◌, ◌++◌, OnOk};
-ghost use Rattle.bl_menu.specs.Found.{AreFound, AsksPrefix, IsFound, names_asked};
+ghost use Rattle.bl_menu.specs.FoundFiles.{AreFound, AsksPrefix, IsFound, names_asked};
 ghost use Rattle.bl_desc.specs.Described.{file_named};
 ghost use Rattle.bl_desc.specs.Views.{view};
-ghost use Rattle.bl_session.specs.Outcome.{File};
+ghost use Rattle.bl_session.specs.MenuFiles.{File};
 ghost use Rattle.bl_session.specs.Stores.{file_of};
 ghost use Rattle.bl_menu.specs.Files.{answer_for};
 

@@ -3,21 +3,21 @@
 #![tactic(auto)]
 
 mod boot_end;
+mod boot_inputs;
 mod described_boot;
 mod files;
 mod found_files;
 mod machine;
 mod menu;
 mod names;
-mod order;
-mod ready;
+mod piece_order;
 
 pub use boot_end::End;
+pub use boot_inputs::{ReadyBoot, ready_boot};
 pub use described_boot::DescribedBoot;
 pub use files::{AskedNames, Files, MemFiles};
 pub use found_files::find_files;
 pub use machine::machine_of;
 pub use menu::{entry_of, menu_of, title_of};
-pub use names::names_in;
-pub use order::order_of;
-pub use ready::{ReadyBoot, ready_boot};
+pub use names::attempted_file_names;
+pub use piece_order::order_of;

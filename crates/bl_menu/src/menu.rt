@@ -1,11 +1,11 @@
 //! The menu of a description.
 ghost use Rattle.std.specs.Prelude.{◌≡◌, ◌<◌, ◌^◌, All, IfOk, length, map};
-ghost use Rattle.bl_load.specs.Offered.{IsOffered};
+ghost use Rattle.bl_load.specs.WellFormedEntry.{IsWellFormedValue};
 ghost use Rattle.bl_load.specs.EntryValue.{IsWithinLimits};
 ghost use Rattle.bl_session.specs.Menu.{facts_of};
 ghost use Rattle.bl_session.specs.declared.menu.fault.MenuFault.TheVariants as menu_fault;
-ghost use Rattle.bl_menu.specs.Attempted as attempted;
-ghost use Rattle.bl_menu.specs.Attempted.{entry_facts};
+ghost use Rattle.bl_menu.specs.DescribedMenu as attempted;
+ghost use Rattle.bl_menu.specs.DescribedMenu.{entry_facts};
 ghost use Rattle.bl_desc.specs.EntryNames.{file_index};
 ghost use Rattle.bl_desc.specs.Views.{HasMenu, entry_view, module_view, view};
 
@@ -127,10 +127,12 @@ pub fn menu_of<A: Allocator + Copy>(
     description: &Description<A>,
 ) -> Result<Menu<A>, AllocError>
     requires menu { HasMenu description.now }
-    requires names { map (λ n. n.now) names.now ≡ attempted.names_in (view description.now) }
+    requires names { map (λ n. n.now) names.now
+        ≡ attempted.attempted_file_names (view description.now) }
     requires few { length names.now < 2 ^ 32 }
     ensures menu { IfOk result (λ menu. menu ≡ attempted.menu_of (view description.now)) }
-    ensures offered { IfOk result (λ menu. All (λ entry. IsOffered entry.blank) menu.entries) }
+    ensures well_formed { IfOk result
+        (λ menu. All (λ entry. IsWellFormedValue entry.blank) menu.entries) }
 {
     let entries = entries_of(alloc, names, &description.entries)?;
     match Menu::new(alloc, entries, description.default, &description.fallbacks) {
@@ -141,7 +143,7 @@ pub fn menu_of<A: Allocator + Copy>(
 
 /// The title of an entry, by its index; none if there is no such entry.
 pub fn title_of<A: Allocator>(description: &Description<A>, entry: u32) -> &str
-    ensures { result.now ≡ (attempted.entry_of (view description.now) entry).title }
+    ensures { result.now ≡ (attempted.described_entry (view description.now) entry).title }
 {
     match description.entries.get(entry as usize) {
         Some(row) => row.title.as_str(),

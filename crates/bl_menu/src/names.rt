@@ -3,8 +3,8 @@ ghost use Rattle.std.specs.Prelude.{◌≡◌, ◌*◌, ◌<◌, ◌≤◌, ◌+
 ghost use Rattle.std.specs.Prelude.{OnOk};
 ghost use Rattle.std.specs.Str.{bytes_eq};
 ghost use Rattle.std.specs.List.{list_any};
-ghost use Rattle.bl_menu.specs.Attempted as attempted;
-ghost use Rattle.bl_menu.specs.Attempted.{names_of_entries};
+ghost use Rattle.bl_menu.specs.DescribedMenu as attempted;
+ghost use Rattle.bl_menu.specs.DescribedMenu.{names_of_entries};
 ghost use Rattle.bl_menu.specs.NamesKept.{with_new_names};
 ghost use Rattle.bl_desc.specs.EntryNames.{file_names};
 ghost use Rattle.bl_desc.specs.Views.{HasMenu, entry_view, module_view, view};
@@ -88,13 +88,13 @@ fn names_of<'a, A: Allocator + Copy>(
 }
 
 /// The names of the files of the entries that are attempted, in order, each one once.
-pub fn names_in<A: Allocator + Copy>(
+pub fn attempted_file_names<A: Allocator + Copy>(
     alloc: A,
     description: &Description<A>,
 ) -> Result<Vec<&str, A>, AllocError>
     requires { HasMenu description.now }
     ensures names { IfOk result (λ names.
-        map (λ n. n.now) names.items ≡ attempted.names_in (view description.now)) }
+        map (λ n. n.now) names.items ≡ attempted.attempted_file_names (view description.now)) }
     ensures few { IfOk result (λ names. length names.items ≤ 32 * 65) }
 {
     let attempts = order_attempts(alloc, description.default, &description.fallbacks)?;

@@ -14,10 +14,10 @@ use Rattle.bl_map.specs.declared.kind.Kind.{Kind}
 use Rattle.bl_map.specs.declared.kind.Kind.TheVariants.{Usable, Reserved, Acpi, Nvs, Bad}
 use Rattle.bl_map.specs.Kinds.{kind_number}
 use Rattle.bl_map.specs.NormalMap.{region_end}
-use Rattle.bl_params.specs.BootParams.{entry_bytes}
+use Rattle.bl_params.specs.BootParams.{e820_entry_bytes}
 use Rattle.bl_params.specs.FieldBytes.{number_bytes}
-use Rattle.bl_params.specs.BootParamsForm.{breaks_entry}
-use Rattle.bl_params.specs.Reading.{IsEntry, AreEntries}
+use Rattle.bl_params.specs.BootParamsForm.{breaks_e820_entry}
+use Rattle.bl_params.specs.Reading.{IsE820Entry, AreE820Entries}
 use Rattle.bl_params.proofs.OverLemmas.{earlier, later}
 use Rattle.bl_params.proofs.EntryLemmas.{length-number_bytes, length-entry_bytes}
 use Rattle.bl_params.proofs.FormLemmas.{lt_no, or_false, quiet_place}
@@ -108,7 +108,7 @@ stand_number n at x bytes fits stand =
     number_told n at x bytes fits (λ k from below. stand k from (omega arith))
 
 entry_told : (bytes : List ℕ) (at : ℕ) (run : Region) → region_end run ≤ 2 ^ 52
-    → Stand bytes at (entry_bytes run) → IsEntry bytes at run
+    → Stand bytes at (e820_entry_bytes run) → IsE820Entry bytes at run
 entry_told bytes at run low stand =
     let base_len = length-number_bytes 8 run.base in
     let size_len = length-number_bytes 8 run.length in
@@ -133,54 +133,54 @@ entry_told bytes at run low stand =
     }
 
 pub entries_told : (bytes : List ℕ) (at : ℕ) (runs : List Region) → AllLow runs
-    → Stand bytes at (flat_map entry_bytes runs) → AreEntries bytes at runs
+    → Stand bytes at (flat_map e820_entry_bytes runs) → AreE820Entries bytes at runs
 entries_told bytes at [] low stand = tt
 entries_told bytes at (run ∷ runs) low stand =
     let one = length-entry_bytes run in (
       entry_told bytes at run low.0
-          (stand_first bytes at (entry_bytes run) (flat_map entry_bytes runs) stand),
+          (stand_first bytes at (e820_entry_bytes run) (flat_map e820_entry_bytes runs) stand),
       entries_told bytes (at + 20) runs low.1
-          (stand_second bytes at (at + 20) (entry_bytes run) (flat_map entry_bytes runs)
+          (stand_second bytes at (at + 20) (e820_entry_bytes run) (flat_map e820_entry_bytes runs)
           (omega arith) stand),
     )
 
 -- one of them
 nth : (bytes : List ℕ) (at : ℕ) (runs : List Region) (j : ℕ) → j < length runs → AllLow runs
-    → AreEntries bytes at runs
-    → (run : Region) × (IsEntry bytes (at + 20 * j) run × (region_end run ≤ 2 ^ 52))
+    → AreE820Entries bytes at runs
+    → (run : Region) × (IsE820Entry bytes (at + 20 * j) run × (region_end run ≤ 2 ^ 52))
 nth bytes at [] j within low are = absurd (omega arith)
 nth bytes at (run ∷ runs) zero within low are =
     let here : at ≡ at + 20 * zero = omega arith in
-    (run, (subst (λ (n : ℕ). IsEntry bytes n run) here are.0, low.0))
+    (run, (subst (λ (n : ℕ). IsE820Entry bytes n run) here are.0, low.0))
 nth bytes at (run ∷ runs) (suc j) within low are =
     let found = nth bytes (at + 20) runs j (omega arith) low.1 are.1 in
     let there : at + 20 + 20 * j ≡ at + 20 * suc j = omega arith in
-    (found.0, (subst (λ (n : ℕ). IsEntry bytes n found.0) there found.1.0, found.1.1))
+    (found.0, (subst (λ (n : ℕ). IsE820Entry bytes n found.0) there found.1.0, found.1.1))
 
 first_sound : (bytes : List ℕ) (place k : ℕ) → place ≡ 0
     → nat_lt (2 ^ 52) (u64_at bytes k + u64_at bytes (k + 8)) ≡ false
-    → breaks_entry bytes place k ≡ false
+    → breaks_e820_entry bytes place k ≡ false
 first_sound bytes place k e low =
-    subst (λ (n : ℕ). breaks_entry bytes n k ≡ false) (sym e)
+    subst (λ (n : ℕ). breaks_e820_entry bytes n k ≡ false) (sym e)
     (or_false (nat_lt (2 ^ 52) (u64_at bytes k + u64_at bytes (k + 8))) ∙ low)
 
 last_sound : (bytes : List ℕ) (place k : ℕ) → place ≡ 16
     → (nat_le 1 (u32_at bytes k) && nat_le (u32_at bytes k) 5) ≡ true
-    → breaks_entry bytes place k ≡ false
+    → breaks_e820_entry bytes place k ≡ false
 last_sound bytes place k e allowed =
-    subst (λ (n : ℕ). breaks_entry bytes n k ≡ false) (sym e) (ap not allowed)
+    subst (λ (n : ℕ). breaks_e820_entry bytes n k ≡ false) (sym e) (ap not allowed)
 
 -- entries with allowed kinds and low ends break nothing
 pub entries_sound : (bytes : List ℕ) (runs : List Region) (k : ℕ) → AllLow runs
-    → AreEntries bytes 0x2D0 runs → 0x2D0 ≤ k → k < 0x2D0 + 20 * length runs
-    → breaks_entry bytes ((k - 0x2D0) % 20) k ≡ false
+    → AreE820Entries bytes 0x2D0 runs → 0x2D0 ≤ k → k < 0x2D0 + 20 * length runs
+    → breaks_e820_entry bytes ((k - 0x2D0) % 20) k ≡ false
 entries_sound bytes runs k low are from below =
     let found = nth bytes 0x2D0 runs ((k - 0x2D0) / 20) (omega arith) low are in
     ⊎_elim
     (λ first.
     let here : 0x2D0 + 20 * ((k - 0x2D0) / 20) ≡ k = omega arith in
-    let entry : IsEntry bytes k found.0 =
-    subst (λ (n : ℕ). IsEntry bytes n found.0) here found.1.0 in
+    let entry : IsE820Entry bytes k found.0 =
+    subst (λ (n : ℕ). IsE820Entry bytes n found.0) here found.1.0 in
     let base = entry.base in
     let size = entry.size in
     first_sound bytes ((k - 0x2D0) % 20) k first

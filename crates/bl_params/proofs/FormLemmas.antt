@@ -6,7 +6,8 @@ use Rattle.std.proofs.lemmas.Bool.{cases_lt}
 use Rattle.std.proofs.lemmas.Bool.Decides.{nat_tests}
 use Rattle.bl_mem.specs.LittleEndian.{u32_at, u64_at}
 use Rattle.bl_bzimage.specs.Setup.{header_end}
-use Rattle.bl_params.specs.BootParamsForm.{breaks_at, breaks_header, breaks_entry, is_nonzero_at}
+use Rattle.bl_params.specs.BootParamsForm.{breaks_at, breaks_header, breaks_e820_entry}
+use Rattle.bl_params.specs.BootParamsForm.{is_nonzero_at}
 use Rattle.bl_params.specs.BootParamsForm.{e820_entry_count}
 use Rattle.bl_params.specs.BootParamsForm.{e820_entry_offset}
 use Rattle.bl_params.specs.Kept.{HasFormBelow, HasFormBetween}
@@ -63,7 +64,7 @@ behind_is bytes k from below =
 
 pub entries_are : (bytes : List ℕ) (k : ℕ) → 0x2D0 ≤ k
     → k < e820_entry_offset (e820_entry_count bytes)
-    → breaks_at bytes k ≡ breaks_entry bytes ((k - 0x2D0) % 20) k
+    → breaks_at bytes k ≡ breaks_e820_entry bytes ((k - 0x2D0) % 20) k
 unfolding breaks_at
 entries_are bytes k from below =
     rw (
@@ -110,7 +111,7 @@ kind_is bytes i n counted e =
     ∙ rw place refl))
 
 pub quiet_place : (bytes : List ℕ) (place k : ℕ) → place ≢ 0 → place ≢ 16
-    → breaks_entry bytes place k ≡ false
+    → breaks_e820_entry bytes place k ≡ false
 quiet_place bytes place k not_first not_kind =
     rw (eq_no place 0 not_first, eq_no place 16 not_kind) refl
 

@@ -3,11 +3,11 @@ use Rattle.std.proofs.Common.{◌≡◌, ℕ, List, length, arith}
 use Rattle.std.proofs.lemmas.List.{length-append, length-replicate}
 use Rattle.std.proofs.lemmas.List.FromFn.{length-map-range_with_len}
 use Rattle.bl_params.specs.BootParams.{boot_params, fields_of}
-use Rattle.bl_params.specs.BootParamsFacts.{BootParamsFacts}
+use Rattle.bl_params.specs.ParamsToWriteFacts.{ParamsToWriteFacts}
 use Rattle.bl_params.specs.FieldBytes.{byte_of_fields}
 use Rattle.bl_params.specs.Gdt.{gdt, gdt_part, zeros}
 
-pub length-boot_params : (header : List ℕ) (facts : BootParamsFacts)
+pub length-boot_params : (header : List ℕ) (facts : ParamsToWriteFacts)
     → length (boot_params header facts) ≡ 4096
 unfolding boot_params
 length-boot_params header facts =

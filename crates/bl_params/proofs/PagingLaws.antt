@@ -4,10 +4,10 @@ use Rattle.std.proofs.Common.{None, Some, length, slice_index, arith, refl, sym,
 use Rattle.std.proofs.lemmas.Bool.{cases_lt}
 use Rattle.std.proofs.lemmas.Bool.Decides.{nat_tests}
 use Rattle.bl_params.specs.FieldBytes.{number_bytes}
-use Rattle.bl_params.specs.Paging.{upper_word, page_word, paging_word, paging}
+use Rattle.bl_params.specs.Paging.{next_table_word, page_word, paging_word, paging}
 use Rattle.bl_params.specs.Translation.{index_at, table_entry_at, frame_in_word, in_page}
 use Rattle.bl_params.specs.Translation.{next_frame}
-use Rattle.bl_params.specs.Translation.{walked}
+use Rattle.bl_params.specs.Translation.{page_walk}
 use Rattle.bl_params.specs.Translation.{translation}
 use Rattle.bl_params.proofs.EntriesTold.{number_told}
 use Rattle.bl_params.proofs.PagingLemmas.{length-paging, tables_byte, frame_byte}
@@ -15,7 +15,7 @@ use Rattle.bl_params.proofs.TranslationLemmas.{next_is, walked_none_4, walked_no
 
 -- ---- the words of the tables
 
-first_word : (base index : ℕ) → index ≡ 0 → paging_word base 0 index ≡ upper_word base 1
+first_word : (base index : ℕ) → index ≡ 0 → paging_word base 0 index ≡ next_table_word base 1
 unfolding paging_word
 first_word base index e = rw e refl
 
@@ -24,7 +24,7 @@ unfolding paging_word
 no_first base index e = grind (arith, nat_tests)
 
 pointer_word : (base index : ℕ) → index < 4
-    → paging_word base 1 index ≡ upper_word base (2 + index)
+    → paging_word base 1 index ≡ next_table_word base (2 + index)
 unfolding paging_word
 pointer_word base index e = grind (arith, nat_tests)
 
@@ -51,31 +51,31 @@ word_read base i j w frame index is fits =
 
 -- ---- what the words lead to
 
-found_1 : (base word : ℕ) → word ≡ upper_word base 1 → Some 1 ≡ frame_in_word base word
+found_1 : (base word : ℕ) → word ≡ next_table_word base 1 → Some 1 ≡ frame_in_word base word
 unfolding frame_in_word
 found_1 base word e = grind (arith, nat_tests)
 
-found_2 : (base word : ℕ) → word ≡ upper_word base 2 → Some 2 ≡ frame_in_word base word
+found_2 : (base word : ℕ) → word ≡ next_table_word base 2 → Some 2 ≡ frame_in_word base word
 unfolding frame_in_word
 found_2 base word e = grind (arith, nat_tests)
 
-found_3 : (base word : ℕ) → word ≡ upper_word base 3 → Some 3 ≡ frame_in_word base word
+found_3 : (base word : ℕ) → word ≡ next_table_word base 3 → Some 3 ≡ frame_in_word base word
 unfolding frame_in_word
 found_3 base word e = grind (arith, nat_tests)
 
-found_4 : (base word : ℕ) → word ≡ upper_word base 4 → Some 4 ≡ frame_in_word base word
+found_4 : (base word : ℕ) → word ≡ next_table_word base 4 → Some 4 ≡ frame_in_word base word
 unfolding frame_in_word
 found_4 base word e = grind (arith, nat_tests)
 
-found_5 : (base word : ℕ) → word ≡ upper_word base 5 → Some 5 ≡ frame_in_word base word
+found_5 : (base word : ℕ) → word ≡ next_table_word base 5 → Some 5 ≡ frame_in_word base word
 unfolding frame_in_word
 found_5 base word e = grind (arith, nat_tests)
 
-found : (base k : ℕ) → k < 4 → Some (2 + k) ≡ frame_in_word base (upper_word base (2 + k))
-found base zero within = found_2 base (upper_word base 2) refl
-found base (suc zero) within = found_3 base (upper_word base 3) refl
-found base (suc (suc zero)) within = found_4 base (upper_word base 4) refl
-found base (suc (suc (suc zero))) within = found_5 base (upper_word base 5) refl
+found : (base k : ℕ) → k < 4 → Some (2 + k) ≡ frame_in_word base (next_table_word base (2 + k))
+found base zero within = found_2 base (next_table_word base 2) refl
+found base (suc zero) within = found_3 base (next_table_word base 3) refl
+found base (suc (suc zero)) within = found_4 base (next_table_word base 4) refl
+found base (suc (suc (suc zero))) within = found_5 base (next_table_word base 5) refl
 found base (suc (suc (suc (suc k)))) within = absurd (omega arith)
 
 none_found : (base : ℕ) → None ≡ frame_in_word base 0
@@ -96,7 +96,7 @@ same_address a small = omega arith
 -- ---- the walk
 
 translated : (tables : List ℕ) (base a : ℕ) → length tables ≡ 0x6000 → a < 2 ^ 48
-    → translation tables base a ≡ walked tables base a
+    → translation tables base a ≡ page_walk tables base a
 unfolding translation
 translated tables base a long small = grind (arith, nat_tests)
 
@@ -108,18 +108,18 @@ module _ (base a : ℕ) (low : base + 0x6000 ≤ 2 ^ 32) where
   to_pointers : a < 2 ^ 39 → next_frame (paging base) base a 39 0 ≡ Some 1
   to_pointers small =
       let index : index_at 39 a ≡ 0 = omega arith in
-      next_is (paging base) base a 39 0 (upper_word base 1) (Some 1)
-      (word_read base 0 (index_at 39 a) (upper_word base 1) (omega arith) (omega arith)
+      next_is (paging base) base a 39 0 (next_table_word base 1) (Some 1)
+      (word_read base 0 (index_at 39 a) (next_table_word base 1) (omega arith) (omega arith)
       (first_word base (index_at 39 a) index) (omega arith))
-      (found_1 base (upper_word base 1) refl)
+      (found_1 base (next_table_word base 1) refl)
 
   to_directory : a < 2 ^ 32
       → next_frame (paging base) base a 30 1 ≡ Some (2 + index_at 30 a)
   to_directory small =
       let index : index_at 30 a < 4 = omega arith in
-      next_is (paging base) base a 30 1 (upper_word base (2 + index_at 30 a))
+      next_is (paging base) base a 30 1 (next_table_word base (2 + index_at 30 a))
       (Some (2 + index_at 30 a))
-      (word_read base 1 (index_at 30 a) (upper_word base (2 + index_at 30 a)) (omega arith)
+      (word_read base 1 (index_at 30 a) (next_table_word base (2 + index_at 30 a)) (omega arith)
       (omega arith) (pointer_word base (index_at 30 a) index) (omega arith))
       (found base (index_at 30 a) index)
 
@@ -152,7 +152,7 @@ module _ (base a : ℕ) (low : base + 0x6000 ≤ 2 ^ 32) where
       (word_read base frame (index_at bit a) 0 inside within is (omega arith))
       (none_found base)
 
-  walked_above : 2 ^ 32 ≤ a → a < 2 ^ 48 → walked (paging base) base a ≡ None
+  walked_above : 2 ^ 32 ≤ a → a < 2 ^ 48 → page_walk (paging base) base a ≡ None
   walked_above large small =
       ⊎_elim
       (λ near.

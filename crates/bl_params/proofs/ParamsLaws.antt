@@ -6,7 +6,7 @@ use Rattle.bl_map.proofs.MapLaws.{same_kind}
 use Rattle.bl_params.specs.declared.fault.ParamFault.{ParamFault}
 use Rattle.bl_params.specs.declared.fault.ParamFault.TheVariants.{WrongLength, BadParams, NoMemory}
 use Rattle.bl_params.specs.ParamsFacts.{ParamsFacts}
-use Rattle.bl_params.specs.Reading.{IsEntry, AreEntries, IsParams, HasFirstParamFault}
+use Rattle.bl_params.specs.Reading.{IsE820Entry, AreE820Entries, IsParams, HasFirstParamFault}
 
 region_of : ℕ → ℕ → Kind → Region
 region_of base size kind = record { base = base; length = size; kind = kind }
@@ -15,7 +15,7 @@ same_region : (base base' size size' : ℕ) (kind kind' : Kind) → base ≡ bas
     → kind ≡ kind' → region_of base size kind ≡ region_of base' size' kind'
 same_region base base' size size' kind kind' e f g = cc
 
-same_entry : (bytes : List ℕ) (at : ℕ) (r s : Region) → IsEntry bytes at r → IsEntry bytes at s
+same_entry : (bytes : List ℕ) (at : ℕ) (r s : Region) → IsE820Entry bytes at r → IsE820Entry bytes at s
     → r ≡ s
 unfolding region_of
 same_entry bytes at r s a b =
@@ -23,7 +23,7 @@ same_entry bytes at r s a b =
     (a.size ∙ sym b.size) (same_kind r.kind s.kind (a.kind ∙ sym b.kind))
 
 same_entries : (bytes : List ℕ) (at : ℕ) (rs ss : List Region) → length rs ≡ length ss
-    → AreEntries bytes at rs → AreEntries bytes at ss → rs ≡ ss
+    → AreE820Entries bytes at rs → AreE820Entries bytes at ss → rs ≡ ss
 same_entries bytes at [] [] e a b = refl
 same_entries bytes at [] (s ∷ ss) e a b = absurd (omega arith)
 same_entries bytes at (r ∷ rs) [] e a b = absurd (omega arith)

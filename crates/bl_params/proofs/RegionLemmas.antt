@@ -3,15 +3,15 @@ use Rattle.std.proofs.Common.{◌≡◌, ◌≤◌, ◌<◌, ◌+◌, ◌*◌, �
 use Rattle.std.proofs.Common.{◌∙◌}
 use Rattle.std.specs.List.{flat_map}
 use Rattle.std.proofs.lemmas.List.FromFn.{get_or-map-range_with_len}
-use Rattle.bl_params.specs.BootParamsFacts.{BootParamsFacts}
-use Rattle.bl_params.specs.BootParams.{boot_params, fields_of, entry_bytes}
+use Rattle.bl_params.specs.ParamsToWriteFacts.{ParamsToWriteFacts}
+use Rattle.bl_params.specs.BootParams.{boot_params, fields_of, e820_entry_bytes}
 use Rattle.bl_params.specs.FieldBytes.{byte_of_fields, number_bytes}
 use Rattle.bl_params.proofs.OverLemmas.{over_below, over_above}
 use Rattle.bl_params.proofs.EntryLemmas.{length-number_bytes, length-entries}
 
 -- ---- the bytes of the parameters, region by region
 
-module _ (header : List ℕ) (facts : BootParamsFacts) where
+module _ (header : List ℕ) (facts : ParamsToWriteFacts) where
   abbrev pub params : List ℕ
   params = boot_params header facts
 
@@ -39,14 +39,14 @@ module _ (header : List ℕ) (facts : BootParamsFacts) where
   pub data_len : length (number_bytes 8 0) ≡ 8
   data_len = length-number_bytes 8 0
 
-  pub map_len : length (flat_map entry_bytes facts.runs) ≡ 20 * length facts.runs
+  pub map_len : length (flat_map e820_entry_bytes facts.runs) ≡ 20 * length facts.runs
   map_len = length-entries facts.runs
 
   abbrev pub l1 : List (ℕ × List ℕ)
   l1 = (0x1F1, header) ∷ []
 
   abbrev pub l2 : List (ℕ × List ℕ)
-  l2 = (0x2D0, flat_map entry_bytes facts.runs) ∷ l1
+  l2 = (0x2D0, flat_map e820_entry_bytes facts.runs) ∷ l1
 
   abbrev pub l3 : List (ℕ × List ℕ)
   l3 = (0x250, number_bytes 8 0) ∷ l2
@@ -116,11 +116,11 @@ module _ (header : List ℕ) (facts : BootParamsFacts) where
       ≡ byte_of_fields l1 k
   above_1 k from =
       above_2 k (omega arith)
-      ∙ over_above 0x2D0 (flat_map entry_bytes facts.runs) (byte_of_fields l1) k
+      ∙ over_above 0x2D0 (flat_map e820_entry_bytes facts.runs) (byte_of_fields l1) k
       (omega (arith, map_len))
 
   pub below_2 : (k : ℕ) → k < 0x2D0 → byte_of_fields l2 k ≡ byte_of_fields l1 k
-  below_2 k below = over_below 0x2D0 (flat_map entry_bytes facts.runs) (byte_of_fields l1) k below
+  below_2 k below = over_below 0x2D0 (flat_map e820_entry_bytes facts.runs) (byte_of_fields l1) k below
 
   pub below_3 : (k : ℕ) → k < 0x250 → byte_of_fields l3 k ≡ byte_of_fields l1 k
   below_3 k below =

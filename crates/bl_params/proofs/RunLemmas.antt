@@ -7,12 +7,12 @@ use Rattle.bl_map.specs.declared.region.Region.{Region}
 use Rattle.bl_map.specs.NormalMap.{region_end}
 use Rattle.bl_params.specs.BootParamsForm.{breaks_at, e820_entry_count, e820_entry_offset}
 use Rattle.bl_params.specs.ParamsFacts.{ParamsFacts}
-use Rattle.bl_params.specs.Reading.{IsEntry, AreEntries, IsParams}
+use Rattle.bl_params.specs.Reading.{IsE820Entry, AreE820Entries, IsParams}
 use Rattle.bl_params.proofs.FormLemmas.{entry_is}
 
 module _ (bytes : List ℕ) (sound : (k : ℕ) → k < 4096 → breaks_at bytes k ≡ false) where
   run_ends_low : (i : ℕ) (run : Region) → i < e820_entry_count bytes → e820_entry_offset i < 4096
-      → IsEntry bytes (e820_entry_offset i) run → region_end run ≤ 2 ^ 52
+      → IsE820Entry bytes (e820_entry_offset i) run → region_end run ≤ 2 ^ 52
   run_ends_low i run counted within is =
       let test =
       entry_is bytes i run.base run.length counted is.base is.size
@@ -21,14 +21,14 @@ module _ (bytes : List ℕ) (sound : (k : ℕ) → k < 4096 → breaks_at bytes 
 
   entries_end_low : (i : ℕ) (runs : List Region) → i + length runs ≤ e820_entry_count bytes
       → e820_entry_offset (i + length runs) ≤ 4096
-      → AreEntries bytes (e820_entry_offset i) runs → All (λ run. region_end run ≤ 2 ^ 52) runs
+      → AreE820Entries bytes (e820_entry_offset i) runs → All (λ run. region_end run ≤ 2 ^ 52) runs
   entries_end_low i [] counted within are = All-nil (λ (run : Region). region_end run ≤ 2 ^ 52)
   entries_end_low i (run ∷ runs) counted within are =
       let next : e820_entry_offset i + 20 ≡ e820_entry_offset (suc i) = omega arith in
       All-cons (λ (r : Region). region_end r ≤ 2 ^ 52) run runs
       (run_ends_low i run (omega arith) (omega arith) are.0)
       (entries_end_low (suc i) runs (omega arith) (omega arith)
-      (subst (λ (at : ℕ). AreEntries bytes at runs) next are.1))
+      (subst (λ (at : ℕ). AreE820Entries bytes at runs) next are.1))
 
 -- the number of entries is in bounds
 few_entries : (bytes : List ℕ) → breaks_at bytes 0x1E8 ≡ false → e820_entry_count bytes ≤ 128

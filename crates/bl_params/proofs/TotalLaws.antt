@@ -1,5 +1,6 @@
 -- Bytes are boot parameters or have a first fault that is not want of memory.
-use Rattle.std.proofs.Common.{◌≡◌, ◌≤◌, ◌<◌, ◌+◌, ◌*◌, ◌⊎◌, inl, inr, ℕ, zero, suc, true, false, not}
+use Rattle.std.proofs.Common.{◌≡◌, ◌≤◌, ◌<◌, ◌+◌, ◌*◌, ◌⊎◌, inl, inr, ℕ, zero, suc, true, false}
+use Rattle.std.proofs.Common.{not}
 use Rattle.std.proofs.Common.{◌&&◌, nat_lt, nat_le, List, [], ◌∷◌, ◌++◌, length, slice_index, arith}
 use Rattle.std.proofs.Common.{refl, sym, subst, ◌∙◌}
 use Rattle.std.proofs.lemmas.Bool.{cases_lt, cases_Bool, false_from_ne_true}
@@ -15,7 +16,7 @@ use Rattle.bl_params.specs.declared.fault.ParamFault.{ParamFault}
 use Rattle.bl_params.specs.declared.fault.ParamFault.TheVariants.{WrongLength, BadParams, NoMemory}
 use Rattle.bl_params.specs.BootParamsForm.{breaks_at, e820_entry_count, e820_entry_offset}
 use Rattle.bl_params.specs.ParamsFacts.{ParamsFacts}
-use Rattle.bl_params.specs.Reading.{IsEntry, AreEntries, IsParams, HasFirstParamFault}
+use Rattle.bl_params.specs.Reading.{IsE820Entry, AreE820Entries, IsParams, HasFirstParamFault}
 use Rattle.bl_params.proofs.FormLemmas.{count_is, kind_is}
 use Rattle.bl_params.proofs.EntriesRead.{entries_push}
 
@@ -41,7 +42,7 @@ kind_numbered (suc (suc (suc (suc (suc (suc n)))))) test =
 -- the entry with a number, counted from 0
 entry_told : (bytes : List ℕ) (i : ℕ) → i < e820_entry_count bytes
     → breaks_at bytes (e820_entry_offset i + 16) ≡ false
-    → (run : Region) × IsEntry bytes (e820_entry_offset i) run
+    → (run : Region) × IsE820Entry bytes (e820_entry_offset i) run
 entry_told bytes i counted sound =
     let found =
     kind_numbered (u32_at bytes (e820_entry_offset i + 16))
@@ -56,10 +57,10 @@ entry_told bytes i counted sound =
 
 -- so many entries, one after the other
 abbrev Told : List ℕ → ℕ → Type 0
-Told bytes n = (runs : List Region) × (length runs ≡ n) × AreEntries bytes 0x2D0 runs
+Told bytes n = (runs : List Region) × (length runs ≡ n) × AreE820Entries bytes 0x2D0 runs
 
 told_push : (bytes : List ℕ) (n : ℕ) (run : Region) → Told bytes n
-    → IsEntry bytes (e820_entry_offset n) run → Told bytes (suc n)
+    → IsE820Entry bytes (e820_entry_offset n) run → Told bytes (suc n)
 told_push bytes n run told is =
     let count = told.1 in
     let place : e820_entry_offset n ≡ 0x2D0 + 20 * length told.0 = omega arith in
@@ -67,7 +68,7 @@ told_push bytes n run told is =
       told.0 ++ run ∷ [],
       omega arith,
       entries_push bytes 0x2D0 told.0 run told.2
-          (subst (λ (at : ℕ). IsEntry bytes at run) place is),
+          (subst (λ (at : ℕ). IsE820Entry bytes at run) place is),
     )
 
 entries_told : (bytes : List ℕ) (n : ℕ) → n ≤ e820_entry_count bytes → e820_entry_count bytes ≤ 128

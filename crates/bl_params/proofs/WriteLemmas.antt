@@ -4,8 +4,8 @@ use Rattle.std.proofs.Common.{length, refl}
 use Rattle.std.proofs.lemmas.List.FromFn.{fill_by_all}
 use Rattle.std.specs.List.{flat_map}
 use Rattle.bl_map.specs.declared.region.Region.{Region}
-use Rattle.bl_params.specs.BootParams.{boot_params, fields_of, entry_bytes}
-use Rattle.bl_params.specs.BootParamsFacts.{BootParamsFacts}
+use Rattle.bl_params.specs.BootParams.{boot_params, fields_of, e820_entry_bytes}
+use Rattle.bl_params.specs.ParamsToWriteFacts.{ParamsToWriteFacts}
 use Rattle.bl_params.specs.FieldBytes.{byte_over, byte_of_fields, number_bytes}
 use Rattle.bl_params.proofs.OverLemmas.{over_same}
 
@@ -26,12 +26,12 @@ next old new at field same fields put e so_far k =
     put k ∙ over_same at field (λ j. slice_index old j) (byte_of_fields fields) so_far k
     ∙ ap (λ (x : List ℕ). byte_over at x (byte_of_fields fields) k) e
 
-pub written : (header h : List ℕ) (facts : BootParamsFacts) (runs : List Region) (n count : ℕ)
+pub written : (header h : List ℕ) (facts : ParamsToWriteFacts) (runs : List Region) (n count : ℕ)
     (o0 o1 o2 o3 o4 o5 o6 o7 o8 o9 o10 : List ℕ)
     → h ≡ header → runs ≡ facts.runs → count ≡ length facts.runs
     → o0 ≡ replicate n 0
     → IsPut o0 0x1F1 h o1
-    → IsPut o1 0x2D0 (flat_map entry_bytes runs) o2
+    → IsPut o1 0x2D0 (flat_map e820_entry_bytes runs) o2
     → IsPut o2 0x250 (number_bytes 8 0) o3
     → IsPut o3 0x228 (number_bytes 4 facts.cmd_line_ptr) o4
     → IsPut o4 0x21C (number_bytes 4 facts.ramdisk_size) o5
@@ -46,7 +46,7 @@ unfolding boot_params
 written header h facts runs n count o0 o1 o2 o3 o4 o5 o6 o7 o8 o9 o10 same_header same_runs
     same_count clear p1 p2 p3 p4 p5 p6 p7 p8 p9 p10 long =
     let l1 : List (ℕ × List ℕ) = (0x1F1, header) ∷ [] in
-    let l2 : List (ℕ × List ℕ) = (0x2D0, flat_map entry_bytes facts.runs) ∷ l1 in
+    let l2 : List (ℕ × List ℕ) = (0x2D0, flat_map e820_entry_bytes facts.runs) ∷ l1 in
     let l3 : List (ℕ × List ℕ) = (0x250, number_bytes 8 0) ∷ l2 in
     let l4 : List (ℕ × List ℕ) = (0x228, number_bytes 4 facts.cmd_line_ptr) ∷ l3 in
     let l5 : List (ℕ × List ℕ) = (0x21C, number_bytes 4 facts.ramdisk_size) ∷ l4 in
@@ -58,8 +58,8 @@ written header h facts runs n count o0 o1 o2 o3 o4 o5 o6 o7 o8 o9 o10 same_heade
     λ k. ap (λ (xs : List ℕ). slice_index xs k) clear ∙ zero_at n k in
     let f1 = next o0 o1 0x1F1 h header [] p1 same_header f0 in
     let f2 =
-    next o1 o2 0x2D0 (flat_map entry_bytes runs) (flat_map entry_bytes facts.runs) l1 p2
-    (ap (λ (rs : List Region). flat_map entry_bytes rs) same_runs) f1 in
+    next o1 o2 0x2D0 (flat_map e820_entry_bytes runs) (flat_map e820_entry_bytes facts.runs) l1 p2
+    (ap (λ (rs : List Region). flat_map e820_entry_bytes rs) same_runs) f1 in
     let f3 = next o2 o3 0x250 (number_bytes 8 0) (number_bytes 8 0) l2 p3 refl f2 in
     let f4 =
     next o3 o4 0x228 (number_bytes 4 facts.cmd_line_ptr) (number_bytes 4 facts.cmd_line_ptr) l3

@@ -5,11 +5,11 @@ use Rattle.std.specs.Prelude.{min}
 use Rattle.std.specs.List.{flat_map}
 use Rattle.bl_mem.specs.LittleEndian.{number_at, u16_at, u32_at, u64_at}
 use Rattle.bl_bzimage.specs.Setup.{header_end}
-use Rattle.bl_params.specs.BootParamsFacts.{BootParamsFacts, AreE820Runs}
-use Rattle.bl_params.specs.BootParams.{entry_bytes}
+use Rattle.bl_params.specs.ParamsToWriteFacts.{ParamsToWriteFacts, AreE820Runs}
+use Rattle.bl_params.specs.BootParams.{e820_entry_bytes}
 use Rattle.bl_params.specs.FieldBytes.{byte_of_fields, number_bytes}
 use Rattle.bl_params.specs.BootParamsForm.{e820_entry_count}
-use Rattle.bl_params.specs.Reading.{AreEntries}
+use Rattle.bl_params.specs.Reading.{AreE820Entries}
 use Rattle.bl_params.proofs.OverLemmas.{over_in, over_above}
 use Rattle.bl_params.proofs.EntriesTold.{number_same, all_low, Stand, stand_number, entries_told}
 use Rattle.bl_params.proofs.RegionLemmas.{params, is_at, vid_len, load_len, image_len, size_len}
@@ -18,7 +18,7 @@ use Rattle.bl_params.proofs.RegionLemmas.{l8, l9, above_9, above_8, above_7, abo
 use Rattle.bl_params.proofs.RegionLemmas.{above_4, above_3, above_2, above_1, below_2, below_3}
 use Rattle.bl_params.proofs.RegionLemmas.{below_7, below_8, below_9, below_10, below_1}
 
-module _ (file header : List ℕ) (end : ℕ) (facts : BootParamsFacts)
+module _ (file header : List ℕ) (end : ℕ) (facts : ParamsToWriteFacts)
     (long : 0x1F1 + length header ≡ end) (low : 0x264 ≤ end) (high : end ≤ 0x290)
     (same : (k : ℕ) → 0x1F1 ≤ k → k < end → slice_index header (k - 0x1F1) ≡ slice_index file k)
     (told : AreE820Runs facts.runs) where
@@ -139,14 +139,14 @@ module _ (file header : List ℕ) (end : ℕ) (facts : BootParamsFacts)
       ∷ []) (byte_of_fields (l9 header facts)) 0x1E8 (omega arith)
       (omega arith)
 
-  runs_stand : Stand (params header facts) 0x2D0 (flat_map entry_bytes facts.runs)
+  runs_stand : Stand (params header facts) 0x2D0 (flat_map e820_entry_bytes facts.runs)
   runs_stand = λ k from below.
       is_at header facts k (omega (arith, map_len header facts, told.few))
       ∙ above_2 header facts k (omega arith)
-      ∙ over_in 0x2D0 (flat_map entry_bytes facts.runs) (byte_of_fields
+      ∙ over_in 0x2D0 (flat_map e820_entry_bytes facts.runs) (byte_of_fields
       (l1 header facts)) k from below
 
-  pub runs_are : AreEntries (params header facts) 0x2D0 facts.runs
+  pub runs_are : AreE820Entries (params header facts) 0x2D0 facts.runs
   runs_are =
       entries_told (params header facts) 0x2D0 facts.runs (all_low facts.runs told.low) runs_stand
 

@@ -8,11 +8,12 @@ use Rattle.bl_bzimage.specs.declared.setup.Setup.{Setup}
 use Rattle.bl_bzimage.specs.Setup.{IsSetup, header_end}
 use Rattle.bl_bzimage.proofs.SetupLaws.{IsSoundFile, setup_sound, fields_are, header_long}
 use Rattle.bl_bzimage.proofs.SetupLaws.{header_high, header_same}
-use Rattle.bl_params.specs.BootParamsFacts.{BootParamsFacts, AreE820Runs}
+use Rattle.bl_params.specs.ParamsToWriteFacts.{ParamsToWriteFacts, AreE820Runs}
 use Rattle.bl_params.specs.BootParams.{boot_params}
-use Rattle.bl_params.specs.BootParamsForm.{breaks_at, breaks_header, is_nonzero_at, e820_entry_count}
+use Rattle.bl_params.specs.BootParamsForm.{breaks_at, breaks_header, is_nonzero_at}
+use Rattle.bl_params.specs.BootParamsForm.{e820_entry_count}
 use Rattle.bl_params.specs.Reading.{IsParams}
-use Rattle.bl_params.specs.Told.{params_of, FitFields}
+use Rattle.bl_params.specs.WrittenParams.{params_of, FitParamFields}
 use Rattle.bl_params.proofs.Lengths.{length-boot_params}
 use Rattle.bl_params.proofs.FormLemmas.{lt_no, front_is, count_is, gap_is, header_is, behind_is}
 use Rattle.bl_params.proofs.FormLemmas.{entries_are, end_is}
@@ -23,7 +24,7 @@ use Rattle.bl_params.proofs.WrittenFields.{zero_end, vid_mode, loader, code32_st
 use Rattle.bl_params.proofs.WrittenFields.{ramdisk_size, cmd_line_ptr, setup_data, count, runs_are}
 use Rattle.bl_params.proofs.WrittenFields.{number_1, number_3, number_4, end_is_same}
 
-module _ (file header : List ℕ) (end : ℕ) (facts : BootParamsFacts)
+module _ (file header : List ℕ) (end : ℕ) (facts : ParamsToWriteFacts)
     (long : 0x1F1 + length header ≡ end) (low : 0x264 ≤ end) (high : end ≤ 0x290)
     (same : (k : ℕ) → 0x1F1 ≤ k → k < end → slice_index header (k - 0x1F1) ≡ slice_index file k)
     (told : AreE820Runs facts.runs) where
@@ -115,8 +116,8 @@ module _ (file header : List ℕ) (end : ℕ) (facts : BootParamsFacts)
       (cases_lt k 0x2D0)) (cases_lt k end)) (cases_lt k 0x1F1)) (cases_eq k 0x1E8))
       (cases_lt k 0x1E8)
 
-pub written_is_read : (file : List ℕ) (setup : Setup) (facts : BootParamsFacts) → IsSetup file setup
-    → AreE820Runs facts.runs → FitFields facts
+pub written_is_read : (file : List ℕ) (setup : Setup) (facts : ParamsToWriteFacts) → IsSetup file setup
+    → AreE820Runs facts.runs → FitParamFields facts
     → IsParams (boot_params setup.header facts) (params_of setup facts)
 written_is_read file setup facts is told words =
     let sound = setup_sound file is.sound in

@@ -4,18 +4,18 @@ use Rattle.std.specs.Prelude.{ℕ, List, [], ◌∷◌, ◌++◌, length, map}
 use Rattle.std.specs.List.{flat_map, range_with_len}
 use Rattle.bl_map.specs.declared.region.Region.{Region}
 use Rattle.bl_map.specs.Kinds.{kind_number}
-use Rattle.bl_params.specs.BootParamsFacts.{BootParamsFacts}
+use Rattle.bl_params.specs.ParamsToWriteFacts.{ParamsToWriteFacts}
 use Rattle.bl_params.specs.FieldBytes.{number_bytes, byte_of_fields}
 use Rattle.bl_params.specs.SizesAndOffsets.{params_size}
 
 -- an entry of "e820_table": addr, size, type
-abbrev pub entry_bytes : Region → List ℕ
-entry_bytes run =
+abbrev pub e820_entry_bytes : Region → List ℕ
+e820_entry_bytes run =
     number_bytes 8 run.base ++ (number_bytes 8 run.length ++ number_bytes 4 (kind_number run.kind))
 
 -- each field that the loader writes, at its offset, and then the header as it stands in the file,
 -- of which those count that the loader does not write
-abbrev pub fields_of : List ℕ → BootParamsFacts → List (ℕ × List ℕ)
+abbrev pub fields_of : List ℕ → ParamsToWriteFacts → List (ℕ × List ℕ)
 fields_of header facts =
     (0x1E8, length facts.runs ∷ [])  -- e820_entries
     ∷ (0x1FA, number_bytes 2 0xFFFF)  -- vid_mode: "normal"
@@ -25,11 +25,11 @@ fields_of header facts =
     ∷ (0x21C, number_bytes 4 facts.ramdisk_size)  -- ramdisk_size
     ∷ (0x228, number_bytes 4 facts.cmd_line_ptr)  -- cmd_line_ptr
     ∷ (0x250, number_bytes 8 0)  -- setup_data: none
-    ∷ (0x2D0, flat_map entry_bytes facts.runs)  -- e820_table
+    ∷ (0x2D0, flat_map e820_entry_bytes facts.runs)  -- e820_table
     ∷ (0x1F1, header)  -- the setup header, from setup_sects on
     ∷ []
 
 -- all of them, with 0 where there is no field
-unfoldable pub boot_params : List ℕ → BootParamsFacts → List ℕ
+unfoldable pub boot_params : List ℕ → ParamsToWriteFacts → List ℕ
 boot_params header facts =
     map (byte_of_fields (fields_of header facts)) (range_with_len 0 params_size)

@@ -5,7 +5,7 @@ use Rattle.std.specs.Prelude.{◌==◌, nat_lt, nat_le, List, slice_index}
 use Rattle.bl_mem.specs.LittleEndian.{u16_at, u32_at, u64_at}
 use Rattle.bl_map.specs.Limits.{max_region_end}
 use Rattle.bl_bzimage.specs.Setup.{header_end}
-use Rattle.bl_params.specs.BootParamsFacts.{max_e820_entries}
+use Rattle.bl_params.specs.ParamsToWriteFacts.{max_e820_entries}
 use Rattle.bl_params.specs.SizesAndOffsets.{e820_entries_at, e820_table_at, e820_entry_size}
 use Rattle.bl_params.specs.SizesAndOffsets.{e820_size_at}
 use Rattle.bl_params.specs.SizesAndOffsets.{e820_type_at, header_at}
@@ -34,8 +34,8 @@ breaks_header bytes k =
     || (k == 0x250 && not (u64_at bytes 0x250 == 0))  -- setup_data
 
 -- the fields of an entry of "e820_table", by their place in it: addr with size at 0, and type
-abbrev pub breaks_entry : List ℕ → ℕ → ℕ → Bool
-breaks_entry bytes place k =
+abbrev pub breaks_e820_entry : List ℕ → ℕ → ℕ → Bool
+breaks_e820_entry bytes place k =
     (place == 0 && nat_lt max_region_end (u64_at bytes k + u64_at bytes (k + e820_size_at)))
     || (place == e820_type_at && not (nat_le 1 (u32_at bytes k) && nat_le (u32_at bytes k) 5))
 
@@ -48,5 +48,5 @@ breaks_at bytes k =
     if nat_lt k (header_end bytes) then breaks_header bytes k else
     if nat_lt k e820_table_at then is_nonzero_at bytes k else
     if nat_lt k (e820_entry_offset (e820_entry_count bytes)) then
-    breaks_entry bytes ((k - e820_table_at) % e820_entry_size) k else
+    breaks_e820_entry bytes ((k - e820_table_at) % e820_entry_size) k else
     is_nonzero_at bytes k

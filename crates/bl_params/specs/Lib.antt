@@ -1,4 +1,4 @@
-pub mod BootParamsFacts
+pub mod ParamsToWriteFacts
 pub mod ParamsFacts
 pub mod Faults
 pub mod FieldBytes
@@ -10,4 +10,4 @@ pub mod BootParamsForm
 pub mod Reading
 pub mod Kept
 pub mod SizesAndOffsets
-pub mod Told
+pub mod WrittenParams

@@ -8,8 +8,8 @@ use Rattle.bl_params.specs.FieldBytes.{number_bytes}
 use Rattle.bl_params.specs.SizesAndOffsets.{page_size}
 
 -- the address of a frame, present and writable: how an upper table names the next one
-abbrev pub upper_word : ℕ → ℕ → ℕ
-upper_word base frame = base + 0x1000 * frame + 3
+abbrev pub next_table_word : ℕ → ℕ → ℕ
+next_table_word base frame = base + 0x1000 * frame + 3
 
 -- the nth page of 2 MiB, present, writable and of that size (bit 7)
 abbrev pub page_word : ℕ → ℕ
@@ -19,8 +19,8 @@ page_word n = n * page_size + 0x83
 -- which names the four page directories, whose words are the pages in order
 unfoldable pub paging_word : ℕ → ℕ → ℕ → ℕ
 paging_word base frame index =
-    if frame == 0 then (if index == 0 then upper_word base 1 else 0) else
-    if frame == 1 then (if nat_lt index 4 then upper_word base (2 + index) else 0) else
+    if frame == 0 then (if index == 0 then next_table_word base 1 else 0) else
+    if frame == 1 then (if nat_lt index 4 then next_table_word base (2 + index) else 0) else
     page_word (512 * (frame - 2) + index)
 
 -- the bytes of a frame

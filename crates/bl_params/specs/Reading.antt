@@ -13,16 +13,16 @@ use Rattle.bl_params.specs.SizesAndOffsets.{e820_size_at}
 use Rattle.bl_params.specs.SizesAndOffsets.{e820_type_at}
 
 -- the entry of "e820_table" that stands at an offset
-pub record IsEntry (bytes : List ℕ) (at : ℕ) (run : Region) : Type 0 where
+pub record IsE820Entry (bytes : List ℕ) (at : ℕ) (run : Region) : Type 0 where
   pub base : run.base ≡ u64_at bytes at
   pub size : run.length ≡ u64_at bytes (at + e820_size_at)
   pub kind : kind_number run.kind ≡ u32_at bytes (at + e820_type_at)
 
 -- the entries from an offset on, one after the other
-abbrev pub AreEntries : List ℕ → ℕ → List Region → Type 0
-AreEntries bytes at [] = Unit {0}
-AreEntries bytes at (run ∷ runs) =
-    IsEntry bytes at run × AreEntries bytes (at + e820_entry_size) runs
+abbrev pub AreE820Entries : List ℕ → ℕ → List Region → Type 0
+AreE820Entries bytes at [] = Unit {0}
+AreE820Entries bytes at (run ∷ runs) =
+    IsE820Entry bytes at run × AreE820Entries bytes (at + e820_entry_size) runs
 
 -- these bytes have the form, and tell this: each number at its offset, and as many runs as are
 -- counted
@@ -43,7 +43,7 @@ pub record IsParams (bytes : List ℕ) (params : ParamsFacts) : Type 0 where
   pub pref_address : params.pref_address ≡ u64_at bytes 0x258
   pub init_size : params.init_size ≡ u32_at bytes 0x260
   pub count : length params.runs ≡ e820_entry_count bytes
-  pub runs : AreEntries bytes e820_table_at params.runs
+  pub runs : AreE820Entries bytes e820_table_at params.runs
 
 -- the least offset that breaks the form, of as many bytes as boot parameters have; or memory ran
 -- out

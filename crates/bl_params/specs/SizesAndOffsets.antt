@@ -29,12 +29,12 @@ abbrev pub header_at : ℕ
 header_at = 0x1F1
 
 -- page tables (Intel SDM, volume 3, chapter 4.5): six frames
-abbrev pub tables_size : ℕ
-tables_size = 0x6000
+abbrev pub page_tables_size : ℕ
+page_tables_size = 0x6000
 
 -- own: pages of 2 MiB, and how many of them lie below 4 GiB
 abbrev pub page_size : ℕ
 page_size = 0x200000
 
-abbrev pub low_pages : ℕ
-low_pages = 2048
+abbrev pub mapped_page_count : ℕ
+mapped_page_count = 2048

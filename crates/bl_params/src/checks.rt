@@ -4,7 +4,7 @@ ghost use Rattle.std.specs.Prelude.{slice_index, MatchResult};
 ghost use Rattle.bl_bzimage.specs.Setup.{header_end};
 ghost use Rattle.bl_params.specs.BootParamsForm.{breaks_at, is_nonzero_at, e820_entry_count};
 ghost use Rattle.bl_params.specs.Reading.{HasFirstParamFault};
-ghost use Rattle.bl_params.specs.BootParamsFacts.{max_e820_entries};
+ghost use Rattle.bl_params.specs.ParamsToWriteFacts.{max_e820_entries};
 ghost use Rattle.bl_params.specs.Kept.{HasFormBelow, HasFormBetween};
 ghost use Rattle.bl_params.specs.SizesAndOffsets.{params_size};
 
@@ -14,7 +14,7 @@ use crate::fields::{
     JUMP_DISPLACEMENT, LOADER_UNDEFINED, MAX_E820_ENTRIES, MAX_END, MIN_END, MIN_VERSION,
     SETUP_DATA, TYPE_OF_LOADER, VERSION, VID_MODE, VID_MODE_NORMAL,
 };
-use crate::numbers::{u16_in, u32_in, u64_in};
+use crate::little_endian_slice::{u16_in, u32_in, u64_in};
 
 /// Goes on from `at` to `next`, unless what stands at `at` breaks the form.
 pub fn check_field(bytes: &[u8], at: usize, next: usize, is_broken: bool) -> Result<(), ParamFault>

@@ -5,7 +5,7 @@ ghost use Rattle.bl_map.specs.NormalMap.{region_end};
 ghost use Rattle.bl_bzimage.specs.declared.setup.Setup.{Setup};
 ghost use Rattle.bl_bzimage.specs.Setup.{IsSetup};
 ghost use Rattle.bl_params.specs.BootParams.{boot_params};
-ghost use Rattle.bl_params.specs.BootParamsFacts.{BootParamsFacts, AreE820Runs};
+ghost use Rattle.bl_params.specs.ParamsToWriteFacts.{ParamsToWriteFacts, AreE820Runs};
 ghost use Rattle.bl_params.specs.Gdt.{gdt, gdt_part};
 ghost use Rattle.bl_params.specs.Paging.{paging};
 ghost use Rattle.bl_params.specs.Translation.{translation};
@@ -13,15 +13,15 @@ ghost use Rattle.bl_params.specs.Reading.{IsParams, HasFirstParamFault};
 ghost use Rattle.bl_params.specs.ParamsFacts.{ParamsFacts};
 ghost use Rattle.bl_params.specs.declared.fault.ParamFault.{ParamFault};
 ghost use Rattle.bl_params.specs.declared.fault.ParamFault.TheVariants.{NoMemory};
-ghost use Rattle.bl_params.specs.Told.{FitFields, params_of};
-ghost use Rattle.bl_params.specs.SizesAndOffsets.{tables_size};
+ghost use Rattle.bl_params.specs.WrittenParams.{FitParamFields, params_of};
+ghost use Rattle.bl_params.specs.SizesAndOffsets.{page_tables_size};
 ghost use Rattle.bl_map.specs.Limits.{frame_size};
 
 /// Boot parameters that were written for the setup of a file are accepted, and tell what they were
 /// made of.
 pub fn written_is_read()
-    ensures { (file : List ℕ) (setup : Setup) (facts : BootParamsFacts) → IsSetup file setup
-        → AreE820Runs facts.runs → FitFields facts
+    ensures { (file : List ℕ) (setup : Setup) (facts : ParamsToWriteFacts) → IsSetup file setup
+        → AreE820Runs facts.runs → FitParamFields facts
         → IsParams (boot_params setup.header facts) (params_of setup facts) }
 {}
 
@@ -53,8 +53,8 @@ pub fn gdt_part_begins_with_gdt()
 /// The page tables at an address whose six frames end at most at 2^32 translate each address below
 /// 2^32 to itself, and no other.
 pub fn paging_keeps_addresses()
-    ensures below { (base a : ℕ) → base + tables_size ≤ 2 ^ 32 → a < 2 ^ 32
+    ensures below { (base a : ℕ) → base + page_tables_size ≤ 2 ^ 32 → a < 2 ^ 32
         → translation (paging base) base a ≡ Some a }
-    ensures above { (base a : ℕ) → base + tables_size ≤ 2 ^ 32 → 2 ^ 32 ≤ a
+    ensures above { (base a : ℕ) → base + page_tables_size ≤ 2 ^ 32 → 2 ^ 32 ≤ a
         → translation (paging base) base a ≡ None }
 {}

@@ -4,14 +4,14 @@
 mod checks;
 mod descriptors;
 mod fault;
+mod field_writer;
 mod fields;
 mod laws;
+mod little_endian_slice;
 mod map_reader;
-mod numbers;
 mod paging;
 mod params;
 mod params_to_write;
-mod put;
 mod reader;
 mod translation;
 mod write;

@@ -4,15 +4,15 @@ ghost use Rattle.std.specs.Prelude.{length, MatchResult};
 ghost use Rattle.bl_map.specs.Kinds.{kind_number};
 ghost use Rattle.bl_bzimage.specs.Setup.{header_end};
 ghost use Rattle.bl_params.specs.BootParamsForm.{e820_entry_count, e820_entry_offset};
-ghost use Rattle.bl_params.specs.Reading.{HasFirstParamFault, AreEntries, IsEntry};
-ghost use Rattle.bl_params.specs.BootParamsFacts.{max_e820_entries};
+ghost use Rattle.bl_params.specs.Reading.{HasFirstParamFault, AreE820Entries, IsE820Entry};
+ghost use Rattle.bl_params.specs.ParamsToWriteFacts.{max_e820_entries};
 ghost use Rattle.bl_params.specs.Kept.{HasFormBelow};
 ghost use Rattle.bl_params.specs.SizesAndOffsets.{e820_table_at, params_size};
 
 use crate::checks::check_field;
 use crate::fault::ParamFault;
 use crate::fields::{E820_ENTRIES, E820_TABLE, ENTRY_LENGTH, ENTRY_SIZE, ENTRY_TYPE};
-use crate::numbers::{u32_in, u64_in};
+use crate::little_endian_slice::{u32_in, u64_in};
 use bl_map::{Kind, MAX_REGION_END, Region};
 use std::alloc::Allocator;
 
@@ -44,7 +44,7 @@ fn entry(bytes: &[u8], i: usize) -> Result<Region, ParamFault>
     requires counted { i < e820_entry_count bytes.now }
     requires upto { HasFormBelow bytes.now (e820_entry_offset i) }
     ensures { MatchResult result
-        (λ run. IsEntry bytes.now (e820_entry_offset i) run
+        (λ run. IsE820Entry bytes.now (e820_entry_offset i) run
         × HasFormBelow bytes.now (e820_entry_offset (i + 1)))
         (HasFirstParamFault bytes.now) }
 {
@@ -65,7 +65,7 @@ pub fn entries<A: Allocator>(alloc: A, bytes: &[u8]) -> Result<Vec<Region, A>, P
     requires few { e820_entry_count bytes.now ≤ max_e820_entries }
     requires upto { HasFormBelow bytes.now e820_table_at }
     ensures { MatchResult result
-        (λ runs. AreEntries bytes.now e820_table_at runs.items
+        (λ runs. AreE820Entries bytes.now e820_table_at runs.items
         × (length runs.items ≡ e820_entry_count bytes.now)
         × HasFormBelow bytes.now (e820_entry_offset (e820_entry_count bytes.now)))
         (HasFirstParamFault bytes.now) }

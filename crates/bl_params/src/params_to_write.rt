@@ -21,7 +21,7 @@ pub struct ParamsToWrite<'a> {
 }
 
 impl<'a> Model for ParamsToWrite<'a> {
-    ghost use Rattle.bl_params.specs.BootParamsFacts.{BootParamsFacts, AreE820Runs};
+    ghost use Rattle.bl_params.specs.ParamsToWriteFacts.{BootParamsFacts, AreE820Runs};
 
     ghost Value = { BootParamsFacts };
 

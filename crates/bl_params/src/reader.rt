@@ -9,8 +9,8 @@ use crate::fields::{
     INITRD_ADDR_MAX, KERNEL_ALIGNMENT, LOADFLAGS, PARAMS_SIZE, PREF_ADDRESS, RAMDISK_IMAGE,
     RAMDISK_SIZE, RELOCATABLE_KERNEL, VERSION, XLOADFLAGS,
 };
+use crate::little_endian_slice::{u16_in, u32_in, u64_in};
 use crate::map_reader::entries;
-use crate::numbers::{u16_in, u32_in, u64_in};
 use crate::params::Params;
 use std::alloc::Allocator;
 

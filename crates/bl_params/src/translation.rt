@@ -1,9 +1,9 @@
 //! Addresses translated by page tables.
 ghost use Rattle.std.specs.Prelude.{◌≡◌, ◌+◌, ◌*◌, ◌^◌, ◌<◌, IfSome, length};
 ghost use Rattle.bl_params.specs.Translation as spec;
-ghost use Rattle.bl_params.specs.SizesAndOffsets.{tables_size};
+ghost use Rattle.bl_params.specs.SizesAndOffsets.{page_tables_size};
 
-use crate::numbers::u64_in;
+use crate::little_endian_slice::u64_in;
 use crate::paging::{PAGE_SIZE, TABLES_SIZE};
 
 #[tactic(auto, unfolding(crate::specs::Translation::frame_in_word))]
@@ -37,7 +37,7 @@ fn frame_of(base: u64, word: u64) -> Option<usize>
 }
 
 fn entry_at(tables: &[u8], frame: usize, index: u64) -> u64
-    requires size { length tables.now ≡ tables_size }
+    requires size { length tables.now ≡ page_tables_size }
     requires in_tables { frame < 6 }
     requires in_frame { index < 512 }
     ensures { result ≡ spec.table_entry_at tables.now frame index }
@@ -55,10 +55,10 @@ fn in_page(a: u64, word: u64) -> Option<u64>
     Some(word / PAGE_SIZE * PAGE_SIZE + a % PAGE_SIZE)
 }
 
-#[tactic(auto, unfolding(crate::specs::Translation::walked))]
-fn walked(tables: &[u8], base: u64, a: u64) -> Option<u64>
-    requires { length tables.now ≡ tables_size }
-    ensures { result ≡ spec.walked tables.now base a }
+#[tactic(auto, unfolding(crate::specs::Translation::page_walk))]
+fn page_walk(tables: &[u8], base: u64, a: u64) -> Option<u64>
+    requires { length tables.now ≡ page_tables_size }
+    ensures { result ≡ spec.page_walk tables.now base a }
 {
     let upper = entry_at(tables, 0, a / 0x80_0000_0000 % 512);
     match frame_of(base, upper) {
@@ -87,5 +87,5 @@ pub fn translate(tables: &[u8], base: u64, a: u64) -> Option<u64>
     if a >= 0x1_0000_0000_0000 {
         return None;
     }
-    walked(tables, base, a)
+    page_walk(tables, base, a)
 }

@@ -1,18 +1,18 @@
 //! Boot parameters as bytes.
 ghost use Rattle.std.specs.Prelude.{◌≡◌, ◌≤◌, ◌+◌, ◌*◌, ℕ, length, replicate, slice_index};
 ghost use Rattle.std.specs.List.{flat_map};
-ghost use Rattle.bl_params.specs.BootParams.{boot_params, entry_bytes};
+ghost use Rattle.bl_params.specs.BootParams.{boot_params, e820_entry_bytes};
 ghost use Rattle.bl_params.specs.FieldBytes.{byte_over};
-ghost use Rattle.bl_params.specs.BootParamsFacts.{max_e820_entries};
+ghost use Rattle.bl_params.specs.ParamsToWriteFacts.{max_e820_entries};
 ghost use Rattle.bl_params.specs.SizesAndOffsets.{e820_entry_size, e820_table_at, params_size};
 
+use crate::field_writer::{write_field, write_u16, write_u32, write_u64};
 use crate::fields::{
     CMD_LINE_PTR, CODE32_START, E820_ENTRIES, E820_TABLE, ENTRY_LENGTH, ENTRY_SIZE, ENTRY_TYPE,
     HEADER_START, LOADER_UNDEFINED, RAMDISK_IMAGE, RAMDISK_SIZE, SETUP_DATA, TYPE_OF_LOADER,
     VID_MODE, VID_MODE_NORMAL,
 };
 use crate::params_to_write::ParamsToWrite;
-use crate::put::{write_field, write_u16, write_u32, write_u64};
 use bl_bzimage::Setup;
 use bl_map::Region;
 
@@ -26,7 +26,7 @@ fn clear(out: &mut [u8])
 fn put_entry(out: &mut [u8; 4096], at: usize, run: &Region)
     requires { at + e820_entry_size ≤ params_size }
     ensures { (k : ℕ) → slice_index out.new k
-        ≡ byte_over at (entry_bytes run.now) (λ j. slice_index out.old j) k }
+        ≡ byte_over at (e820_entry_bytes run.now) (λ j. slice_index out.old j) k }
 {
     write_u64(out, at, run.base);
     write_u64(out, at + ENTRY_LENGTH, run.length);
@@ -37,7 +37,8 @@ fn put_entry(out: &mut [u8; 4096], at: usize, run: &Region)
 fn put_entries(out: &mut [u8; 4096], runs: &[Region])
     requires { length runs.now ≤ max_e820_entries }
     ensures { (k : ℕ) → slice_index out.new k
-        ≡ byte_over e820_table_at (flat_map entry_bytes runs.now) (λ j. slice_index out.old j) k }
+        ≡ byte_over e820_table_at (flat_map e820_entry_bytes runs.now)
+        (λ j. slice_index out.old j) k }
 {
     let mut at = E820_TABLE;
     for run in runs {

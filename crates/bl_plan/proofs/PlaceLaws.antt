@@ -15,7 +15,7 @@ use Rattle.bl_plan.specs.declared.part.Row.{Row}
 use Rattle.bl_plan.specs.declared.part.Place.{Place}
 use Rattle.bl_plan.specs.Placed.{IsChosen, row_place, place_range, ArePlaced, IsPlaceable, IsApart}
 use Rattle.bl_plan.specs.Placed.{IsUntaken, IsPlaceOf}
-use Rattle.bl_plan.specs.Order.{range_key}
+use Rattle.bl_plan.specs.AddressOrder.{range_key}
 use Rattle.bl_plan.proofs.OrderLemmas.{put_from}
 use Rattle.bl_plan.proofs.OneListLaws.{preferred_holds}
 

@@ -1,7 +1,7 @@
 pub mod Roles
 pub mod Protocols
 pub mod MenuLimits
-pub mod Order
+pub mod AddressOrder
 pub mod Permitted
 pub mod PlannerFacts
 pub mod Placed

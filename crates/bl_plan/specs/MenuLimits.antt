@@ -14,5 +14,5 @@ abbrev pub max_line : ℕ
 max_line = 4095
 
 -- a copy of an ACPI root table has at most so many
-abbrev pub max_copy : ℕ
-max_copy = 256
+abbrev pub max_rsdp_length : ℕ
+max_rsdp_length = 256

@@ -67,7 +67,7 @@ HasPositiveAlignment (Highest align low high) = 1 ≤ align
 HasPositiveAlignment (Preferred at align low high) = 1 ≤ align
 
 -- a row of some bytes, aligned to one byte at least
-pub record IsRow (row : Row) : Type 0 where
+pub record IsWellFormedRow (row : Row) : Type 0 where
   pub filled : 1 ≤ row.length
   pub choice : HasPositiveAlignment row.choice
 

@@ -2,7 +2,7 @@
 use Rattle.std.specs.Prelude.{ℕ, ◌<◌, ◌≤◌, List, All, AllPairs}
 use Rattle.std.specs.declared.ops.Range.{Range}
 use Rattle.bl_map.specs.MachineFacts.{MachineFacts, AllUsable}
-use Rattle.bl_plan.specs.Order.{insert_sorted, range_key}
+use Rattle.bl_plan.specs.AddressOrder.{insert_sorted, range_key}
 
 pub record PlannerFacts : Type 0 where
   pub facts : MachineFacts

@@ -1,7 +1,7 @@
 //! Places for a table of parts.
 ghost use Rattle.std.specs.Prelude.{◌+◌, ◌≤◌, All, [], IfOk, IfErr};
 ghost use Rattle.bl_map.specs.Limits.{usable_limit};
-ghost use Rattle.bl_plan.specs.Placed.{ArePlaced, IsRow, IsPlacingFault};
+ghost use Rattle.bl_plan.specs.Placed.{ArePlaced, IsWellFormedRow, IsPlacingFault};
 
 use crate::fault::PlanFault;
 use crate::part::{Place, Row};
@@ -25,7 +25,7 @@ pub fn place_rows<A: Allocator + Copy>(
     machine: &Machine<A>,
     rows: &[Row],
 ) -> Result<Vec<Place, A>, PlanFault>
-    requires { All IsRow rows.now }
+    requires { All IsWellFormedRow rows.now }
     ensures placed { IfOk result (λ places. ArePlaced machine.now [] rows.now places.items) }
     ensures fault { IfErr result (IsPlacingFault machine.now rows.now) }
     ensures below { IfOk result (λ places.

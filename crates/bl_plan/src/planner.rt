@@ -1,7 +1,7 @@
 //! A planner.
+use crate::address_order::position_for;
 use crate::blocked_stretches::taken_stretch;
 use crate::fault::PlanFault;
-use crate::order::position_for;
 use bl_map::Machine;
 use std::alloc::{AllocError, Allocator};
 use std::marker::Model;

@@ -7,7 +7,7 @@ use Rattle.bl_load.specs.declared.plan.Content.TheVariants.{File}
 use Rattle.bl_load.specs.declared.plan.PlannedPart.{PlannedPart}
 use Rattle.bl_load.specs.declared.plan.Plan.{Plan}
 use Rattle.bl_load.specs.declared.registers.Registers.{Registers}
-use Rattle.bl_load.specs.HandoffFacts.{Ascends, IsWellFormedHandoff, MayStand}
+use Rattle.bl_load.specs.HandoffFacts.{Ascends, IsWellFormedHandoff, IsRoleAllowed}
 use Rattle.bl_load.specs.Protocols.{is_wide}
 use Rattle.bl_load.specs.Registers.{are_wide}
 use Rattle.bl_load.specs.Loadable.{IsBacked, IsLoadable}
@@ -35,14 +35,14 @@ file_backed : {A : Type 0} (size : ℕ) (place : Place) (offset : ℕ) → offse
 file_backed size place offset h = record { there = (omega arith, λ _. h); short = omega arith }
 
 two_kept : (protocol : Protocol) (registers : Registers) (p q : Place)
-    → are_wide registers ≡ is_wide protocol → MayStand (is_wide protocol) p.role
-    → MayStand (is_wide protocol) q.role
+    → are_wide registers ≡ is_wide protocol → IsRoleAllowed (is_wide protocol) p.role
+    → IsRoleAllowed (is_wide protocol) q.role
     → 1 ≤ p.length → 1 ≤ q.length → Ascends p q → q.address + q.length ≤ 2 ^ 32
     → IsWellFormedHandoff (record { protocol = protocol; registers = registers; places = p ∷ q ∷ [] })
 two_kept protocol registers p q width mp mq hp hq up top =
     record {
       width = width;
-      roles = all_two (λ (place : Place). MayStand (is_wide protocol) place.role) p q mp mq;
+      roles = all_two (λ (place : Place). IsRoleAllowed (is_wide protocol) place.role) p q mp mq;
       few = omega arith;
       filled = all_two (λ (place : Place). 1 ≤ place.length) p q hp hq;
       below =
@@ -52,8 +52,8 @@ two_kept protocol registers p q width mp mq hp hq up top =
 
 pub two_loadable : {A : Type 0} (long size : ℕ) (plan : Plan A) (p q : Place) (a b : ℕ)
     → plan.parts.items ≡ part_of p a ∷ part_of q b ∷ []
-    → are_wide plan.registers ≡ is_wide plan.protocol → MayStand (is_wide plan.protocol) p.role
-    → MayStand (is_wide plan.protocol) q.role
+    → are_wide plan.registers ≡ is_wide plan.protocol → IsRoleAllowed (is_wide plan.protocol) p.role
+    → IsRoleAllowed (is_wide plan.protocol) q.role
     → a + p.length ≤ long → b + q.length ≤ long → 1 ≤ p.length → 1 ≤ q.length → Ascends p q
     → q.address + q.length ≤ size → size ≤ 2 ^ 32
     → IsLoadable (long ∷ []) size plan

@@ -2,7 +2,7 @@
 use Rattle.std.proofs.Common.{◌≡◌, ℕ, ◌-◌, ◌^◌, false, List, [], length, arith}
 use Rattle.std.proofs.lemmas.List.{append-nil}
 use Rattle.std.specs.Fmt.{padded_integral, format_spec, digits, char_count}
-use Rattle.bl_say.specs.Says.{hex16}
+use Rattle.bl_say.specs.BootAndMapLines.{hex16}
 
 -- what the hole {:016x} writes
 abbrev pub hex_hole : ℕ → List ℕ

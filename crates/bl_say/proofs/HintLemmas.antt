@@ -7,7 +7,7 @@ use Rattle.bl_desc.specs.Views.{entry_view}
 use Rattle.bl_say.specs.Hints.{kernel_hint, kernel_hint_if, kernel_hint_of}
 use Rattle.bl_say.specs.Segments.{KernelSegmentsFacts}
 use Rattle.bl_say.specs.Sought.{SoughtFacts, bytes_found}
-use Rattle.bl_say.specs.Sources.{source_at, source_if, source_words}
+use Rattle.bl_say.specs.PartSources.{source_at, source_if, source_words}
 use Rattle.bl_say.proofs.RowLemmas.{no_row, one_row}
 
 pub no_kernel_hint : {A : Type 0} (rows : List (EntryRow A)) (sought : SoughtFacts)

@@ -6,7 +6,7 @@ use Rattle.bl_say.specs.DetailLines.{detail_lines}
 use Rattle.bl_desc.specs.EntryNames.{file_names}
 use Rattle.bl_say.specs.RefusalWords.{refusal_line}
 use Rattle.bl_say.specs.Sought.{SoughtFacts, sought_lines}
-use Rattle.bl_say.specs.declared.told.refusal_detail.ToldRefusal.{ToldRefusal}
+use Rattle.bl_say.specs.declared.line_subjects.refusal_detail.ToldRefusal.{ToldRefusal}
 
 -- an entry by its index in the menu, and its title
 abbrev pub entry_title_line : ℕ → List ℕ → List ℕ

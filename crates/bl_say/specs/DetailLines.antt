@@ -8,13 +8,14 @@ use Rattle.bl_plan.specs.declared.part.Choice.{Choice}
 use Rattle.bl_plan.specs.declared.part.Choice.TheVariants.{Fixed, Lowest, Highest, Preferred}
 use Rattle.bl_plan.specs.declared.part.Row.{Row}
 use Rattle.bl_desc.specs.Entries.{Entry}
-use Rattle.bl_blame.specs.UnusableWords.{address_words, unusable_line}
+use Rattle.bl_blame.specs.UnusableAddress.{address_words, unusable_line}
 use Rattle.bl_say.specs.Frames.{number_between, frames_line, frames_wanted, names_at}
-use Rattle.bl_say.specs.HandedLines.{role_name}
+use Rattle.bl_say.specs.HandoffLines.{role_name}
 use Rattle.bl_say.specs.Sought.{SoughtFacts}
-use Rattle.bl_say.specs.declared.told.refusal_detail.RefusalDetail.{RefusalDetail}
-use Rattle.bl_say.specs.declared.told.refusal_detail.RefusalDetail.TheVariants.{Nothing, NoPlace}
-use Rattle.bl_say.specs.declared.told.refusal_detail.RefusalDetail.TheVariants.{Frames}
+use Rattle.bl_say.specs.declared.line_subjects.refusal_detail.RefusalDetail.{RefusalDetail}
+use Rattle.bl_say.specs.declared.line_subjects.refusal_detail.RefusalDetail.TheVariants.{Nothing}
+use Rattle.bl_say.specs.declared.line_subjects.refusal_detail.RefusalDetail.TheVariants.{NoPlace}
+use Rattle.bl_say.specs.declared.line_subjects.refusal_detail.RefusalDetail.TheVariants.{Frames}
 
 -- ---- a part that finds no place
 

@@ -1,11 +1,11 @@
-pub mod Says
+pub mod BootAndMapLines
 pub mod WalkLines
 pub mod Sought
 pub mod Segments
 pub mod Frames
 pub mod Hints
-pub mod Sources
+pub mod PartSources
 pub mod RefusalWords
-pub mod HandedLines
+pub mod HandoffLines
 pub mod DetailLines
 pub mod AttemptLines

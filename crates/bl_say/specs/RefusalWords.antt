@@ -1,7 +1,7 @@
 -- The names and the meanings of refusals, and what each one tells beside. Own.
 use Rattle.std.specs.Prelude.{ℕ, false, List, [], ◌++◌, codes, decimal}
 use Rattle.std.specs.Fmt.{digits}
-use Rattle.bl_load.specs.Numbers.{refusal_number}
+use Rattle.bl_load.specs.RefusalNumbers.{refusal_number}
 use Rattle.bl_load.specs.declared.refusal.Refusal.{Refusal}
 use Rattle.bl_load.specs.declared.refusal.Refusal.TheVariants.{NoFile, FileFault, FileTooLong}
 use Rattle.bl_load.specs.declared.refusal.Refusal.TheVariants.{NoHeader, HeaderCut, BadArchitecture}

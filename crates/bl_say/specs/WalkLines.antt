@@ -11,7 +11,7 @@ use Rattle.bl_plan.specs.Protocols.{protocol_name}
 use Rattle.bl_walk.specs.SeenFacts.{SeenModuleFacts, SeenFileFacts, SeenFacts}
 use Rattle.bl_walk.specs.declared.seen.SeenPart.{SeenPart}
 use Rattle.bl_blame.specs.Addresses.{hex8}
-use Rattle.bl_say.specs.Says.{hex16}
+use Rattle.bl_say.specs.BootAndMapLines.{hex16}
 
 -- a text: how many bytes it has, and after a space its bytes in hexadecimal digits, if there are
 -- any
@@ -24,11 +24,11 @@ text_word bytes =
 abbrev pub protocol_line : Protocol → List ℕ
 protocol_line protocol = codes "protocol " ++ protocol_name protocol ++ codes "\n"
 
-abbrev pub entry_line : ℕ → List ℕ
-entry_line entry = codes "entry " ++ hex8 entry ++ codes "\n"
+abbrev pub entry_address_line : ℕ → List ℕ
+entry_address_line entry = codes "entry " ++ hex8 entry ++ codes "\n"
 
-abbrev pub line_line : List ℕ → List ℕ
-line_line line = codes "line " ++ text_word line ++ codes "\n"
+abbrev pub command_line_line : List ℕ → List ℕ
+command_line_line line = codes "line " ++ text_word line ++ codes "\n"
 
 -- a part of the kernel: its address, its length
 abbrev pub kernel_line : SeenPart → List ℕ
@@ -65,13 +65,15 @@ seen_run_line run =
     run_front run.base ++ hex16 (region_end run) ++ run_kind (kind_number run.kind)
 
 -- a copy of an RSDP, if there is one
-abbrev pub copy_line : List ℕ → Option (List ℕ) → List ℕ
-copy_line word None = []
-copy_line word (Some copy) = word ++ text_word copy ++ codes "\n"
+abbrev pub rsdp_copy_line : List ℕ → Option (List ℕ) → List ℕ
+rsdp_copy_line word None = []
+rsdp_copy_line word (Some copy) = word ++ text_word copy ++ codes "\n"
 
 -- the lines of what a kernel sees, in order
 abbrev pub walk_lines : SeenFacts → List ℕ
-walk_lines seen = protocol_line seen.protocol ++ entry_line seen.entry ++ line_line seen.line
+walk_lines seen =
+    protocol_line seen.protocol ++ entry_address_line seen.entry ++ command_line_line seen.line
     ++ flat_map kernel_line seen.kernel ++ flat_map module_line seen.modules
     ++ initrd_line seen.initrd ++ flat_map seen_run_line seen.map
-    ++ copy_line (codes "rsdp-old ") seen.rsdp_old ++ copy_line (codes "rsdp-new ") seen.rsdp_new
+    ++ rsdp_copy_line (codes "rsdp-old ") seen.rsdp_old
+    ++ rsdp_copy_line (codes "rsdp-new ") seen.rsdp_new

@@ -1,11 +1,11 @@
 //! The lines that the program says: of a boot, a map, a walk, an explanation.
 #![tactic(auto)]
 
+mod line_subjects;
 mod lines;
-mod told;
 
+pub use line_subjects::{KernelSegments, RefusalDetail, Sought, ToldRefusal};
 pub use lines::{
-    say_attempt, say_bad_image, say_booted, say_handoff, say_hints, say_map, say_no_entry_left,
-    say_refusals, say_refused_attempts, say_room, say_walk,
+    say_attempt, say_bad_image, say_booted, say_handoff, say_handoff_frames, say_hints, say_map,
+    say_no_entry_left, say_refusals, say_refused_attempts, say_walk,
 };
-pub use told::{KernelSegments, RefusalDetail, Sought, ToldRefusal};

@@ -13,12 +13,12 @@ use Rattle.std.proofs.lemmas.List.Elements.{All-map}
 use Rattle.bl_mem.specs.Memory.{IsIn}
 use Rattle.bl_plan.specs.declared.part.Place.{Place}
 use Rattle.bl_plan.specs.Placed.{place_range}
-use Rattle.bl_stage.specs.Ranges.{is_in_ranges, scrubbed, IsSameOutside}
+use Rattle.bl_stage.specs.Ranges.{is_in_ranges, scrubbed_byte, IsSameOutside}
 use Rattle.bl_load.specs.declared.plan.PlannedPart.{PlannedPart}
 use Rattle.bl_load.specs.Handover.{Part, placed_part}
 use Rattle.bl_load.specs.Loadable.{lengths_of, IsBacked}
-use Rattle.bl_load.specs.PlanFacts.{part_by, part_in}
-use Rattle.bl_load.specs.After.{Spans, IsAfter}
+use Rattle.bl_load.specs.PlanContents.{part_by, part_in}
+use Rattle.bl_load.specs.MemoryAfter.{Spans, IsMemoryAfter}
 use Rattle.bl_load.proofs.HeldLemmas.{length-bytes_by, map_same}
 use Rattle.bl_session.specs.AttemptResult.{part_range}
 
@@ -75,18 +75,18 @@ first_fail true false d fails = refl
 first_fail false c d fails = refl
 
 scrubbed_kept : (pool : Range ℕ) (keep : List (Range ℕ)) (bytes : List ℕ) (a : ℕ)
-    → is_in_ranges keep a ≡ true → scrubbed pool keep bytes a ≡ slice_index bytes a
+    → is_in_ranges keep a ≡ true → scrubbed_byte pool keep bytes a ≡ slice_index bytes a
 scrubbed_kept pool keep bytes a kept =
     rw (kept, last_fails (nat_le pool.start a) (nat_lt a pool.end)) refl
 
 scrubbed_away : (pool : Range ℕ) (keep : List (Range ℕ)) (bytes : List ℕ) (a : ℕ) → ¬ IsIn pool a
-    → scrubbed pool keep bytes a ≡ slice_index bytes a
+    → scrubbed_byte pool keep bytes a ≡ slice_index bytes a
 scrubbed_away pool keep bytes a away =
     rw (first_fail (nat_le pool.start a) (nat_lt a pool.end) (not (is_in_ranges keep a))
     (misses pool a away)) refl
 
 scrubbed_cleared : (pool : Range ℕ) (keep : List (Range ℕ)) (bytes : List ℕ) (a : ℕ) → IsIn pool a
-    → is_in_ranges keep a ≡ false → scrubbed pool keep bytes a ≡ 0
+    → is_in_ranges keep a ≡ false → scrubbed_byte pool keep bytes a ≡ 0
 scrubbed_cleared pool keep bytes a here lost =
     let low = here.0 in
     let high = here.1 in
@@ -98,8 +98,8 @@ pub after_scrub : (pool : Range ℕ) (parts : List Part) (old loaded new : List 
     (λ part. (a : ℕ) → part.address ≤ a → a < part.address + length part.bytes
     → slice_index loaded a ≡ slice_index part.bytes (a - part.address)) parts
     → ((a : ℕ) → All (λ part. ¬ Spans part a) parts → slice_index loaded a ≡ slice_index old a)
-    → ((a : ℕ) → slice_index new a ≡ scrubbed pool (map part_range parts) loaded a)
-    → IsAfter pool parts old new
+    → ((a : ℕ) → slice_index new a ≡ scrubbed_byte pool (map part_range parts) loaded a)
+    → IsMemoryAfter pool parts old new
 after_scrub pool parts old loaded new in_parts elsewhere after =
     let keep : List (Range ℕ) = map part_range parts in
     record {
@@ -121,7 +121,7 @@ after_scrub pool parts old loaded new in_parts elsewhere after =
 -- so memory reads back there as before
 pub held_on : (pool : Range ℕ) (places : List Place) (loaded new : List ℕ)
     → length new ≡ length loaded
-    → ((a : ℕ) → slice_index new a ≡ scrubbed pool (map place_range places) loaded a)
+    → ((a : ℕ) → slice_index new a ≡ scrubbed_byte pool (map place_range places) loaded a)
     → All (λ place. place.address + place.length ≤ length loaded) places
     → map (part_in new) places ≡ map (part_in loaded) places
 held_on pool places loaded new size after inside =
@@ -146,7 +146,7 @@ held_on pool places loaded new size after inside =
 
 -- what memory was before its pool changed does not count
 pub after_before : (pool : Range ℕ) (parts : List Part) (first old new : List ℕ)
-    → IsSameOutside pool first old → IsAfter pool parts old new → IsAfter pool parts first new
+    → IsSameOutside pool first old → IsMemoryAfter pool parts old new → IsMemoryAfter pool parts first new
 after_before pool parts first old new outside after = record {
   in_parts = after.in_parts;
   in_pool = after.in_pool;

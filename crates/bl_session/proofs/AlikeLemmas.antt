@@ -7,7 +7,8 @@ use Rattle.bl_load.specs.declared.refusal.Refusal.{Refusal}
 use Rattle.bl_load.specs.declared.refusal.Refusal.TheVariants.{FileFault}
 use Rattle.bl_stage.specs.PieceStates.{PieceState, came_bytes}
 use Rattle.bl_session.specs.declared.outcome.RefusedEntry.{RefusedEntry}
-use Rattle.bl_session.specs.AttemptResult.{AttemptResult, handed, refused, HasResult, size_refusal}
+use Rattle.bl_session.specs.AttemptResult.{AttemptResult, handed, refused, HasWholeFilesResult}
+use Rattle.bl_session.specs.AttemptResult.{size_refusal}
 use Rattle.bl_session.specs.AttemptResult.{known_lengths}
 use Rattle.bl_session.specs.Menu.{MenuFacts, entry_at, value_with}
 use Rattle.bl_session.specs.Pieces.{are_whole, waiting_files, with_piece}
@@ -15,11 +16,11 @@ use Rattle.bl_session.specs.BootSteps.{BootFacts, EventFacts, piece, fault, Stat
 use Rattle.bl_session.specs.BootSteps.{running}
 use Rattle.bl_session.specs.BootSteps.{handed_over, none_left, out_of_memory, sizes_of, fresh}
 use Rattle.bl_session.specs.BootSteps.{TextsHaveResult, RestOfBoot, AfterAttempt, Continues}
-use Rattle.bl_session.specs.BootSteps.{BeginsUnless, Begins, is_wanted, TakesEvent, Steps}
-use Rattle.bl_session.specs.BootSteps.{StepsOrFails}
+use Rattle.bl_session.specs.BootSteps.{BeginsUnless, Begins, is_wanted, TakesEvent, StepsTo}
+use Rattle.bl_session.specs.BootSteps.{StepsToOrFails}
 use Rattle.bl_session.specs.BootSteps.{Starts, StartsOrFails, attempt_number}
 use Rattle.bl_session.specs.History.{HistoryItem}
-use Rattle.bl_session.specs.Asked.{file_submissions, attempt_submissions, new_submissions}
+use Rattle.bl_session.specs.Submissions.{file_submissions, attempt_submissions, new_submissions}
 
 -- equal machines and menus, and equal sizes wherever an entry looks
 pub record AreAlike (f g : BootFacts) : Type 0 where
@@ -51,9 +52,9 @@ orders_after_alike f g alike old new =
 ends_alike : (f g : BootFacts) → AreAlike f g → (entry : ℕ) (texts : List (List ℕ))
     (end : AttemptResult) → TextsHaveResult f entry texts end → TextsHaveResult g entry texts end
 ends_alike f g alike entry texts end ends =
-    subst (λ (m : MachineFacts). HasResult m (value_with (entry_at g.menu entry) texts) end)
+    subst (λ (m : MachineFacts). HasWholeFilesResult m (value_with (entry_at g.menu entry) texts) end)
     alike.machine
-    (subst (λ (m : MenuFacts). HasResult f.machine (value_with (entry_at m entry) texts) end)
+    (subst (λ (m : MenuFacts). HasWholeFilesResult f.machine (value_with (entry_at m entry) texts) end)
     alike.menu ends)
 
 goes_alike : (next more : RestOfBoot) → ((r : List RefusedEntry) (s : State) → next r s → more r s)
@@ -127,7 +128,7 @@ takes_alike f g alike entry rest earlier files (fault ticket) new goes =
     (refused (FileFault ticket.file)) new goes
 
 steps_alike : (f g : BootFacts) → AreAlike f g → (old : State) (event : EventFacts) (new : State)
-    → Steps f old event new → Steps g old event new
+    → StepsTo f old event new → StepsTo g old event new
 steps_alike f g alike (running entry rest earlier files) event new goes =
     choice (is_wanted earlier files event) goes
   where
@@ -144,7 +145,7 @@ steps_alike f g alike (none_left earlier) event new goes = goes
 steps_alike f g alike out_of_memory event new goes = goes
 
 pub step_alike : (f g : BootFacts) → AreAlike f g → (old : State) (event : EventFacts) (new : State)
-    → StepsOrFails f old event new → StepsOrFails g old event new
+    → StepsToOrFails f old event new → StepsToOrFails g old event new
 step_alike f g alike old event new (inl steps) = inl (steps_alike f g alike old event new steps)
 step_alike f g alike old event new (inr fails) = inr fails
 

@@ -5,11 +5,11 @@ use Rattle.std.specs.List.{range_with_len}
 use Rattle.std.proofs.lemmas.List.FromFn.{get_or-map-range_with_len}
 use Rattle.bl_map.specs.MachineFacts.{MachineFacts}
 use Rattle.bl_session.specs.Menu.{EntryFacts, MenuFacts, entry_at, no_entry}
-use Rattle.bl_session.specs.Attempts.{count_to, named_file_count}
+use Rattle.bl_session.specs.Attempts.{index_bound, named_file_count}
 use Rattle.bl_session.specs.BootSteps.{BootFacts, State, unstarted}
-use Rattle.bl_session.specs.Outcome.{File, missing, size_of}
+use Rattle.bl_session.specs.MenuFiles.{File, missing, size_of}
 use Rattle.bl_session.specs.History.{HistoryItem}
-use Rattle.bl_session.specs.Run.{RunState, run_state_of, Delivers, Reads, IsRun}
+use Rattle.bl_session.specs.Run.{RunState, run_state_of, Delivers, ItemsLeadTo, IsRun}
 use Rattle.bl_session.specs.Phases.{boot_facts}
 use Rattle.bl_session.proofs.EntryEndLemmas.{size_at}
 use Rattle.bl_session.proofs.AlikeLemmas.{AreAlike, orders_alike, orders_after_alike, step_alike}
@@ -32,7 +32,7 @@ hears_alike f g alike files given state [] item next (event, is, steps, left) = 
 
 reads_alike : (f g : BootFacts) → AreAlike f g
     → (files : List File) (items given : List HistoryItem) (old : RunState) (new : State)
-    → Reads f files given old items new → Reads g files given old items new
+    → ItemsLeadTo f files given old items new → ItemsLeadTo g files given old items new
 reads_alike f g alike files [] given old new reads = reads
 reads_alike f g alike files (item ∷ items) given old new (next, hears, reads) = (
   next,
@@ -54,19 +54,19 @@ run_alike f g alike files old new end run =
       begun = run.begun;
       begins = start_alike f g alike unstarted run.begun run.begins;
       reads =
-          subst (λ (w : RunState). Reads g files old w run.gained end) run_state
+          subst (λ (w : RunState). ItemsLeadTo g files old w run.gained end) run_state
           (reads_alike f g alike files run.gained old (run_state_of f run.begun) end run.reads);
     }
 
 -- ---- the sizes of the files that a menu names, and those of all files
 
-count_first : (index : ℕ) (indices : List ℕ) → index < count_to (index ∷ indices)
+count_first : (index : ℕ) (indices : List ℕ) → index < index_bound (index ∷ indices)
 count_first index indices = omega arith
 
 -- sizes that are these files' below a count are so for indices below it
 sizes_below : (files : List File) (sizes : List (Option ℕ)) (count : ℕ)
     → ((i : ℕ) → i < count → get_or sizes i None ≡ size_of (get_or files i missing))
-    → (indices : List ℕ) → count_to indices ≤ count
+    → (indices : List ℕ) → index_bound indices ≤ count
     → map (λ file. get_or sizes file None) indices
     ≡ map (λ file. get_or (map size_of files) file None) indices
 sizes_below files sizes count asked [] h = refl
@@ -77,7 +77,7 @@ sizes_below files sizes count asked (index ∷ indices) h =
 
 -- no entry names a file beyond the count
 named_at : (entries : List EntryFacts) (entry : ℕ)
-    → count_to (get_or entries entry no_entry).files ≤ named_file_count entries
+    → index_bound (get_or entries entry no_entry).files ≤ named_file_count entries
 named_at [] entry = omega arith
 named_at (e ∷ entries) zero = omega arith
 named_at (e ∷ entries) (suc entry) = let behind = named_at entries entry in omega arith

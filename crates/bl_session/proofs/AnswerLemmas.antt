@@ -7,16 +7,17 @@ use Rattle.bl_stage.specs.PieceStates.{piece_states}
 use Rattle.bl_session.specs.declared.ticket.Ticket.{Ticket}
 use Rattle.bl_session.specs.declared.outcome.Progress.{Progress}
 use Rattle.bl_session.specs.declared.outcome.Progress.TheVariants.{Waiting}
-use Rattle.bl_session.specs.BootSteps.{BootFacts, piece, fault, State, StepsOrFails, attempt_number}
+use Rattle.bl_session.specs.BootSteps.{BootFacts, piece, fault, State, StepsToOrFails}
+use Rattle.bl_session.specs.BootSteps.{attempt_number}
 use Rattle.bl_session.specs.BootSteps.{is_running, progress}
-use Rattle.bl_session.specs.Outcome.{File}
+use Rattle.bl_session.specs.MenuFiles.{File}
 use Rattle.bl_session.specs.History.{HistoryItem, came, failed, nothing, file_under, IsPieceOf}
-use Rattle.bl_session.specs.Asked.{attempt_submissions, new_submissions}
+use Rattle.bl_session.specs.Submissions.{attempt_submissions, new_submissions}
 use Rattle.bl_session.specs.Memory.{IsMemoryAt}
 use Rattle.bl_session.specs.Phases.{PhaseFacts, not_started, waits, hands_over, has_none}
 use Rattle.bl_session.specs.Phases.{lacks_memory, state_at, is_waiting}
 use Rattle.bl_session.specs.Run.{RunState, run_state_of, IsAnswer, IsEventOf}
-use Rattle.bl_session.specs.TurnsKept.{IsHeard, first_awaited_ticket}
+use Rattle.bl_session.specs.RunKept.{HistoryLeadsOn, first_awaited_ticket}
 use Rattle.bl_session.proofs.NextLemmas.{lost_ends}
 use Rattle.bl_session.proofs.TurnLemmas.{heard_on, owed_same, owed_next}
 
@@ -68,7 +69,7 @@ event_lost files given lacks_memory before ticket item w is first = absurd cc
 pub lost : (facts : BootFacts) (old new : PhaseFacts) (before after : List ℕ) (ticket : Ticket)
     (p : Progress) → is_waiting old ≡ true → first_awaited_ticket (state_at before old)
     ≡ Some ticket
-    → StepsOrFails facts (state_at before old) (fault ticket) (state_at after new)
+    → StepsToOrFails facts (state_at before old) (fault ticket) (state_at after new)
     → p ≡ progress (attempt_number (state_at before old)) (state_at after new) → p ≢ Waiting
 lost facts (waits entry rest earlier stage) new before after ticket p w first step told = λ e.
     lost_ends facts entry rest earlier (piece_states before stage) ticket (state_at after new) first
@@ -106,30 +107,30 @@ at state = record { state = state; owed = [] }
 pub heard_more : (facts now : BootFacts) (files those : List File)
     (first mid last : List HistoryItem)
     (start : RunState) (old new : State) → now ≡ facts → those ≡ files
-    → IsHeard facts files first mid start (at old)
-    → IsHeard now those mid last (at old)
+    → HistoryLeadsOn facts files first mid start (at old)
+    → HistoryLeadsOn now those mid last (at old)
     (record { state = new; owed = new_submissions now old new })
-    → IsHeard facts files first last start
+    → HistoryLeadsOn facts files first last start
     (record { state = new; owed = new_submissions facts old new })
 heard_more facts now files those first mid last start old new e f so_far more =
     heard_on facts files first mid last start (at old)
     (record { state = new; owed = new_submissions facts old new }) so_far
     (subst
     (λ (b : BootFacts).
-    IsHeard b files mid last (at old)
+    HistoryLeadsOn b files mid last (at old)
     (record { state = new; owed = new_submissions b old new })) e
     (subst
     (λ (fs : List File).
-    IsHeard now fs mid last (at old)
+    HistoryLeadsOn now fs mid last (at old)
     (record { state = new; owed = new_submissions now old new })) f more))
 
 owing : (facts : BootFacts) (files : List File) (first last : List HistoryItem) (start : RunState)
     (new : State) (a b : List HistoryItem) → a ≡ b
-    → IsHeard facts files first last start (record { state = new; owed = a })
-    → IsHeard facts files first last start (record { state = new; owed = b })
+    → HistoryLeadsOn facts files first last start (record { state = new; owed = a })
+    → HistoryLeadsOn facts files first last start (record { state = new; owed = b })
 owing facts files first last start new a b e heard =
     subst
-    (λ (l : List HistoryItem). IsHeard facts files first last start
+    (λ (l : List HistoryItem). HistoryLeadsOn facts files first last start
     (record { state = new; owed = l }))
     e heard
 
@@ -137,9 +138,9 @@ owing facts files first last start new a b e heard =
 pub heard_waiting : (facts : BootFacts) (files : List File) (first last : List HistoryItem)
     (start : RunState)
     (old new : State) (p : Progress) → p ≡ progress (attempt_number old) new → p ≡ Waiting
-    → IsHeard facts files first last start
+    → HistoryLeadsOn facts files first last start
     (record { state = new; owed = new_submissions facts old new })
-    → IsHeard facts files first last start (at new)
+    → HistoryLeadsOn facts files first last start (at new)
 heard_waiting facts files first last start old new p told is heard =
     owing facts files first last start new (new_submissions facts old new) []
     (owed_same facts old new (sym told ∙ is)) heard
@@ -148,9 +149,9 @@ heard_waiting facts files first last start old new p told is heard =
 pub heard_ended : (facts : BootFacts) (files : List File) (first last : List HistoryItem)
     (start : RunState)
     (old new : State) (p : Progress) → p ≡ progress (attempt_number old) new → p ≢ Waiting
-    → IsHeard facts files first last start
+    → HistoryLeadsOn facts files first last start
     (record { state = new; owed = new_submissions facts old new })
-    → IsHeard facts files first last start (run_state_of facts new)
+    → HistoryLeadsOn facts files first last start (run_state_of facts new)
 heard_ended facts files first last start old new p told is heard =
     owing facts files first last start new (new_submissions facts old new)
     (attempt_submissions facts new)

@@ -10,9 +10,9 @@ use Rattle.bl_session.specs.History.{HistoryItem}
 use Rattle.bl_session.specs.declared.outcome.RefusedEntry.{RefusedEntry}
 use Rattle.bl_session.specs.BootSteps.{BootFacts}
 use Rattle.bl_session.specs.Menu.{entry_at}
-use Rattle.bl_session.specs.Asked.{piece_submissions, file_submissions, attempt_submissions}
+use Rattle.bl_session.specs.Submissions.{piece_submissions, file_submissions, attempt_submissions}
 use Rattle.bl_session.specs.Phases.{PhaseFacts, waits, state_at}
-use Rattle.bl_session.specs.TurnsKept.{IsAsked}
+use Rattle.bl_session.specs.RunKept.{AreAskedButRest}
 use Rattle.bl_session.proofs.PieceStateLemmas.{length-piece_states_of}
 use Rattle.bl_session.proofs.AskLemmas.{asked_on, asked_part, asked_all}
 
@@ -67,17 +67,17 @@ pub asked_file : (attempt place file count : ℕ) (files sizes : List ℕ)
     (old mid new : List HistoryItem)
     → place < length files → place < length sizes → file ≡ get_or files place 0
     → count ≡ frames_of (get_or sizes place 0)
-    → IsAsked (sized_orders attempt 0 files sizes)
+    → AreAskedButRest (sized_orders attempt 0 files sizes)
     (sized_orders attempt place (drop place files) (drop place sizes)) old mid
     → new ≡ mid ++ piece_submissions attempt place file count
-    → IsAsked (sized_orders attempt 0 files sizes)
+    → AreAskedButRest (sized_orders attempt 0 files sizes)
     (sized_orders attempt (place + 1) (drop (place + 1) files) (drop (place + 1) sizes)) old new
 asked_file attempt place file count files sizes old mid new f s is counts a e =
     asked_on (sized_orders attempt 0 files sizes)
     (piece_submissions attempt place (get_or files place 0) (frames_of (get_or sizes place 0)))
     (sized_orders attempt (place + 1) (drop (place + 1) files) (drop (place + 1) sizes)) old mid
     new
-    (subst (λ (l : List HistoryItem). IsAsked (sized_orders attempt 0 files sizes) l old mid)
+    (subst (λ (l : List HistoryItem). AreAskedButRest (sized_orders attempt 0 files sizes) l old mid)
     (sized_next attempt place files sizes f s) a)
     (e ∙ ap (λ n. mid ++ piece_submissions attempt place n count) is
     ∙ ap (λ n. mid ++ piece_submissions attempt place (get_or files place 0) n) counts)
@@ -87,10 +87,10 @@ pub asked_some : (attempt place file count : ℕ) (files sizes : List ℕ)
     (old mid new : List HistoryItem)
     → place < length files → place < length sizes → file ≡ get_or files place 0
     → count ≡ frames_of (get_or sizes place 0)
-    → IsAsked (sized_orders attempt 0 files sizes)
+    → AreAskedButRest (sized_orders attempt 0 files sizes)
     (sized_orders attempt place (drop place files) (drop place sizes)) old mid
-    → (rest : List HistoryItem) × IsAsked (piece_submissions attempt place file count) rest mid new
-    → (rest : List HistoryItem) × IsAsked (sized_orders attempt 0 files sizes) rest old new
+    → (rest : List HistoryItem) × AreAskedButRest (piece_submissions attempt place file count) rest mid new
+    → (rest : List HistoryItem) × AreAskedButRest (sized_orders attempt 0 files sizes) rest old new
 asked_some attempt place file count files sizes old mid new f s is counts a b =
     let later =
     sized_orders attempt (place + 1) (drop (place + 1) files) (drop (place + 1) sizes) in
@@ -101,14 +101,14 @@ asked_some attempt place file count files sizes old mid new f s is counts a b =
     ∙ ap (λ n. piece_submissions attempt place (get_or files place 0) n) counts in (
       b.0 ++ later,
       asked_part (sized_orders attempt 0 files sizes) pieces b.0 later old mid new
-          (subst (λ (l : List HistoryItem). IsAsked (sized_orders attempt 0 files sizes) l old mid)
+          (subst (λ (l : List HistoryItem). AreAskedButRest (sized_orders attempt 0 files sizes) l old mid)
           (sized_next attempt place files sizes f s) a)
-          (subst (λ (l : List HistoryItem). IsAsked l b.0 mid new) same b.1),
+          (subst (λ (l : List HistoryItem). AreAskedButRest l b.0 mid new) same b.1),
     )
 
 pub asked_files : (bytes : List ℕ) (stage : Staging) (attempt place : ℕ) (files : List ℕ)
     (old new : List HistoryItem) → length files ≤ place
-    → IsAsked (sized_orders attempt 0 files stage.sizes)
+    → AreAskedButRest (sized_orders attempt 0 files stage.sizes)
     (sized_orders attempt place (drop place files) (drop place stage.sizes)) old new
     → new ≡ old ++ file_submissions attempt 0 files (piece_states bytes stage)
 asked_files bytes stage attempt place files old new h a =
@@ -121,13 +121,13 @@ asked_files bytes stage attempt place files old new h a =
 
 pub asked_sized : (bytes : List ℕ) (stage : Staging) (attempt : ℕ) (files : List ℕ)
     (old new : List HistoryItem)
-    → (rest : List HistoryItem) × IsAsked (sized_orders attempt 0 files stage.sizes) rest old new
+    → (rest : List HistoryItem) × AreAskedButRest (sized_orders attempt 0 files stage.sizes) rest old new
     → (rest : List HistoryItem)
-    × IsAsked (file_submissions attempt 0 files (piece_states bytes stage)) rest old
+    × AreAskedButRest (file_submissions attempt 0 files (piece_states bytes stage)) rest old
     new
 asked_sized bytes stage attempt files old new a = (
   a.0,
-  subst (λ (l : List HistoryItem). IsAsked l a.0 old new)
+  subst (λ (l : List HistoryItem). AreAskedButRest l a.0 old new)
       (sym (orders_sized bytes stage attempt files)) a.1,
 )
 
@@ -140,11 +140,11 @@ pub asked_in : {T E : Type 0} (result : Result T E) (facts : BootFacts) (phase :
     → OnErr result
     ((bytes : List ℕ)
     → (left : List HistoryItem)
-    × IsAsked (file_submissions number 0 files (piece_states bytes stage)) left old new)
+    × AreAskedButRest (file_submissions number 0 files (piece_states bytes stage)) left old new)
     → OnErr result
     ((bytes : List ℕ)
     → (left : List HistoryItem)
-    × IsAsked (attempt_submissions facts (state_at bytes phase)) left old new)
+    × AreAskedButRest (attempt_submissions facts (state_at bytes phase)) left old new)
 asked_in (Ok x) facts phase entry rest earlier stage number files old new is number_is files_is
     asked = tt
 asked_in (Err e) facts phase entry rest earlier stage number files old new is number_is files_is
@@ -156,4 +156,4 @@ asked_in (Err e) facts phase entry rest earlier stage number files old new is nu
     ∙ ap (λ (fs : List ℕ). file_submissions (length earlier) 0 fs (piece_states bytes stage))
     files_is
     ∙ sym (ap (λ (p : PhaseFacts). attempt_submissions facts (state_at bytes p)) is) in
-    (one.0, subst (λ (l : List HistoryItem). IsAsked l one.0 old new) same one.1)
+    (one.0, subst (λ (l : List HistoryItem). AreAskedButRest l one.0 old new) same one.1)

@@ -4,19 +4,19 @@ use Rattle.std.proofs.Common.{ap, subst, ◌∙◌, arith, append_assoc}
 use Rattle.std.proofs.lemmas.List.{append-nil, drop_more, drop_all}
 use Rattle.std.proofs.lemmas.List.FromFn.{length-map-range_with_len, get_or-map-range_with_len}
 use Rattle.bl_session.specs.History.{HistoryItem, submitted, nothing}
-use Rattle.bl_session.specs.Asked.{ticket_of, piece_submissions, attempt_submissions}
-use Rattle.bl_session.specs.TurnsKept.{IsAsked}
+use Rattle.bl_session.specs.Submissions.{ticket_of, piece_submissions, attempt_submissions}
+use Rattle.bl_session.specs.RunKept.{AreAskedButRest}
 
 -- ---- one part of the orders after the other
 
 pub asked_none : (attempt_submissions given : List HistoryItem)
-    → IsAsked attempt_submissions attempt_submissions given given
+    → AreAskedButRest attempt_submissions attempt_submissions given given
 asked_none attempt_submissions given =
     record { asked = []; all = refl; given = sym (append-nil given) }
 
 pub asked_on : (attempt_submissions xs rest old mid new : List HistoryItem)
-    → IsAsked attempt_submissions (xs ++ rest) old mid
-    → new ≡ mid ++ xs → IsAsked attempt_submissions rest old new
+    → AreAskedButRest attempt_submissions (xs ++ rest) old mid
+    → new ≡ mid ++ xs → AreAskedButRest attempt_submissions rest old new
 asked_on attempt_submissions xs rest old mid new a e = record {
   asked = a.asked ++ xs;
   all = a.all ∙ sym (append_assoc a.asked xs rest);
@@ -24,8 +24,8 @@ asked_on attempt_submissions xs rest old mid new a e = record {
 }
 
 pub asked_part : (attempt_submissions xs more rest old mid new : List HistoryItem)
-    → IsAsked attempt_submissions (xs ++ rest) old mid
-    → IsAsked xs more mid new → IsAsked attempt_submissions (more ++ rest) old new
+    → AreAskedButRest attempt_submissions (xs ++ rest) old mid
+    → AreAskedButRest xs more mid new → AreAskedButRest attempt_submissions (more ++ rest) old new
 asked_part attempt_submissions xs more rest old mid new a b = record {
   asked = a.asked ++ b.asked;
   all = a.all ∙ ap (λ (l : List HistoryItem). a.asked ++ (l ++ rest)) b.all ∙ simp append_assoc;
@@ -34,7 +34,7 @@ asked_part attempt_submissions xs more rest old mid new a b = record {
 }
 
 pub asked_all : (attempt_submissions rest old new : List HistoryItem)
-    → IsAsked attempt_submissions rest old new → rest ≡ []
+    → AreAskedButRest attempt_submissions rest old new → rest ≡ []
     → new ≡ old ++ attempt_submissions
 asked_all attempt_submissions rest old new a e =
     a.given
@@ -61,21 +61,21 @@ piece_next attempt place file count i h =
     i i nothing h (omega arith))
 
 pub asked_piece : (attempt place file count i : ℕ) (old mid new : List HistoryItem) → i < count
-    → IsAsked (piece_submissions attempt place file count)
+    → AreAskedButRest (piece_submissions attempt place file count)
     (drop i (piece_submissions attempt place file count)) old mid
     → new ≡ mid ++ submitted file (ticket_of attempt place i) ∷ []
-    → IsAsked (piece_submissions attempt place file count)
+    → AreAskedButRest (piece_submissions attempt place file count)
     (drop (i + 1) (piece_submissions attempt place file count)) old new
 asked_piece attempt place file count i old mid new h a e =
     let all = piece_submissions attempt place file count in
     let x = submitted file (ticket_of attempt place i) in
     asked_on all (x ∷ []) (drop (i + 1) all) old mid new
-    (subst (λ (l : List HistoryItem). IsAsked all l old mid)
+    (subst (λ (l : List HistoryItem). AreAskedButRest all l old mid)
     (piece_next attempt place file count i h)
     a) e
 
 pub asked_pieces : (attempt place file count i : ℕ) (old new : List HistoryItem) → count ≤ i
-    → IsAsked (piece_submissions attempt place file count)
+    → AreAskedButRest (piece_submissions attempt place file count)
     (drop i (piece_submissions attempt place file count)) old new
     → new ≡ old ++ piece_submissions attempt place file count
 asked_pieces attempt place file count i old new h a =

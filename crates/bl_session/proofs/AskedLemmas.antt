@@ -11,9 +11,9 @@ use Rattle.bl_session.specs.Menu.{entry_at}
 use Rattle.bl_session.specs.Pieces.{with_piece}
 use Rattle.bl_session.specs.BootSteps.{BootFacts, EventFacts, State, unstarted, running}
 use Rattle.bl_session.specs.BootSteps.{handed_over}
-use Rattle.bl_session.specs.BootSteps.{none_left, out_of_memory, Steps, attempt_number}
+use Rattle.bl_session.specs.BootSteps.{none_left, out_of_memory, StepsTo, attempt_number}
 use Rattle.bl_session.specs.History.{HistoryItem, file_under}
-use Rattle.bl_session.specs.Asked.{ticket_of, attempt_submissions, new_submissions}
+use Rattle.bl_session.specs.Submissions.{ticket_of, attempt_submissions, new_submissions}
 use Rattle.bl_session.proofs.TicketLemmas.{file_both}
 use Rattle.bl_session.proofs.OrderLemmas.{found_files}
 use Rattle.bl_session.proofs.AwaitedLemmas.{as_many_files, as_many_pieces}
@@ -120,7 +120,7 @@ pub asked_step : (facts : BootFacts) (items : List HistoryItem) (entry : ℕ) (r
     (earlier : List RefusedEntry) (files : List (List PieceState)) (event : EventFacts)
     (new : State)
     → AreAsked facts items (running entry rest earlier files)
-    → Steps facts (running entry rest earlier files) event new
+    → StepsTo facts (running entry rest earlier files) event new
     → AreAsked facts (items ++ new_submissions facts (running entry rest earlier files) new) new
 asked_step facts items entry rest earlier files event new asked goes =
     elim (step_went facts entry rest earlier files event new goes) [

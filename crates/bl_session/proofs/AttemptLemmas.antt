@@ -9,7 +9,8 @@ use Rattle.bl_load.specs.declared.refusal.Refusal.{Refusal}
 use Rattle.bl_load.specs.EntryValue.{EntryValue, value_of}
 use Rattle.bl_stage.specs.Staged.{Staging, AreStaged, AllCame, staged_texts}
 use Rattle.bl_stage.specs.PieceStates.{PieceState, piece_states, came_bytes}
-use Rattle.bl_session.specs.AttemptResult.{AttemptResult, HasResult, size_refusal, known_lengths}
+use Rattle.bl_session.specs.AttemptResult.{AttemptResult, HasWholeFilesResult, size_refusal}
+use Rattle.bl_session.specs.AttemptResult.{known_lengths}
 use Rattle.bl_session.specs.Menu.{EntryFacts, facts_of, value_with}
 use Rattle.bl_session.specs.Pieces.{are_whole, waiting_files}
 use Rattle.bl_session.specs.PhasesKept.{IsFreshStage}
@@ -38,15 +39,15 @@ not_whole bytes stage complete kept exact is =
 -- what is known of the texts is known of the pieces
 pub ends_by_piece_states : {A : Type 0} (facts : MachineFacts) (entry : Entry A) (bytes : List ℕ)
     (stage : Staging) (end : AttemptResult) → AreStaged stage → AllCame stage
-    → HasResult facts (value_of (staged_texts bytes stage) entry) end
-    → HasResult facts (value_with (facts_of entry) (map came_bytes (piece_states bytes stage))) end
+    → HasWholeFilesResult facts (value_of (staged_texts bytes stage) entry) end
+    → HasWholeFilesResult facts (value_with (facts_of entry) (map came_bytes (piece_states bytes stage))) end
 ends_by_piece_states facts entry bytes stage end kept came ends =
     let value : value_of (staged_texts bytes stage) entry
     ≡ value_with (facts_of entry) (map came_bytes (piece_states bytes stage)) =
     sym
     (ap (value_with (facts_of entry)) (whole_texts bytes stage kept came)
     ∙ value_is entry (staged_texts bytes stage)) in
-    subst (λ (v : EntryValue). HasResult facts v end) value ends
+    subst (λ (v : EntryValue). HasWholeFilesResult facts v end) value ends
 
 -- an attempt whose stage was begun
 pub begun_staged : {A : Type 0} (facts : MachineFacts) (entry : EntryFacts)

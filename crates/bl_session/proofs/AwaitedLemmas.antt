@@ -8,7 +8,7 @@ use Rattle.std.proofs.lemmas.List.FromFn.{get_or-map-range_with_len, length-map-
 use Rattle.bl_map.specs.PoolFrames.{frames_of}
 use Rattle.bl_stage.specs.PieceStates.{PieceState, lacks, has, waiting_pieces}
 use Rattle.bl_session.specs.declared.ticket.Ticket.{Ticket}
-use Rattle.bl_session.specs.Asked.{ticket_of, first_awaited_piece, first_ticket, ticket_or}
+use Rattle.bl_session.specs.Submissions.{ticket_of, first_awaited_piece, first_ticket, ticket_or}
 use Rattle.bl_session.specs.Pieces.{is_awaited, awaits, piece_state_of, with_piece, waiting_files}
 
 -- ---- a new attempt's

@@ -13,7 +13,7 @@ use Rattle.bl_session.specs.BootSteps.{running}
 use Rattle.bl_session.specs.BootSteps.{handed_over, none_left, out_of_memory, sizes_of, fresh}
 use Rattle.bl_session.specs.BootSteps.{TextsHaveResult, AfterAttempt, Continues, BeginsUnless}
 use Rattle.bl_session.specs.BootSteps.{Begins}
-use Rattle.bl_session.specs.BootSteps.{is_wanted, TakesEvent, Steps, Starts}
+use Rattle.bl_session.specs.BootSteps.{is_wanted, TakesEvent, StepsTo, Starts}
 use Rattle.bl_session.proofs.EndLaws.{one_end_in, some_end_in}
 
 abbrev pub IsOne : (State → Type 0) → Type 0
@@ -84,7 +84,7 @@ one_takes facts entry rest earlier files (fault ticket) =
     (refused (FileFault ticket.file)) (one_begins facts rest) refl a b p q
 
 pub one_step : (facts : BootFacts) (old : State) (event : EventFacts) (a b : State)
-    → Steps facts old event a → Steps facts old event b → a ≡ b
+    → StepsTo facts old event a → StepsTo facts old event b → a ≡ b
 one_step facts (running entry rest earlier files) event =
     one_choice (is_wanted earlier files event) (TakesEvent facts entry rest earlier files event)
     (running entry rest earlier files) (one_takes facts entry rest earlier files event)
@@ -164,7 +164,7 @@ some_takes facts entry rest earlier files (fault ticket) =
     (some_begins facts rest)
 
 pub some_step : (facts : BootFacts) (old : State) (event : EventFacts)
-    → (new : State) × Steps facts old event new
+    → (new : State) × StepsTo facts old event new
 some_step facts (running entry rest earlier files) event =
     some_choice (is_wanted earlier files event) (TakesEvent facts entry rest earlier files event)
     (running entry rest earlier files) (some_takes facts entry rest earlier files event)

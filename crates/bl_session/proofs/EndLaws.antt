@@ -12,27 +12,28 @@ use Rattle.bl_load.proofs.HandoverLaws.{one_handover, one_refusal, not_both}
 use Rattle.bl_load.proofs.TotalLaws.{handover_or_refusal}
 use Rattle.bl_session.specs.AttemptResult.{AttemptResult, handed, refused, HasFramesBeside}
 use Rattle.bl_session.specs.AttemptResult.{LacksFrames}
-use Rattle.bl_session.specs.AttemptResult.{HasResult, part_range, UnlessRefused, AttemptHasResult}
+use Rattle.bl_session.specs.AttemptResult.{HasWholeFilesResult, part_range, UnlessRefused}
+use Rattle.bl_session.specs.AttemptResult.{AttemptHasResult}
 use Rattle.bl_session.specs.AttemptResult.{size_refusal}
 
 -- an entry whose parts leave no room is not handed over
 no_room : (facts : MachineFacts) (value : EntryValue) (handover : Handover)
     → LacksFrames facts value
-    → HasResult facts value (handed handover) → ⊥
+    → HasWholeFilesResult facts value (handed handover) → ⊥
 no_room facts value handover lacks (is, room) =
     lacks.lacking
     (subst (λ (h : Handover). HasFramesBeside facts value h)
     (one_handover facts value handover lacks.handover is lacks.is) room)
 
 never_both : (facts : MachineFacts) (value : EntryValue) (handover : Handover) (refusal : Refusal)
-    → HasResult facts value (handed handover) → HasResult facts value (refused refusal) → ⊥
+    → HasWholeFilesResult facts value (handed handover) → HasWholeFilesResult facts value (refused refusal) → ⊥
 never_both facts value handover refusal (is, room) (inl other) =
     not_both facts value handover refusal is other
 never_both facts value handover refusal is (inr (lacks, no_pool)) =
     no_room facts value handover lacks is
 
 one_refused : (facts : MachineFacts) (value : EntryValue) (r s : Refusal)
-    → HasResult facts value (refused r) → HasResult facts value (refused s) → r ≡ s
+    → HasWholeFilesResult facts value (refused r) → HasWholeFilesResult facts value (refused s) → r ≡ s
 one_refused facts value r s (inl a) (inl b) = one_refusal facts value r s a b
 one_refused facts value r s (inl a) (inr (lacks, no_pool)) =
     absurd (not_both facts value lacks.handover r lacks.is a)
@@ -41,14 +42,14 @@ one_refused facts value r s (inr (lacks, no_pool)) (inl b) =
 one_refused facts value r s (inr (lacks, a)) (inr (lacking, b)) = a ∙ sym b
 
 pub one_end_in : (facts : MachineFacts) (value : EntryValue) (e f : AttemptResult)
-    → HasResult facts value e → HasResult facts value f → e ≡ f
+    → HasWholeFilesResult facts value e → HasWholeFilesResult facts value f → e ≡ f
 one_end_in facts value (handed h) (handed k) a b = ap handed (one_handover facts value h k a.0 b.0)
 one_end_in facts value (handed h) (refused s) a b = absurd (never_both facts value h s a b)
 one_end_in facts value (refused r) (handed k) a b = absurd (never_both facts value k r b a)
 one_end_in facts value (refused r) (refused s) a b = ap refused (one_refused facts value r s a b)
 
 pub some_end_in : (facts : MachineFacts) (value : EntryValue)
-    → (end : AttemptResult) × HasResult facts value end
+    → (end : AttemptResult) × HasWholeFilesResult facts value end
 some_end_in facts value =
     elim (handover_or_refusal facts value) [
       | inl (handover, is) ↦ elim (room_or_none facts value handover) [
@@ -87,12 +88,12 @@ pub one_end : (facts : MachineFacts) (sizes : List (Option ℕ)) (fault : Option
     → AttemptHasResult facts sizes fault value f → e ≡ f
 one_end facts sizes fault value =
     one_behind (size_refusal facts sizes)
-    (UnlessRefused (option_map FileFault fault) (HasResult facts value))
-    (one_behind (option_map FileFault fault) (HasResult facts value) (one_end_in facts value))
+    (UnlessRefused (option_map FileFault fault) (HasWholeFilesResult facts value))
+    (one_behind (option_map FileFault fault) (HasWholeFilesResult facts value) (one_end_in facts value))
 
 pub some_end : (facts : MachineFacts) (sizes : List (Option ℕ)) (fault : Option ℕ)
     (value : EntryValue) → (end : AttemptResult) × AttemptHasResult facts sizes fault value end
 some_end facts sizes fault value =
     some_behind (size_refusal facts sizes)
-    (UnlessRefused (option_map FileFault fault) (HasResult facts value))
-    (some_behind (option_map FileFault fault) (HasResult facts value) (some_end_in facts value))
+    (UnlessRefused (option_map FileFault fault) (HasWholeFilesResult facts value))
+    (some_behind (option_map FileFault fault) (HasWholeFilesResult facts value) (some_end_in facts value))

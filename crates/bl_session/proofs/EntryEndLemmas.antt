@@ -9,12 +9,14 @@ use Rattle.bl_load.specs.declared.refusal.Refusal.{Refusal}
 use Rattle.bl_load.specs.declared.refusal.Refusal.TheVariants.{FileFault, FileTooLong}
 use Rattle.bl_load.specs.EntryValue.{EntryValue}
 use Rattle.bl_stage.specs.PieceStates.{waiting_pieces}
-use Rattle.bl_session.specs.AttemptResult.{AttemptResult, refused, HasResult, AttemptHasResult}
+use Rattle.bl_session.specs.AttemptResult.{AttemptResult, refused, HasWholeFilesResult}
+use Rattle.bl_session.specs.AttemptResult.{AttemptHasResult}
 use Rattle.bl_session.specs.AttemptResult.{UnlessRefused, size_refusal, file_refusal, pool_refusal}
 use Rattle.bl_session.specs.AttemptResult.{known_lengths, file_limit}
 use Rattle.bl_session.specs.Menu.{entry_at}
 use Rattle.bl_session.specs.BootSteps.{BootFacts, sizes_of, fresh}
-use Rattle.bl_session.specs.Outcome.{File, missing, too_long, whole, size_of, file_bytes, texts_of}
+use Rattle.bl_session.specs.MenuFiles.{File, missing, too_long, whole, size_of, file_bytes}
+use Rattle.bl_session.specs.MenuFiles.{texts_of}
 use Rattle.bl_session.proofs.GatherLemmas.{FitAll, fits_first}
 
 -- ---- an entry that its sizes don't refuse has its files whole in the store
@@ -113,7 +115,7 @@ pub ends_by_size : (facts : MachineFacts) (sizes : List (Option ℕ)) (faulty : 
 ends_by_size facts sizes faulty value r e =
     subst
     (λ (x : Option Refusal).
-    UnlessRefused x (UnlessRefused (option_map FileFault faulty) (HasResult facts value))
+    UnlessRefused x (UnlessRefused (option_map FileFault faulty) (HasWholeFilesResult facts value))
     (refused r))
     (sym e)
     refl
@@ -124,22 +126,22 @@ pub ends_by_fault : (facts : MachineFacts) (sizes : List (Option ℕ)) (faulty :
 ends_by_fault facts sizes faulty value place e f =
     subst
     (λ (x : Option Refusal).
-    UnlessRefused x (UnlessRefused (option_map FileFault faulty) (HasResult facts value))
+    UnlessRefused x (UnlessRefused (option_map FileFault faulty) (HasWholeFilesResult facts value))
     (refused (FileFault place))) (sym e)
     (subst
     (λ (x : Option ℕ).
-    UnlessRefused (option_map FileFault x) (HasResult facts value) (refused (FileFault place)))
+    UnlessRefused (option_map FileFault x) (HasWholeFilesResult facts value) (refused (FileFault place)))
     (sym f)
     refl)
 
 pub ends_whole : (facts : MachineFacts) (sizes : List (Option ℕ)) (faulty : Option ℕ)
     (value : EntryValue) (end : AttemptResult) → size_refusal facts sizes ≡ None → faulty ≡ None
-    → HasResult facts value end → AttemptHasResult facts sizes faulty value end
+    → HasWholeFilesResult facts value end → AttemptHasResult facts sizes faulty value end
 ends_whole facts sizes faulty value end e f in_value =
     subst
     (λ (x : Option Refusal).
-    UnlessRefused x (UnlessRefused (option_map FileFault faulty) (HasResult facts value)) end)
+    UnlessRefused x (UnlessRefused (option_map FileFault faulty) (HasWholeFilesResult facts value)) end)
     (sym e)
-    (subst (λ (x : Option ℕ). UnlessRefused (option_map FileFault x) (HasResult facts value) end)
+    (subst (λ (x : Option ℕ). UnlessRefused (option_map FileFault x) (HasWholeFilesResult facts value) end)
     (sym f)
     in_value)

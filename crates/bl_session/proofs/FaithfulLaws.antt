@@ -4,10 +4,10 @@ use Rattle.std.proofs.Common.{inr, length, append_assoc}
 use Rattle.std.proofs.lemmas.List.{append-nil}
 use Rattle.bl_session.specs.BootSteps.{BootFacts, EventFacts, State, unstarted, running}
 use Rattle.bl_session.specs.BootSteps.{handed_over}
-use Rattle.bl_session.specs.BootSteps.{none_left, out_of_memory, StepsOrFails, StartsOrFails}
+use Rattle.bl_session.specs.BootSteps.{none_left, out_of_memory, StepsToOrFails, StartsOrFails}
 use Rattle.bl_session.specs.History.{HistoryItem}
-use Rattle.bl_session.specs.Outcome.{File, size_of}
-use Rattle.bl_session.specs.Asked.{attempt_submissions, new_submissions}
+use Rattle.bl_session.specs.MenuFiles.{File, size_of}
+use Rattle.bl_session.specs.Submissions.{attempt_submissions, new_submissions}
 use Rattle.bl_session.specs.Run.{RunState, IsEventOf, IsGenuineItem, IsGenuineRun, EachAnswerIs}
 use Rattle.bl_session.specs.Faithful.{IsFaithfulItem, IsFaithfulAfter, IsFaithful}
 use Rattle.bl_session.proofs.SteadyLemmas.{Steady, steady_new}
@@ -30,7 +30,7 @@ module _ (facts : BootFacts) (files : List File) (known : facts.sizes ≡ map si
   steady_one : (state : State) (given : List HistoryItem) (item : HistoryItem) (event : EventFacts)
       (new : State)
       → Steady facts given state → IsFaithfulItem files given item
-      → IsEventOf files given state item event → StepsOrFails facts state event new
+      → IsEventOf files given state item event → StepsToOrFails facts state event new
       → Steady facts ((given ++ item ∷ []) ++ new_submissions facts state new) new
   steady_one (running entry rest earlier piece_states) given item event new steady faithful is
       goes =

@@ -5,10 +5,11 @@ use Rattle.bl_stage.specs.PieceStates.{PieceState}
 use Rattle.bl_session.specs.declared.outcome.RefusedEntry.{RefusedEntry}
 use Rattle.bl_session.specs.BootSteps.{BootFacts, EventFacts, State, unstarted, running}
 use Rattle.bl_session.specs.BootSteps.{handed_over}
-use Rattle.bl_session.specs.BootSteps.{none_left, out_of_memory, is_wanted, TakesEvent, Steps}
-use Rattle.bl_session.specs.Outcome.{File, Faults, AreToldFaults}
+use Rattle.bl_session.specs.BootSteps.{none_left, out_of_memory, is_wanted, TakesEvent, StepsTo}
+use Rattle.bl_session.specs.MenuFiles.{File}
+use Rattle.bl_session.specs.Schedules.{Faults, AgreesWithFaults}
 use Rattle.bl_session.specs.History.{HistoryItem}
-use Rattle.bl_session.specs.Asked.{new_submissions}
+use Rattle.bl_session.specs.Submissions.{new_submissions}
 use Rattle.bl_session.specs.Run.{IsAnswer, RunState, Delivers, IsMarked, IsGenuineItem}
 use Rattle.bl_session.specs.Run.{EachAnswerIs}
 use Rattle.bl_session.proofs.BootLaws.{one_step}
@@ -77,17 +78,17 @@ module _ (facts : BootFacts) (files : List File) where
         → (is_last piece_states event ≡ true → others (length earlier) ≡ told event)
         → IsAnswer files given earlier piece_states item other
         → is_wanted earlier piece_states other ≡ true
-        → IsMarked item × AreToldFaults others earlier piece_states other
+        → IsMarked item × AgreesWithFaults others earlier piece_states other
     told_right others event other p is q wanted = (
       marked other q wanted,
-      subst (AreToldFaults others earlier piece_states) (sym (is_event other event q wanted p))
+      subst (AgreesWithFaults others earlier piece_states) (sym (is_event other event q wanted p))
           (are_told others earlier piece_states event is),
     )
 
     -- each other state of the run that is reached is the same, or lacks memory
     other_world : (others : Faults) (event : EventFacts) (next run_state : RunState)
         (items : List HistoryItem)
-        → IsAnswer files given earlier piece_states item event → Steps facts here event next.state
+        → IsAnswer files given earlier piece_states item event → StepsTo facts here event next.state
         → next.owed ≡ new_submissions facts here next.state
         → Delivers facts files given here [] item run_state
         → EachAnswerIs facts files (IsGenuineItem others) (given ++ item ∷ []) next items
@@ -118,17 +119,17 @@ module _ (facts : BootFacts) (files : List File) where
             → next.state ≡ run_state.state
         same_state true b e f takes other_takes =
             one_step facts here event next.state run_state.state goes
-            (subst (λ (x : EventFacts). Steps facts here x run_state.state)
+            (subst (λ (x : EventFacts). StepsTo facts here x run_state.state)
             (is_event other event q e p) steps)
         same_state false true e f takes other_takes =
             one_step facts here event next.state run_state.state goes
-            (subst (λ (x : EventFacts). Steps facts here x run_state.state)
+            (subst (λ (x : EventFacts). StepsTo facts here x run_state.state)
             (sym (is_event event other p f q)) steps)
         same_state false false e f stays other_stays = other_stays ∙ sym stays
 
     -- the faults after it, and that of this attempt if it ended
     pub taken : (event : EventFacts) (next : RunState) (items : List HistoryItem)
-        → IsAnswer files given earlier piece_states item event → Steps facts here event next.state
+        → IsAnswer files given earlier piece_states item event → StepsTo facts here event next.state
         → next.owed ≡ new_submissions facts here next.state
         → Fits (given ++ item ∷ []) next items
         → Fits given (record { state = here; owed = [] }) (item ∷ items)

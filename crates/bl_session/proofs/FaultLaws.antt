@@ -3,10 +3,11 @@ use Rattle.std.proofs.Common.{◌≡◌, List, [], ◌∷◌, ◌++◌, None, re
 use Rattle.bl_session.specs.BootSteps.{BootFacts, EventFacts, State, unstarted, running}
 use Rattle.bl_session.specs.BootSteps.{handed_over}
 use Rattle.bl_session.specs.BootSteps.{none_left, out_of_memory, StartsOrFails}
-use Rattle.bl_session.specs.Outcome.{File, Faults}
+use Rattle.bl_session.specs.MenuFiles.{File}
+use Rattle.bl_session.specs.Schedules.{Faults}
 use Rattle.bl_session.specs.History.{HistoryItem}
-use Rattle.bl_session.specs.Asked.{attempt_submissions}
-use Rattle.bl_session.specs.Run.{IsEventOf, RunState, run_state_of, Delivers, Reads, IsRun}
+use Rattle.bl_session.specs.Submissions.{attempt_submissions}
+use Rattle.bl_session.specs.Run.{IsEventOf, RunState, run_state_of, Delivers, ItemsLeadTo, IsRun}
 use Rattle.bl_session.specs.Run.{IsGenuineRun}
 use Rattle.bl_session.specs.Run.{EachAnswerIs, IsMarkedItem, IsMarkedRun, IsGenuineItem}
 use Rattle.bl_session.proofs.BootLaws.{one_start}
@@ -22,7 +23,7 @@ module _ (facts : BootFacts) (files : List File) where
       → ((event : EventFacts) → owed ≡ [] → IsEventOf files given state item event
       → IsMarkedItem state item event)
       → Delivers facts files given state owed item next
-      → Reads facts files (given ++ item ∷ []) next items end
+      → ItemsLeadTo facts files (given ++ item ∷ []) next items end
       → Fits facts files (given ++ item ∷ []) next items
       → Fits facts files given (record { state = state; owed = owed }) (item ∷ items)
   one_item items item given state (order ∷ owed) next end marked (is, same) reads (faults, more) = (
@@ -66,7 +67,7 @@ module _ (facts : BootFacts) (files : List File) where
 
   fits : (items given : List HistoryItem) (run_state : RunState) (end : State)
       → EachAnswerIs facts files IsMarkedItem given run_state items
-      → Reads facts files given run_state items end
+      → ItemsLeadTo facts files given run_state items end
       → Fits facts files given run_state items
   fits [] given run_state end marked reads = (λ n. None, λ others same. tt)
   fits (item ∷ items) given run_state end marked (next, hears, reads) =
@@ -81,7 +82,7 @@ module _ (facts : BootFacts) (files : List File) where
 
   -- a boot that began so, as it is told, or one that lacks memory from the first
   begun_alike : (old gained : List HistoryItem) (a b : State) (end : State)
-      → StartsOrFails facts unstarted a → Reads facts files old (run_state_of facts a) gained end
+      → StartsOrFails facts unstarted a → ItemsLeadTo facts files old (run_state_of facts a) gained end
       → (faults : Faults)
       → EachAnswerIs facts files (IsGenuineItem faults) old (run_state_of facts a) gained
       → StartsOrFails facts unstarted b

@@ -11,11 +11,11 @@ use Rattle.bl_load.specs.declared.refusal.PrepFault.TheVariants.{Refused, NoMemo
 use Rattle.bl_load.specs.declared.refusal.Refusal.TheVariants.{NoPool}
 use Rattle.bl_load.specs.Loadable.{lengths_of, IsBacked}
 use Rattle.bl_load.specs.Parts.{IsHandover, IsPrepFault}
-use Rattle.bl_load.specs.PlanFacts.{handover_by, places_of}
+use Rattle.bl_load.specs.PlanContents.{handover_by, places_of}
 use Rattle.bl_load.specs.EntryValue.{EntryValue, value_of}
-use Rattle.bl_session.specs.AttemptResult.{HasResult, HasFramesBeside, refused}
+use Rattle.bl_session.specs.AttemptResult.{HasWholeFilesResult, HasFramesBeside, refused}
 use Rattle.bl_stage.specs.Staged.{Staging}
-use Rattle.bl_session.specs.Finished.{IsNotHandedOver, IsStageAfterFault}
+use Rattle.bl_session.specs.FinishedAttempt.{IsNotHandedOver, IsStageAfterFault}
 use Rattle.bl_session.proofs.AfterLemmas.{ranges_are}
 
 -- a fault of preparing changed nothing
@@ -42,7 +42,7 @@ module _ {A : Type 0} (facts : MachineFacts) (texts : List (List ℕ)) (entry : 
   has_room room = rw (files_are texts entry, ranges_are texts plan.parts.items backed) room
 
   pub lacks_room : ¬ HasFramesFor facts.pool (map place_range (places_of plan)) texts
-      → HasResult facts (value_of texts entry) (refused NoPool)
+      → HasWholeFilesResult facts (value_of texts entry) (refused NoPool)
   lacks_room full =
       inr (
         record {

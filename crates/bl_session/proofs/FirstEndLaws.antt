@@ -5,16 +5,20 @@ use Rattle.bl_load.specs.declared.refusal.Refusal.{Refusal}
 use Rattle.bl_load.specs.declared.refusal.Refusal.TheVariants.{FileFault}
 use Rattle.bl_stage.specs.PieceStates.{PieceState, came_bytes}
 use Rattle.bl_session.specs.declared.outcome.RefusedEntry.{RefusedEntry}
-use Rattle.bl_session.specs.AttemptResult.{AttemptResult, handed, refused, HasResult, size_refusal}
+use Rattle.bl_session.specs.AttemptResult.{AttemptResult, handed, refused, HasWholeFilesResult}
+use Rattle.bl_session.specs.AttemptResult.{size_refusal}
 use Rattle.bl_session.specs.Pieces.{are_whole, with_piece}
 use Rattle.bl_session.specs.BootSteps.{BootFacts, EventFacts, piece, fault, State, unstarted}
 use Rattle.bl_session.specs.BootSteps.{running}
 use Rattle.bl_session.specs.BootSteps.{handed_over, none_left, out_of_memory, sizes_of, fresh}
 use Rattle.bl_session.specs.BootSteps.{TextsHaveResult, AfterAttempt, BeginsUnless, Begins}
 use Rattle.bl_session.specs.BootSteps.{is_wanted}
-use Rattle.bl_session.specs.BootSteps.{TakesEvent, Steps, LeadsTo}
-use Rattle.bl_session.specs.Outcome.{File, size_of, texts_of, entry_value_in, faulty_file, IsTrueOf}
-use Rattle.bl_session.specs.Outcome.{IsGenuineAt, IsGenuine, EntryHasResult, IsFirst, IsOutcome}
+use Rattle.bl_session.specs.BootSteps.{TakesEvent, StepsTo, LeadsTo}
+use Rattle.bl_session.specs.MenuFiles.{File, size_of, texts_of, entry_value_in}
+use Rattle.bl_session.specs.Schedules.{IsGenuineEvent}
+use Rattle.bl_session.specs.Outcome.{faulty_file}
+use Rattle.bl_session.specs.Schedules.{IsGenuineAt, IsGenuine}
+use Rattle.bl_session.specs.Outcome.{EntryHasResult, IsFirst, IsOutcome}
 use Rattle.bl_session.specs.Outcome.{HasEnded}
 use Rattle.bl_session.proofs.GatherLemmas.{FitAll, fits_piece, whole_files}
 use Rattle.bl_session.proofs.EntryEndLemmas.{fits_fresh, ends_by_size, ends_by_fault, ends_whole}
@@ -83,7 +87,7 @@ module _ (facts : BootFacts) (files : List File) (faults : ℕ → Option ℕ)
       (e, ends, goes) =
       let texts : map came_bytes piece_states ≡ texts_of facts files entry =
       whole_files piece_states (texts_of facts files entry) fit is in
-      let of_value : HasResult facts.machine (entry_value_in facts files entry) e =
+      let of_value : HasWholeFilesResult facts.machine (entry_value_in facts files entry) e =
       subst (λ (x : List (List ℕ)). TextsHaveResult facts entry x e) texts ends in
       follows_end entry rest earlier e new more
       (ends_whole facts.machine (sizes_of facts entry) _ (entry_value_in facts files entry) e sized
@@ -132,7 +136,7 @@ module _ (facts : BootFacts) (files : List File) (faults : ℕ → Option ℕ)
   keeps_taken : (entry : ℕ) (rest : List ℕ) (earlier : List RefusedEntry)
       (piece_states : List (List PieceState))
       (event : EventFacts) (new : State) → Holds (running entry rest earlier piece_states)
-      → IsTrueOf facts files faults entry earlier piece_states event
+      → IsGenuineEvent facts files faults entry earlier piece_states event
       → TakesEvent facts entry rest earlier piece_states event new
       → Keeps (running entry rest earlier piece_states) new
   keeps_taken entry rest earlier piece_states (piece ticket bytes) new (sized, some, fit) (is, last)
@@ -151,7 +155,7 @@ module _ (facts : BootFacts) (files : List File) (faults : ℕ → Option ℕ)
   keeps_choice : (entry : ℕ) (rest : List ℕ) (earlier : List RefusedEntry)
       (piece_states : List (List PieceState)) (event : EventFacts) (wanted : Bool) (new : State)
       → Holds (running entry rest earlier piece_states)
-      → (wanted ≡ true → IsTrueOf facts files faults entry earlier piece_states event)
+      → (wanted ≡ true → IsGenuineEvent facts files faults entry earlier piece_states event)
       → MatchBool wanted (TakesEvent facts entry rest earlier piece_states event new)
       (new ≡ running entry rest earlier piece_states)
       → Keeps (running entry rest earlier piece_states) new
@@ -161,7 +165,7 @@ module _ (facts : BootFacts) (files : List File) (faults : ℕ → Option ℕ)
       (subst Holds (sym goes) holds, λ end comes. subst (λ (s : State). Comes s end) goes comes)
 
   keeps_step : (old : State) (event : EventFacts) (new : State) → Holds old
-      → IsGenuineAt facts files faults old event → Steps facts old event new → Keeps old new
+      → IsGenuineAt facts files faults old event → StepsTo facts old event new → Keeps old new
   keeps_step unstarted event new holds genuine goes =
       (subst Holds (sym goes) tt, λ end comes. subst (λ (s : State). Comes s end) goes comes)
   keeps_step (running entry rest earlier piece_states) event new holds genuine goes =

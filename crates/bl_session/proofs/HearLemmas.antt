@@ -7,12 +7,12 @@ use Rattle.bl_session.specs.declared.outcome.Progress.{Progress}
 use Rattle.bl_session.specs.declared.outcome.Progress.TheVariants.{Waiting}
 use Rattle.bl_session.specs.declared.outcome.RefusedEntry.{RefusedEntry}
 use Rattle.bl_session.specs.BootSteps.{BootFacts, EventFacts, unstarted, running, is_taken}
-use Rattle.bl_session.specs.BootSteps.{StepsOrFails}
+use Rattle.bl_session.specs.BootSteps.{StepsToOrFails}
 use Rattle.bl_session.specs.BootSteps.{attempt_number, progress}
 use Rattle.bl_session.specs.Memory.{IsMemoryAt}
 use Rattle.bl_session.specs.Phases.{PhaseFacts, not_started, waits, hands_over, has_none}
 use Rattle.bl_session.specs.Phases.{lacks_memory, state_at, is_waiting}
-use Rattle.bl_session.specs.TurnsKept.{attempts_left}
+use Rattle.bl_session.specs.RunKept.{attempts_left}
 use Rattle.bl_session.proofs.NextLemmas.{IsNext, next_step, still_runs, has_ended, fewer_left}
 use Rattle.bl_session.proofs.NextLemmas.{memory_step}
 
@@ -29,7 +29,7 @@ running_waits lacks_memory bytes entry rest earlier files e = absurd cc
 
 pub hears_on : (facts : BootFacts) (event : EventFacts) (old new : PhaseFacts)
     (before after : List ℕ) (p : Progress) → is_waiting old ≡ true
-    → StepsOrFails facts (state_at before old) event (state_at after new)
+    → StepsToOrFails facts (state_at before old) event (state_at after new)
     → p ≡ progress (attempt_number (state_at before old)) (state_at after new) → p ≡ Waiting
     → is_waiting new ≡ true
 hears_on facts event (waits entry rest earlier stage) new before after p w step told is =
@@ -45,7 +45,7 @@ hears_on facts event lacks_memory new before after p w step told is = absurd cc
 
 pub hears_as_many : (facts : BootFacts) (event : EventFacts) (old new : PhaseFacts)
     (before after : List ℕ) (p : Progress) → is_waiting old ≡ true
-    → StepsOrFails facts (state_at before old) event (state_at after new)
+    → StepsToOrFails facts (state_at before old) event (state_at after new)
     → p ≡ progress (attempt_number (state_at before old)) (state_at after new) → p ≡ Waiting
     → attempts_left (state_at after new) ≡ attempts_left (state_at before old)
 hears_as_many facts event (waits entry rest earlier stage) new before after p w step told is =
@@ -62,7 +62,7 @@ hears_as_many facts event lacks_memory new before after p w step told is = absur
 
 pub hears_fewer : (facts : BootFacts) (event : EventFacts) (old new : PhaseFacts)
     (before after : List ℕ) (p : Progress) → is_waiting old ≡ true
-    → StepsOrFails facts (state_at before old) event (state_at after new)
+    → StepsToOrFails facts (state_at before old) event (state_at after new)
     → p ≡ progress (attempt_number (state_at before old)) (state_at after new) → p ≢ Waiting
     → attempts_left (state_at after new) < attempts_left (state_at before old)
 hears_fewer facts event (waits entry rest earlier stage) new before after p w step told is =
@@ -84,7 +84,7 @@ not_unstarted facts entry rest earlier (inr later) = later
 
 pub hears_started : (facts : BootFacts) (event : EventFacts) (old new : PhaseFacts)
     (before after : List ℕ) → is_waiting old ≡ true
-    → StepsOrFails facts (state_at before old) event (state_at after new) → new ≢ not_started
+    → StepsToOrFails facts (state_at before old) event (state_at after new) → new ≢ not_started
 hears_started facts event (waits entry rest earlier stage) new before after w step = λ e.
     not_unstarted facts entry rest earlier
     (subst (λ (p : PhaseFacts). IsNext facts entry rest earlier (state_at after p)) e
@@ -97,7 +97,7 @@ hears_started facts event lacks_memory new before after w step = absurd cc
 
 pub hears_memory : (pool : Range ℕ) (facts : BootFacts) (event : EventFacts) (old new : PhaseFacts)
     (before after : List ℕ) → is_waiting old ≡ true
-    → StepsOrFails facts (state_at before old) event (state_at after new)
+    → StepsToOrFails facts (state_at before old) event (state_at after new)
     → MatchBool (is_taken (state_at before old) event)
     (IsMemoryAt pool (state_at after new) before after) (after ≡ before)
     → IsMemoryAt pool (state_at after new) before after

@@ -9,11 +9,12 @@ use Rattle.bl_session.specs.declared.outcome.RefusedEntry.{RefusedEntry}
 use Rattle.bl_session.specs.Pieces.{is_awaited, piece_state_of, with_piece}
 use Rattle.bl_session.specs.BootSteps.{BootFacts, EventFacts, piece, fault, State, unstarted}
 use Rattle.bl_session.specs.BootSteps.{running}
-use Rattle.bl_session.specs.BootSteps.{handed_over, none_left, out_of_memory, Steps, StepsOrFails}
+use Rattle.bl_session.specs.BootSteps.{handed_over, none_left, out_of_memory, StepsTo}
+use Rattle.bl_session.specs.BootSteps.{StepsToOrFails}
 use Rattle.bl_session.specs.History.{HistoryItem, submitted, came, failed, nothing, file_under}
 use Rattle.bl_session.specs.History.{IsPieceOf}
-use Rattle.bl_session.specs.Outcome.{File, size_of}
-use Rattle.bl_session.specs.Asked.{attempt_submissions, new_submissions}
+use Rattle.bl_session.specs.MenuFiles.{File, size_of}
+use Rattle.bl_session.specs.Submissions.{attempt_submissions, new_submissions}
 use Rattle.bl_session.specs.Run.{IsAnswer}
 use Rattle.bl_session.specs.Faithful.{IsFaithfulItem}
 use Rattle.bl_session.proofs.TicketLemmas.{IsUntouched, same_ticket, other_ticket, untouched_both}
@@ -110,7 +111,7 @@ module _ (facts : BootFacts) (files : List File) (known : facts.sizes ≡ map si
   take_piece : (t : Ticket) (bytes : List ℕ) (count : ℕ) (genuine : Bool) (new : State)
       → IsFaithfulItem files given (came t count genuine)
       → (genuine ≡ true → IsPieceOf files (file_under given t) t.piece bytes)
-      → Steps facts (running entry rest earlier piece_states) (piece t bytes) new
+      → StepsTo facts (running entry rest earlier piece_states) (piece t bytes) new
       → Next (came t count genuine) new
   take_piece t bytes count genuine new faithful of_file goes =
       let later : (s : Ticket) → length earlier < s.attempt
@@ -149,7 +150,7 @@ module _ (facts : BootFacts) (files : List File) (known : facts.sizes ≡ map si
       ]
 
   take_fault : (t : Ticket) (new : State) → IsFaithfulItem files given (failed t)
-      → Steps facts (running entry rest earlier piece_states) (fault t) new → Next (failed t) new
+      → StepsTo facts (running entry rest earlier piece_states) (fault t) new → Next (failed t) new
   take_fault t new faithful goes =
       elim (step_went facts entry rest earlier piece_states (fault t) new goes) [
         | inl (unwanted, same) ↦
@@ -177,15 +178,15 @@ module _ (facts : BootFacts) (files : List File) (known : facts.sizes ≡ map si
 
   hear : (item : HistoryItem) (event : EventFacts) (new : State) → IsFaithfulItem files given item
       → IsAnswer files given earlier piece_states item event
-      → Steps facts (running entry rest earlier piece_states) event new → Next item new
+      → StepsTo facts (running entry rest earlier piece_states) event new → Next item new
   hear (submitted file t) event new faithful is goes = absurd is
   hear (came t count genuine) event new faithful (bytes, same, long, of_file) goes =
       take_piece t bytes count genuine new faithful of_file.0
-      (subst (λ (e : EventFacts). Steps facts (running entry rest earlier piece_states) e new) same
+      (subst (λ (e : EventFacts). StepsTo facts (running entry rest earlier piece_states) e new) same
       goes)
   hear (failed t) event new faithful same goes =
       take_fault t new faithful
-      (subst (λ (e : EventFacts). Steps facts (running entry rest earlier piece_states) e new) same
+      (subst (λ (e : EventFacts). StepsTo facts (running entry rest earlier piece_states) e new) same
       goes)
   hear nothing event new faithful (t, first, same) goes =
       absurd (no_end facts files known entry rest earlier piece_states given steady t first
@@ -194,7 +195,7 @@ module _ (facts : BootFacts) (files : List File) (known : facts.sizes ≡ map si
   pub hear_any : (item : HistoryItem) (event : EventFacts) (new : State)
       → IsFaithfulItem files given item
       → IsAnswer files given earlier piece_states item event
-      → StepsOrFails facts (running entry rest earlier piece_states) event new → Next item new
+      → StepsToOrFails facts (running entry rest earlier piece_states) event new → Next item new
   hear_any item event new faithful is (inl goes) = hear item event new faithful is goes
   hear_any item event new faithful is (inr (lacks, ends)) =
       subst (λ (s : State). Next item s) (sym lacks) tt

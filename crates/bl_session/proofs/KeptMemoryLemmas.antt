@@ -6,9 +6,9 @@ use Rattle.std.specs.declared.ops.Range.{Range}
 use Rattle.std.proofs.lemmas.Bool.{cases_lt}
 use Rattle.std.proofs.lemmas.Bool.Decides.{nat_tests}
 use Rattle.bl_mem.specs.Memory.{IsIn, KeepsSizeAndRoom}
-use Rattle.bl_load.specs.After.{IsAfter}
+use Rattle.bl_load.specs.MemoryAfter.{IsMemoryAfter}
 use Rattle.bl_load.specs.Handover.{Part}
-use Rattle.bl_stage.specs.Ranges.{IsSameOutside, scrubbed}
+use Rattle.bl_stage.specs.Ranges.{IsSameOutside, scrubbed_byte}
 use Rattle.bl_session.specs.BootSteps.{State, running, handed_over, none_left, unstarted}
 use Rattle.bl_session.specs.BootSteps.{out_of_memory}
 use Rattle.bl_session.specs.Memory.{IsMemoryAt}
@@ -38,7 +38,7 @@ beside pool a out = elim (cases_lt a pool.start) [
 ]
 
 pub after_on : (pool : Range ℕ) (parts : List Part) (old mid new : List ℕ)
-    → IsSameOutside pool old mid → IsAfter pool parts mid new → IsAfter pool parts old new
+    → IsSameOutside pool old mid → IsMemoryAfter pool parts mid new → IsMemoryAfter pool parts old new
 after_on pool parts old mid new first second = record {
   in_parts = second.in_parts;
   in_pool = second.in_pool;
@@ -68,14 +68,14 @@ zero_if : (b c d : Bool) (x : ℕ) → c ≡ false → (if b && (c && d) then 0 
 zero_if true c d x e = rw e refl
 zero_if false c d x e = refl
 
-scrubbed_in : (pool : Range ℕ) (old : List ℕ) (a : ℕ) → IsIn pool a → scrubbed pool [] old a ≡ 0
+scrubbed_in : (pool : Range ℕ) (old : List ℕ) (a : ℕ) → IsIn pool a → scrubbed_byte pool [] old a ≡ 0
 scrubbed_in pool old a (low, high) =
     let from : nat_le pool.start a ≡ true = grind (arith, nat_tests) in
     let to : nat_lt a pool.end ≡ true = grind (arith, nat_tests) in
     rw (from, to) refl
 
 scrubbed_out : (pool : Range ℕ) (old : List ℕ) (a : ℕ) → ¬ IsIn pool a
-    → scrubbed pool [] old a ≡ get_or old a 0
+    → scrubbed_byte pool [] old a ≡ get_or old a 0
 scrubbed_out pool old a out = elim (beside pool a out) [
   | inl below ↦ let from : nat_le pool.start a ≡ false = grind (arith, nat_tests) in rw from refl
   | inr above ↦
@@ -86,7 +86,7 @@ scrubbed_out pool old a out = elim (beside pool a out) [
 
 -- a pool that was scrubbed whole
 pub after_scrub : (pool : Range ℕ) (old new : List ℕ)
-    → ((a : ℕ) → get_or new a 0 ≡ scrubbed pool [] old a) → IsAfter pool [] old new
+    → ((a : ℕ) → get_or new a 0 ≡ scrubbed_byte pool [] old a) → IsMemoryAfter pool [] old new
 after_scrub pool old new scrubs = record {
   in_parts = λ k d h. absurd (omega arith);
   in_pool = λ a none within. scrubs a ∙ scrubbed_in pool old a within;

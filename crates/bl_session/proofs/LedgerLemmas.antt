@@ -11,10 +11,10 @@ use Rattle.std.specs.Prelude.{slice_get, option_map}
 use Rattle.bl_session.specs.declared.store.Completion.{Completion}
 use Rattle.bl_session.specs.declared.submission.Submission.{Submission}
 use Rattle.bl_session.specs.BootSteps.{EventFacts}
-use Rattle.bl_session.specs.Outcome.{File}
+use Rattle.bl_session.specs.MenuFiles.{File}
 use Rattle.bl_session.specs.History.{HistoryItem}
 use Rattle.bl_session.specs.Stores.{event_of, answer_to, item_of_event, item_of_told, without_index}
-use Rattle.bl_session.specs.StoresKept.{item_of, AreKept}
+use Rattle.bl_session.specs.StoresKept.{item_of, IsLedgerKept}
 use Rattle.bl_session.specs.Ledger.{LedgerFacts, pending_answer, ledger_answered}
 use Rattle.bl_session.proofs.StoreLemmas.{kept_answer, kept_nothing}
 use Rattle.bl_session.proofs.ToldLemmas.{Tells, tells_taken}
@@ -26,14 +26,14 @@ without_any place = rw (take-nil {A = Submission} place, drop-nil {A = Submissio
 
 kept_place : (files : List File) (pending : List Submission) (place : ℕ) (given : List HistoryItem)
     (told : Option EventFacts) → (0 < length pending → place < length pending)
-    → told ≡ option_map (answer_to files) (slice_get pending place) → AreKept files pending given
-    → AreKept files (without_index pending place) (given ++ item_of_told files given told ∷ [])
+    → told ≡ option_map (answer_to files) (slice_get pending place) → IsLedgerKept files pending given
+    → IsLedgerKept files (without_index pending place) (given ++ item_of_told files given told ∷ [])
 kept_place files [] place given told within is kept =
     subst
     (λ (left : List Submission).
-    AreKept files left (given ++ item_of_told files given told ∷ []))
+    IsLedgerKept files left (given ++ item_of_told files given told ∷ []))
     (sym (without_any place))
-    (subst (λ (t : Option EventFacts). AreKept files [] (given ++ item_of_told files given t ∷ []))
+    (subst (λ (t : Option EventFacts). IsLedgerKept files [] (given ++ item_of_told files given t ∷ []))
     (sym is) (kept_nothing files given kept))
 kept_place files (first ∷ others) place given told within is kept =
     let pending : List Submission = first ∷ others in
@@ -41,16 +41,16 @@ kept_place files (first ∷ others) place given told within is kept =
     let submission : Submission = get_or pending place first in
     let e : told ≡ Some (answer_to files submission) =
     is ∙ ap (option_map (answer_to files)) (slice_get-get_or pending place first inside) in
-    let at : AreKept files (take place pending ++ submission ∷ drop (suc place) pending) given =
-    subst (λ (p : List Submission). AreKept files p given) (split_at pending place first inside)
+    let at : IsLedgerKept files (take place pending ++ submission ∷ drop (suc place) pending) given =
+    subst (λ (p : List Submission). IsLedgerKept files p given) (split_at pending place first inside)
     kept in
     subst
     (λ (t : Option EventFacts).
-    AreKept files (without_index pending place) (given ++ item_of_told files given t ∷ []))
+    IsLedgerKept files (without_index pending place) (given ++ item_of_told files given t ∷ []))
     (sym e)
     (subst
     (λ (n : ℕ).
-    AreKept files (take place pending ++ drop n pending)
+    IsLedgerKept files (take place pending ++ drop n pending)
     (given ++ item_of_event files given (answer_to files submission) ∷ []))
     (sym (add-one place))
     (kept_answer files (take place pending) (drop (suc place) pending) given submission at))
@@ -59,8 +59,8 @@ pub kept_at : {A : Type 0} (files : List File) (pending : List Submission) (plac
     (given : List HistoryItem) (answer : Option (Completion A))
     → (0 < length pending → place < length pending)
     → option_map event_of answer ≡ option_map (answer_to files) (slice_get pending place)
-    → AreKept files pending given
-    → AreKept files (without_index pending place) (given ++ item_of files given answer ∷ [])
+    → IsLedgerKept files pending given
+    → IsLedgerKept files (without_index pending place) (given ++ item_of files given answer ∷ [])
 kept_at files pending place given answer within is kept =
     kept_place files pending place given (option_map event_of answer) within is kept
 

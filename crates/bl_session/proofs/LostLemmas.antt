@@ -2,10 +2,10 @@
 use Rattle.std.proofs.Common.{◌≡◌, ◌==◌, Bool, true, false, if◌then◌else◌, List, [], ◌∷◌, refl, ap}
 use Rattle.std.proofs.Common.{subst, ◌∙◌}
 use Rattle.bl_session.specs.BootSteps.{BootFacts, State, out_of_memory, attempt_number}
-use Rattle.bl_session.specs.Outcome.{File}
+use Rattle.bl_session.specs.MenuFiles.{File}
 use Rattle.bl_session.specs.History.{HistoryItem}
-use Rattle.bl_session.specs.Asked.{attempt_submissions, new_submissions}
-use Rattle.bl_session.specs.Run.{RunState, Delivers, Reads}
+use Rattle.bl_session.specs.Submissions.{attempt_submissions, new_submissions}
+use Rattle.bl_session.specs.Run.{RunState, Delivers, ItemsLeadTo}
 
 -- memory ran out, and nothing is to be asked for
 abbrev pub LacksMemory : RunState → Type 0
@@ -39,7 +39,7 @@ hears_nothing facts files given run_state item next (lost, none) hears =
 pub reads_nothing : (facts : BootFacts) (files : List File) (given : List HistoryItem)
     (run_state : RunState)
     (items : List HistoryItem) (end : State) → LacksMemory run_state
-    → Reads facts files given run_state items end
+    → ItemsLeadTo facts files given run_state items end
     → items ≡ []
 reads_nothing facts files given run_state [] end lost reads = refl
 reads_nothing facts files given run_state (item ∷ items) end lost (next, hears, reads) =

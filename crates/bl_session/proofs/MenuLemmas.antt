@@ -5,21 +5,21 @@ use Rattle.std.specs.Bool.{IsTrue}
 use Rattle.std.proofs.lemmas.List.{take_all, length-map}
 use Rattle.std.proofs.lemmas.List.Elements.{All-map, All-cons, All-tail}
 use Rattle.bl_load.specs.declared.entry.Entry.{Entry}
-use Rattle.bl_load.specs.Offered.{IsOfferedEntry, IsOffered}
+use Rattle.bl_load.specs.WellFormedEntry.{IsWellFormedEntry, IsWellFormedValue}
 use Rattle.bl_load.specs.declared.entry.Entry.TheVariants.{Multiboot2, Linux}
 use Rattle.bl_load.specs.declared.entry.Module.{Module}
 use Rattle.bl_load.specs.EntryValue.{IsWithinLimits, file_count, lines_of}
 use Rattle.bl_session.specs.Menu.{EntryFacts, value_with, files_of, facts_of, entry_at, no_entry}
 use Rattle.bl_session.specs.BootSteps.{BootFacts}
-use Rattle.bl_session.specs.Outcome.{File, entry_value_in}
+use Rattle.bl_session.specs.MenuFiles.{File, entry_value_in}
 
 -- ---- entries as contracts see them
 
 pub offered_entries : {A : Type 0} (entries : List (Entry A))
-    → All IsOfferedEntry entries
-    → All (λ (e : EntryFacts). IsOffered e.blank) (map facts_of entries)
-unfolding IsOfferedEntry
-offered_entries entries all = All-map (λ (e : EntryFacts). IsOffered e.blank) facts_of entries all
+    → All IsWellFormedEntry entries
+    → All (λ (e : EntryFacts). IsWellFormedValue e.blank) (map facts_of entries)
+unfolding IsWellFormedEntry
+offered_entries entries all = All-map (λ (e : EntryFacts). IsWellFormedValue e.blank) facts_of entries all
 
 -- an entry has few files
 pub few_files : {A : Type 0} (entry : Entry A) → IsWithinLimits entry
@@ -54,7 +54,7 @@ no_lines : All (λ line. All (λ (b : ℕ). b < 256) line) (lines_of no_entry.bl
 no_lines zero d below = λ k e none. absurd (omega arith)
 no_lines (suc i) d below = absurd (omega arith)
 
-nothing : IsOffered no_entry.blank
+nothing : IsWellFormedValue no_entry.blank
 nothing = record {
   limits = record { few = omega arith; rsdp_old = tt; rsdp_new = tt };
   lines = no_lines;
@@ -63,8 +63,8 @@ nothing = record {
 }
 
 -- whether it is offered does not depend on what its files hold
-with_files : (entry : EntryFacts) (texts : List (List ℕ)) → IsOffered entry.blank
-    → IsOffered (value_with entry texts)
+with_files : (entry : EntryFacts) (texts : List (List ℕ)) → IsWellFormedValue entry.blank
+    → IsWellFormedValue (value_with entry texts)
 with_files entry texts offered = record {
   limits = record {
     few = offered.limits.few;
@@ -77,11 +77,11 @@ with_files entry texts offered = record {
 }
 
 pub offered_values : (facts : BootFacts) (files : List File) (entry : ℕ)
-    → All (λ (e : EntryFacts). IsOffered e.blank) facts.menu.entries
-    → IsOffered (entry_value_in facts files entry)
+    → All (λ (e : EntryFacts). IsWellFormedValue e.blank) facts.menu.entries
+    → IsWellFormedValue (entry_value_in facts files entry)
 offered_values facts files entry all =
     with_files (entry_at facts.menu entry) _
-    (at_each (λ (e : EntryFacts). IsOffered e.blank) facts.menu.entries entry no_entry all nothing)
+    (at_each (λ (e : EntryFacts). IsWellFormedValue e.blank) facts.menu.entries entry no_entry all nothing)
 
 -- ---- a property of each entry, by the first and the others
 

@@ -12,7 +12,7 @@ use Rattle.bl_session.specs.declared.ticket.Ticket.{Ticket}
 use Rattle.bl_session.specs.declared.outcome.RefusedEntry.{RefusedEntry}
 use Rattle.bl_session.specs.Pieces.{is_awaited, piece_state_of, are_whole}
 use Rattle.bl_session.specs.BootSteps.{fault, is_wanted}
-use Rattle.bl_session.specs.Asked.{ticket_of, first_awaited_piece, first_ticket, ticket_or}
+use Rattle.bl_session.specs.Submissions.{ticket_of, first_awaited_piece, first_ticket, ticket_or}
 use Rattle.bl_session.proofs.PieceStateLemmas.{length-piece_states_of, length-piece_states}
 use Rattle.bl_session.proofs.PieceStateLemmas.{file_piece_states}
 

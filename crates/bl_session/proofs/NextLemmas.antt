@@ -15,10 +15,10 @@ use Rattle.bl_session.specs.Pieces.{with_piece}
 use Rattle.bl_session.specs.BootSteps.{BootFacts, EventFacts, fault, State, unstarted, running}
 use Rattle.bl_session.specs.BootSteps.{handed_over, none_left, out_of_memory, is_wanted, is_taken}
 use Rattle.bl_session.specs.BootSteps.{TakesEvent}
-use Rattle.bl_session.specs.BootSteps.{StepsOrFails, progress}
-use Rattle.bl_session.specs.Asked.{first_ticket}
+use Rattle.bl_session.specs.BootSteps.{StepsToOrFails, progress}
+use Rattle.bl_session.specs.Submissions.{first_ticket}
 use Rattle.bl_session.specs.Memory.{IsMemoryAt}
-use Rattle.bl_session.specs.TurnsKept.{attempts_left}
+use Rattle.bl_session.specs.RunKept.{attempts_left}
 use Rattle.bl_session.proofs.MissingLemmas.{first_wanted}
 use Rattle.bl_session.proofs.StepFaultLemmas.{ends_taken}
 use Rattle.bl_session.proofs.WentLemmas.{IsNewFrom, new_goes, new_begins, step_went}
@@ -31,7 +31,7 @@ IsNext facts entry rest earlier state =
 
 pub next_step : (facts : BootFacts) (entry : ℕ) (rest : List ℕ) (earlier : List RefusedEntry)
     (files : List (List PieceState)) (event : EventFacts) (state : State)
-    → StepsOrFails facts (running entry rest earlier files) event state
+    → StepsToOrFails facts (running entry rest earlier files) event state
     → IsNext facts entry rest earlier state
 next_step facts entry rest earlier files event state (inl steps) =
     elim (step_went facts entry rest earlier files event state steps) [
@@ -89,7 +89,7 @@ fewer_left facts count number out_of_memory later = omega arith
 pub lost_ends : (facts : BootFacts) (entry : ℕ) (rest : List ℕ) (earlier : List RefusedEntry)
     (files : List (List PieceState)) (ticket : Ticket) (state : State)
     → first_ticket (length earlier) 0 files ≡ Some ticket
-    → StepsOrFails facts (running entry rest earlier files) (fault ticket) state
+    → StepsToOrFails facts (running entry rest earlier files) (fault ticket) state
     → progress (length earlier) state ≢ Waiting
 lost_ends facts entry rest earlier files ticket state first (inl steps) =
     let wanted = first_wanted earlier files ticket first in
@@ -112,7 +112,7 @@ memory_if : (pool : Range ℕ) (facts : BootFacts) (entry : ℕ) (rest : List �
     (state : State)
     (old new : List ℕ) (wanted : Bool)
     → is_wanted earlier files event ≡ wanted
-    → StepsOrFails facts (running entry rest earlier files) event state
+    → StepsToOrFails facts (running entry rest earlier files) event state
     → MatchBool wanted (IsMemoryAt pool state old new) (new ≡ old) → IsMemoryAt pool state old new
 memory_if pool facts entry rest earlier files event state old new true is step memory = memory
 memory_if pool facts entry rest earlier files event state old new false is (inl steps) same =
@@ -131,7 +131,7 @@ pub memory_step : (pool : Range ℕ) (facts : BootFacts) (entry : ℕ) (rest : L
     (earlier : List RefusedEntry) (files : List (List PieceState)) (event : EventFacts)
     (state : State)
     (old new : List ℕ)
-    → StepsOrFails facts (running entry rest earlier files) event state
+    → StepsToOrFails facts (running entry rest earlier files) event state
     → MatchBool (is_taken (running entry rest earlier files) event) (IsMemoryAt pool state old new)
     (new ≡ old) → IsMemoryAt pool state old new
 memory_step pool facts entry rest earlier files event state old new step memory =

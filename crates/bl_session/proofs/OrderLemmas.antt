@@ -8,7 +8,7 @@ use Rattle.bl_stage.specs.PieceStates.{PieceState}
 use Rattle.bl_session.specs.declared.ticket.Ticket.{Ticket}
 use Rattle.bl_session.specs.History.{HistoryItem, submitted, came, failed, is_same}
 use Rattle.bl_session.specs.History.{last_submitted_file}
-use Rattle.bl_session.specs.Asked.{ticket_of, piece_submissions, file_submissions}
+use Rattle.bl_session.specs.Submissions.{ticket_of, piece_submissions, file_submissions}
 use Rattle.bl_session.proofs.TicketLemmas.{same_fields, is_same_self, other_ticket, IsUntouched}
 use Rattle.bl_session.proofs.TicketLemmas.{IsAskedOnce, untouched_both, once_first, once_last}
 

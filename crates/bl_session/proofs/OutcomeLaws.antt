@@ -9,10 +9,11 @@ use Rattle.bl_load.specs.Handover.{Handover}
 use Rattle.bl_load.specs.Parts.{IsHandover}
 use Rattle.bl_load.proofs.HandoverLaws.{one_handover}
 use Rattle.bl_session.specs.declared.outcome.RefusedEntry.{RefusedEntry}
-use Rattle.bl_session.specs.AttemptResult.{AttemptResult, handed, refused, HasResult}
+use Rattle.bl_session.specs.AttemptResult.{AttemptResult, handed, refused, HasWholeFilesResult}
 use Rattle.bl_session.specs.AttemptResult.{AttemptHasResult, UnlessRefused, size_refusal}
 use Rattle.bl_session.specs.BootSteps.{BootFacts, State, handed_over, sizes_of}
-use Rattle.bl_session.specs.Outcome.{File, entry_value_in, faulty_file, IsFirst, IsOutcome}
+use Rattle.bl_session.specs.MenuFiles.{File, entry_value_in}
+use Rattle.bl_session.specs.Outcome.{faulty_file, IsFirst, IsOutcome}
 use Rattle.bl_session.proofs.EndLaws.{one_end}
 use Rattle.bl_session.proofs.BootLaws.{one_goes}
 
@@ -27,9 +28,9 @@ handed_value : (facts : MachineFacts) (sizes : List (Option ℕ)) (faulty : Opti
     (value : EntryValue) (h : Handover) → AttemptHasResult facts sizes faulty value (handed h)
     → IsHandover facts value h
 handed_value facts sizes faulty value h is =
-    (handed_behind (option_map FileFault faulty) (HasResult facts value) h
+    (handed_behind (option_map FileFault faulty) (HasWholeFilesResult facts value) h
     (handed_behind (size_refusal facts sizes)
-    (UnlessRefused (option_map FileFault faulty) (HasResult facts value)) h is)).0
+    (UnlessRefused (option_map FileFault faulty) (HasWholeFilesResult facts value)) h is)).0
 
 first_handed : (facts : BootFacts) (files : List File) (faults : ℕ → Option ℕ) (attempts : List ℕ)
     (before earlier : List RefusedEntry) (entry : ℕ) (h : Handover)

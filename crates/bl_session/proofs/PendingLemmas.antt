@@ -8,7 +8,7 @@ use Rattle.std.specs.List.{insert}
 use Rattle.std.specs.Prelude.{slice_get}
 use Rattle.bl_session.specs.declared.submission.Submission.{Submission}
 use Rattle.bl_session.specs.Stores.{without_index}
-use Rattle.bl_session.specs.PendingKept.{runs_listed, listed_without, StandsIn}
+use Rattle.bl_session.specs.PendingKept.{runs_listed, listed_without, IsPlaceInRun}
 use Rattle.bl_session.proofs.ListedLemmas.{listed_at, listed_length, listed_set, listed_two}
 use Rattle.bl_session.proofs.ListedLemmas.{place_without, listed_get, length_without}
 
@@ -87,11 +87,11 @@ last_longer runs last run longer more is_last is longer_is =
 -- ---- what was found
 
 pub placed_get : (runs slice : List (List Submission)) (place index at : ℕ)
-    (run : List Submission) → slice ≡ runs → StandsIn slice place index at
+    (run : List Submission) → slice ≡ runs → IsPlaceInRun slice place index at
     → run ≡ get_or runs index run → slice_get run at ≡ slice_get (runs_listed runs) place
 placed_get runs slice place index at run shown stands is =
-    let stands_in : StandsIn runs place index at =
-    subst (λ (l : List (List Submission)). StandsIn l place index at) shown stands in
+    let stands_in : IsPlaceInRun runs place index at =
+    subst (λ (l : List (List Submission)). IsPlaceInRun l place index at) shown stands in
     ap (λ (r : List Submission). slice_get r at)
     (get_or_read runs index run stands_in.0 is [])
     ∙ sym (listed_get runs index at stands_in.0 stands_in.1)
@@ -103,11 +103,11 @@ pub record IsLeftOut (runs : List (List Submission)) (place : ℕ) (left : List 
   pub fewer : length left + 1 ≡ length (runs_listed runs)
 
 pub left_out : (runs slice : List (List Submission)) (place index at : ℕ)
-    (left : List Submission) → slice ≡ runs → StandsIn slice place index at
+    (left : List Submission) → slice ≡ runs → IsPlaceInRun slice place index at
     → left ≡ listed_without runs index at → IsLeftOut runs place left
 left_out runs slice place index at left shown stands left_is =
-    let stands_in : StandsIn runs place index at =
-    subst (λ (l : List (List Submission)). StandsIn l place index at) shown stands in
+    let stands_in : IsPlaceInRun runs place index at =
+    subst (λ (l : List (List Submission)). IsPlaceInRun l place index at) shown stands in
     let list : left ≡ without_index (runs_listed runs) place =
     left_is
     ∙ sym (place_without runs index at stands_in.0 stands_in.1)
@@ -122,9 +122,9 @@ left_out runs slice place index at left shown stands left_is =
     }
 
 pub last_of_run : (runs slice : List (List Submission)) (place index at : ℕ)
-    → slice ≡ runs → StandsIn slice place index at → place + 1 ≡ length (runs_listed runs)
+    → slice ≡ runs → IsPlaceInRun slice place index at → place + 1 ≡ length (runs_listed runs)
     → at + 1 ≡ length (get_or runs index [])
 last_of_run runs slice place index at shown stands last =
-    let stands_in : StandsIn runs place index at =
-    subst (λ (l : List (List Submission)). StandsIn l place index at) shown stands in
+    let stands_in : IsPlaceInRun runs place index at =
+    subst (λ (l : List (List Submission)). IsPlaceInRun l place index at) shown stands in
     omega (arith, listed_length runs index stands_in.0)

@@ -17,7 +17,7 @@ use Rattle.bl_session.specs.BootSteps.{BootFacts}
 use Rattle.bl_session.specs.Menu.{entry_at}
 use Rattle.bl_session.specs.Phases.{PhaseFacts, waits, state_at}
 use Rattle.bl_session.specs.Pieces.{piece_state_of}
-use Rattle.bl_session.specs.Asked.{first_awaited_piece, first_ticket, ticket_or}
+use Rattle.bl_session.specs.Submissions.{first_awaited_piece, first_ticket, ticket_or}
 use Rattle.bl_session.specs.Requests.{length_awaited, request_for, first_request}
 use Rattle.bl_session.specs.Requests.{request_after, ticket_after}
 use Rattle.bl_session.proofs.PieceStateLemmas.{Named, length-piece_states, piece_state_named}

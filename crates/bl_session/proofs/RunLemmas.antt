@@ -8,15 +8,15 @@ use Rattle.bl_map.specs.MachineFacts.{MachineFacts}
 use Rattle.bl_mem.specs.Memory.{HasRoom, KeepsRoom}
 use Rattle.bl_session.specs.BootSteps.{BootFacts, State, unstarted, out_of_memory, is_running}
 use Rattle.bl_session.specs.BootSteps.{StartsOrFails}
-use Rattle.bl_session.specs.Outcome.{File, missing, size_of}
+use Rattle.bl_session.specs.MenuFiles.{File, missing, size_of}
 use Rattle.bl_session.specs.Attempts.{named_file_count}
 use Rattle.bl_session.specs.Menu.{MenuFacts}
 use Rattle.bl_session.specs.History.{HistoryItem}
 use Rattle.bl_session.specs.Memory.{IsMemoryAt}
-use Rattle.bl_session.specs.Asked.{attempt_submissions}
+use Rattle.bl_session.specs.Submissions.{attempt_submissions}
 use Rattle.bl_session.specs.Phases.{PhaseFacts, not_started, state_at, is_waiting, boot_facts}
 use Rattle.bl_session.specs.Run.{RunState, run_state_of, IsRun}
-use Rattle.bl_session.specs.TurnsKept.{IsAsked, IsHeard}
+use Rattle.bl_session.specs.RunKept.{AreAskedButRest, HistoryLeadsOn}
 use Rattle.bl_session.proofs.AlikeRuns.{run_alike, alike_listed}
 use Rattle.bl_session.proofs.KeptMemoryLemmas.{memory_on}
 use Rattle.bl_session.proofs.WentLemmas.{new_begins}
@@ -28,15 +28,15 @@ use Rattle.bl_session.proofs.AnswerLemmas.{at, waiting_memory}
 pub heard_attempt : (facts now : BootFacts) (files those those_next : List File)
     (first mid asked last : List HistoryItem) (start : RunState) (old new : State) → now ≡ facts
     → those ≡ files → those_next ≡ files
-    → IsHeard facts files first mid start (run_state_of facts old) → asked ≡ mid
+    → HistoryLeadsOn facts files first mid start (run_state_of facts old) → asked ≡ mid
     ++ attempt_submissions now old
-    → IsHeard now those_next asked last (at old) (run_state_of now new)
-    → IsHeard facts files first last start (run_state_of facts new)
+    → HistoryLeadsOn now those_next asked last (at old) (run_state_of now new)
+    → HistoryLeadsOn facts files first last start (run_state_of facts new)
 heard_attempt facts now files those those_next first mid asked last start old new e f f_next so_far
     given more =
-    let mine : IsHeard facts files asked last (at old) (run_state_of facts new) =
-    subst (λ (b : BootFacts). IsHeard b files asked last (at old) (run_state_of b new)) e
-    (subst (λ (fs : List File). IsHeard now fs asked last (at old) (run_state_of now new)) f_next
+    let mine : HistoryLeadsOn facts files asked last (at old) (run_state_of facts new) =
+    subst (λ (b : BootFacts). HistoryLeadsOn b files asked last (at old) (run_state_of b new)) e
+    (subst (λ (fs : List File). HistoryLeadsOn now fs asked last (at old) (run_state_of now new)) f_next
     more) in
     let orders_given : asked ≡ mid ++ attempt_submissions facts old =
     given ∙ ap (λ (b : BootFacts). mid ++ attempt_submissions b old) e in
@@ -47,14 +47,14 @@ heard_attempt facts now files those those_next first mid asked last start old ne
 -- memory ran out while the attempt asked
 pub lacks_orders : (facts now : BootFacts) (files : List File) (first mid asked : List HistoryItem)
     (start : RunState) (old : State) → now ≡ facts
-    → IsHeard facts files first mid start (run_state_of facts old)
-    → (rest : List HistoryItem) × IsAsked (attempt_submissions now old) rest mid asked
+    → HistoryLeadsOn facts files first mid start (run_state_of facts old)
+    → (rest : List HistoryItem) × AreAskedButRest (attempt_submissions now old) rest mid asked
     → is_running old ≡ true
-    → (run_state : RunState) × IsHeard facts files first asked start run_state
+    → (run_state : RunState) × HistoryLeadsOn facts files first asked start run_state
     × (is_running run_state.state ≡ true)
 lacks_orders facts now files first mid asked start old e so_far part runs =
     let mine =
-    subst (λ (b : BootFacts). IsAsked (attempt_submissions b old) part.0 mid asked) e part.1 in
+    subst (λ (b : BootFacts). AreAskedButRest (attempt_submissions b old) part.0 mid asked) e part.1 in
     let end : RunState = record { state = old; owed = part.0 } in (
       end,
       heard_on facts files first mid asked start (run_state_of facts old) end so_far
@@ -66,16 +66,16 @@ lacks_orders facts now files first mid asked start old e so_far part runs =
 pub lacks_answers : (facts now : BootFacts) (files those : List File)
     (first mid asked last : List HistoryItem) (start : RunState) (old : State) → now ≡ facts → those
     ≡ files
-    → IsHeard facts files first mid start (run_state_of facts old) → asked ≡ mid
+    → HistoryLeadsOn facts files first mid start (run_state_of facts old) → asked ≡ mid
     ++ attempt_submissions now old
-    → (run_state : RunState) × IsHeard now those asked last (at old) run_state
+    → (run_state : RunState) × HistoryLeadsOn now those asked last (at old) run_state
     × (is_running run_state.state ≡ true)
-    → (run_state : RunState) × IsHeard facts files first last start run_state
+    → (run_state : RunState) × HistoryLeadsOn facts files first last start run_state
     × (is_running run_state.state ≡ true)
 lacks_answers facts now files those first mid asked last start old e f so_far given more =
-    let mine : IsHeard facts files asked last (at old) more.0 =
-    subst (λ (b : BootFacts). IsHeard b files asked last (at old) more.0) e
-    (subst (λ (fs : List File). IsHeard now fs asked last (at old) more.0) f more.1) in
+    let mine : HistoryLeadsOn facts files asked last (at old) more.0 =
+    subst (λ (b : BootFacts). HistoryLeadsOn b files asked last (at old) more.0) e
+    (subst (λ (fs : List File). HistoryLeadsOn now fs asked last (at old) more.0) f more.1) in
     let orders_given : asked ≡ mid ++ attempt_submissions facts old =
     given ∙ ap (λ (b : BootFacts). mid ++ attempt_submissions b old) e in (
       more.0,
@@ -90,13 +90,13 @@ lacks_answers facts now files those first mid asked last start old e f so_far gi
 pub is_run : (facts now : BootFacts) (files those : List File) (old new : List HistoryItem)
     (begun end : State) (run_state : RunState) → now ≡ facts → those ≡ files
     → StartsOrFails facts unstarted begun
-    → IsHeard now those old new (run_state_of now begun) run_state
+    → HistoryLeadsOn now those old new (run_state_of now begun) run_state
     → (end ≡ run_state.state) ⊎ ((end ≡ out_of_memory) × (is_running run_state.state ≡ true))
     → IsRun facts files old new end
 is_run facts now files those old new begun end run_state e f starts heard is =
-    let mine : IsHeard facts files old new (run_state_of facts begun) run_state =
-    subst (λ (b : BootFacts). IsHeard b files old new (run_state_of b begun) run_state) e
-    (subst (λ (fs : List File). IsHeard now fs old new (run_state_of now begun) run_state) f
+    let mine : HistoryLeadsOn facts files old new (run_state_of facts begun) run_state =
+    subst (λ (b : BootFacts). HistoryLeadsOn b files old new (run_state_of b begun) run_state) e
+    (subst (λ (fs : List File). HistoryLeadsOn now fs old new (run_state_of now begun) run_state) f
     heard) in
     record {
       gained = mine.gained;
@@ -116,7 +116,7 @@ pub run_started : (machine : MachineFacts) (menu : MenuFacts) (files : List File
     (range_with_len 0 (named_file_count menu.entries))
     → boot ≡ boot_facts machine menu sizes → unbegun_phase ≡ not_started → now ≡ boot
     → StartsOrFails boot (state_at before unbegun_phase) (state_at after begun)
-    → IsHeard now files old new (run_state_of now (state_at after begun)) run_state
+    → HistoryLeadsOn now files old new (run_state_of now (state_at after begun)) run_state
     → (end ≡ run_state.state) ⊎ ((end ≡ out_of_memory) × (is_running run_state.state ≡ true))
     → IsRun (boot_facts machine menu (map size_of files)) files old new end
 run_started machine menu files sizes boot now unbegun_phase begun before after old new run_state end

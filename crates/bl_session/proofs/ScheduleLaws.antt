@@ -4,12 +4,14 @@ use Rattle.std.proofs.Common.{subst, ◌∙◌, ◌⊎◌, inl, inr, append_asso
 use Rattle.std.proofs.lemmas.List.{append-nil}
 use Rattle.bl_session.specs.BootSteps.{BootFacts, EventFacts, State, unstarted, running}
 use Rattle.bl_session.specs.BootSteps.{handed_over}
-use Rattle.bl_session.specs.BootSteps.{none_left, out_of_memory, Begins, Steps, StartsOrFails}
+use Rattle.bl_session.specs.BootSteps.{none_left, out_of_memory, Begins, StepsTo, StartsOrFails}
 use Rattle.bl_session.specs.BootSteps.{LeadsTo}
-use Rattle.bl_session.specs.Outcome.{File, size_of, IsGenuineAt, IsGenuine, IsOutcome, HasEnded}
+use Rattle.bl_session.specs.MenuFiles.{File, size_of}
+use Rattle.bl_session.specs.Schedules.{IsGenuineAt, IsGenuine}
+use Rattle.bl_session.specs.Outcome.{IsOutcome, HasEnded}
 use Rattle.bl_session.specs.History.{HistoryItem}
-use Rattle.bl_session.specs.Asked.{attempt_submissions}
-use Rattle.bl_session.specs.Run.{IsEventOf, RunState, run_state_of, Delivers, Reads, IsRun}
+use Rattle.bl_session.specs.Submissions.{attempt_submissions}
+use Rattle.bl_session.specs.Run.{IsEventOf, RunState, run_state_of, Delivers, ItemsLeadTo, IsRun}
 use Rattle.bl_session.specs.Run.{IsGenuineItem}
 use Rattle.bl_session.specs.Run.{IsGenuineRun, EachAnswerIs}
 use Rattle.bl_session.proofs.BootLaws.{one_step}
@@ -29,7 +31,7 @@ module _ (facts : BootFacts) (files : List File) (faults : ℕ → Option ℕ) w
       AreAsked facts (given ++ next.owed) next.state
       × ((next.state ≡ state)
       ⊎ ((event : EventFacts) × IsGenuineAt facts files faults state event
-      × Steps facts state event next.state))
+      × StepsTo facts state event next.state))
 
   heard : (given : List HistoryItem) (state : State) (owed : List HistoryItem) (item : HistoryItem)
       (next : RunState)
@@ -85,7 +87,7 @@ module _ (facts : BootFacts) (files : List File) (faults : ℕ → Option ℕ) w
   -- a boot does not end after want of memory
   lost_not : (given : List HistoryItem) (run_state : RunState) (items : List HistoryItem)
       (end : State)
-      → LacksMemory run_state → Reads facts files given run_state items end → HasEnded end → ⊥
+      → LacksMemory run_state → ItemsLeadTo facts files given run_state items end → HasEnded end → ⊥
   lost_not given run_state [] end (is, none) (inl same) ended = ended_not end (same ∙ is) ended
   lost_not given run_state [] end (is, none) (inr (lost, runs)) ended = ended_not end lost ended
   lost_not given run_state (item ∷ items) end lost (next, hears, reads) ended =
@@ -99,7 +101,7 @@ module _ (facts : BootFacts) (files : List File) (faults : ℕ → Option ℕ) w
 
   -- by one event more
   one_more : (old next end : State) (event : EventFacts) → IsGenuineAt facts files faults old event
-      → Steps facts old event next → IsScheduled next end → IsScheduled old end
+      → StepsTo facts old event next → IsScheduled next end → IsScheduled old end
   one_more old next end event genuine goes (events, rest, leads) = (
     event ∷ events,
     (
@@ -114,7 +116,7 @@ module _ (facts : BootFacts) (files : List File) (faults : ℕ → Option ℕ) w
   schedule : (items given : List HistoryItem) (run_state : RunState) (end : State)
       → AreAsked facts (given ++ run_state.owed) run_state.state
       → EachAnswerIs facts files (IsGenuineItem faults) given run_state items
-      → Reads facts files given run_state items end
+      → ItemsLeadTo facts files given run_state items end
       → HasEnded end
       → IsScheduled run_state.state end
   schedule [] given run_state end asked genuine (inl same) ended = ([], tt, same)

@@ -10,11 +10,12 @@ use Rattle.std.proofs.lemmas.List.FromFn.{length-map-range_with_len, get_or-map-
 use Rattle.std.proofs.lemmas.List.{ext_get_or}
 use Rattle.std.proofs.lemmas.Simd.{map-map}
 use Rattle.bl_map.specs.PoolFrames.{frames_of, misses_frame, is_open, frames_for}
-use Rattle.bl_mem.specs.Files.{AreAddressesBelow, AllBeside}
+use Rattle.bl_mem.specs.Files.{AreAddressesBelow, AllApartFrom}
 use Rattle.bl_mem.specs.Memory.{IsIn}
 use Rattle.bl_stage.specs.Ranges.{meets}
-use Rattle.bl_stage.specs.Staged.{Staging, AreStaged, HasPool, IsStagedOn, staged_file, table_of}
-use Rattle.bl_stage.specs.Staged.{first_of, staged_texts, with_frames}
+use Rattle.bl_stage.specs.Staged.{Staging, AreStaged, HasPool, IsStagedOn, staged_file}
+use Rattle.bl_stage.specs.Staged.{frames_of_file}
+use Rattle.bl_stage.specs.Staged.{frames_before, staged_texts, with_frames}
 use Rattle.bl_stage.specs.StagedFileLaws.{same_firsts}
 use Rattle.bl_stage.proofs.FileLemmas.{file_within, read_part}
 use Rattle.bl_stage.proofs.FrameLemmas.{staged_length}
@@ -32,7 +33,7 @@ lengths_are bytes stage =
     (λ k h.
     let below : k < n = let e = length-map-range_with_len size 0 n in omega arith in
     get_or-map-range_with_len size 0 n k k 0 below (omega arith)
-    ∙ staged_length bytes (table_of stage k) (get_or stage.sizes k 0))
+    ∙ staged_length bytes (frames_of_file stage k) (get_or stage.sizes k 0))
 
 pub texts_needed : (bytes : List ℕ) (stage : Staging)
     → frames_for (map length (staged_texts bytes stage)) ≡ frames_for stage.sizes
@@ -47,7 +48,7 @@ frame_of : (stage : Staging) (a : ℕ) → AreStaged stage → (on : IsStagedOn 
 frame_of stage a kept on =
     let within = file_within stage.sizes on.file on.of_stage in
     let all = kept.all in
-    let first = first_of stage.sizes on.file in
+    let first = frames_before stage.sizes on.file in
     let frame =
     read_part stage.frames first (frames_of (get_or stage.sizes on.file 0)) on.index on.of_file
     (omega arith) in
@@ -71,7 +72,7 @@ meets_range r frame a low high here = grind (arith, nat_tests)
 -- they lie beside ranges that meet none of their frames
 pub files_beside : (stage : Staging) (ranges : List (Range ℕ)) → AreStaged stage
     → ((k : ℕ) → k < length stage.frames → meets ranges (get_or stage.frames k 0) ≡ false)
-    → AllBeside (λ a. IsStagedOn stage a) ranges
+    → AllApartFrom (λ a. IsStagedOn stage a) ranges
 files_beside stage ranges kept clear i d within a low high on =
     let (k, among, from, to) = frame_of stage a kept on in
     let frame = get_or stage.frames k 0 in

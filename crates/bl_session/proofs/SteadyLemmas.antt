@@ -10,8 +10,8 @@ use Rattle.bl_session.specs.Pieces.{is_awaited, piece_state_of}
 use Rattle.bl_session.specs.BootSteps.{BootFacts, State, unstarted, running, handed_over, none_left}
 use Rattle.bl_session.specs.BootSteps.{out_of_memory, sizes_of, fresh}
 use Rattle.bl_session.specs.History.{HistoryItem}
-use Rattle.bl_session.specs.Outcome.{File, missing, size_of, file_bytes, texts_of}
-use Rattle.bl_session.specs.Asked.{attempt_submissions, file_submissions}
+use Rattle.bl_session.specs.MenuFiles.{File, missing, size_of, file_bytes, texts_of}
+use Rattle.bl_session.specs.Submissions.{attempt_submissions, file_submissions}
 use Rattle.bl_session.proofs.EntryEndLemmas.{are_read, length_read}
 use Rattle.bl_session.proofs.TicketLemmas.{IsUntouched, IsAskedOnce, untouched_both, once_last}
 use Rattle.bl_session.proofs.OrderLemmas.{untouched_files, once_files}

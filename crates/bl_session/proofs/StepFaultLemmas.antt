@@ -10,7 +10,7 @@ use Rattle.bl_session.specs.declared.ticket.Ticket.{Ticket}
 use Rattle.bl_session.specs.Pieces.{with_piece, are_whole}
 use Rattle.bl_session.specs.BootSteps.{BootFacts, EventFacts, piece, fault, State, unstarted}
 use Rattle.bl_session.specs.BootSteps.{running}
-use Rattle.bl_session.specs.BootSteps.{handed_over, none_left, out_of_memory, Begins, Steps}
+use Rattle.bl_session.specs.BootSteps.{handed_over, none_left, out_of_memory, Begins, StepsTo}
 use Rattle.bl_session.specs.BootSteps.{is_wanted}
 use Rattle.bl_session.specs.BootSteps.{is_taken, ends_attempt}
 use Rattle.bl_session.specs.Memory.{IsMemoryAt}
@@ -29,7 +29,7 @@ pub steps_fault : {P E : Type 0} (facts : BootFacts) (entry : ℕ) (rest : List 
     (earlier ++ record { entry = entry; refusal = FileFault ticket.file } ∷ [])
     (state phase))
     → IfOk result
-    (λ phase. Steps facts (running entry rest earlier files) (fault ticket) (state phase))
+    (λ phase. StepsTo facts (running entry rest earlier files) (fault ticket) (state phase))
 steps_fault facts entry rest earlier files ticket (Err e) state wanted goes = tt
 steps_fault facts entry rest earlier files ticket (Ok phase) state wanted goes =
     by_test true (is_wanted earlier files (fault ticket)) _ _ wanted goes

@@ -10,13 +10,13 @@ use Rattle.bl_stage.specs.Staged.{Staging}
 use Rattle.bl_stage.specs.Pieces.{put_answer}
 use Rattle.bl_stage.specs.declared.stage.putting.Put.{Put}
 use Rattle.bl_stage.specs.declared.stage.putting.Put.TheVariants.{Stored, Strange}
-use Rattle.bl_stage.specs.PieceStates.{PieceState, piece_states, put_piece_state}
+use Rattle.bl_stage.specs.PieceStates.{PieceState, piece_states, piece_states_after_put}
 use Rattle.bl_session.specs.declared.outcome.RefusedEntry.{RefusedEntry}
 use Rattle.bl_session.specs.declared.ticket.Ticket.{Ticket}
 use Rattle.bl_session.specs.Pieces.{awaits, piece_state_of, with_piece, are_whole}
 use Rattle.bl_session.specs.BootSteps.{BootFacts, EventFacts, piece, State, running, Begins}
 use Rattle.bl_session.specs.BootSteps.{Continues}
-use Rattle.bl_session.specs.BootSteps.{Steps, is_wanted, ends_attempt}
+use Rattle.bl_session.specs.BootSteps.{StepsTo, is_wanted, ends_attempt}
 use Rattle.bl_session.specs.Memory.{IsMemoryAt}
 use Rattle.bl_session.proofs.KeptMemoryLemmas.{memory_on, same_on}
 use Rattle.bl_session.proofs.StoredLemmas.{stored, not_stored, put_with}
@@ -29,7 +29,7 @@ by_test b tested P Q e h = subst (λ (x : Bool). MatchBool x P Q) (sym e) h
 
 pub steps_same : (facts : BootFacts) (entry : ℕ) (rest : List ℕ) (earlier : List RefusedEntry)
     (files : List (List PieceState)) (event : EventFacts) → is_wanted earlier files event ≡ false
-    → Steps facts (running entry rest earlier files) event (running entry rest earlier files)
+    → StepsTo facts (running entry rest earlier files) event (running entry rest earlier files)
 steps_same facts entry rest earlier files event e =
     by_test false (is_wanted earlier files event) _ _ e refl
 
@@ -61,12 +61,12 @@ wanted_not old stage earlier ticket bytes answer is other =
 pub steps_unchanged : (facts : BootFacts) (entry : ℕ) (rest : List ℕ) (earlier : List RefusedEntry)
     (old new : List ℕ) (stage later : Staging) (event : EventFacts) → later ≡ stage → new ≡ old
     → is_wanted earlier (piece_states old stage) event ≡ false
-    → Steps facts (running entry rest earlier (piece_states old stage)) event
+    → StepsTo facts (running entry rest earlier (piece_states old stage)) event
     (running entry rest earlier (piece_states new later))
 steps_unchanged facts entry rest earlier old new stage later event same bytes e =
     let is : running entry rest earlier (piece_states old stage)
     ≡ running entry rest earlier (piece_states new later) = rw (same, bytes) refl in
-    subst (λ (s : State). Steps facts (running entry rest earlier (piece_states old stage)) event s)
+    subst (λ (s : State). StepsTo facts (running entry rest earlier (piece_states old stage)) event s)
     is
     (steps_same facts entry rest earlier (piece_states old stage) event e)
 
@@ -103,7 +103,7 @@ pub piece_states_after : (old new : List ℕ) (stage later : Staging) (ticket : 
     (bytes : List ℕ)
     (answer : Put) → answer ≡ put_answer stage ticket.file ticket.piece (length bytes)
     → answer ≡ Stored
-    → piece_states new later ≡ put_piece_state old stage ticket.file ticket.piece bytes
+    → piece_states new later ≡ piece_states_after_put old stage ticket.file ticket.piece bytes
     → piece_states new later ≡ with_piece (piece_states old stage) ticket.file ticket.piece bytes
 piece_states_after old new stage later ticket bytes answer told is piece_states_is =
     piece_states_is
@@ -118,7 +118,7 @@ pub steps_piece : {P E : Type 0} (facts : BootFacts) (entry : ℕ) (rest : List 
     → IfOk result
     (λ phase. Continues facts (Begins facts rest) entry rest earlier after (state phase))
     → IfOk result
-    (λ phase. Steps facts (running entry rest earlier files) (piece ticket bytes) (state phase))
+    (λ phase. StepsTo facts (running entry rest earlier files) (piece ticket bytes) (state phase))
 steps_piece facts entry rest earlier files after ticket bytes (Err e) state wanted is goes = tt
 steps_piece facts entry rest earlier files after ticket bytes (Ok phase) state wanted is goes =
     by_test true (is_wanted earlier files (piece ticket bytes)) _ _ wanted

@@ -10,11 +10,11 @@ use Rattle.bl_session.specs.declared.submission.Submission.{Submission}
 use Rattle.bl_session.specs.declared.order.Order.{Order}
 use Rattle.bl_session.specs.declared.order.Order.TheVariants.{Forward, Reverse}
 use Rattle.bl_session.specs.BootSteps.{EventFacts, piece, fault}
-use Rattle.bl_session.specs.Outcome.{File, missing, file_bytes}
+use Rattle.bl_session.specs.MenuFiles.{File, missing, file_bytes}
 use Rattle.bl_session.specs.History.{HistoryItem, failed, nothing, is_same, file_under, IsPieceOf}
 use Rattle.bl_session.specs.Faithful.{times_asked, times_answered, HasPiece, IsFaithfulItem}
 use Rattle.bl_session.specs.Stores.{item_of_event, answer_to, next_place}
-use Rattle.bl_session.specs.StoresKept.{count_of, WasAsked, AreAskedFor, AreKept}
+use Rattle.bl_session.specs.StoresKept.{count_of, WasAsked, AreAskedFor, IsLedgerKept}
 use Rattle.bl_session.proofs.TicketLemmas.{is_same_self, asked_both, answered_both, file_both}
 use Rattle.bl_session.proofs.SubmissionLemmas.{marks, faithful_more, count_append, asked_append}
 use Rattle.bl_session.proofs.SubmissionLemmas.{asked_apart}
@@ -97,8 +97,8 @@ still front back submission =
     (omega arith)
 
 pub kept_answer : (files : List File) (front back : List Submission) (given : List HistoryItem)
-    (submission : Submission) → AreKept files (front ++ submission ∷ back) given
-    → AreKept files (front ++ back)
+    (submission : Submission) → IsLedgerKept files (front ++ submission ∷ back) given
+    → IsLedgerKept files (front ++ back)
     (given ++ item_of_event files given (answer_to files submission) ∷ [])
 kept_answer files front back given submission kept =
     let text = file_bytes (slice_index_or files submission.file missing) in
@@ -128,8 +128,8 @@ kept_answer files front back given submission kept =
           (asked_append given front back apart.0 apart.1.1);
     }
 
-pub kept_nothing : (files : List File) (given : List HistoryItem) → AreKept files [] given
-    → AreKept files [] (given ++ nothing ∷ [])
+pub kept_nothing : (files : List File) (given : List HistoryItem) → IsLedgerKept files [] given
+    → IsLedgerKept files [] (given ++ nothing ∷ [])
 kept_nothing files given kept = record {
   faithful =
       faithful_more files [] given nothing kept.faithful

@@ -5,12 +5,13 @@ use Rattle.std.proofs.Common.{refl, sym, ap, ◌∙◌, inl, inr}
 use Rattle.std.proofs.lemmas.Bool.{cases_lt}
 use Rattle.std.proofs.lemmas.Bool.Decides.{nat_tests}
 use Rattle.bl_map.specs.PoolFrames.{frames_of}
-use Rattle.bl_stage.specs.Staged.{Staging, staged_file, table_of}
+use Rattle.bl_stage.specs.Staged.{Staging, staged_file, frames_of_file}
 use Rattle.bl_stage.specs.Pieces.{is_piece, slot_in, put_answer, is_missing}
 use Rattle.bl_stage.specs.declared.stage.putting.Put.{Put}
 use Rattle.bl_stage.specs.declared.stage.putting.Put.TheVariants.{Stored, Repeated, Strange}
 use Rattle.bl_stage.specs.PieceStates as stage
-use Rattle.bl_stage.specs.PieceStates.{PieceState, has, piece_states, piece_of, put_piece_state}
+use Rattle.bl_stage.specs.PieceStates.{PieceState, has, piece_states, piece_of}
+use Rattle.bl_stage.specs.PieceStates.{piece_states_after_put}
 use Rattle.bl_stage.proofs.FrameLemmas.{staged_length}
 use Rattle.bl_stage.proofs.PieceStateLemmas.{piece_long}
 use Rattle.bl_session.specs.Pieces.{is_awaited, awaits, piece_state_of, with_piece}
@@ -35,7 +36,7 @@ pub piece_size : (bytes : List ℕ) (stage : Staging) (file index : ℕ)
 piece_size bytes stage file index =
     piece_long (staged_file bytes stage file) index
     ∙ ap (λ n. min 4096 (n - 4096 * index))
-    (staged_length bytes (table_of stage file) (get_or stage.sizes file 0))
+    (staged_length bytes (frames_of_file stage file) (get_or stage.sizes file 0))
 
 abbrev pub is_stored : Put → Bool
 is_stored Stored = true
@@ -168,7 +169,7 @@ missing_awaited bytes stage file index =
 
 pub put_with : (bytes : List ℕ) (stage : Staging) (file index : ℕ) (piece : List ℕ)
     → file < length stage.sizes
-    → put_piece_state bytes stage file index piece
+    → piece_states_after_put bytes stage file index piece
     ≡ with_piece (piece_states bytes stage) file index piece
 put_with bytes stage file index piece h =
     ap (λ (s : List PieceState). set (piece_states bytes stage) file (set s index (has piece)))

@@ -11,12 +11,12 @@ use Rattle.bl_session.specs.declared.ticket.Ticket.{Ticket}
 use Rattle.bl_session.specs.declared.store.Completion.{Completion}
 use Rattle.bl_session.specs.declared.store.Completion.TheVariants.{Piece, Fault}
 use Rattle.bl_session.specs.declared.submission.Submission.{Submission}
-use Rattle.bl_session.specs.Outcome.{File, missing, file_bytes}
+use Rattle.bl_session.specs.MenuFiles.{File, missing, file_bytes}
 use Rattle.bl_session.specs.History.{HistoryItem, submitted, is_same, file_under, IsPieceOf}
 use Rattle.bl_session.specs.History.{IsItemOfAnswer}
 use Rattle.bl_session.specs.Faithful.{times_asked, IsFaithfulItem, IsFaithfulAfter}
 use Rattle.bl_session.specs.Stores.{are_equal, is_piece_of}
-use Rattle.bl_session.specs.StoresKept.{item_of, count_of, WasAsked, AreAskedFor, AreKept}
+use Rattle.bl_session.specs.StoresKept.{item_of, count_of, WasAsked, AreAskedFor, IsLedgerKept}
 use Rattle.bl_session.proofs.TicketLemmas.{is_same_self, asked_both, answered_both, file_both}
 
 -- ---- the mark of an answer
@@ -124,8 +124,8 @@ new_asked given new =
 
 pub kept_submission : (files : List File) (pending : List Submission) (given : List HistoryItem)
     (new : Submission)
-    → AreKept files pending given
-    → AreKept files (pending ++ new ∷ []) (given ++ submitted new.file new.ticket ∷ [])
+    → IsLedgerKept files pending given
+    → IsLedgerKept files (pending ++ new ∷ []) (given ++ submitted new.file new.ticket ∷ [])
 kept_submission files pending given new kept = record {
   faithful = faithful_more files [] given (submitted new.file new.ticket) kept.faithful tt;
   counts =

@@ -7,19 +7,19 @@ use Rattle.std.proofs.lemmas.List.FromFn.{length-map-range_with_len, take-map-ra
 use Rattle.std.proofs.lemmas.List.FromFn.{get_or-map-range_with_len, map-range_with_len_more}
 use Rattle.std.proofs.lemmas.Option.{slice_get-get_or, slice_get_past}
 use Rattle.bl_session.specs.declared.submission.Submission.{Submission}
-use Rattle.bl_session.specs.PendingKept.{of_piece, submissions_from, GoesOn}
+use Rattle.bl_session.specs.PendingKept.{submission_for_piece, submissions_from, GoesOn}
 
 pub run_length : (first : Submission) (count : ℕ) → length (submissions_from first count) ≡ count
-run_length first count = length-map-range_with_len (of_piece first) first.ticket.piece count
+run_length first count = length-map-range_with_len (submission_for_piece first) first.ticket.piece count
 
 pub run_get : (first : Submission) (count place : ℕ) → place < count
     → slice_get (submissions_from first count) place
-    ≡ Some (of_piece first (first.ticket.piece + place))
+    ≡ Some (submission_for_piece first (first.ticket.piece + place))
 run_get first count place within =
     slice_get-get_or (submissions_from first count) place first
     (omega (arith, run_length first count))
     ∙ ap Some
-    (get_or-map-range_with_len (of_piece first) first.ticket.piece count place
+    (get_or-map-range_with_len (submission_for_piece first) first.ticket.piece count place
     (first.ticket.piece + place) first within refl)
 
 pub run_past : (first : Submission) (count place : ℕ) → count ≤ place
@@ -30,7 +30,7 @@ run_past first count place past =
 pub run_take : (first : Submission) (count kept : ℕ) → kept ≤ count
     → take kept (submissions_from first count) ≡ submissions_from first kept
 run_take first count kept within =
-    take-map-range_with_len (of_piece first) first.ticket.piece count kept within
+    take-map-range_with_len (submission_for_piece first) first.ticket.piece count kept within
 
 pieces_after : {X : Type 0} (f : ℕ → X) (piece count place : ℕ) → place ≤ count
     → drop place (map f (range_with_len piece count))
@@ -47,24 +47,24 @@ pieces_after f piece (suc count) (suc place) within =
 
 pub run_drop : (first : Submission) (count place : ℕ) → place ≤ count
     → drop place (submissions_from first count)
-    ≡ submissions_from (of_piece first (first.ticket.piece + place)) (count - place)
+    ≡ submissions_from (submission_for_piece first (first.ticket.piece + place)) (count - place)
 run_drop first count place within =
-    pieces_after (of_piece first) first.ticket.piece count place within
+    pieces_after (submission_for_piece first) first.ticket.piece count place within
 
 pub run_more : (first : Submission) (count : ℕ)
     → submissions_from first (count + 1)
-    ≡ submissions_from first count ++ of_piece first (first.ticket.piece + count) ∷ []
+    ≡ submissions_from first count ++ submission_for_piece first (first.ticket.piece + count) ∷ []
 run_more first count =
-    map-range_with_len_more (of_piece first) first.ticket.piece count _ refl
+    map-range_with_len_more (submission_for_piece first) first.ticket.piece count _ refl
 
 pub run_goes_on : (first : Submission) (count : ℕ) (submission : Submission) → 0 < count
     → GoesOn (submissions_from first count) submission
-    ↔ (submission ≡ of_piece first (first.ticket.piece + count))
+    ↔ (submission ≡ submission_for_piece first (first.ticket.piece + count))
 run_goes_on first zero submission some = absurd (omega arith)
 run_goes_on first (suc count) submission some =
     let long : length (submissions_from first (suc count)) ≡ suc count =
     run_length first (suc count) in
-    let last : of_piece first (first.ticket.piece + length (submissions_from first (suc count)))
-    ≡ of_piece first (first.ticket.piece + suc count) =
-    ap (λ (n : ℕ). of_piece first (first.ticket.piece + n)) long in
+    let last : submission_for_piece first (first.ticket.piece + length (submissions_from first (suc count)))
+    ≡ submission_for_piece first (first.ticket.piece + suc count) =
+    ap (λ (n : ℕ). submission_for_piece first (first.ticket.piece + n)) long in
     ((λ e. e ∙ last), (λ e. e ∙ sym last))

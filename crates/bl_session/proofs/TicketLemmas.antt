@@ -5,7 +5,7 @@ use Rattle.std.proofs.lemmas.Bool.Decides.{nat_tests}
 use Rattle.bl_session.specs.declared.ticket.Ticket.{Ticket}
 use Rattle.bl_session.specs.History.{HistoryItem, submitted, came, failed, nothing, is_same}
 use Rattle.bl_session.specs.History.{last_submitted_file}
-use Rattle.bl_session.specs.Asked.{ticket_of}
+use Rattle.bl_session.specs.Submissions.{ticket_of}
 use Rattle.bl_session.specs.Faithful.{times_asked, times_answered}
 
 -- ---- tickets

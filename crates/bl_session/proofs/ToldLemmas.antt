@@ -8,7 +8,7 @@ use Rattle.bl_session.specs.declared.store.Completion.{Completion}
 use Rattle.bl_session.specs.declared.submission.Submission.{Submission}
 use Rattle.bl_session.specs.declared.order.Order.{Order}
 use Rattle.bl_session.specs.BootSteps.{EventFacts}
-use Rattle.bl_session.specs.Outcome.{File}
+use Rattle.bl_session.specs.MenuFiles.{File}
 use Rattle.bl_session.specs.History.{HistoryItem, IsItemOfAnswer}
 use Rattle.bl_session.specs.Stores.{FileStoreFacts, event_of, answer_to, next_event}
 use Rattle.bl_session.specs.Stores.{next_place, without_index, after_answer}

@@ -7,12 +7,12 @@ use Rattle.bl_session.specs.BootSteps.{BootFacts, EventFacts, State, unstarted, 
 use Rattle.bl_session.specs.BootSteps.{handed_over}
 use Rattle.bl_session.specs.BootSteps.{none_left, out_of_memory, is_running, attempt_number}
 use Rattle.bl_session.specs.BootSteps.{progress}
-use Rattle.bl_session.specs.BootSteps.{StepsOrFails}
-use Rattle.bl_session.specs.Outcome.{File}
+use Rattle.bl_session.specs.BootSteps.{StepsToOrFails}
+use Rattle.bl_session.specs.MenuFiles.{File}
 use Rattle.bl_session.specs.History.{HistoryItem}
-use Rattle.bl_session.specs.Asked.{attempt_submissions, new_submissions}
-use Rattle.bl_session.specs.Run.{RunState, run_state_of, Reads, IsEventOf}
-use Rattle.bl_session.specs.TurnsKept.{IsAsked, LeadsOn, IsHeard}
+use Rattle.bl_session.specs.Submissions.{attempt_submissions, new_submissions}
+use Rattle.bl_session.specs.Run.{RunState, run_state_of, ItemsLeadTo, IsEventOf}
+use Rattle.bl_session.specs.RunKept.{AreAskedButRest, LeadsOn, HistoryLeadsOn}
 
 pub leads_on : (facts : BootFacts) (files : List File) (given : List HistoryItem) (a b c : RunState)
     (xs ys : List HistoryItem)
@@ -31,14 +31,14 @@ leads_on facts files given a b c (x ∷ xs) ys first later = (
 
 pub heard_none : (facts : BootFacts) (files : List File) (given : List HistoryItem)
     (run_state : RunState)
-    → IsHeard facts files given given run_state run_state
+    → HistoryLeadsOn facts files given given run_state run_state
 heard_none facts files given run_state =
     record { gained = []; given = sym (append-nil given); leads = refl }
 
 pub heard_on : (facts : BootFacts) (files : List File) (old mid new : List HistoryItem)
     (a b c : RunState)
-    → IsHeard facts files old mid a b → IsHeard facts files mid new b c
-    → IsHeard facts files old new a c
+    → HistoryLeadsOn facts files old mid a b → HistoryLeadsOn facts files mid new b c
+    → HistoryLeadsOn facts files old new a c
 heard_on facts files old mid new a b c first later = record {
   gained = first.gained ++ later.gained;
   given =
@@ -64,8 +64,8 @@ owed_leads facts files given state (order ∷ asked) rest = (
 
 pub heard_asked : (facts : BootFacts) (files : List File) (old new : List HistoryItem)
     (state : State)
-    (owed rest : List HistoryItem) → IsAsked owed rest old new
-    → IsHeard facts files old new (record { state = state; owed = owed })
+    (owed rest : List HistoryItem) → AreAskedButRest owed rest old new
+    → HistoryLeadsOn facts files old new (record { state = state; owed = owed })
     (record { state = state; owed = rest })
 heard_asked facts files old new state owed rest a = record {
   gained = a.asked;
@@ -81,7 +81,7 @@ heard_asked facts files old new state owed rest a = record {
 pub heard_orders : (facts : BootFacts) (files : List File) (old new : List HistoryItem)
     (state : State)
     → new ≡ old ++ attempt_submissions facts state
-    → IsHeard facts files old new (run_state_of facts state) (record { state = state; owed = [] })
+    → HistoryLeadsOn facts files old new (run_state_of facts state) (record { state = state; owed = [] })
 heard_orders facts files old new state e =
     heard_asked facts files old new state (attempt_submissions facts state) []
     (record {
@@ -94,8 +94,8 @@ heard_orders facts files old new state e =
 
 pub heard_answer : (facts : BootFacts) (files : List File) (old new : List HistoryItem)
     (state later : State) (item : HistoryItem) (event : EventFacts) → new ≡ old ++ item ∷ []
-    → IsEventOf files old state item event → StepsOrFails facts state event later
-    → IsHeard facts files old new (record { state = state; owed = [] })
+    → IsEventOf files old state item event → StepsToOrFails facts state event later
+    → HistoryLeadsOn facts files old new (record { state = state; owed = [] })
     (record { state = later; owed = new_submissions facts state later })
 heard_answer facts files old new state later item event given is step = record {
   gained = item ∷ [];
@@ -112,7 +112,7 @@ heard_answer facts files old new state later item event given is step = record {
 pub reads_to : (facts : BootFacts) (files : List File) (given : List HistoryItem) (a b : RunState)
     (items : List HistoryItem) (end : State) → LeadsOn facts files given a items b
     → (end ≡ b.state) ⊎ ((end ≡ out_of_memory) × (is_running b.state ≡ true))
-    → Reads facts files given a items end
+    → ItemsLeadTo facts files given a items end
 reads_to facts files given a b [] end leads (inl is) =
     inl (is ∙ ap (λ (w : RunState). w.state) leads)
 reads_to facts files given a b [] end leads (inr (lost, runs)) =

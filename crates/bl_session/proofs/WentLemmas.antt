@@ -17,7 +17,7 @@ use Rattle.bl_session.specs.BootSteps.{running}
 use Rattle.bl_session.specs.BootSteps.{handed_over, none_left, out_of_memory, sizes_of, fresh}
 use Rattle.bl_session.specs.BootSteps.{TextsHaveResult, AfterAttempt, Continues, BeginsUnless}
 use Rattle.bl_session.specs.BootSteps.{Begins}
-use Rattle.bl_session.specs.BootSteps.{is_wanted, TakesEvent, Steps}
+use Rattle.bl_session.specs.BootSteps.{is_wanted, TakesEvent, StepsTo}
 
 -- the boot has ended; or an attempt has just begun, with at least this many refusals before it and
 -- fewer than so many attempts after it
@@ -116,7 +116,7 @@ Went facts entry rest earlier files event new =
 
 pub step_went : (facts : BootFacts) (entry : ℕ) (rest : List ℕ) (earlier : List RefusedEntry)
     (files : List (List PieceState)) (event : EventFacts) (new : State)
-    → Steps facts (running entry rest earlier files) event new
+    → StepsTo facts (running entry rest earlier files) event new
     → Went facts entry rest earlier files event new
 step_went facts entry rest earlier files event new goes =
     choice (is_wanted earlier files event) refl goes

@@ -11,7 +11,7 @@ use Rattle.std.proofs.lemmas.List.FromFn.{length-map-range_with_len, get_or-map-
 use Rattle.bl_map.specs.PoolFrames.{frames_of, frames_for}
 use Rattle.bl_stage.specs.Staged.{Staging, AreStaged, AllCame, staged_file, staged_texts}
 use Rattle.bl_stage.specs.Staged.{empty_stage}
-use Rattle.bl_stage.specs.Staged.{first_of}
+use Rattle.bl_stage.specs.Staged.{frames_before}
 use Rattle.bl_stage.specs.Pieces.{slot_in}
 use Rattle.bl_stage.specs.PieceStates as stage
 use Rattle.bl_stage.specs.PieceStates.{PieceState, piece_states, piece_states_of, piece_state_at}
@@ -66,7 +66,7 @@ all_at p f start (suc count) i e l u =
 -- each place in the list of all frames is that of a piece
 find_piece : (sizes : List ℕ) (k : ℕ) → k < frames_for sizes
     → (file : ℕ) × (index : ℕ) × (file < length sizes) × (index < frames_of (get_or sizes file 0))
-    × (first_of sizes file + index ≡ k)
+    × (frames_before sizes file + index ≡ k)
 find_piece [] k h = absurd (omega arith)
 find_piece (size ∷ sizes) k h =
     let all = sum_by-cons frames_of size sizes in

@@ -3,7 +3,7 @@ use Rattle.std.specs.Prelude.{◌≡◌, ℕ, List, map, length, true, false, Op
 use Rattle.std.specs.Prelude.{MatchOption}
 use Rattle.std.specs.declared.ops.Range.{Range}
 use Rattle.bl_map.specs.MachineFacts.{MachineFacts}
-use Rattle.bl_load.specs.After.{IsAfter}
+use Rattle.bl_load.specs.MemoryAfter.{IsMemoryAfter}
 use Rattle.bl_load.specs.declared.refusal.Refusal.{Refusal}
 use Rattle.bl_stage.specs.Ranges.{IsSameOutside}
 use Rattle.bl_stage.specs.PieceStates.{PieceState, piece_states, came_bytes}
@@ -12,7 +12,8 @@ use Rattle.bl_session.specs.declared.attempt.Attempt.{Attempt}
 use Rattle.bl_session.specs.declared.attempt.Attempt.TheVariants.{Waits, Ended}
 use Rattle.bl_session.specs.declared.attempt.AttemptEnd.{AttemptEnd}
 use Rattle.bl_session.specs.declared.attempt.AttemptEnd.TheVariants.{HandedOver, Refused}
-use Rattle.bl_session.specs.AttemptResult.{handed, refused, HasResult, size_refusal, known_lengths}
+use Rattle.bl_session.specs.AttemptResult.{handed, refused, HasWholeFilesResult, size_refusal}
+use Rattle.bl_session.specs.AttemptResult.{known_lengths}
 use Rattle.bl_session.specs.Menu.{EntryFacts, value_with}
 use Rattle.bl_session.specs.Pieces.{are_whole, waiting_files}
 use Rattle.bl_session.specs.Phases.{handover_held, LiesWithin}
@@ -31,11 +32,11 @@ IsAttempt facts entry files bytes (Waits stage) =
     (are_whole files ≡ false) × (piece_states bytes stage ≡ files)
 IsAttempt facts entry files bytes (Ended (HandedOver handoff)) =
     (are_whole files ≡ true)
-    × HasResult facts (value_with entry (map came_bytes files))
+    × HasWholeFilesResult facts (value_with entry (map came_bytes files))
     (handed (handover_held bytes handoff))
 IsAttempt facts entry files bytes (Ended (Refused refusal)) =
     (are_whole files ≡ true)
-    × HasResult facts (value_with entry (map came_bytes files)) (refused refusal)
+    × HasWholeFilesResult facts (value_with entry (map came_bytes files)) (refused refusal)
 
 -- it is refused for this
 abbrev pub IsRefusedFor : {A : Type 0} → Attempt A → Refusal → Type 0
@@ -66,5 +67,5 @@ KeepsAttempt facts count (Ended (Refused refusal)) = Unit {0}
 abbrev pub IsMemoryOf : {A : Type 0} → Range ℕ → (old new : List ℕ) → Attempt A → Type 0
 IsMemoryOf pool old new (Waits stage) = IsSameOutside pool old new
 IsMemoryOf pool old new (Ended (HandedOver handoff)) =
-    IsAfter pool (handover_held new handoff).parts old new
+    IsMemoryAfter pool (handover_held new handoff).parts old new
 IsMemoryOf pool old new (Ended (Refused refusal)) = IsSameOutside pool old new

@@ -60,10 +60,10 @@ pub record LacksFrames (facts : MachineFacts) (value : EntryValue) : Type 0 wher
   pub lacking : ¬ HasFramesBeside facts value handover
 
 -- the result of an attempt whose files are whole
-abbrev pub HasResult : MachineFacts → EntryValue → AttemptResult → Type 0
-HasResult facts value (handed handover) =
+abbrev pub HasWholeFilesResult : MachineFacts → EntryValue → AttemptResult → Type 0
+HasWholeFilesResult facts value (handed handover) =
     IsHandover facts value handover × HasFramesBeside facts value handover
-HasResult facts value (refused refusal) =
+HasWholeFilesResult facts value (refused refusal) =
     IsRefusal facts value refusal ⊎ (LacksFrames facts value × (refusal ≡ NoPool))
 
 -- ---- a whole attempt
@@ -79,4 +79,4 @@ abbrev pub AttemptHasResult :
     MachineFacts → List (Option ℕ) → Option ℕ → EntryValue → AttemptResult → Type 0
 AttemptHasResult facts sizes faulty value =
     UnlessRefused (size_refusal facts sizes)
-    (UnlessRefused (option_map FileFault faulty) (HasResult facts value))
+    (UnlessRefused (option_map FileFault faulty) (HasWholeFilesResult facts value))

@@ -45,11 +45,11 @@ menu_fault_number TooMany = 52
 menu_fault_number NoMemory = 53
 
 -- the greatest of these indices plus 1, or 0 if there is none
-abbrev pub count_to : List ℕ → ℕ
-count_to [] = 0
-count_to (index ∷ indices) = max (index + 1) (count_to indices)
+abbrev pub index_bound : List ℕ → ℕ
+index_bound [] = 0
+index_bound (index ∷ indices) = max (index + 1) (index_bound indices)
 
 -- how many files entries name, up to the greatest index
 abbrev pub named_file_count : List EntryFacts → ℕ
 named_file_count [] = 0
-named_file_count (entry ∷ entries) = max (count_to entry.files) (named_file_count entries)
+named_file_count (entry ∷ entries) = max (index_bound entry.files) (named_file_count entries)

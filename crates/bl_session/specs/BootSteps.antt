@@ -10,7 +10,8 @@ use Rattle.bl_session.specs.declared.ticket.Ticket.{Ticket}
 use Rattle.bl_session.specs.declared.outcome.RefusedEntry.{RefusedEntry}
 use Rattle.bl_session.specs.declared.outcome.Progress.{Progress}
 use Rattle.bl_session.specs.declared.outcome.Progress.TheVariants.{Waiting, Next, Done, Failed}
-use Rattle.bl_session.specs.AttemptResult.{AttemptResult, handed, refused, HasResult, size_refusal}
+use Rattle.bl_session.specs.AttemptResult.{AttemptResult, handed, refused, HasWholeFilesResult}
+use Rattle.bl_session.specs.AttemptResult.{size_refusal}
 use Rattle.bl_session.specs.AttemptResult.{known_lengths}
 use Rattle.bl_session.specs.Menu.{MenuFacts, entry_at, value_with}
 use Rattle.bl_session.specs.Pieces.{is_awaited, awaits, piece_state_of, with_piece, are_whole}
@@ -64,7 +65,7 @@ fresh facts entry = waiting_files (known_lengths (sizes_of facts entry))
 -- the result of its attempt once its files hold these texts
 abbrev pub TextsHaveResult : BootFacts → ℕ → List (List ℕ) → AttemptResult → Type 0
 TextsHaveResult facts entry texts =
-    HasResult facts.machine (value_with (entry_at facts.menu entry) texts)
+    HasWholeFilesResult facts.machine (value_with (entry_at facts.menu entry) texts)
 
 -- ---- attempts, one after the other
 
@@ -126,8 +127,8 @@ TakesEvent facts entry rest earlier files (fault ticket) state =
     AfterAttempt (Begins facts rest) entry earlier (refused (FileFault ticket.file)) state
 
 -- an event that is not wanted changes nothing
-abbrev pub Steps : BootFacts → State → EventFacts → State → Type 0
-Steps facts old event new =
+abbrev pub StepsTo : BootFacts → State → EventFacts → State → Type 0
+StepsTo facts old event new =
     on_running old (new ≡ old)
     (λ entry rest earlier files. MatchBool (is_wanted earlier files event)
     (TakesEvent facts entry rest earlier files event new) (new ≡ old))
@@ -154,9 +155,9 @@ ends_attempt state event =
     on_running state false (λ entry rest earlier files. is_wanted_last earlier files event)
 
 -- one step, or want of memory, which only an event meets that ends an attempt
-abbrev pub StepsOrFails : BootFacts → State → EventFacts → State → Type 0
-StepsOrFails facts old event new =
-    Steps facts old event new ⊎ ((new ≡ out_of_memory) × (ends_attempt old event ≡ true))
+abbrev pub StepsToOrFails : BootFacts → State → EventFacts → State → Type 0
+StepsToOrFails facts old event new =
+    StepsTo facts old event new ⊎ ((new ≡ out_of_memory) × (ends_attempt old event ≡ true))
 
 -- the start acts once
 abbrev pub Starts : BootFacts → State → State → Type 0
@@ -191,4 +192,4 @@ progress attempt out_of_memory = Failed
 abbrev pub LeadsTo : BootFacts → State → List EventFacts → State → Type 0
 LeadsTo facts old [] new = new ≡ old
 LeadsTo facts old (event ∷ events) new =
-    (next : State) × Steps facts old event next × LeadsTo facts next events new
+    (next : State) × StepsTo facts old event next × LeadsTo facts next events new

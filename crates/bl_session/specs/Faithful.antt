@@ -2,7 +2,7 @@
 use Rattle.std.specs.Prelude.{◌≡◌, ℕ, ◌+◌, ◌*◌, ◌<◌, true, List, [], ◌∷◌, ◌++◌, length}
 use Rattle.std.specs.Prelude.{slice_index_or, Option, None, Some, if◌then◌else◌}
 use Rattle.bl_session.specs.declared.ticket.Ticket.{Ticket}
-use Rattle.bl_session.specs.Outcome.{File, missing, file_bytes}
+use Rattle.bl_session.specs.MenuFiles.{File, missing, file_bytes}
 use Rattle.bl_session.specs.History.{HistoryItem, submitted, came, failed, nothing, is_same}
 use Rattle.bl_session.specs.History.{file_under}
 

@@ -5,7 +5,7 @@ use Rattle.bl_stage.specs.PieceStates.{piece_of}
 use Rattle.bl_session.specs.declared.ticket.Ticket.{Ticket}
 use Rattle.bl_session.specs.declared.store.Completion.{Completion}
 use Rattle.bl_session.specs.declared.store.Completion.TheVariants.{Piece, Fault}
-use Rattle.bl_session.specs.Outcome.{File, missing, file_bytes}
+use Rattle.bl_session.specs.MenuFiles.{File, missing, file_bytes}
 
 -- a file was asked for under a ticket; or an answer: so many bytes came, with a mark whether they
 -- are those of the file at the place of the piece; a fault; nothing more to come

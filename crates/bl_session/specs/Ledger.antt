@@ -2,7 +2,7 @@
 use Rattle.std.specs.Prelude.{ℕ, List, [], ◌∷◌, ◌++◌, slice_get, Option, None, Some, option_map}
 use Rattle.bl_session.specs.declared.submission.Submission.{Submission}
 use Rattle.bl_session.specs.BootSteps.{EventFacts}
-use Rattle.bl_session.specs.Outcome.{File, missing, whole}
+use Rattle.bl_session.specs.MenuFiles.{File, missing, whole}
 use Rattle.bl_session.specs.History.{HistoryItem, submitted}
 use Rattle.bl_session.specs.Stores.{answer_to, item_of_told, without_index}
 

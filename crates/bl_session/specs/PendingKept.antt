@@ -8,8 +8,8 @@ use Rattle.bl_session.specs.Stores.{without_index}
 -- ---- a run: submissions for one file under one attempt, of one piece after the other
 
 -- the same submission, of another piece
-abbrev pub of_piece : Submission → ℕ → Submission
-of_piece submission piece = record {
+abbrev pub submission_for_piece : Submission → ℕ → Submission
+submission_for_piece submission piece = record {
   file = submission.file;
   ticket = record {
     attempt = submission.ticket.attempt;
@@ -21,13 +21,13 @@ of_piece submission piece = record {
 -- so many, from this one on
 abbrev pub submissions_from : Submission → ℕ → List Submission
 submissions_from first count =
-    map (of_piece first) (range_with_len first.ticket.piece count)
+    map (submission_for_piece first) (range_with_len first.ticket.piece count)
 
 -- whether a submission goes on with a run. No run is empty
 abbrev pub GoesOn : List Submission → Submission → Type 0
 GoesOn [] submission = Unit {0}
 GoesOn (first ∷ others) submission =
-    submission ≡ of_piece first (first.ticket.piece + length (first ∷ others))
+    submission ≡ submission_for_piece first (first.ticket.piece + length (first ∷ others))
 
 -- ---- a list of runs
 
@@ -36,8 +36,8 @@ abbrev pub runs_listed : List (List Submission) → List Submission
 runs_listed runs = flat_map (λ run. run) runs
 
 -- what has a place among all of them is at this place of the run of this index
-abbrev pub StandsIn : List (List Submission) → ℕ → ℕ → ℕ → Type 0
-StandsIn runs place index at =
+abbrev pub IsPlaceInRun : List (List Submission) → ℕ → ℕ → ℕ → Type 0
+IsPlaceInRun runs place index at =
     (index < length runs)
     × (at < length (slice_index_or runs index []))
     × (place ≡ length (runs_listed (take index runs)) + at)

@@ -8,7 +8,7 @@ use Rattle.bl_session.specs.declared.ticket.Request.{Request}
 use Rattle.bl_session.specs.Menu.{entry_at}
 use Rattle.bl_session.specs.Pieces.{piece_state_of}
 use Rattle.bl_session.specs.BootSteps.{BootFacts, State, on_running}
-use Rattle.bl_session.specs.Asked.{first_awaited_piece, first_ticket, ticket_or}
+use Rattle.bl_session.specs.Submissions.{first_awaited_piece, first_ticket, ticket_or}
 
 -- how many bytes a piece has that is awaited
 abbrev pub length_awaited : PieceState → ℕ

@@ -8,12 +8,13 @@ use Rattle.bl_session.specs.declared.outcome.BootFault.{BootFault}
 use Rattle.bl_session.specs.declared.outcome.Outcome.{Outcome}
 use Rattle.bl_session.specs.BootSteps.{BootFacts, EventFacts, piece, fault, State, unstarted}
 use Rattle.bl_session.specs.BootSteps.{out_of_memory, is_running, is_wanted, StartsOrFails}
-use Rattle.bl_session.specs.BootSteps.{StepsOrFails}
+use Rattle.bl_session.specs.BootSteps.{StepsToOrFails}
 use Rattle.bl_session.specs.BootSteps.{on_running}
-use Rattle.bl_session.specs.Outcome.{File, Faults, AreToldFaults}
+use Rattle.bl_session.specs.MenuFiles.{File}
+use Rattle.bl_session.specs.Schedules.{Faults, AgreesWithFaults}
 use Rattle.bl_session.specs.History.{HistoryItem, submitted, came, failed, nothing, file_under}
 use Rattle.bl_session.specs.History.{IsPieceOf}
-use Rattle.bl_session.specs.Asked.{attempt_submissions, new_submissions, first_ticket}
+use Rattle.bl_session.specs.Submissions.{attempt_submissions, new_submissions, first_ticket}
 use Rattle.bl_session.specs.Phases.{PhaseFacts, outcome_facts, fault_facts}
 
 -- ---- answers as events
@@ -57,18 +58,18 @@ Delivers facts files given state (order ∷ owed) item new =
     (item ≡ order) × (new ≡ record { state = state; owed = owed })
 Delivers facts files given state [] item new =
     (event : EventFacts) × IsEventOf files given state item event
-    × StepsOrFails facts state event new.state
+    × StepsToOrFails facts state event new.state
     × (new.owed ≡ new_submissions facts state new.state)
 
 -- these items, after this history, lead from a state of a run to a state; while an attempt runs,
 -- memory may run out after the last
-abbrev pub Reads : BootFacts → List File → List HistoryItem → RunState → List HistoryItem → State
-    → Type 0
-Reads facts files given old [] new =
+abbrev pub ItemsLeadTo :
+    BootFacts → List File → List HistoryItem → RunState → List HistoryItem → State → Type 0
+ItemsLeadTo facts files given old [] new =
     (new ≡ old.state) ⊎ ((new ≡ out_of_memory) × (is_running old.state ≡ true))
-Reads facts files given old (item ∷ items) new =
+ItemsLeadTo facts files given old (item ∷ items) new =
     (next : RunState) × Delivers facts files given old.state old.owed item next
-    × Reads facts files (given ++ item ∷ []) next items new
+    × ItemsLeadTo facts files (given ++ item ∷ []) next items new
 
 -- a boot that made its store's history grow so came to this state
 pub record IsRun (facts : BootFacts) (files : List File) (old new : List HistoryItem)
@@ -77,7 +78,7 @@ pub record IsRun (facts : BootFacts) (files : List File) (old new : List History
   pub given : new ≡ old ++ gained
   pub begun : State
   pub begins : StartsOrFails facts unstarted begun
-  pub reads : Reads facts files old (run_state_of facts begun) gained end
+  pub reads : ItemsLeadTo facts files old (run_state_of facts begun) gained end
 
 -- ---- genuine histories
 
@@ -99,7 +100,7 @@ abbrev pub IsGenuineItem : Faults → State → HistoryItem → EventFacts → T
 IsGenuineItem faults state item event =
     on_running state (Unit {0}) (λ entry rest earlier piece_states. is_wanted earlier piece_states
     event ≡ true
-    → IsMarked item × AreToldFaults faults earlier piece_states event)
+    → IsMarked item × AgreesWithFaults faults earlier piece_states event)
 
 -- of these items, after this history, each answer is so where it comes
 abbrev pub EachAnswerIs :
@@ -114,24 +115,25 @@ EachAnswerIs facts files IsSo given run_state (item ∷ items) =
     → EachAnswerIs facts files IsSo (given ++ item ∷ []) next items)
 
 -- of what a history gained in a boot each answer is so where it comes
-abbrev pub AllGained :
+abbrev pub EachGainedAnswerIs :
     BootFacts → List File → (State → HistoryItem → EventFacts → Type 0)
     → (old new : List HistoryItem) → Type 0
-AllGained facts files IsSo old new =
+EachGainedAnswerIs facts files IsSo old new =
     (gained : List HistoryItem) (begun : State) → new ≡ old ++ gained
     → StartsOrFails facts unstarted begun
     → EachAnswerIs facts files IsSo old (run_state_of facts begun) gained
 
 -- the pieces that were wanted are their files', whatever faults came
 abbrev pub IsMarkedRun : BootFacts → List File → (old new : List HistoryItem) → Type 0
-IsMarkedRun facts files old new = AllGained facts files IsMarkedItem old new
+IsMarkedRun facts files old new = EachGainedAnswerIs facts files IsMarkedItem old new
 
 -- the pieces that were wanted are their files', and these faults came
 abbrev pub IsGenuineRun : BootFacts → List File → Faults → (old new : List HistoryItem) → Type 0
-IsGenuineRun facts files faults old new = AllGained facts files (IsGenuineItem faults) old new
+IsGenuineRun facts files faults old new =
+    EachGainedAnswerIs facts files (IsGenuineItem faults) old new
 
 -- ---- the end of a boot
 
-abbrev pub boot_end : {A : Type 0} → Result (Outcome A) (BootFault A) → PhaseFacts
-boot_end (Ok outcome) = outcome_facts outcome
-boot_end (Err why) = fault_facts why
+abbrev pub final_phase : {A : Type 0} → Result (Outcome A) (BootFault A) → PhaseFacts
+final_phase (Ok outcome) = outcome_facts outcome
+final_phase (Err why) = fault_facts why

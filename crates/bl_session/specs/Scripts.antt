@@ -8,7 +8,7 @@ use Rattle.bl_session.specs.declared.submission.Submission.{Submission}
 use Rattle.bl_session.specs.declared.script_reply.ScriptReply.{ScriptReply}
 use Rattle.bl_session.specs.declared.script_reply.ScriptReply.TheVariants.{Answer, Altered, Fault}
 use Rattle.bl_session.specs.BootSteps.{EventFacts, piece, fault}
-use Rattle.bl_session.specs.Outcome.{File}
+use Rattle.bl_session.specs.MenuFiles.{File}
 use Rattle.bl_session.specs.History.{HistoryItem, submitted, is_same}
 use Rattle.bl_session.specs.Stores.{answer_to, item_of_told, without_index}
 

@@ -13,7 +13,7 @@ use Rattle.bl_session.specs.declared.order.Order.{Order}
 use Rattle.bl_session.specs.declared.order.Order.TheVariants.{Forward, Reverse}
 use Rattle.bl_session.specs.AttemptResult.{file_limit}
 use Rattle.bl_session.specs.BootSteps.{EventFacts, piece, fault}
-use Rattle.bl_session.specs.Outcome.{File, missing, too_long, whole, file_bytes}
+use Rattle.bl_session.specs.MenuFiles.{File, missing, too_long, whole, file_bytes}
 use Rattle.bl_session.specs.History.{HistoryItem, submitted, came, failed, nothing, file_under}
 
 -- ---- files

@@ -3,7 +3,7 @@ use Rattle.std.specs.Prelude.{◌≡◌, ℕ, ◌+◌, ◌≤◌, List, [], ◌�
 use Rattle.std.specs.Prelude.{option_map}
 use Rattle.bl_session.specs.declared.ticket.Ticket.{Ticket}
 use Rattle.bl_session.specs.declared.submission.Submission.{Submission}
-use Rattle.bl_session.specs.Outcome.{File}
+use Rattle.bl_session.specs.MenuFiles.{File}
 use Rattle.bl_session.specs.History.{HistoryItem, is_same, file_under}
 use Rattle.bl_session.specs.Faithful.{IsFaithful, times_asked, times_answered}
 use Rattle.bl_session.specs.declared.store.Completion.{Completion}
@@ -27,7 +27,7 @@ AreAskedFor given [] = Unit {0}
 AreAskedFor given (submission ∷ submissions) =
     WasAsked given submission × AreAskedFor given submissions
 
-pub record AreKept (files : List File) (pending : List Submission) (given : List HistoryItem)
+pub record IsLedgerKept (files : List File) (pending : List Submission) (given : List HistoryItem)
     : Type 0 where
   pub faithful : IsFaithful files given
   pub counts :

@@ -1,16 +1,16 @@
 //! What a boot awaits at a phase, and what it asks a store for.
 ghost use Rattle.std.specs.Prelude.{◌≡◌, ◌++◌, ℕ, List, Some, true, OnOk, OnErr};
 ghost use Rattle.bl_session.specs.History.{HistoryItem};
-ghost use Rattle.bl_session.specs.Asked.{attempt_submissions};
+ghost use Rattle.bl_session.specs.Submissions.{attempt_submissions};
 ghost use Rattle.bl_session.specs.Phases.{phase_facts, is_waiting};
 ghost use Rattle.bl_session.specs.PhasesKept.{IsPhaseKept, facts_of_boot, state_in};
 ghost use Rattle.bl_session.specs.Requests.{first_request, request_after};
-ghost use Rattle.bl_session.specs.TurnsKept.{IsAsked, first_awaited_ticket};
+ghost use Rattle.bl_session.specs.RunKept.{AreAskedButRest, first_awaited_ticket};
 
-use crate::asking::submit_files;
 use crate::phase::{Boot, Phase};
 use crate::pieces::{first_missing, missing_piece, next_missing, request_of};
 use crate::store::Store;
+use crate::store_submissions::submit_files;
 use crate::ticket::{Request, Ticket};
 use std::alloc::{AllocError, Allocator};
 
@@ -22,7 +22,7 @@ impl<'a, A: Allocator + Copy> Boot<'a, A> {
         ensures ok { OnOk result ((bytes : List ℕ) → S.given store.new
             ≡ S.given store.old ++ attempt_submissions (facts_of_boot self.now)
             (state_in self.now bytes phase.now)) }
-        ensures err { OnErr result ((bytes : List ℕ) → (rest : List HistoryItem) × IsAsked
+        ensures err { OnErr result ((bytes : List ℕ) → (rest : List HistoryItem) × AreAskedButRest
             (attempt_submissions (facts_of_boot self.now) (state_in self.now bytes phase.now)) rest
             (S.given store.old) (S.given store.new)) }
         ensures files { S.files store.new ≡ S.files store.old }

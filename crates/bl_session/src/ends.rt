@@ -4,7 +4,7 @@ ghost use Rattle.bl_map.specs.MachineFacts.{MachineFacts};
 ghost use Rattle.bl_session.specs.Menu.{MenuFacts};
 ghost use Rattle.bl_session.specs.Phases.{phase_facts, end_facts, told_end, LiesWithin};
 ghost use Rattle.bl_session.specs.PhasesKept.{IsPhaseKept};
-ghost use Rattle.bl_session.specs.Run.{boot_end};
+ghost use Rattle.bl_session.specs.Run.{final_phase};
 
 use crate::outcome::{BootFault, Outcome};
 use crate::phase::Phase;
@@ -30,7 +30,7 @@ pub fn end_of<A: Allocator>(phase: &Phase<A>) -> Option<Result<&Outcome<A>, &Boo
 /// The end, if a phase is one, for good.
 pub fn into_end<A: Allocator>(phase: Phase<A>) -> Option<Result<Outcome<A>, BootFault<A>>>
     ensures end { (attempts : List ℕ)
-        → option_map boot_end result ≡ end_facts (phase_facts attempts phase) }
+        → option_map final_phase result ≡ end_facts (phase_facts attempts phase) }
     ensures inside { (machine : MachineFacts) → (menu : MenuFacts)
         → IsPhaseKept machine menu phase
         → IfSome result (λ end. IfOk end (λ outcome. LiesWithin machine.size outcome.handoff)) }

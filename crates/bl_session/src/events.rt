@@ -4,7 +4,7 @@ ghost use Rattle.std.specs.Prelude.{MatchBool, length};
 ghost use Rattle.bl_mem.specs.Memory.{HasRoom, KeepsSizeAndRoom};
 ghost use Rattle.bl_stage.specs.Ranges.{IsSameOutside};
 ghost use Rattle.bl_stage.specs.PieceStates.{piece_states};
-ghost use Rattle.bl_session.specs.BootSteps.{Steps, piece, fault, is_wanted, is_taken};
+ghost use Rattle.bl_session.specs.BootSteps.{StepsTo, piece, fault, is_wanted, is_taken};
 ghost use Rattle.bl_session.specs.BootSteps.{ends_attempt};
 ghost use Rattle.bl_session.specs.Memory.{IsMemoryAt};
 ghost use Rattle.bl_session.specs.Phases.{event_facts};
@@ -57,7 +57,7 @@ fn take_piece<M: PhysMem, A: Allocator + Copy>(
     requires size { length (M.bytes memory.old) ≡ boot.now.machine.now.size }
     requires room { HasRoom (M.room memory.old)
         boot.now.machine.now.pool.start boot.now.machine.now.pool.end }
-    ensures step { IfOk result (λ ended. Steps (facts_of_boot boot.now)
+    ensures step { IfOk result (λ ended. StepsTo (facts_of_boot boot.now)
         (running_in boot.now (M.bytes memory.old) running.old) (piece ticket bytes.now)
         (state_in boot.now (M.bytes memory.new) (phase_by running.new ended))) }
     ensures lacking { OnErr result (ends_attempt
@@ -102,7 +102,7 @@ fn take_fault<M: PhysMem, A: Allocator + Copy>(
     requires size { length (M.bytes memory.old) ≡ boot.now.machine.now.size }
     requires room { HasRoom (M.room memory.old)
         boot.now.machine.now.pool.start boot.now.machine.now.pool.end }
-    ensures step { IfOk result (λ ended. Steps (facts_of_boot boot.now)
+    ensures step { IfOk result (λ ended. StepsTo (facts_of_boot boot.now)
         (running_in boot.now (M.bytes memory.old) running.old) (fault ticket)
         (state_in boot.now (M.bytes memory.new) (phase_by running.new ended))) }
     ensures lacking { OnErr result (ends_attempt
@@ -139,7 +139,7 @@ pub fn take<M: PhysMem, A: Allocator + Copy>(
     requires size { length (M.bytes memory.old) ≡ boot.now.machine.now.size }
     requires room { HasRoom (M.room memory.old)
         boot.now.machine.now.pool.start boot.now.machine.now.pool.end }
-    ensures step { IfOk result (λ ended. Steps (facts_of_boot boot.now)
+    ensures step { IfOk result (λ ended. StepsTo (facts_of_boot boot.now)
         (running_in boot.now (M.bytes memory.old) running.old) (event_facts event.entry)
         (state_in boot.now (M.bytes memory.new) (phase_by running.new ended))) }
     ensures lacking { OnErr result (ends_attempt

@@ -2,7 +2,7 @@
 ghost use Rattle.std.specs.Prelude.{◌≡◌, ◌↔◌, ℕ, ◌*◌, ◌<◌, ◌^◌, length};
 ghost use Rattle.std.specs.Prelude.{IfSome, IsSome, slice_index_or};
 ghost use Rattle.bl_stage.specs.PieceStates.{piece_of};
-ghost use Rattle.bl_session.specs.Outcome.{missing, size_of, file_bytes};
+ghost use Rattle.bl_session.specs.MenuFiles.{missing, size_of, file_bytes};
 ghost use Rattle.bl_session.specs.Stores.{file_of, stored_files};
 
 use crate::stage_beginning::FILE_LIMIT;

@@ -2,18 +2,19 @@
 ghost use Rattle.std.specs.Prelude.{◌≡◌, ◌+◌, ◌≤◌, ◌<◌, ◌^◌, IfErr, IfOk, OnErr, OnOk, All};
 ghost use Rattle.std.specs.Prelude.{length, map};
 ghost use Rattle.bl_map.specs.PoolFrames.{HasFramesFor};
-ghost use Rattle.bl_mem.specs.Files.{AreAddressesBelow, AllBeside};
+ghost use Rattle.bl_mem.specs.Files.{AreAddressesBelow, AllApartFrom};
 ghost use Rattle.bl_mem.specs.Memory.{HasRoom, AllHaveRoom, KeepsSizeAndRoom};
 ghost use Rattle.bl_plan.specs.Placed.{place_range};
 ghost use Rattle.bl_stage.specs.Ranges.{IsSameOutside};
 ghost use Rattle.bl_stage.specs.Staged.{AllCame, HasPool, IsStagedOn, staged_texts, with_frames};
 ghost use Rattle.bl_stage.specs.Staged.{staged};
-ghost use Rattle.bl_load.specs.After.{IsAfter};
+ghost use Rattle.bl_load.specs.MemoryAfter.{IsMemoryAfter};
 ghost use Rattle.bl_load.specs.Loadable.{lengths_of, IsLoadable};
 ghost use Rattle.bl_load.specs.Parts.{IsHandover, IsPrepFault};
-ghost use Rattle.bl_load.specs.PlanFacts.{handover_by, handover_in, places_of};
+ghost use Rattle.bl_load.specs.PlanContents.{handover_by, handover_in, places_of};
 ghost use Rattle.bl_load.specs.EntryValue.{value_of, file_count, IsWithinLimits};
-ghost use Rattle.bl_session.specs.Finished.{IsHandedOver, IsNotHandedOver, IsStageAfterFault};
+ghost use Rattle.bl_session.specs.FinishedAttempt.{IsHandedOver, IsNotHandedOver};
+ghost use Rattle.bl_session.specs.FinishedAttempt.{IsStageAfterFault};
 
 use bl_load::{Entry, Handoff, Plan, PrepFault, Refusal, load, prepare};
 use bl_map::Machine;
@@ -88,7 +89,7 @@ fn evacuate_ranges<M: PhysMem, A: Allocator>(
         ≡ staged_texts (M.bytes memory.old) stage.old) }
     ensures held { OnOk result
         (AreAddressesBelow (λ a. IsStagedOn stage.new a) (length (M.bytes memory.new))) }
-    ensures beside { OnOk result (AllBeside (λ a. IsStagedOn stage.new a) ranges.now) }
+    ensures beside { OnOk result (AllApartFrom (λ a. IsStagedOn stage.new a) ranges.now) }
     ensures outside { IsSameOutside stage.old.pool (M.bytes memory.old) (M.bytes memory.new) }
     ensures kept { KeepsSizeAndRoom M.lender M.bytes M.room memory.old memory.new }
 {
@@ -109,13 +110,14 @@ fn hand_over<M: PhysMem, A: Allocator>(
     requires loadable { IsLoadable (lengths_of (staged_texts (M.bytes memory.old) stage.now))
         (length (M.bytes memory.old)) plan }
     requires room { AllHaveRoom (M.room memory.old) (map place_range (places_of plan)) }
-    requires beside { AllBeside (λ a. IsStagedOn stage.now a) (map place_range (places_of plan)) }
+    requires beside { AllApartFrom (λ a. IsStagedOn stage.now a)
+        (map place_range (places_of plan)) }
     requires inside { HasPool (M.bytes memory.old) machine.now.pool }
     requires pool_room { HasRoom (M.room memory.old) machine.now.pool.start machine.now.pool.end }
     ensures places { result.places ≡ places_of plan }
     ensures held { handover_in (M.bytes memory.new) result.protocol result.registers result.places
         ≡ handover_by (staged_texts (M.bytes memory.old) stage.now) plan }
-    ensures after { IsAfter machine.now.pool
+    ensures after { IsMemoryAfter machine.now.pool
         (handover_by (staged_texts (M.bytes memory.old) stage.now) plan).parts
         (M.bytes memory.old) (M.bytes memory.new) }
     ensures kept { KeepsSizeAndRoom M.lender M.bytes M.room memory.old memory.new }

@@ -1,12 +1,15 @@
 //! Laws of the definitions: a boot has one end, and each step leads on to it.
 ghost use Rattle.std.specs.Prelude.{◌≡◌, ◌≤◌, ℕ, List, [], Option, map, length, All};
 ghost use Rattle.bl_map.specs.MachineFacts.{MachineFacts};
-ghost use Rattle.bl_load.specs.Offered.{IsOffered};
+ghost use Rattle.bl_load.specs.WellFormedEntry.{IsWellFormedValue};
 ghost use Rattle.bl_load.specs.EntryValue.{EntryValue};
-ghost use Rattle.bl_session.specs.AttemptResult.{AttemptResult, AttemptHasResult, HasResult};
-ghost use Rattle.bl_session.specs.BootSteps.{BootFacts, EventFacts, State, Starts, Steps};
+ghost use Rattle.bl_session.specs.AttemptResult.{AttemptResult, AttemptHasResult};
+ghost use Rattle.bl_session.specs.AttemptResult.{HasWholeFilesResult};
+ghost use Rattle.bl_session.specs.BootSteps.{BootFacts, EventFacts, State, Starts, StepsTo};
 ghost use Rattle.bl_session.specs.BootSteps.{Begins, LeadsTo, handed_over};
-ghost use Rattle.bl_session.specs.Outcome.{File, size_of, entry_value_in, IsGenuine, IsOutcome};
+ghost use Rattle.bl_session.specs.MenuFiles.{File, size_of, entry_value_in};
+ghost use Rattle.bl_session.specs.Schedules.{IsGenuine};
+ghost use Rattle.bl_session.specs.Outcome.{IsOutcome};
 ghost use Rattle.bl_session.specs.Outcome.{HasEnded};
 ghost use Rattle.bl_session.specs.declared.outcome.RefusedEntry.{RefusedEntry};
 ghost use Rattle.bl_load.specs.Handover.{Handover};
@@ -16,7 +19,7 @@ ghost use Rattle.bl_load.specs.Parts.{IsHandover};
 /// files' sizes, a fault that came or none, and the entry's value. Nothing else decides.
 pub fn ends_are_determined()
     ensures whole { (facts : MachineFacts) (value : EntryValue) (e f : AttemptResult)
-        → HasResult facts value e → HasResult facts value f → e ≡ f }
+        → HasWholeFilesResult facts value e → HasWholeFilesResult facts value f → e ≡ f }
     ensures attempt { (facts : MachineFacts) (sizes : List (Option ℕ)) (faulty : Option ℕ)
         (value : EntryValue) (e f : AttemptResult)
         → AttemptHasResult facts sizes faulty value e
@@ -26,7 +29,7 @@ pub fn ends_are_determined()
 /// An attempt has a result, so by the law above exactly one.
 pub fn each_attempt_ends()
     ensures whole { (facts : MachineFacts) (value : EntryValue)
-        → (result : AttemptResult) × HasResult facts value result }
+        → (result : AttemptResult) × HasWholeFilesResult facts value result }
     ensures attempt { (facts : MachineFacts) (sizes : List (Option ℕ)) (faulty : Option ℕ)
         (value : EntryValue)
         → (result : AttemptResult) × AttemptHasResult facts sizes faulty value result }
@@ -37,14 +40,14 @@ pub fn steps_are_determined()
     ensures start { (facts : BootFacts) (old a b : State)
         → Starts facts old a → Starts facts old b → a ≡ b }
     ensures event { (facts : BootFacts) (old : State) (event : EventFacts) (a b : State)
-        → Steps facts old event a → Steps facts old event b → a ≡ b }
+        → StepsTo facts old event a → StepsTo facts old event b → a ≡ b }
 {}
 
 /// From each state the start and each event lead on, so by the law above to exactly one state.
 pub fn each_step_leads_on()
     ensures start { (facts : BootFacts) (old : State) → (new : State) × Starts facts old new }
     ensures event { (facts : BootFacts) (old : State) (event : EventFacts)
-        → (new : State) × Steps facts old event new }
+        → (new : State) × StepsTo facts old event new }
 {}
 
 /// Each schedule that is genuine for these files and faults (of each attempt its first wanted
@@ -82,8 +85,8 @@ pub fn two_outcomes()
 /// The value of each entry of a menu, whatever its files hold, is within the limits of an entry and
 /// has lines and copies of bytes, where the menu's entries are and have, as `Menu::new` says. So
 /// what is handed over shows its kernel the entry.
-pub fn values_are_offered()
+pub fn values_are_well_formed()
     ensures { (facts : BootFacts) (files : List File) (entry : ℕ)
-        → All (λ e. IsOffered e.blank) facts.menu.entries
-        → IsOffered (entry_value_in facts files entry) }
+        → All (λ e. IsWellFormedValue e.blank) facts.menu.entries
+        → IsWellFormedValue (entry_value_in facts files entry) }
 {}

@@ -1,7 +1,7 @@
 //! The boot of a menu's first entry that is not refused.
 #![tactic(auto)]
 
-mod asking;
+mod answer_loop;
 mod attempt;
 mod attempts;
 mod boot_requests;
@@ -32,11 +32,11 @@ mod slice_store;
 mod stage_beginning;
 mod steps;
 mod store;
+mod store_submissions;
 mod stored_files;
 mod submission;
 mod submission_run;
 mod ticket;
-mod turns;
 
 pub use bl_plan::{MAX_ENTRIES, MAX_MODULES};
 pub use fetched::Fetched;
@@ -46,7 +46,7 @@ pub use handing_over::finish_attempt;
 pub use history::History;
 pub use laws::{
     each_attempt_ends, each_step_leads_on, ends_are_determined, first_entry_not_refused,
-    steps_are_determined, two_outcomes, values_are_offered,
+    steps_are_determined, two_outcomes, values_are_well_formed,
 };
 pub use ledger::Ledger;
 pub use menu::{Menu, MenuFault, order_attempts};

@@ -2,7 +2,7 @@
 ghost use Rattle.std.specs.Prelude.{◌≡◌, ◌∷◌, ◌++◌, ◌==◌, ◌+◌, ◌<◌, ◌≤◌, ◌^◌, ℕ, [], length, map};
 ghost use Rattle.std.specs.Prelude.{All, IfErr, IfOk, OnOk, slice_index_or, if◌then◌else◌};
 ghost use Rattle.std.specs.List.{list_any};
-ghost use Rattle.bl_load.specs.Offered.{IsOfferedEntry, IsOffered};
+ghost use Rattle.bl_load.specs.WellFormedEntry.{IsWellFormedEntry, IsWellFormedValue};
 ghost use Rattle.bl_load.specs.EntryValue.{IsWithinLimits};
 ghost use Rattle.bl_session.specs.Menu.{facts_of, entry_at};
 ghost use Rattle.bl_session.specs.Attempts.{attempt_order, AreWithinLimits, AreEntryIndices};
@@ -10,15 +10,15 @@ ghost use Rattle.bl_session.specs.Attempts.{HasMenuFault};
 ghost use Rattle.bl_session.specs.Attempts as attempts;
 
 use crate::menu::fault::{are_entry_indices, is_small};
-use crate::menu::naming::named_file_count;
-use crate::menu::texts::learn_entries;
+use crate::menu::lines_and_copies::entries_are_well_formed;
+use crate::menu::named_files::named_file_count;
 use bl_load::Entry;
 use std::alloc::{AllocError, Allocator};
 use std::marker::Model;
 
 mod fault;
-mod naming;
-mod texts;
+mod lines_and_copies;
+mod named_files;
 
 pub use fault::MenuFault;
 
@@ -31,7 +31,7 @@ pub struct Menu<A: Allocator> {
 
 impl<A: Allocator> Model for Menu<A> {
     ghost use Rattle.std.specs.Prelude.{◌<◌, ◌≤◌, [], length, map, All};
-    ghost use Rattle.bl_load.specs.Offered.{IsOfferedEntry};
+    ghost use Rattle.bl_load.specs.WellFormedEntry.{IsWellFormedEntry};
     ghost use Rattle.bl_load.specs.EntryValue.{IsWithinLimits};
     ghost use Rattle.bl_session.specs.Menu.{MenuFacts, facts_of};
     ghost use Rattle.bl_plan.specs.MenuLimits.{max_entries};
@@ -46,7 +46,7 @@ impl<A: Allocator> Model for Menu<A> {
     ghost invariant = { λ menu.
         All (λ entry. entry < length menu.entries.items) menu.attempts.items
         × All IsWithinLimits menu.entries.items
-        × All IsOfferedEntry menu.entries.items
+        × All IsWellFormedEntry menu.entries.items
         × (length menu.attempts.items ≤ max_entries) };
 }
 
@@ -110,7 +110,8 @@ impl<A: Allocator + Copy> Menu<A> {
         ensures allowed { OnOk result (AreWithinLimits entries.items
             × AreEntryIndices (length entries.items) default fallbacks.now) }
         ensures first_fault { IfErr result (HasMenuFault entries.items default fallbacks.now) }
-        ensures offered { IfOk result (λ menu. All (λ entry. IsOffered entry.blank) menu.entries) }
+        ensures well_formed { IfOk result
+            (λ menu. All (λ entry. IsWellFormedValue entry.blank) menu.entries) }
     {
         let offered = entries.as_slice();
         if !is_small(offered) {
@@ -119,7 +120,7 @@ impl<A: Allocator + Copy> Menu<A> {
         if !are_entry_indices(offered.len(), default, fallbacks) {
             return Err(MenuFault::BadIndex);
         }
-        learn_entries(offered);
+        entries_are_well_formed(offered);
         let attempts = order_attempts(alloc, default, fallbacks)?;
         Ok(Menu { entries, attempts })
     }
@@ -158,7 +159,7 @@ impl<A: Allocator> Menu<A> {
         requires { index < length self.now.entries }
         ensures entry { facts_of result.now ≡ entry_at self.now index }
         ensures limits { IsWithinLimits result.now }
-        ensures offered { IsOfferedEntry result.now }
+        ensures well_formed { IsWellFormedEntry result.now }
     {
         &self.entries[index as usize]
     }

@@ -2,13 +2,13 @@
 ghost use Rattle.std.specs.Prelude.{◌≡◌, ◌≢◌, ℕ, List, true, false, IfOk, IfSome, MatchBool};
 ghost use Rattle.std.specs.Prelude.{length, option_map};
 ghost use Rattle.bl_mem.specs.Memory.{HasRoom, KeepsSizeAndRoom};
-ghost use Rattle.bl_session.specs.BootSteps.{StepsOrFails, StartsOrFails, is_taken, attempt_number};
+ghost use Rattle.bl_session.specs.BootSteps.{StepsToOrFails, StartsOrFails, is_taken};
 ghost use Rattle.bl_session.specs.BootSteps as boot;
 ghost use Rattle.bl_session.specs.Memory.{IsMemoryAt};
 ghost use Rattle.bl_session.specs.Phases.{boot_facts, event_facts, state_at, is_waiting};
 ghost use Rattle.bl_session.specs.Phases.{end_facts, told_end, not_started, LiesWithin};
 ghost use Rattle.bl_session.specs.Requests.{first_request, request_after};
-ghost use Rattle.bl_session.specs.Run.{boot_end};
+ghost use Rattle.bl_session.specs.Run.{final_phase};
 
 use crate::ends::{end_of, into_end};
 use crate::menu::Menu;
@@ -91,7 +91,7 @@ impl<A: Allocator + Copy> OwnedSession<A> {
             (state_at (M.bytes memory.old) self.old.phase)
             (state_at (M.bytes memory.new) self.new.phase) }
         ensures progress { result ≡ boot.progress
-            (attempt_number (state_at (M.bytes memory.old) self.old.phase))
+            (boot.attempt_number (state_at (M.bytes memory.old) self.old.phase))
             (state_at (M.bytes memory.new) self.new.phase) }
         ensures memory { self.old.phase ≡ not_started
             → IsMemoryAt self.old.boot.machine.pool (state_at (M.bytes memory.new) self.new.phase)
@@ -118,11 +118,11 @@ impl<A: Allocator + Copy> OwnedSession<A> {
         requires room { is_waiting self.old.phase ≡ true → HasRoom (M.room memory.old)
             self.old.boot.machine.pool.start self.old.boot.machine.pool.end }
         ensures boot { self.new.boot ≡ self.old.boot }
-        ensures step { StepsOrFails self.old.boot
+        ensures step { StepsToOrFails self.old.boot
             (state_at (M.bytes memory.old) self.old.phase) (event_facts event.entry)
             (state_at (M.bytes memory.new) self.new.phase) }
         ensures progress { result ≡ boot.progress
-            (attempt_number (state_at (M.bytes memory.old) self.old.phase))
+            (boot.attempt_number (state_at (M.bytes memory.old) self.old.phase))
             (state_at (M.bytes memory.new) self.new.phase) }
         ensures memory { MatchBool
             (is_taken (state_at (M.bytes memory.old) self.old.phase) (event_facts event.entry))
@@ -190,7 +190,7 @@ impl<A: Allocator + Copy> OwnedSession<A> {
 
     /// The end, once there is one, for good.
     pub fn into_outcome(self) -> Option<Result<Outcome<A>, BootFault<A>>>
-        ensures end { option_map boot_end result ≡ end_facts self.phase }
+        ensures end { option_map final_phase result ≡ end_facts self.phase }
         ensures inside { IfSome result (λ end. IfOk end (λ outcome.
             LiesWithin self.boot.machine.size outcome.handoff)) }
     {

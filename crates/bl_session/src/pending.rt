@@ -2,7 +2,7 @@
 ghost use Rattle.std.specs.Prelude.{◌≡◌, ◌+◌, ◌<◌, ◌≤◌, [], ◌∷◌, ◌++◌, length, slice_get};
 ghost use Rattle.std.specs.Prelude.{slice_index_or, vec_len, OnOk, OnErr, IsOk, IfSome, IfNone};
 ghost use Rattle.bl_session.specs.Stores.{without_index};
-ghost use Rattle.bl_session.specs.PendingKept.{runs_listed, listed_without, StandsIn};
+ghost use Rattle.bl_session.specs.PendingKept.{runs_listed, listed_without, IsPlaceInRun};
 
 use crate::submission::Submission;
 use crate::submission_run::SubmissionRun;
@@ -93,7 +93,7 @@ impl<A: Allocator> Pending<A> {
 /// if there is no such place.
 fn find(runs: &[SubmissionRun], count: usize, place: usize) -> Option<(usize, usize)>
     requires { count ≡ length (runs_listed runs.now) }
-    ensures some { IfSome result (λ found. StandsIn runs.now place found.0 found.1) }
+    ensures some { IfSome result (λ found. IsPlaceInRun runs.now place found.0 found.1) }
     ensures none { IfNone result (count ≤ place) }
 {
     if count <= place {

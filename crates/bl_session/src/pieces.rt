@@ -4,12 +4,12 @@ ghost use Rattle.std.specs.Prelude.{slice_index_or, option_map, true};
 ghost use Rattle.bl_stage.specs.Pieces.{is_missing};
 ghost use Rattle.bl_stage.specs.PieceStates.{piece_states};
 ghost use Rattle.bl_session.specs.Menu.{files_of};
-ghost use Rattle.bl_session.specs.Asked.{first_awaited_piece, first_ticket};
+ghost use Rattle.bl_session.specs.Submissions.{first_awaited_piece, first_ticket};
 ghost use Rattle.bl_session.specs.PhasesKept.{HasSmallFiles, LacksPiece};
 ghost use Rattle.bl_session.specs.Pieces.{piece_state_of};
 ghost use Rattle.bl_session.specs.Requests.{length_awaited, request_for, ticket_after};
 
-use crate::asking::{file_at, pieces_of};
+use crate::store_submissions::{file_at, pieces_of};
 use crate::ticket::{Request, Ticket};
 use bl_load::Entry;
 use bl_stage::Stage;

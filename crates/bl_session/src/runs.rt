@@ -8,17 +8,19 @@ ghost use Rattle.bl_stage.specs.Ranges.{IsSameOutside};
 ghost use Rattle.bl_session.specs.BootSteps.{out_of_memory};
 ghost use Rattle.bl_session.specs.Memory.{IsMemoryAt};
 ghost use Rattle.bl_session.specs.Faithful.{IsFaithful};
-ghost use Rattle.bl_session.specs.Outcome.{Faults, IsOutcome, HasEnded, missing};
-ghost use Rattle.bl_session.specs.Outcome as outcome;
+ghost use Rattle.bl_session.specs.MenuFiles.{missing};
+ghost use Rattle.bl_session.specs.Schedules.{Faults};
+ghost use Rattle.bl_session.specs.Outcome.{IsOutcome, HasEnded};
+ghost use Rattle.bl_session.specs.MenuFiles as menu_files;
 ghost use Rattle.bl_session.specs.Phases.{boot_facts, state_at, is_waiting, not_started};
 ghost use Rattle.bl_session.specs.Phases.{LiesWithin};
-ghost use Rattle.bl_session.specs.Run.{IsRun, IsGenuineRun, boot_end};
+ghost use Rattle.bl_session.specs.Run.{IsRun, IsGenuineRun, final_phase};
 
+use crate::answer_loop::drive;
 use crate::menu::Menu;
 use crate::outcome::{BootFault, Outcome};
 use crate::session::Session;
 use crate::store::Store;
-use crate::turns::drive;
 use bl_map::Machine;
 use bl_mem::PhysMem;
 use std::alloc::{AllocError, Allocator};
@@ -31,7 +33,7 @@ fn sizes_of<S: Store, A: Allocator>(
 ) -> Result<Vec<Option<u64>, A>, AllocError>
     requires { count ≤ 2 ^ 32 }
     ensures { IfOk result (λ sizes. sizes.items
-        ≡ map (λ file. outcome.size_of (slice_index_or (S.files store.now) file missing))
+        ≡ map (λ file. menu_files.size_of (slice_index_or (S.files store.now) file missing))
         (range_with_len 0 count)) }
 {
     let mut sizes = Vec::new(alloc);
@@ -52,7 +54,7 @@ fn run_session<'a, M: PhysMem, S: Store, A: Allocator + Copy>(
 ) -> Result<Session<'a, A>, AllocError>
     requires { length (M.bytes memory.old) ≡ machine.now.size }
     ensures run { IfOk result (λ session. IsRun
-        (boot_facts machine.now menu.now (map outcome.size_of (S.files store.old)))
+        (boot_facts machine.now menu.now (map menu_files.size_of (S.files store.old)))
         (S.files store.old) (S.given store.old) (S.given store.new)
         (state_at (M.bytes memory.new) session.phase)) }
     ensures machine { IfOk result (λ session. session.boot.machine ≡ machine.now) }
@@ -62,7 +64,7 @@ fn run_session<'a, M: PhysMem, S: Store, A: Allocator + Copy>(
         (state_at (M.bytes memory.new) session.phase)
         (M.bytes memory.old) (M.bytes memory.new)) }
     ensures lacking { OnErr result (IsRun
-        (boot_facts machine.now menu.now (map outcome.size_of (S.files store.old)))
+        (boot_facts machine.now menu.now (map menu_files.size_of (S.files store.old)))
         (S.files store.old) (S.given store.old) (S.given store.new) out_of_memory) }
     ensures outside { OnErr result
         (IsSameOutside machine.now.pool (M.bytes memory.old) (M.bytes memory.new)) }
@@ -80,7 +82,7 @@ fn run_session<'a, M: PhysMem, S: Store, A: Allocator + Copy>(
 fn end_of<A: Allocator + Copy>(session: Session<A>) -> Result<Outcome<A>, BootFault<A>>
     requires started { session.phase ≢ not_started }
     requires ended { is_waiting session.phase ≡ false }
-    ensures end { boot_end result ≡ session.entry.phase }
+    ensures end { final_phase result ≡ session.entry.phase }
     ensures inside { IfOk result (λ outcome.
         LiesWithin session.entry.boot.machine.size outcome.handoff) }
 {
@@ -109,21 +111,23 @@ pub fn run<M: PhysMem, S: Store, A: Allocator + Copy>(
     menu: &Menu<A>,
 ) -> Result<Outcome<A>, BootFault<A>>
     requires { length (M.bytes memory.old) ≡ machine.now.size }
-    ensures run { IsRun (boot_facts machine.now menu.now (map outcome.size_of (S.files store.old)))
+    ensures run { IsRun
+        (boot_facts machine.now menu.now (map menu_files.size_of (S.files store.old)))
         (S.files store.old) (S.given store.old) (S.given store.new)
-        (state_at (M.bytes memory.new) (boot_end result)) }
+        (state_at (M.bytes memory.new) (final_phase result)) }
     ensures outcome { (faults : Faults) → IsGenuineRun
-        (boot_facts machine.now menu.now (map outcome.size_of (S.files store.old)))
+        (boot_facts machine.now menu.now (map menu_files.size_of (S.files store.old)))
         (S.files store.old) faults (S.given store.old) (S.given store.new)
-        → HasEnded (state_at (M.bytes memory.new) (boot_end result))
-        → IsOutcome (boot_facts machine.now menu.now (map outcome.size_of (S.files store.old)))
-        (S.files store.old) faults (state_at (M.bytes memory.new) (boot_end result)) }
+        → HasEnded (state_at (M.bytes memory.new) (final_phase result))
+        → IsOutcome (boot_facts machine.now menu.now (map menu_files.size_of (S.files store.old)))
+        (S.files store.old) faults (state_at (M.bytes memory.new) (final_phase result)) }
     ensures faithful { S.given store.old ≡ []
         → IsFaithful (S.files store.old) (S.given store.new)
-        → HasEnded (state_at (M.bytes memory.new) (boot_end result))
-        → IsOutcome (boot_facts machine.now menu.now (map outcome.size_of (S.files store.old)))
-        (S.files store.old) (λ _. None) (state_at (M.bytes memory.new) (boot_end result)) }
-    ensures memory { IsMemoryAt machine.now.pool (state_at (M.bytes memory.new) (boot_end result))
+        → HasEnded (state_at (M.bytes memory.new) (final_phase result))
+        → IsOutcome (boot_facts machine.now menu.now (map menu_files.size_of (S.files store.old)))
+        (S.files store.old) (λ _. None) (state_at (M.bytes memory.new) (final_phase result)) }
+    ensures memory { IsMemoryAt machine.now.pool
+        (state_at (M.bytes memory.new) (final_phase result))
         (M.bytes memory.old) (M.bytes memory.new) }
     ensures inside { IfOk result (λ outcome. All (λ place.
         place.address + place.length ≤ machine.now.size) outcome.handoff.places) }

@@ -2,13 +2,14 @@
 ghost use Rattle.std.specs.Prelude.{◌≡◌, ◌≢◌, true, false, IfOk, IfSome, MatchBool, length};
 ghost use Rattle.std.specs.Prelude.{option_map};
 ghost use Rattle.bl_mem.specs.Memory.{HasRoom, KeepsSizeAndRoom};
-ghost use Rattle.bl_session.specs.BootSteps.{StepsOrFails, StartsOrFails, is_taken, attempt_number};
+ghost use Rattle.bl_session.specs.BootSteps.{StepsToOrFails, StartsOrFails, is_taken};
+ghost use Rattle.bl_session.specs.BootSteps.{attempt_number};
 ghost use Rattle.bl_session.specs.BootSteps as boot;
 ghost use Rattle.bl_session.specs.Memory.{IsMemoryAt};
 ghost use Rattle.bl_session.specs.Phases.{boot_facts, event_facts, state_at, is_waiting};
 ghost use Rattle.bl_session.specs.Phases.{phase_facts, end_facts, told_end, not_started};
 ghost use Rattle.bl_session.specs.Phases.{LiesWithin};
-ghost use Rattle.bl_session.specs.Run.{boot_end};
+ghost use Rattle.bl_session.specs.Run.{final_phase};
 
 use crate::ends::{end_of, into_end};
 use crate::menu::Menu;
@@ -113,7 +114,7 @@ impl<'a, A: Allocator + Copy> Session<'a, A> {
         requires room { is_waiting self.old.phase ≡ true → HasRoom (M.room memory.old)
             self.old.boot.machine.pool.start self.old.boot.machine.pool.end }
         ensures boot { self.new.boot ≡ self.old.boot }
-        ensures step { StepsOrFails self.old.boot
+        ensures step { StepsToOrFails self.old.boot
             (state_at (M.bytes memory.old) self.old.phase) (event_facts event.entry)
             (state_at (M.bytes memory.new) self.new.phase) }
         ensures progress { result ≡ boot.progress
@@ -150,7 +151,7 @@ impl<'a, A: Allocator + Copy> Session<'a, A> {
 
     /// The end, once there is one, for good.
     pub fn into_outcome(self) -> Option<Result<Outcome<A>, BootFault<A>>>
-        ensures end { option_map boot_end result ≡ end_facts self.entry.phase }
+        ensures end { option_map final_phase result ≡ end_facts self.entry.phase }
         ensures inside { IfSome result (λ end. IfOk end (λ outcome.
             LiesWithin self.entry.boot.machine.size outcome.handoff)) }
     {

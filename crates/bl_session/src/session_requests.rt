@@ -1,10 +1,10 @@
 //! What a session awaits, and what it asks a store for.
 ghost use Rattle.std.specs.Prelude.{◌≡◌, ◌++◌, ℕ, List, Some, true, OnOk, OnErr};
 ghost use Rattle.bl_session.specs.History.{HistoryItem};
-ghost use Rattle.bl_session.specs.Asked.{attempt_submissions};
+ghost use Rattle.bl_session.specs.Submissions.{attempt_submissions};
 ghost use Rattle.bl_session.specs.Phases.{state_at, is_waiting};
 ghost use Rattle.bl_session.specs.Requests.{first_request, request_after};
-ghost use Rattle.bl_session.specs.TurnsKept.{IsAsked, first_awaited_ticket};
+ghost use Rattle.bl_session.specs.RunKept.{AreAskedButRest, first_awaited_ticket};
 
 use crate::phase::{Boot, awaits_pieces};
 use crate::session::Session;
@@ -26,7 +26,7 @@ impl<'a, A: Allocator + Copy> Session<'a, A> {
         ensures ok { OnOk result ((bytes : List ℕ) → S.given store.new
             ≡ S.given store.old
             ++ attempt_submissions self.now.boot (state_at bytes self.now.phase)) }
-        ensures err { OnErr result ((bytes : List ℕ) → (rest : List HistoryItem) × IsAsked
+        ensures err { OnErr result ((bytes : List ℕ) → (rest : List HistoryItem) × AreAskedButRest
             (attempt_submissions self.now.boot (state_at bytes self.now.phase)) rest
             (S.given store.old) (S.given store.new)) }
         ensures files { S.files store.new ≡ S.files store.old }

@@ -4,7 +4,7 @@ ghost use Rattle.std.specs.Prelude.{length};
 ghost use Rattle.bl_mem.specs.Memory.{HasRoom, KeepsSizeAndRoom};
 ghost use Rattle.bl_stage.specs.Ranges.{IsSameOutside};
 ghost use Rattle.bl_session.specs.BootSteps.{is_taken, attempt_number, Begins};
-ghost use Rattle.bl_session.specs.BootSteps.{StepsOrFails, StartsOrFails};
+ghost use Rattle.bl_session.specs.BootSteps.{StepsToOrFails, StartsOrFails};
 ghost use Rattle.bl_session.specs.BootSteps as boot_specs;
 ghost use Rattle.bl_session.specs.Memory.{IsMemoryAt};
 ghost use Rattle.bl_session.specs.Phases.{event_facts, phase_facts};
@@ -32,7 +32,7 @@ pub fn advance<M: PhysMem, A: Allocator + Copy>(
     requires room { is_waiting (phase_facts boot.now.menu.now.attempts phase.old) ≡ true
         → HasRoom (M.room memory.old)
         boot.now.machine.now.pool.start boot.now.machine.now.pool.end }
-    ensures step { StepsOrFails (facts_of_boot boot.now)
+    ensures step { StepsToOrFails (facts_of_boot boot.now)
         (state_in boot.now (M.bytes memory.old) phase.old) (event_facts event.entry)
         (state_in boot.now (M.bytes memory.new) phase.new) }
     ensures progress { result ≡ boot_specs.progress
@@ -84,7 +84,7 @@ fn reserve_pool<M: PhysMem, A: Allocator>(
 }
 
 /// Gives room to the pool, and begins the first attempt.
-fn begin_all<M: PhysMem, A: Allocator + Copy>(
+fn reserve_and_begin<M: PhysMem, A: Allocator + Copy>(
     boot: &Boot<A>,
     memory: &mut M,
 ) -> Result<Phase<A>, AllocError>
@@ -134,7 +134,7 @@ pub fn begin_first<M: PhysMem, A: Allocator + Copy>(
 {
     let attempt = number_of(phase);
     if let Phase::Unstarted = phase {
-        *phase = match begin_all(boot, memory) {
+        *phase = match reserve_and_begin(boot, memory) {
             Ok(first) => first,
             Err(_) => Phase::Failed(BootFault::NoMemory),
         };

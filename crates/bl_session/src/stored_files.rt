@@ -2,7 +2,7 @@
 ghost use Rattle.std.specs.Prelude.{◌≡◌, ◌↔◌, ℕ, ◌*◌, ◌<◌, List, length};
 ghost use Rattle.std.specs.Prelude.{IfSome, IsSome, slice_index_or};
 ghost use Rattle.bl_stage.specs.PieceStates.{piece_of};
-ghost use Rattle.bl_session.specs.Outcome.{File, missing, size_of, file_bytes};
+ghost use Rattle.bl_session.specs.MenuFiles.{File, missing, size_of, file_bytes};
 
 use crate::fetched::piece_at;
 

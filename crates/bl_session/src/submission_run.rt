@@ -1,7 +1,7 @@
 //! Submissions of neighbouring pieces, kept as one.
 ghost use Rattle.std.specs.Prelude.{◌≡◌, ◌↔◌, ◌+◌, ◌^◌, ◌<◌, ◌≤◌, [], ◌∷◌, ◌++◌, length};
 ghost use Rattle.std.specs.Prelude.{take, drop, slice_get, if◌then◌else◌, IsTrue};
-ghost use Rattle.bl_session.specs.PendingKept.{of_piece, GoesOn};
+ghost use Rattle.bl_session.specs.PendingKept.{submission_for_piece, GoesOn};
 
 use crate::submission::Submission;
 use crate::ticket::Ticket;
@@ -90,7 +90,7 @@ impl SubmissionRun {
 /// The same submission, of a piece so many further on.
 fn later(first: &Submission, pieces: u32) -> Submission
     requires { first.now.ticket.piece + pieces < 2 ^ 32 }
-    ensures { result ≡ of_piece first.now (first.now.ticket.piece + pieces) }
+    ensures { result ≡ submission_for_piece first.now (first.now.ticket.piece + pieces) }
 {
     let Submission { file, ticket } = *first;
     Submission {
@@ -106,7 +106,7 @@ fn later(first: &Submission, pieces: u32) -> Submission
 fn is_later(submission: &Submission, first: &Submission, pieces: usize) -> bool
     requires { pieces ≤ 2 ^ 32 }
     ensures later { IsTrue result
-        ↔ (submission.now ≡ of_piece first.now (first.now.ticket.piece + pieces)) }
+        ↔ (submission.now ≡ submission_for_piece first.now (first.now.ticket.piece + pieces)) }
     ensures fits { IsTrue result → first.now.ticket.piece + pieces < 2 ^ 32 }
 {
     let Ticket {

@@ -10,17 +10,17 @@ use Rattle.bl_mem.proofs.Overwrites.{length-overwrite, get_or-overwrite_in, get_
 use Rattle.bl_mem.proofs.Overwrites.{get_or-overwrite_above}
 use Rattle.bl_mem.proofs.ValueLemmas.{values, length-values, get_or-values}
 use Rattle.bl_map.specs.PoolFrames.{frames_of}
-use Rattle.bl_stage.specs.Staged.{AreInside, place_of, staged, first_of, AreApart}
+use Rattle.bl_stage.specs.Staged.{AreInside, place_of, staged, frames_before, AreApart}
 use Rattle.bl_stage.proofs.FrameLemmas.{same_below}
 
 -- a file's frames lie within the list of all
 pub file_within : (sizes : List ℕ) (file : ℕ) → file < length sizes
-    → first_of sizes file + frames_of (get_or sizes file 0) ≤ sum_by frames_of sizes
+    → frames_before sizes file + frames_of (get_or sizes file 0) ≤ sum_by frames_of sizes
 file_within sizes file h = sum_by_more_le frames_of sizes file 0 h
 
 -- one file's frames end before a later one's begin
 pub file_before : (sizes : List ℕ) (f g : ℕ) → f < g → g < length sizes
-    → first_of sizes f + frames_of (get_or sizes f 0) ≤ first_of sizes g
+    → frames_before sizes f + frames_of (get_or sizes f 0) ≤ frames_before sizes g
 file_before sizes f g h within =
     let step = sum_by_more frames_of sizes f 0 (omega arith) in
     let part : sum_by frames_of (take (f + 1) (take g sizes)) ≤ sum_by frames_of (take g sizes) =

@@ -10,7 +10,7 @@ use Rattle.std.proofs.lemmas.List.Sums.{get_or-le-sum_by, sum_by-cons}
 use Rattle.bl_mem.specs.Memory.{overwrite}
 use Rattle.bl_map.specs.PoolFrames.{frames_of}
 use Rattle.bl_stage.specs.Cells.{cell_at, ReadAlike}
-use Rattle.bl_stage.specs.Staged.{AreInside, place_of, staged, first_of, Staging, AreStaged}
+use Rattle.bl_stage.specs.Staged.{AreInside, place_of, staged, frames_before, Staging, AreStaged}
 use Rattle.bl_stage.specs.Staged.{staged_file, HasPool, with_frames}
 use Rattle.bl_stage.specs.Pieces.{is_piece, slot_in}
 use Rattle.std.specs.declared.ops.Range.{Range}
@@ -92,7 +92,7 @@ module _ (stage : Staging) (staged_ : AreStaged stage) (bytes piece : List ℕ) 
       let w = file_within stage.sizes file is.named in
       let a = staged_.all in
       file_put bytes stage.frames piece (slot_in stage file index) staged_.apart slot_within
-      frames_inside is.short (first_of stage.sizes file) (frames_of size) size index
+      frames_inside is.short (frames_before stage.sizes file) (frames_of size) size index
       (omega arith) (omega arith) refl is.within is.inside
 
   -- and the others are as before
@@ -106,7 +106,7 @@ module _ (stage : Staging) (staged_ : AreStaged stage) (bytes piece : List ℕ) 
       let a = staged_.all in
       let i = is.within in
       file_kept bytes stage.frames piece (slot_in stage file index) staged_.apart slot_within
-      frames_inside is.short (first_of stage.sizes other) (frames_of size) size (omega arith)
+      frames_inside is.short (frames_before stage.sizes other) (frames_of size) size (omega arith)
       (omega arith)
       (elim (cases_lt file other) [
         | inl before ↦ let b = file_before stage.sizes file other before h in inl (omega arith)
@@ -158,5 +158,5 @@ file_evacuated old new stage frames file kept same long h =
     let size = get_or stage.sizes file 0 in
     let w = file_within stage.sizes file h in
     let a = kept.all in
-    file_moved old new stage.frames frames (first_of stage.sizes file) (frames_of size) size same
+    file_moved old new stage.frames frames (frames_before stage.sizes file) (frames_of size) size same
     long (omega arith) (omega arith)

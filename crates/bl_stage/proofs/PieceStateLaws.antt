@@ -11,7 +11,8 @@ use Rattle.std.proofs.lemmas.List.{length-replicate, get_or_past}
 use Rattle.std.proofs.lemmas.List.FromFn.{map-range_with_len_more}
 use Rattle.bl_map.specs.PoolFrames.{frames_of}
 use Rattle.bl_stage.specs.Cells.{ReadAlike}
-use Rattle.bl_stage.specs.Staged.{Staging, AreStaged, AllCame, staged_file, empty_stage, table_of}
+use Rattle.bl_stage.specs.Staged.{Staging, AreStaged, AllCame, staged_file, empty_stage}
+use Rattle.bl_stage.specs.Staged.{frames_of_file}
 use Rattle.bl_stage.specs.Pieces.{slot_in}
 use Rattle.bl_stage.specs.PieceStates.{PieceState, lacks, has, piece_state_at, piece_states_of}
 use Rattle.bl_stage.specs.PieceStates.{piece_states, piece_of}
@@ -37,7 +38,7 @@ fresh_piece_states bytes pool sizes frames =
     (λ k. lacks (min 4096 (size - 4096 * k)))
     (frames_of size) (λ k hk.
     let long : length (staged_file bytes stage file) ≡ size =
-    staged_length bytes (table_of stage file) size in
+    staged_length bytes (frames_of_file stage file) size in
     rw (never (length frames) (slot_in stage file k))
     (ap lacks
     (piece_long (staged_file bytes stage file) k ∙ ap (λ n. min 4096 (n - 4096 * k)) long))))
@@ -84,7 +85,7 @@ pub complete_piece_states : (bytes : List ℕ) (stage : Staging) (file : ℕ) �
 complete_piece_states bytes stage file kept came h =
     let size = get_or stage.sizes file 0 in
     let text = staged_file bytes stage file in
-    let long : length text ≡ size = staged_length bytes (table_of stage file) size in
+    let long : length text ≡ size = staged_length bytes (frames_of_file stage file) size in
     let w = file_within stage.sizes file h in
     let a = kept.all in
     let b = kept.flags in

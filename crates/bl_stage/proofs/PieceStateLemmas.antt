@@ -11,11 +11,12 @@ use Rattle.bl_map.specs.PoolFrames.{frames_of}
 use Rattle.bl_mem.specs.Memory.{overwrite}
 use Rattle.bl_mem.proofs.Overwrites.{length-overwrite, get_or-overwrite_in, get_or-overwrite_below}
 use Rattle.bl_mem.proofs.Overwrites.{get_or-overwrite_above}
-use Rattle.bl_stage.specs.Staged.{Staging, AreStaged, staged_file, table_of, with_frames}
+use Rattle.bl_stage.specs.Staged.{Staging, AreStaged, staged_file, frames_of_file, with_frames}
 use Rattle.bl_stage.specs.Pieces.{is_piece, slot_in, stage_with}
 use Rattle.bl_stage.specs.StagedFileLaws.{same_firsts}
 use Rattle.bl_stage.specs.PieceStates.{PieceState, has, piece_state_if_came, piece_state_at}
-use Rattle.bl_stage.specs.PieceStates.{piece_states_of, piece_states, piece_of, put_piece_state}
+use Rattle.bl_stage.specs.PieceStates.{piece_states_of, piece_states, piece_of}
+use Rattle.bl_stage.specs.PieceStates.{piece_states_after_put}
 use Rattle.bl_stage.proofs.FrameLemmas.{staged_length}
 use Rattle.bl_stage.proofs.FileLemmas.{file_within, file_before}
 use Rattle.bl_stage.proofs.PieceLemmas.{IsPiece, piece_is}
@@ -112,7 +113,7 @@ module _ (stage : Staging) (old new piece : List ℕ) (file index : ℕ) (staged
   is = piece_is stage file index (length piece) test
 
   long : length (staged_file old stage file) ≡ get_or stage.sizes file 0
-  long = staged_length old (table_of stage file) (get_or stage.sizes file 0)
+  long = staged_length old (frames_of_file stage file) (get_or stage.sizes file 0)
 
   room : 4096 * index + length piece ≤ length (staged_file old stage file)
   room = let i = is.inside in omega (arith, long)
@@ -155,7 +156,7 @@ module _ (stage : Staging) (old new piece : List ℕ) (file index : ℕ) (staged
       rw (came, in_others f h other) refl
 
   pub piece_states_put : piece_states new (stage_with stage file index)
-      ≡ put_piece_state old stage file index piece
+      ≡ piece_states_after_put old stage file index piece
   piece_states_put =
       let d : List PieceState = [] in
       one_changed d (λ f. piece_states_of old stage f) (λ f. piece_states_of new now f)

@@ -8,7 +8,7 @@ use Rattle.std.proofs.lemmas.List.{get_or-replicate, length-replicate}
 use Rattle.bl_mem.specs.Memory.{overwrite}
 use Rattle.bl_mem.proofs.Overwrites.{get_or-overwrite_in, get_or-overwrite_below}
 use Rattle.bl_mem.proofs.Overwrites.{get_or-overwrite_above}
-use Rattle.bl_stage.specs.Ranges.{is_in_ranges, scrubbed}
+use Rattle.bl_stage.specs.Ranges.{is_in_ranges, scrubbed_byte}
 
 in_pool : (start end a byte : ℕ) (kept : Bool) → start ≤ a → a < end → kept ≡ false
     → 0 ≡ cond (nat_le start a && (nat_lt a end && not kept)) 0 byte
@@ -30,8 +30,8 @@ module _ (pool : Range ℕ) (keep : List (Range ℕ)) (old bytes : List ℕ) (at
 
   pub done_zeroed : pool.start ≤ at → edge ≤ pool.end → false ≡ is_in_ranges keep at
       → ((a : ℕ) → at ≤ a → a < edge → is_in_ranges keep a ≡ is_in_ranges keep at)
-      → ((a : ℕ) → a < at → get_or bytes a 0 ≡ scrubbed pool keep old a)
-      → (a : ℕ) → a < edge → get_or (zeroed bytes at edge) a 0 ≡ scrubbed pool keep old a
+      → ((a : ℕ) → a < at → get_or bytes a 0 ≡ scrubbed_byte pool keep old a)
+      → (a : ℕ) → a < edge → get_or (zeroed bytes at edge) a 0 ≡ scrubbed_byte pool keep old a
   done_zeroed low high free same done a h = elim (cases_lt a at) [
     | inl below ↦
         get_or-overwrite_below bytes at (replicate (edge - at) 0) a 0 below fits ∙ done a below

@@ -4,7 +4,7 @@ use Rattle.std.specs.List.{count_by}
 use Rattle.std.specs.declared.ops.Range.{Range}
 use Rattle.bl_stage.specs.declared.cell.Cell.{Cell}
 use Rattle.bl_stage.specs.Cells.{AreHeld}
-use Rattle.bl_stage.specs.Staged.{first_of}
+use Rattle.bl_stage.specs.Staged.{frames_before}
 use Rattle.bl_map.specs.PoolFrames.{frames_for}
 
 pub record KeepsTables (base : ℕ) (pool : Range ℕ) (sizes starts frames : List ℕ) (came : List Bool)
@@ -13,7 +13,7 @@ pub record KeepsTables (base : ℕ) (pool : Range ℕ) (sizes starts frames : Li
   pub all : length frames ≡ frames_for sizes
   pub flags : length came ≡ length frames
   pub files : length starts ≡ length sizes
-  pub each : (file : ℕ) → file < length sizes → slice_index starts file ≡ first_of sizes file
+  pub each : (file : ℕ) → file < length sizes → slice_index starts file ≡ frames_before sizes file
   pub waits : waiting ≡ count_by not came
   pub start : pool.start ≡ 4096 * base
   pub end : pool.end ≡ 4096 * (base + length cells)

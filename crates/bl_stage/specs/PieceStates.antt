@@ -36,8 +36,8 @@ piece_states bytes stage =
     map (λ file. piece_states_of bytes stage file) (range_with_len 0 (length stage.sizes))
 
 -- the states of all pieces after one came
-abbrev pub put_piece_state : List ℕ → Staging → ℕ → ℕ → List ℕ → List (List PieceState)
-put_piece_state bytes stage file index piece =
+abbrev pub piece_states_after_put : List ℕ → Staging → ℕ → ℕ → List ℕ → List (List PieceState)
+piece_states_after_put bytes stage file index piece =
     slice_set (piece_states bytes stage) file
     (slice_set (piece_states_of bytes stage file) index (has piece))
 

@@ -4,7 +4,7 @@ use Rattle.std.specs.Prelude.{Bool, true, false, not, ◌&&◌, nat_lt, ◌==◌
 use Rattle.bl_map.specs.PoolFrames.{frames_of}
 use Rattle.bl_stage.specs.declared.stage.putting.Put.{Put}
 use Rattle.bl_stage.specs.declared.stage.putting.Put.TheVariants.{Stored, Repeated, Strange}
-use Rattle.bl_stage.specs.Staged.{Staging, first_of}
+use Rattle.bl_stage.specs.Staged.{Staging, frames_before}
 
 -- there is such a file, it has a piece of this index, and that has this length
 abbrev pub is_piece : Staging → ℕ → ℕ → ℕ → Bool
@@ -15,7 +15,7 @@ is_piece stage file index len =
 
 -- a piece's place in the list of all frames
 abbrev pub slot_in : Staging → ℕ → ℕ → ℕ
-slot_in stage file index = first_of stage.sizes file + index
+slot_in stage file index = frames_before stage.sizes file + index
 
 -- there is such a file and piece, and the piece did not come
 abbrev pub is_missing : Staging → ℕ → ℕ → Bool

@@ -20,8 +20,8 @@ IsSameOutside pool old new =
 
 -- the byte at an address after the pool was scrubbed: 0 in the pool and outside keep, else as
 -- before
-abbrev pub scrubbed : Range ℕ → List (Range ℕ) → List ℕ → ℕ → ℕ
-scrubbed pool keep bytes a =
+abbrev pub scrubbed_byte : Range ℕ → List (Range ℕ) → List ℕ → ℕ → ℕ
+scrubbed_byte pool keep bytes a =
     if nat_le pool.start a && (nat_lt a pool.end && not (is_in_ranges keep a))
     then 0
     else slice_index bytes a

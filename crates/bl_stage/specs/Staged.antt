@@ -23,18 +23,19 @@ pub record Staging : Type 0 where
   pub came : List Bool
 
 -- how many frames stand before a file's own
-abbrev pub first_of : List ℕ → ℕ → ℕ
-first_of sizes file = frames_for (take file sizes)
+abbrev pub frames_before : List ℕ → ℕ → ℕ
+frames_before sizes file = frames_for (take file sizes)
 
 -- a file's frames
-abbrev pub table_of : Staging → ℕ → List ℕ
-table_of stage file =
-    slice_range stage.frames (first_of stage.sizes file)
-    (first_of stage.sizes file + frames_of (slice_index stage.sizes file))
+abbrev pub frames_of_file : Staging → ℕ → List ℕ
+frames_of_file stage file =
+    slice_range stage.frames (frames_before stage.sizes file)
+    (frames_before stage.sizes file + frames_of (slice_index stage.sizes file))
 
 -- a file's bytes
 abbrev pub staged_file : List ℕ → Staging → ℕ → List ℕ
-staged_file bytes stage file = staged bytes (table_of stage file) (slice_index stage.sizes file)
+staged_file bytes stage file =
+    staged bytes (frames_of_file stage file) (slice_index stage.sizes file)
 
 -- no frame is named twice
 abbrev pub AreApart : List ℕ → Type 0
@@ -88,8 +89,8 @@ pub record IsStagedOn (stage : Staging) (a : ℕ) : Type 0 where
   pub index : ℕ
   pub of_stage : file < length stage.sizes
   pub of_file : index < frames_of (slice_index stage.sizes file)
-  pub low : 4096 * slice_index (table_of stage file) index ≤ a
-  pub high : a < 4096 * slice_index (table_of stage file) index + 4096
+  pub low : 4096 * slice_index (frames_of_file stage file) index ≤ a
+  pub high : a < 4096 * slice_index (frames_of_file stage file) index + 4096
 
 -- memory of this size has each of these frames
 abbrev pub AreInside : List ℕ → ℕ → Type 0

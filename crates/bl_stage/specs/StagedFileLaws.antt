@@ -5,7 +5,7 @@ use Rattle.std.specs.List.{range_with_len}
 use Rattle.std.proofs.lemmas.List.{ext_get_or}
 use Rattle.std.proofs.lemmas.List.FromFn.{length-map-range_with_len, get_or-map-range_with_len}
 use Rattle.bl_mem.specs.Files.{Agree}
-use Rattle.bl_stage.specs.Staged.{Staging, staged_file, table_of, staged_texts, place_of}
+use Rattle.bl_stage.specs.Staged.{Staging, staged_file, frames_of_file, staged_texts, place_of}
 use Rattle.bl_stage.specs.Staged.{IsStagedOn}
 
 -- functions that agree below n have the same first n values
@@ -24,7 +24,7 @@ same_texts stage old new agree =
     let d : List ℕ = [] in
     same_firsts d (λ file. staged_file new stage file) (λ file. staged_file old stage file)
     (length stage.sizes) (λ file h.
-    let table = table_of stage file in
+    let table = frames_of_file stage file in
     same_firsts 0 (λ i. slice_index new (place_of table i))
     (λ i. slice_index old (place_of table i)) (slice_index stage.sizes file) (λ i hi.
     agree (place_of table i) (record {

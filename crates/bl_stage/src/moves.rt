@@ -11,7 +11,7 @@ ghost use Rattle.bl_stage.specs.PackedCells.{no_holder};
 
 use crate::cell::Cell;
 use crate::cells::Cells;
-use crate::marks::{count_open, mark};
+use crate::shut_cells::{count_open, mark};
 use bl_map::FRAME_SIZE;
 use bl_mem::PhysMem;
 use std::alloc::Allocator;

@@ -1,7 +1,7 @@
 //! Zeros in the pool.
 ghost use Rattle.std.specs.Prelude.{◌≡◌, ℕ, ◌<◌, ◌≤◌, length, slice_index};
 ghost use Rattle.bl_mem.specs.Memory.{HasRoom, KeepsSizeAndRoom};
-ghost use Rattle.bl_stage.specs.Ranges.{is_in_ranges, scrubbed};
+ghost use Rattle.bl_stage.specs.Ranges.{is_in_ranges, scrubbed_byte};
 ghost use Rattle.bl_stage.specs.Staged.{HasPool};
 
 use bl_map::Machine;
@@ -47,7 +47,7 @@ pub fn scrub<A: Allocator, M: PhysMem>(machine: &Machine<A>, memory: &mut M, kee
     requires inside { HasPool (M.bytes memory.old) machine.now.pool }
     requires room { HasRoom (M.room memory.old) machine.now.pool.start machine.now.pool.end }
     ensures after { (a : ℕ) → slice_index (M.bytes memory.new) a
-        ≡ scrubbed machine.now.pool keep.now (M.bytes memory.old) a }
+        ≡ scrubbed_byte machine.now.pool keep.now (M.bytes memory.old) a }
     ensures kept { KeepsSizeAndRoom M.lender M.bytes M.room memory.old memory.new }
 {
     let pool = machine.pool();

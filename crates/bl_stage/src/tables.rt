@@ -2,7 +2,7 @@
 ghost use Rattle.std.specs.Prelude.{◌≡◌, ℕ, ◌+◌, ◌/◌, ◌<◌, ◌≤◌, ◌^◌, ◌↔◌, IfOk, IfSome, IsNone};
 ghost use Rattle.std.specs.Prelude.{length, slice_index, None, map};
 ghost use Rattle.bl_stage.specs.Cells.{cell_at, AreHeld};
-ghost use Rattle.bl_stage.specs.Staged.{first_of, AreApart};
+ghost use Rattle.bl_stage.specs.Staged.{frames_before, AreApart};
 ghost use Rattle.bl_map.specs.PoolFrames.{frames_for};
 
 use crate::cell::Cell;
@@ -31,7 +31,7 @@ pub fn starts_of<A: Allocator>(alloc: A, sizes: &[u64]) -> Result<Vec<u64, A>, A
     requires { frames_for sizes.now < 2 ^ 64 }
     ensures len { IfOk result (λ starts. length starts.items ≡ length sizes.now) }
     ensures each { IfOk result (λ starts. (file : ℕ) → file < length sizes.now
-        → slice_index starts.items file ≡ first_of sizes.now file) }
+        → slice_index starts.items file ≡ frames_before sizes.now file) }
 {
     let mut starts = Vec::with_capacity(alloc, sizes.len())?;
     let mut all = 0;

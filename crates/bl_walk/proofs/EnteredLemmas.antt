@@ -5,7 +5,7 @@ use Rattle.std.specs.List.{list_any}
 use Rattle.std.proofs.Math.Bool.{or-true}
 use Rattle.std.specs.declared.ops.Range.{Range}
 use Rattle.bl_map.specs.MachineFacts.{MachineFacts}
-use Rattle.bl_mem.specs.Contents.{holds, is_in_segment}
+use Rattle.bl_mem.specs.SegmentContents.{segment_holds, is_in_segment}
 use Rattle.bl_mem.specs.declared.segment.Segment.{Segment}
 use Rattle.bl_plan.specs.Placed.{ArePlaced, place_range}
 use Rattle.bl_plan.specs.PlannerFacts.{put_in}
@@ -13,8 +13,9 @@ use Rattle.bl_plan.specs.declared.part.Place.{Place}
 use Rattle.bl_plan.specs.declared.part.Role.TheVariants.{Kernel}
 use Rattle.bl_plan.specs.declared.part.Row.{Row}
 use Rattle.bl_load.specs.Addresses.{address_of}
-use Rattle.bl_load.specs.Blocks.{low_of, span_of}
-use Rattle.bl_load.specs.Kernel.{Multiboot2KernelFacts, IsKernel, entry_fault, counted_entry}
+use Rattle.bl_load.specs.KernelBlock.{low_of, span_of}
+use Rattle.bl_load.specs.Multiboot2Kernel.{Multiboot2KernelFacts, IsMultiboot2Kernel}
+use Rattle.bl_load.specs.Multiboot2Kernel.{entry_point_fault, effective_entry_point}
 use Rattle.bl_load.specs.Parts.{entered_at}
 use Rattle.bl_load.specs.Rows.{segment_rows, kernel_rows}
 use Rattle.bl_load.proofs.EntryLemmas.{entry_within}
@@ -32,7 +33,7 @@ segments_enter facts taken k entry (s ∷ segments) rest (p ∷ places) placed h
     let at : p.address ≡ s.address = placed.0.0 in
     let size : p.length ≡ s.memsz = ap (λ (q : Place). q.length) placed.1 in
     let role : p.role ≡ Kernel = ap (λ (q : Place). q.role) placed.1 in
-    elim (holds s entry) as (λ b. holds s entry ≡ b
+    elim (segment_holds s entry) as (λ b. segment_holds s entry ≡ b
     → (b || list_any (is_in_segment entry) segments) ≡ true
     → (kernel_holds entry p || list_any (kernel_holds entry) places) ≡ true) [
       | true ↦ λ e h. (
@@ -49,18 +50,18 @@ segments_enter facts taken k entry (s ∷ segments) rest (p ∷ places) placed h
     ] refl held
 
 -- the entry is that of a segment
-entry_is_held : (file : List ℕ) (kernel : Multiboot2KernelFacts) → IsKernel file kernel
+entry_is_held : (file : List ℕ) (kernel : Multiboot2KernelFacts) → IsMultiboot2Kernel file kernel
     → list_any (is_in_segment kernel.entry) kernel.segments ≡ true
 entry_is_held file kernel is =
-    let sound : entry_fault kernel.segments (Some kernel.entry) ≡ None =
-    subst (λ (e : Option ℕ). entry_fault kernel.segments e ≡ None) is.entry
-    (subst (λ (ss : List Segment). entry_fault ss (counted_entry is.header is.facts) ≡ None)
+    let sound : entry_point_fault kernel.segments (Some kernel.entry) ≡ None =
+    subst (λ (e : Option ℕ). entry_point_fault kernel.segments e ≡ None) is.entry
+    (subst (λ (ss : List Segment). entry_point_fault ss (effective_entry_point is.header is.facts) ≡ None)
     (sym is.segments) is.sound) in
     entry_held kernel.segments kernel.entry sound
 
 -- with a relocatable tag or without one: `given` is the kernel's own
 module _ (facts : MachineFacts) (file : List ℕ) (kernel : Multiboot2KernelFacts) (rest : List Row)
-    (is : IsKernel file kernel) where
+    (is : IsMultiboot2Kernel file kernel) where
   -- the block holds the entry that moved with it
   block_holds : (base : ℕ) (p : Place) → p.role ≡ Kernel → p.address ≡ base
       → p.length ≡ span_of kernel.segments

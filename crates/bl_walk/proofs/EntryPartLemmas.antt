@@ -6,7 +6,7 @@ use Rattle.std.specs.List.{list_any}
 use Rattle.std.proofs.lemmas.Bool.{le-leb, leb-true, ltb-true, lt-ltb, eq-eqb}
 use Rattle.std.proofs.lemmas.List.{get_or-map, length-map, length-replicate}
 use Rattle.std.proofs.lemmas.List.Folds.{Any-from_list_any}
-use Rattle.bl_plan.specs.Order.{in_order, place_key}
+use Rattle.bl_plan.specs.AddressOrder.{places_in_order, place_key}
 use Rattle.bl_plan.specs.Roles.{role_number}
 use Rattle.bl_plan.specs.declared.part.Place.{Place}
 use Rattle.bl_plan.specs.declared.part.Role.{Role}
@@ -37,8 +37,8 @@ holds_by address place role from below =
 
 module _ (places : List Place) (content : Role → ℕ → List ℕ)
     (apart : AllPairs (λ p q. end_of p ≤ q.address) (parts_of places content)) where
-  entered_at : (address k : ℕ) (q : Place) → k < length (in_order places)
-      → get_or (in_order places) k q ≡ q
+  entered_at : (address k : ℕ) (q : Place) → k < length (places_in_order places)
+      → get_or (places_in_order places) k q ≡ q
       → kernel_holds address q ≡ true → is_in_kernel (parts_of places content) address ≡ true
   entered_at address k q within is passes =
       let parts = parts_of places content in
@@ -52,10 +52,10 @@ module _ (places : List Place) (content : Role → ℕ → List ℕ)
       let held = content q.role q.index in
       let part = part_of content q in
       let here : get_or parts k part ≡ part =
-      get_or-map (part_of content) (in_order places) k q part within
+      get_or-map (part_of content) (places_in_order places) k q part within
       ∙ ap (part_of content) is in
-      let many : length parts ≡ length (in_order places) =
-      length-map (in_order places) (part_of content) in
+      let many : length parts ≡ length (places_in_order places) =
+      length-map (places_in_order places) (part_of content) in
       let zeros = length-replicate {A = ℕ} (q.length - length held) 0 in
       let size = length-append held (replicate (q.length - length held) 0) in
       let low : (get_or parts k part).address ≤ address = rw here from in
@@ -71,6 +71,6 @@ module _ (places : List Place) (content : Role → ℕ → List ℕ)
   entered_in address held =
       let test = kernel_holds address in
       let any =
-      Any-from_list_any test (in_order places)
+      Any-from_list_any test (places_in_order places)
       (list_any-in_order place_key test places ∙ held) in
       entered_at address any.0 any.1 any.2 any.3 any.4

@@ -5,7 +5,7 @@ use Rattle.std.specs.Prelude.{is_some, codes}
 use Rattle.std.specs.List.{list_any}
 use Rattle.std.proofs.lemmas.List.Elements.{All-head, All-tail}
 use Rattle.bl_map.specs.MachineFacts.{MachineFacts, IsWellFormedMachine}
-use Rattle.bl_mbi.specs.InformationFacts.{InformationFacts, AreBytes, FitsFields}
+use Rattle.bl_mbi.specs.InfoToWriteFacts.{InfoToWriteFacts, AreBytes, FitsInfoFields}
 use Rattle.bl_mbi.specs.Spelling.{info_spelling}
 use Rattle.bl_mbi.proofs.Sizes.{length-spelling}
 use Rattle.bl_plan.specs.Placed.{ArePlaced}
@@ -15,11 +15,11 @@ use Rattle.bl_plan.specs.declared.part.Role.TheVariants.{Kernel, Module, Informa
 use Rattle.bl_plan.specs.declared.part.Row.{Row}
 use Rattle.bl_load.specs.Addresses.{address_of}
 use Rattle.bl_load.specs.Handover.{Part, Handover, end_of}
-use Rattle.bl_load.specs.Kernel.{Multiboot2KernelFacts, IsKernel}
-use Rattle.bl_load.specs.Offered.{IsOffered}
+use Rattle.bl_load.specs.Multiboot2Kernel.{Multiboot2KernelFacts, IsMultiboot2Kernel}
+use Rattle.bl_load.specs.WellFormedEntry.{IsWellFormedValue}
 use Rattle.bl_load.specs.Parts.{content_of, handover_of}
-use Rattle.bl_load.specs.PlacingKept.{tags_size}
-use Rattle.bl_load.specs.Reading.{multiboot2}
+use Rattle.bl_load.specs.PlacingKept.{module_tags_size}
+use Rattle.bl_load.specs.KernelReading.{multiboot2}
 use Rattle.bl_load.specs.Rows.{rows_of, kernel_rows, module_rows, information_row, information_of}
 use Rattle.bl_load.specs.EntryValue.{EntryValue, kernel_file, module_file, line_fault, lines_fault}
 use Rattle.bl_load.specs.EntryValue.{lines_of}
@@ -31,7 +31,7 @@ use Rattle.bl_load.proofs.FullLemmas.{kernel_full}
 use Rattle.bl_load.proofs.RowLemmas.{kernel_rows_are_rows}
 use Rattle.bl_load.proofs.RowPlaceLemmas.{each_rowed}
 use Rattle.bl_load.proofs.PlaceBoundLemmas.{are_below}
-use Rattle.bl_walk.specs.Inside.{bytes_in}
+use Rattle.bl_walk.specs.PartBytes.{bytes_in}
 use Rattle.bl_walk.proofs.PartLemmas.{is_of, held_front}
 use Rattle.bl_walk.proofs.InformationLemmas.{row_held, behind, before, module_row, modules_fit}
 use Rattle.bl_walk.proofs.TextLemmas.{lines_short, base_fits}
@@ -44,7 +44,7 @@ module _ (facts : MachineFacts) (value : EntryValue) (kernel : Multiboot2KernelF
   abbrev pub parts : List Part
   parts = (handover_of facts value (multiboot2 kernel) places).parts
 
-  abbrev pub told : InformationFacts
+  abbrev pub told : InfoToWriteFacts
   told = information_of facts value kernel.relocation places
 
   abbrev pub last : List Row
@@ -58,9 +58,9 @@ module _ (facts : MachineFacts) (value : EntryValue) (kernel : Multiboot2KernelF
 
 module _ (facts : MachineFacts) (value : EntryValue) (kernel : Multiboot2KernelFacts)
     (places : List Place)
-    (machine : IsWellFormedMachine facts) (offered : IsOffered value)
+    (machine : IsWellFormedMachine facts) (offered : IsWellFormedValue value)
     (lines : lines_fault (lines_of value) ≡ None)
-    (is_kernel : IsKernel (kernel_file value) kernel)
+    (is_kernel : IsMultiboot2Kernel (kernel_file value) kernel)
     (placed : ArePlaced facts [] (rows_of facts value (multiboot2 kernel)) places)
     (apart : AllPairs (λ p q. end_of p ≤ q.address)
     (handover_of facts value (multiboot2 kernel) places).parts) where
@@ -100,7 +100,7 @@ module _ (facts : MachineFacts) (value : EntryValue) (kernel : Multiboot2KernelF
       modules_end_low facts value kernel places placed
       (each_rowed facts value kernel [] places placed) low
 
-  pub fits : FitsFields (told facts value kernel places)
+  pub fits : FitsInfoFields (told facts value kernel places)
   fits =
       let split = first_sound (line_fault value.line) (lines_fault value.module_lines) lines in
       let base = small_address Kernel 0 places 0xFFFFF000 low in
@@ -126,9 +126,9 @@ module _ (facts : MachineFacts) (value : EntryValue) (kernel : Multiboot2KernelF
       let short = sound_short value.line split.0 in
       let few = offered.limits.few in
       let tags = tags_small value.module_lines (lines_short value.module_lines split.1) in
-      let small : tags_size value.module_lines < 2 ^ 20 = omega (arith, few, tags) in
+      let small : module_tags_size value.module_lines < 2 ^ 20 = omega (arith, few, tags) in
       let below =
-      told_below (length value.line) (tags_size value.module_lines) (length facts.runs)
+      told_below (length value.line) (module_tags_size value.module_lines) (length facts.runs)
       value.rsdp_old value.rsdp_new (is_some kernel.relocation) short machine.few small
       offered.limits.rsdp_old offered.limits.rsdp_new in
       let whole = length-spelling (told facts value kernel places) in

@@ -4,7 +4,7 @@ use Rattle.std.proofs.Common.{ℕ, refl, sym, ap, ◌∙◌, inl, arith, subst, 
 use Rattle.std.specs.Prelude.{codes}
 use Rattle.std.proofs.Math.Seq.{take-length}
 use Rattle.bl_map.specs.MachineFacts.{MachineFacts, IsWellFormedMachine}
-use Rattle.bl_plan.specs.Order.{in_order}
+use Rattle.bl_plan.specs.AddressOrder.{places_in_order}
 use Rattle.bl_plan.specs.Placed.{ArePlaced}
 use Rattle.bl_plan.specs.declared.part.Place.{Place}
 use Rattle.bl_plan.specs.declared.protocol.Protocol.{Protocol}
@@ -12,10 +12,10 @@ use Rattle.bl_plan.specs.declared.protocol.Protocol.TheVariants.{Multiboot2}
 use Rattle.bl_plan.specs.declared.part.Role.TheVariants.{Kernel, Module, Information}
 use Rattle.bl_load.specs.Addresses.{address_of}
 use Rattle.bl_load.specs.Handover.{end_of}
-use Rattle.bl_load.specs.Kernel.{Multiboot2KernelFacts, IsKernel}
-use Rattle.bl_load.specs.Offered.{IsOffered}
+use Rattle.bl_load.specs.Multiboot2Kernel.{Multiboot2KernelFacts, IsMultiboot2Kernel}
+use Rattle.bl_load.specs.WellFormedEntry.{IsWellFormedValue}
 use Rattle.bl_load.specs.Parts.{handover_of, entered_at, kernel_entry_base}
-use Rattle.bl_load.specs.Reading.{multiboot2}
+use Rattle.bl_load.specs.KernelReading.{multiboot2}
 use Rattle.bl_load.specs.Registers.{entry_in, information_in}
 use Rattle.bl_load.specs.Rows.{rows_of, kernel_rows, module_rows}
 use Rattle.bl_load.specs.EntryValue.{EntryValue, kernel_file, module_file, lines_fault, lines_of}
@@ -23,9 +23,10 @@ use Rattle.bl_walk.specs.Seen.{HasTotalSize, IsInformation, HasInformation, Info
 use Rattle.bl_walk.specs.Seen.{IsSeen}
 use Rattle.bl_walk.specs.Kept.{seen_without_files}
 use Rattle.bl_walk.specs.SeenFacts.{SeenFacts}
-use Rattle.bl_walk.specs.Shown.{ShowsSegments, ShowsKernel, ShowsModules, ShowsFiles, ShowsEntry}
+use Rattle.bl_walk.specs.EntryShown.{ShowsSegments, ShowsKernel, ShowsModules, ShowsFiles}
+use Rattle.bl_walk.specs.EntryShown.{ShowsEntry}
 use Rattle.bl_walk.specs.State.{IsEntered}
-use Rattle.bl_walk.specs.Inside.{bytes_in}
+use Rattle.bl_walk.specs.PartBytes.{bytes_in}
 use Rattle.bl_walk.proofs.EnteredLemmas.{entered_place}
 use Rattle.bl_walk.proofs.OneToldLemmas.{no_descriptors, not_wide}
 use Rattle.bl_walk.proofs.RegisterLemmas.{as_entered, entered_from, entry_offset}
@@ -41,9 +42,9 @@ use Rattle.bl_walk.proofs.InformationHeld.{module_held, fits, size_is, handover,
 
 module _ (facts : MachineFacts) (value : EntryValue) (kernel : Multiboot2KernelFacts)
     (places : List Place)
-    (machine : IsWellFormedMachine facts) (offered : IsOffered value)
+    (machine : IsWellFormedMachine facts) (offered : IsWellFormedValue value)
     (lines : lines_fault (lines_of value) ≡ None)
-    (is_kernel : IsKernel (kernel_file value) kernel)
+    (is_kernel : IsMultiboot2Kernel (kernel_file value) kernel)
     (placed : ArePlaced facts [] (rows_of facts value (multiboot2 kernel)) places)
     (apart : AllPairs (λ p q. end_of p ≤ q.address)
     (handover_of facts value (multiboot2 kernel) places).parts) where
@@ -140,7 +141,7 @@ module _ (facts : MachineFacts) (value : EntryValue) (kernel : Multiboot2KernelF
         (module_rows value.files 0 value.module_lines ++ last facts value kernel places) places
         placed
 
-    kernel_seen : seen.kernel ≡ map seen_place (in_order split.places_first)
+    kernel_seen : seen.kernel ≡ map seen_place (places_in_order split.places_first)
     kernel_seen =
         kernel_shown facts value (multiboot2 kernel) places lines (protocol, is_kernel) placed
         ∙ ap (map seen_place)

@@ -12,7 +12,7 @@ use Rattle.std.specs.declared.ops.Range.{Range}
 use Rattle.bl_map.specs.MachineFacts.{MachineFacts}
 use Rattle.bl_mem.specs.LittleEndian.{u32_at, u32_bytes}
 use Rattle.bl_mem.proofs.LittleEndianLaws.{length-u32_bytes, u32_again}
-use Rattle.bl_mbi.specs.InformationFacts.{InformationFacts, AreBytes, IsModule}
+use Rattle.bl_mbi.specs.InfoToWriteFacts.{InfoToWriteFacts, AreBytes, IsModule}
 use Rattle.bl_mbi.specs.Spelling.{info_spelling, tags}
 use Rattle.bl_plan.specs.Placed.{ArePlaced, place_range}
 use Rattle.bl_plan.specs.PlannerFacts.{put_in}
@@ -26,7 +26,7 @@ use Rattle.bl_load.specs.Handover.{Part}
 use Rattle.bl_load.specs.Rows.{module_rows, told_modules}
 use Rattle.bl_load.specs.EntryValue.{module_file, line_fault, lines_fault}
 use Rattle.bl_load.proofs.LineLemmas.{sound_text, first_sound}
-use Rattle.bl_walk.specs.Inside.{bytes_in}
+use Rattle.bl_walk.specs.PartBytes.{bytes_in}
 use Rattle.bl_walk.specs.Seen.{AreSeenModules}
 use Rattle.bl_walk.specs.SeenFacts.{SeenModuleFacts}
 use Rattle.bl_walk.proofs.PartLemmas.{is_of}
@@ -85,7 +85,7 @@ module_row files k index (line ∷ lines) low high =
 -- ---- the information
 
 -- the first word of a spelling is its length
-pub first_word : (name : List ℕ) (facts : InformationFacts) → length (info_spelling name facts)
+pub first_word : (name : List ℕ) (facts : InfoToWriteFacts) → length (info_spelling name facts)
     < 2 ^ 32
     → length (info_spelling name facts) ≡ u32_at (take 4 (info_spelling name facts)) 0
 unfolding info_spelling

@@ -11,8 +11,8 @@ use Rattle.std.proofs.lemmas.List.Sorted.{IsPartitionedBy-leb}
 use Rattle.std.proofs.lemmas.Option.{slice_get_past, slice_get-get_or}
 use Rattle.bl_plan.specs.declared.part.Role.TheVariants.{Kernel}
 use Rattle.bl_load.specs.Handover.{Part, end_of}
-use Rattle.bl_image.specs.ImageParts.{PartAscends}
-use Rattle.bl_walk.specs.Inside.{lies_in, part_with}
+use Rattle.bl_image.specs.ImageHandover.{PartAscends}
+use Rattle.bl_walk.specs.PartBytes.{lies_in, part_with}
 use Rattle.bl_walk.specs.Kept.{begins_upto}
 
 -- a part of no byte

@@ -8,7 +8,7 @@ use Rattle.std.proofs.lemmas.List.{length-replicate}
 use Rattle.std.proofs.lemmas.List.Elements.{All-head, All-tail}
 use Rattle.std.specs.declared.ops.Range.{Range}
 use Rattle.bl_map.specs.MachineFacts.{MachineFacts}
-use Rattle.bl_plan.specs.Order.{insert_sorted, in_order, in_order_among, place_key}
+use Rattle.bl_plan.specs.AddressOrder.{insert_sorted, places_in_order, in_order_among, place_key}
 use Rattle.bl_plan.specs.Placed.{ArePlaced, place_range}
 use Rattle.bl_plan.specs.PlannerFacts.{put_in}
 use Rattle.bl_plan.specs.Roles.{role_number}
@@ -17,10 +17,10 @@ use Rattle.bl_plan.specs.declared.part.Role.{Role}
 use Rattle.bl_plan.specs.declared.part.Role.TheVariants.{Kernel}
 use Rattle.bl_plan.specs.declared.part.Row.{Row}
 use Rattle.bl_plan.proofs.OrderLemmas.{in_order_all}
-use Rattle.bl_load.specs.Handover.{filled}
+use Rattle.bl_load.specs.Handover.{zero_padded}
 use Rattle.bl_load.specs.Parts.{content_of, handover_of}
-use Rattle.bl_load.specs.PlacingKept.{IsRowed}
-use Rattle.bl_load.specs.Reading.{Reading, IsRead}
+use Rattle.bl_load.specs.PlacingKept.{HasRowLength}
+use Rattle.bl_load.specs.KernelReading.{KernelReading, IsKernelReading}
 use Rattle.bl_load.specs.Rows.{rows_of}
 use Rattle.bl_load.specs.EntryValue.{EntryValue, lines_fault, lines_of}
 use Rattle.bl_load.proofs.ReadingLaws.{reading_rowed, reading_short}
@@ -72,25 +72,25 @@ kernel_parts content (p ∷ places) sized =
     ]
 
 filled_length : (count : ℕ) (content : List ℕ) → length content ≤ count
-    → length (filled count content) ≡ count
+    → length (zero_padded count content) ≡ count
 filled_length count content short = rw (length-append, length-replicate) (omega arith)
 
-module _ (facts : MachineFacts) (value : EntryValue) (reading : Reading) (places : List Place)
+module _ (facts : MachineFacts) (value : EntryValue) (reading : KernelReading) (places : List Place)
     (lines : lines_fault (lines_of value) ≡ None)
-    (read : IsRead facts value reading)
+    (read : IsKernelReading facts value reading)
     (placed : ArePlaced facts [] (rows_of facts value reading) places) where
-  all_sized : All (IsSized (content_of facts value reading places)) (in_order places)
+  all_sized : All (IsSized (content_of facts value reading places)) (places_in_order places)
   all_sized k d within =
       let rowed =
-      in_order_all place_key (IsRowed facts value reading) places
+      in_order_all place_key (HasRowLength facts value reading) places
       (reading_rowed facts value reading places placed) k d within in
       filled_length
-      _ _ (reading_short facts value reading places (get_or (in_order places) k d) lines read
+      _ _ (reading_short facts value reading places (get_or (places_in_order places) k d) lines read
       rowed)
 
   pub kernel_shown : kernel_in (handover_of facts value reading places).parts
-      ≡ map seen_place (filter is_kernel_place (in_order places))
-  kernel_shown = kernel_parts (content_of facts value reading places) (in_order places) all_sized
+      ≡ map seen_place (filter is_kernel_place (places_in_order places))
+  kernel_shown = kernel_parts (content_of facts value reading places) (places_in_order places) all_sized
 
 -- ---- the kernel's places come first among the rows
 
@@ -130,11 +130,11 @@ all_of_kernel (p ∷ places) all =
     (all_of_kernel places (All-tail IsOfKernel p places all)))
 
 pub kernel_places : (first others : List Place) → All IsOfKernel first → All IsOther others
-    → filter is_kernel_place (in_order (first ++ others)) ≡ in_order first
+    → filter is_kernel_place (places_in_order (first ++ others)) ≡ places_in_order first
 kernel_places first others of_kernel other =
     ap (filter is_kernel_place) (among_both [] first others)
-    ∙ among_others (in_order first) others other
-    ∙ all_of_kernel (in_order first) (in_order_all place_key IsOfKernel first of_kernel)
+    ∙ among_others (places_in_order first) others other
+    ∙ all_of_kernel (places_in_order first) (in_order_all place_key IsOfKernel first of_kernel)
 
 -- places of rows and of the rows after them
 pub record AreSplit (facts : MachineFacts) (taken : List (Range ℕ)) (first rest : List Row)
@@ -174,9 +174,9 @@ are_split facts taken (row ∷ first) rest (p ∷ places) placed =
 pub first_places : (facts : MachineFacts) (first rest : List Row) (places : List Place)
     (split : AreSplit facts [] first rest places)
     → All (Anywhere IsOfKernel) first → All (Anywhere IsOther) rest
-    → filter is_kernel_place (in_order places) ≡ in_order split.places_first
+    → filter is_kernel_place (places_in_order places) ≡ places_in_order split.places_first
 first_places facts first rest places split of_kernel other =
-    ap (λ (ps : List Place). filter is_kernel_place (in_order ps)) split.both
+    ap (λ (ps : List Place). filter is_kernel_place (places_in_order ps)) split.both
     ∙ kernel_places split.places_first split.places_rest
     (each_place facts IsOfKernel [] first split.places_first of_kernel split.placed_first)
     (each_place facts IsOther split.taken_then rest split.places_rest other split.placed_rest)

@@ -4,20 +4,20 @@ use Rattle.bl_map.specs.MachineFacts.{MachineFacts, IsWellFormedMachine}
 use Rattle.bl_plan.specs.Placed.{ArePlaced}
 use Rattle.bl_plan.specs.declared.part.Place.{Place}
 use Rattle.bl_load.specs.Handover.{Part, Handover, end_of}
-use Rattle.bl_load.specs.Offered.{IsOffered}
+use Rattle.bl_load.specs.WellFormedEntry.{IsWellFormedValue}
 use Rattle.bl_load.specs.Parts.{IsHandover, handover_of}
-use Rattle.bl_load.specs.Reading.{Reading, multiboot2, linux, IsRead}
+use Rattle.bl_load.specs.KernelReading.{KernelReading, multiboot2, linux, IsKernelReading}
 use Rattle.bl_load.specs.Rows.{rows_of}
 use Rattle.bl_load.specs.EntryValue.{EntryValue, lines_fault, lines_of}
 use Rattle.bl_load.proofs.PartLaws.{all_apart}
 use Rattle.bl_image.specs.declared.version.Version.{Version}
 use Rattle.bl_image.specs.Image.{spelling}
-use Rattle.bl_image.specs.ImageParts.{IsImage, IsKeptByImages}
+use Rattle.bl_image.specs.ImageHandover.{IsImage, IsKeptByImages}
 use Rattle.bl_image.proofs.ReadAgain.{image_is_read_again}
 use Rattle.bl_walk.specs.Faults.{IsSound}
 use Rattle.bl_walk.specs.Seen.{IsSeen}
 use Rattle.bl_walk.specs.SeenFacts.{SeenFacts}
-use Rattle.bl_walk.specs.Shown.{ShowsEntry}
+use Rattle.bl_walk.specs.EntryShown.{ShowsEntry}
 use Rattle.bl_walk.specs.State.{IsEntered}
 use Rattle.bl_walk.proofs.InformationLaws as information
 use Rattle.bl_walk.proofs.ParametersLaws as parameters
@@ -32,9 +32,9 @@ record Shows (facts : MachineFacts) (value : EntryValue) (h : Handover) : Type 0
   entered : IsEntered h
 
 -- by what is read of the kernel
-by_reading : (facts : MachineFacts) (value : EntryValue) (places : List Place) (reading : Reading)
-    → IsWellFormedMachine facts → IsOffered value → lines_fault (lines_of value) ≡ None
-    → IsRead facts value reading
+by_reading : (facts : MachineFacts) (value : EntryValue) (places : List Place) (reading : KernelReading)
+    → IsWellFormedMachine facts → IsWellFormedValue value → lines_fault (lines_of value) ≡ None
+    → IsKernelReading facts value reading
     → ArePlaced facts [] (rows_of facts value reading) places
     → AllPairs (λ p q. end_of p ≤ q.address) (handover_of facts value reading places).parts
     → Shows facts value (handover_of facts value reading places)
@@ -67,7 +67,7 @@ by_reading facts value places (linux setup) machine offered lines read placed ap
 }
 
 shows : (facts : MachineFacts) (value : EntryValue) (h : Handover) → IsWellFormedMachine facts
-    → IsOffered value → IsHandover facts value h → Shows facts value h
+    → IsWellFormedValue value → IsHandover facts value h → Shows facts value h
 shows facts value h machine offered is =
     let apart =
     subst (λ (x : Handover). AllPairs (λ (p q : Part). end_of p ≤ q.address) x.parts) is.is
@@ -77,19 +77,19 @@ shows facts value h machine offered is =
     apart)
 
 pub handovers_are_seen : (facts : MachineFacts) (value : EntryValue) (h : Handover)
-    → IsWellFormedMachine facts → IsOffered value → IsHandover facts value h
+    → IsWellFormedMachine facts → IsWellFormedValue value → IsHandover facts value h
     → (seen : SeenFacts) × IsSeen h seen × ShowsEntry facts value seen
 handovers_are_seen facts value h machine offered is =
     let all = shows facts value h machine offered is in
     (all.seen, all.is_seen, all.entry)
 
 pub handovers_are_entered : (facts : MachineFacts) (value : EntryValue) (h : Handover)
-    → IsWellFormedMachine facts → IsOffered value → IsHandover facts value h → IsEntered h
+    → IsWellFormedMachine facts → IsWellFormedValue value → IsHandover facts value h → IsEntered h
 handovers_are_entered facts value h machine offered is =
     (shows facts value h machine offered is).entered
 
 pub handovers_are_sound : (facts : MachineFacts) (value : EntryValue) (h : Handover)
-    → IsWellFormedMachine facts → IsOffered value → IsHandover facts value h → IsSound h
+    → IsWellFormedMachine facts → IsWellFormedValue value → IsHandover facts value h → IsSound h
 handovers_are_sound facts value h machine offered is =
     let all = shows facts value h machine offered is in
     seen_is_sound h all.seen all.entered all.is_seen
@@ -103,7 +103,7 @@ same_handover version other h image kept is =
     (image_is_read_again version other h image kept.spellable is.kept.spellable is.is).1
 
 pub images_show : (facts : MachineFacts) (value : EntryValue) (version other : Version)
-    (h image : Handover) (seen : SeenFacts) → IsWellFormedMachine facts → IsOffered value
+    (h image : Handover) (seen : SeenFacts) → IsWellFormedMachine facts → IsWellFormedValue value
     → IsHandover facts value h → IsKeptByImages h → IsImage other (spelling version h) image
     → IsSeen image seen → ShowsEntry facts value seen
 images_show facts value version other h image seen machine offered is kept spelled sees =
@@ -114,14 +114,14 @@ images_show facts value version other h image seen machine offered is kept spell
     subst (ShowsEntry facts value) (seen_is_determined h all.seen seen all.is_seen own) all.entry
 
 pub images_are_sound : (facts : MachineFacts) (value : EntryValue) (version other : Version)
-    (h image : Handover) → IsWellFormedMachine facts → IsOffered value → IsHandover facts value h
+    (h image : Handover) → IsWellFormedMachine facts → IsWellFormedValue value → IsHandover facts value h
     → IsKeptByImages h → IsImage other (spelling version h) image → IsSound image
 images_are_sound facts value version other h image machine offered is kept spelled =
     subst IsSound (same_handover version other h image kept spelled)
     (handovers_are_sound facts value h machine offered is)
 
 pub images_are_entered : (facts : MachineFacts) (value : EntryValue) (version other : Version)
-    (h image : Handover) → IsWellFormedMachine facts → IsOffered value → IsHandover facts value h
+    (h image : Handover) → IsWellFormedMachine facts → IsWellFormedValue value → IsHandover facts value h
     → IsKeptByImages h → IsImage other (spelling version h) image → IsEntered image
 images_are_entered facts value version other h image machine offered is kept spelled =
     subst IsEntered (same_handover version other h image kept spelled)

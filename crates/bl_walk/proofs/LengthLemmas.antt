@@ -5,7 +5,7 @@ use Rattle.std.proofs.Common.{ap, ◌∙◌, arith, ⊎_elim, length-take, lengt
 use Rattle.std.specs.List.{find}
 use Rattle.std.proofs.lemmas.Bool.{leb-true, cases_order}
 use Rattle.bl_load.specs.Handover.{Part, end_of}
-use Rattle.bl_walk.specs.Inside.{lies_in, part_with, bytes_in}
+use Rattle.bl_walk.specs.PartBytes.{lies_in, part_with, bytes_in}
 use Rattle.bl_walk.proofs.RangeLemmas.{nothing_in, bytes_of}
 
 pub same_some : {A : Type 0} (x y : A) → Some x ≡ Some y → x ≡ y

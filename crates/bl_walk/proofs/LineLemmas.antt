@@ -10,15 +10,15 @@ use Rattle.std.proofs.lemmas.List.{take_at}
 use Rattle.std.proofs.lemmas.List.Folds.{Any-from_list_any}
 use Rattle.std.proofs.lemmas.List.Sums.{position_or_len_is}
 use Rattle.std.proofs.Math.Seq.{get_or-append_seam}
-use Rattle.bl_mbi.specs.InformationFacts.{IsText}
-use Rattle.bl_plan.specs.Order.{in_order, place_key}
+use Rattle.bl_mbi.specs.InfoToWriteFacts.{IsText}
+use Rattle.bl_plan.specs.AddressOrder.{places_in_order, place_key}
 use Rattle.bl_plan.specs.declared.part.Place.{Place}
 use Rattle.bl_plan.specs.declared.part.Role.{Role}
 use Rattle.bl_plan.proofs.OrderLemmas.{in_order_all}
 use Rattle.bl_plan.proofs.OrderCountLemmas.{list_any-in_order}
 use Rattle.bl_load.specs.Addresses.{address_of}
-use Rattle.bl_load.specs.Handover.{end_of, filled}
-use Rattle.bl_walk.specs.Inside.{rest_in}
+use Rattle.bl_load.specs.Handover.{end_of, zero_padded}
+use Rattle.bl_walk.specs.PartBytes.{rest_in}
 use Rattle.bl_walk.specs.Seen.{text_to_zero}
 use Rattle.bl_walk.proofs.RangeLemmas.{some_rest_in}
 use Rattle.bl_walk.proofs.PartLemmas.{is_of, is_at, part_of, parts_of, found_there, address_held}
@@ -34,12 +34,12 @@ IsLong role index size place = is_of role index place ≡ true → place.length 
 
 module _ (places : List Place) (content : Role → ℕ → List ℕ)
     (apart : AllPairs (λ p q. end_of p ≤ q.address) (parts_of places content)) where
-  rest_at : (role : Role) (index size k : ℕ) (q : Place) → k < length (in_order places)
-      → get_or (in_order places) k q ≡ q
+  rest_at : (role : Role) (index size k : ℕ) (q : Place) → k < length (places_in_order places)
+      → get_or (places_in_order places) k q ≡ q
       → is_at role index (address_of role index places) q ≡ true → IsLong role index size q
       → 1 ≤ size
       → rest_in (parts_of places content) (address_of role index places)
-      ≡ Some (filled size (content role index))
+      ≡ Some (zero_padded size (content role index))
   rest_at role index size k q within is passes long some =
       let parts = parts_of places content in
       let address = address_of role index places in
@@ -51,10 +51,10 @@ module _ (places : List Place) (content : Role → ℕ → List ℕ)
       let held : content q.role q.index ≡ content role index = ap₂ content of_role of_index in
       let part = part_of content q in
       let here : get_or parts k part ≡ part =
-      get_or-map (part_of content) (in_order places) k q part within
+      get_or-map (part_of content) (places_in_order places) k q part within
       ∙ ap (part_of content) is in
-      let many : length parts ≡ length (in_order places) =
-      length-map (in_order places) (part_of content) in
+      let many : length parts ≡ length (places_in_order places) =
+      length-map (places_in_order places) (part_of content) in
       let sized : q.length ≡ size = long split.0 in
       let zeros = length-replicate {A = ℕ} (q.length - length (content q.role q.index)) 0 in
       let sum =
@@ -67,17 +67,17 @@ module _ (places : List Place) (content : Role → ℕ → List ℕ)
       found_there parts address 1 k part apart (omega arith) (omega arith) low high
       ∙ ap Some here in
       some_rest_in parts address part found
-      ∙ ap Some (whole part.bytes address q.address (sym stands) ∙ ap₂ filled sized held)
+      ∙ ap Some (whole part.bytes address q.address (sym stands) ∙ ap₂ zero_padded sized held)
 
   -- the part of a role and an index, from its first byte on
   pub held_rest : (role : Role) (index size : ℕ) → list_any (is_of role index) places ≡ true
       → All (IsLong role index size) places → 1 ≤ size
       → rest_in (parts_of places content) (address_of role index places)
-      ≡ Some (filled size (content role index))
+      ≡ Some (zero_padded size (content role index))
   held_rest role index size held long some =
       let test = is_at role index (address_of role index places) in
       let any =
-      Any-from_list_any test (in_order places)
+      Any-from_list_any test (places_in_order places)
       (list_any-in_order place_key test places ∙ address_held role index places held) in
       let sorted = in_order_all place_key (IsLong role index size) places long in
       let one = subst (IsLong role index size) any.3 (sorted any.0 any.1 any.2) in
@@ -107,7 +107,7 @@ text_before line rest text =
     rw (zero_behind line rest text, within) (ap Some (take_at line (0 ∷ rest) (length line) refl))
 
 pub line_shown : (line : List ℕ) (size : ℕ) → IsText line → length line < size
-    → text_to_zero (filled size line) ≡ Some line
+    → text_to_zero (zero_padded size line) ≡ Some line
 line_shown line size text short =
     let next : size - length line ≡ suc (size - length line - 1) = omega arith in
     ap (λ (n : ℕ). text_to_zero (line ++ replicate n 0)) next

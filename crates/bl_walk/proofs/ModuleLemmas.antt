@@ -1,6 +1,6 @@
 -- The modules, one more after those that are there.
 use Rattle.std.proofs.Common.{List, [], ◌∷◌, ◌++◌}
-use Rattle.bl_mbi.specs.InformationFacts.{ModuleInfo}
+use Rattle.bl_mbi.specs.InfoToWriteFacts.{ModuleInfo}
 use Rattle.bl_load.specs.Handover.{Part}
 use Rattle.bl_walk.specs.SeenFacts.{SeenModuleFacts}
 use Rattle.bl_walk.specs.Seen.{IsSeenModule, AreSeenModules}

@@ -3,7 +3,7 @@ use Rattle.std.proofs.Common.{◌≡◌, ◌-◌, ◌<◌, ℕ, zero, suc, List,
 use Rattle.std.proofs.Common.{Option, Some, None, Result, Ok, true, sym, ap, ◌∙◌, arith, subst}
 use Rattle.bl_mem.specs.LittleEndian.{u32_at}
 use Rattle.bl_mbi.specs.declared.fault.InfoFault.{InfoFault}
-use Rattle.bl_mbi.specs.InformationFacts.{ModuleInfo}
+use Rattle.bl_mbi.specs.InfoToWriteFacts.{ModuleInfo}
 use Rattle.bl_mbi.specs.InfoFacts.{InfoFacts, IsSpelling}
 use Rattle.bl_mbi.specs.Reading.{info_of}
 use Rattle.bl_mbi.proofs.ReadAgain.{spelled_is_read}
@@ -15,7 +15,7 @@ use Rattle.bl_load.specs.Protocols.{has_params, descriptors_of, is_wide}
 use Rattle.bl_load.specs.Registers.{information_in}
 use Rattle.bl_plan.specs.declared.protocol.Protocol.{Protocol}
 use Rattle.bl_plan.specs.declared.protocol.Protocol.TheVariants.{Multiboot2}
-use Rattle.bl_walk.specs.Inside.{bytes_in}
+use Rattle.bl_walk.specs.PartBytes.{bytes_in}
 use Rattle.bl_walk.specs.Seen.{HasTotalSize, IsInformation, HasInformation, AreSeenModules}
 use Rattle.bl_walk.specs.Seen.{AreParameters, HasParameters}
 use Rattle.bl_walk.specs.SeenFacts.{SeenModuleFacts}

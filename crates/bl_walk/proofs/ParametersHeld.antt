@@ -7,12 +7,12 @@ use Rattle.std.proofs.lemmas.Bool.{eqb-true}
 use Rattle.std.proofs.lemmas.List.Elements.{All-head}
 use Rattle.std.proofs.Math.Seq.{take-length}
 use Rattle.bl_map.specs.MachineFacts.{MachineFacts, IsWellFormedMachine}
-use Rattle.bl_mbi.specs.InformationFacts.{AreBytes}
+use Rattle.bl_mbi.specs.InfoToWriteFacts.{AreBytes}
 use Rattle.bl_bzimage.specs.declared.setup.Setup.{Setup}
 use Rattle.bl_params.specs.BootParams.{boot_params}
-use Rattle.bl_params.specs.BootParamsFacts.{BootParamsFacts, AreE820Runs}
+use Rattle.bl_params.specs.ParamsToWriteFacts.{ParamsToWriteFacts, AreE820Runs}
 use Rattle.bl_params.specs.ParamsFacts.{ParamsFacts}
-use Rattle.bl_params.specs.Told.{FitFields, params_of}
+use Rattle.bl_params.specs.WrittenParams.{FitParamFields, params_of}
 use Rattle.bl_params.proofs.Lengths.{length-boot_params}
 use Rattle.bl_params.proofs.WrittenIsRead.{written_is_read}
 use Rattle.bl_plan.specs.Placed.{ArePlaced}
@@ -20,14 +20,14 @@ use Rattle.bl_plan.specs.declared.part.Place.{Place}
 use Rattle.bl_plan.specs.declared.part.Role.{Role}
 use Rattle.bl_plan.specs.declared.part.Role.TheVariants.{Kernel, BootParams, CommandLine, Initrd}
 use Rattle.bl_load.specs.Addresses.{address_of}
-use Rattle.bl_load.specs.Handover.{Handover, end_of, filled}
+use Rattle.bl_load.specs.Handover.{Handover, end_of, zero_padded}
 use Rattle.bl_load.specs.Linux.{IsLinuxKernel}
-use Rattle.bl_load.specs.LinuxRows.{linux_kernel_row, told_of}
-use Rattle.bl_load.specs.Offered.{IsOffered}
+use Rattle.bl_load.specs.LinuxRows.{linux_kernel_row, boot_params_facts}
+use Rattle.bl_load.specs.WellFormedEntry.{IsWellFormedValue}
 use Rattle.bl_load.specs.Parts.{content_of, handover_of}
 use Rattle.bl_load.specs.PlacingKept.{HasLength}
 use Rattle.bl_load.specs.Protocols.{has_params}
-use Rattle.bl_load.specs.Reading.{linux}
+use Rattle.bl_load.specs.KernelReading.{linux}
 use Rattle.bl_load.specs.Registers.{params_in}
 use Rattle.bl_load.specs.Rows.{rows_of}
 use Rattle.bl_load.specs.EntryValue.{EntryValue, kernel_file, initrd_file, line_fault, lines_fault}
@@ -38,10 +38,10 @@ use Rattle.bl_load.proofs.LinuxKernelLemmas.{setup_is, few_runs}
 use Rattle.bl_load.proofs.LinuxLemmas.{linux_rows_are_rows, linux_rowed}
 use Rattle.bl_load.proofs.LinuxToldLemmas.{initrd_fits}
 use Rattle.bl_load.proofs.PlaceBoundLemmas.{are_below}
-use Rattle.bl_walk.specs.Inside.{bytes_in}
+use Rattle.bl_walk.specs.PartBytes.{bytes_in}
 use Rattle.bl_walk.specs.Seen.{HasParameters, IsLine, IsInitrd}
 use Rattle.bl_walk.specs.SeenFacts.{SeenFileFacts}
-use Rattle.bl_walk.specs.Shown.{some_bytes}
+use Rattle.bl_walk.specs.EntryShown.{some_bytes}
 use Rattle.bl_walk.proofs.InformationLemmas.{is_row, row_held, behind}
 use Rattle.bl_walk.proofs.LineLemmas.{IsLong, held_rest, line_shown}
 use Rattle.bl_walk.proofs.PartLemmas.{is_of, both_true, same_role, held_front}
@@ -60,14 +60,14 @@ module _ (facts : MachineFacts) (value : EntryValue) (setup : Setup) (places : L
   abbrev pub handover : Handover
   handover = handover_of facts value (linux setup) places
 
-  abbrev told : BootParamsFacts
-  told = told_of facts value places
+  abbrev told : ParamsToWriteFacts
+  told = boot_params_facts facts value places
 
   abbrev pub params : ParamsFacts
   params = params_of setup told
 
 module _ (facts : MachineFacts) (value : EntryValue) (setup : Setup) (places : List Place)
-    (machine : IsWellFormedMachine facts) (offered : IsOffered value)
+    (machine : IsWellFormedMachine facts) (offered : IsWellFormedValue value)
     (lines : lines_fault (lines_of value) ≡ None) (handed : has_params value.protocol ≡ true)
     (is_kernel : IsLinuxKernel value.protocol facts.runs value.line (kernel_file value) setup)
     (placed : ArePlaced facts [] (rows_of facts value (linux setup)) places)
@@ -88,7 +88,7 @@ module _ (facts : MachineFacts) (value : EntryValue) (setup : Setup) (places : L
   small : (role : Role) → address_of role 0 places ≤ 0xFFFFF000
   small role = small_address role 0 places 0xFFFFF000 low
 
-  fit : FitFields (told facts value setup places)
+  fit : FitParamFields (told facts value setup places)
   fit =
       let kernel = small Kernel in
       let ramdisk = small Initrd in
@@ -158,7 +158,7 @@ module _ (facts : MachineFacts) (value : EntryValue) (setup : Setup) (places : L
       sound_text value.line sound (All-head AreBytes value.line value.module_lines offered.lines) in
       let short = sound_short value.line sound in
       record {
-        rest = filled 4096 value.line;
+        rest = zero_padded 4096 value.line;
         from =
             held_rest places (content facts value setup places) apart CommandLine 0 4096
             (placed_row CommandLine refl)

@@ -17,10 +17,10 @@ use Rattle.bl_load.specs.Addresses.{address_of}
 use Rattle.bl_load.specs.Handover.{end_of}
 use Rattle.bl_load.specs.Linux.{IsLinuxKernel}
 use Rattle.bl_load.specs.LinuxRows.{linux_kernel_row}
-use Rattle.bl_load.specs.Offered.{IsOffered}
+use Rattle.bl_load.specs.WellFormedEntry.{IsWellFormedValue}
 use Rattle.bl_load.specs.Parts.{handover_of}
 use Rattle.bl_load.specs.Protocols.{has_params}
-use Rattle.bl_load.specs.Reading.{linux}
+use Rattle.bl_load.specs.KernelReading.{linux}
 use Rattle.bl_load.specs.Rows.{rows_of}
 use Rattle.bl_load.specs.EntryValue.{EntryValue, kernel_file, lines_fault, lines_of}
 use Rattle.bl_load.proofs.LinuxKernelLemmas.{setup_is}
@@ -29,7 +29,8 @@ use Rattle.bl_walk.specs.declared.seen.SeenPart.{SeenPart}
 use Rattle.bl_walk.specs.Kept.{seen_without_files}
 use Rattle.bl_walk.specs.Seen.{ParametersShow, IsSeen}
 use Rattle.bl_walk.specs.SeenFacts.{SeenFacts}
-use Rattle.bl_walk.specs.Shown.{ShowsEntry, ShowsKernel, ShowsFiles, ShowsPayload, ShowsRamdisk}
+use Rattle.bl_walk.specs.EntryShown.{ShowsEntry, ShowsKernel, ShowsFiles, ShowsPayload}
+use Rattle.bl_walk.specs.EntryShown.{ShowsRamdisk}
 use Rattle.bl_walk.specs.State.{IsEntered}
 use Rattle.bl_walk.proofs.KernelLemmas.{AreSplit, are_split, first_places, kernel_shown, seen_place}
 use Rattle.bl_walk.proofs.EntryPartLemmas.{entered_in}
@@ -41,7 +42,7 @@ use Rattle.bl_walk.proofs.ParametersHeld.{initrd, content, handover, params, hel
 use Rattle.bl_walk.proofs.ParametersHeld.{placed_row, say, line_seen, ramdisk}
 
 module _ (facts : MachineFacts) (value : EntryValue) (setup : Setup) (places : List Place)
-    (machine : IsWellFormedMachine facts) (offered : IsOffered value)
+    (machine : IsWellFormedMachine facts) (offered : IsWellFormedValue value)
     (lines : lines_fault (lines_of value) ≡ None) (handed : has_params value.protocol ≡ true)
     (is_kernel : IsLinuxKernel value.protocol facts.runs value.line (kernel_file value) setup)
     (placed : ArePlaced facts [] (rows_of facts value (linux setup)) places)

@@ -9,7 +9,7 @@ use Rattle.bl_map.specs.MachineFacts.{MachineFacts}
 use Rattle.bl_map.specs.declared.region.Region.{Region}
 use Rattle.bl_map.specs.Limits.{max_size}
 use Rattle.bl_bzimage.specs.declared.setup.Setup.{Setup}
-use Rattle.bl_plan.specs.Order.{in_order}
+use Rattle.bl_plan.specs.AddressOrder.{places_in_order}
 use Rattle.bl_plan.specs.Placed.{ArePlaced, row_place}
 use Rattle.bl_plan.specs.declared.part.Place.{Place}
 use Rattle.bl_plan.specs.declared.part.Role.TheVariants.{Kernel, BootParams, CommandLine, Gdt}
@@ -19,8 +19,9 @@ use Rattle.bl_plan.specs.declared.protocol.Protocol.TheVariants as protocols
 use Rattle.bl_plan.specs.declared.part.Row.{Row}
 use Rattle.bl_load.specs.Addresses.{address_of}
 use Rattle.bl_load.specs.Linux.{IsLinuxKernel}
-use Rattle.bl_load.specs.LinuxRows.{fixed_kernel_row, moved_row, linux_kernel_row, frame_row}
-use Rattle.bl_load.specs.LinuxRows.{line_limit}
+use Rattle.bl_load.specs.LinuxRows.{fixed_kernel_row, relocatable_kernel_row, linux_kernel_row}
+use Rattle.bl_load.specs.LinuxRows.{frame_row}
+use Rattle.bl_load.specs.LinuxRows.{line_end_limit}
 use Rattle.bl_load.specs.LinuxRows.{paging_row, initrd_rows, linux_rows}
 use Rattle.bl_load.specs.Protocols.{is_wide}
 use Rattle.bl_load.proofs.LinuxKernelLemmas.{setup_is, entering_is, entry_loaded}
@@ -36,13 +37,13 @@ use Rattle.bl_walk.proofs.RegisterLemmas.{entry_offset}
 
 unfoldable pub params_rows : Protocol → Setup → List ℕ → List Row
 params_rows protocol setup initrd =
-    frame_row BootParams max_size ∷ frame_row CommandLine line_limit ∷ frame_row Gdt max_size
+    frame_row BootParams max_size ∷ frame_row CommandLine line_end_limit ∷ frame_row Gdt max_size
     ∷ (option_to_list (paging_row protocol) ++ initrd_rows setup initrd)
 
 pub kernel_of_kernel : (setup : Setup) → All (Anywhere IsOfKernel) (linux_kernel_row setup ∷ [])
 kernel_of_kernel setup =
     All-cons (Anywhere IsOfKernel) (linux_kernel_row setup) []
-    (cond_both (nat_eq setup.relocatable_kernel 0) (fixed_kernel_row setup) (moved_row setup)
+    (cond_both (nat_eq setup.relocatable_kernel 0) (fixed_kernel_row setup) (relocatable_kernel_row setup)
     (Anywhere IsOfKernel) (λ _ a. refl) (λ _ a. refl))
     (All-nil (Anywhere IsOfKernel))
 
@@ -64,9 +65,9 @@ unfolding params_rows
 params_other protocol setup initrd =
     let paging = option_to_list (paging_row protocol) in
     All-cons (Anywhere IsOther) (frame_row BootParams max_size)
-    (frame_row CommandLine line_limit ∷ frame_row Gdt max_size
+    (frame_row CommandLine line_end_limit ∷ frame_row Gdt max_size
     ∷ (paging ++ initrd_rows setup initrd)) (λ a. refl)
-    (All-cons (Anywhere IsOther) (frame_row CommandLine line_limit)
+    (All-cons (Anywhere IsOther) (frame_row CommandLine line_end_limit)
     (frame_row Gdt max_size ∷ (paging ++ initrd_rows setup initrd)) (λ a. refl)
     (All-cons (Anywhere IsOther) (frame_row Gdt max_size) (paging ++ initrd_rows setup initrd)
     (λ a. refl)
@@ -95,7 +96,7 @@ tables_row protocols.Linux64 setup initrd wide = refl
 kernel_named : (setup : Setup)
     → ((linux_kernel_row setup).role ≡ Kernel) × ((linux_kernel_row setup).index ≡ 0)
 kernel_named setup =
-    cond_both (nat_eq setup.relocatable_kernel 0) (fixed_kernel_row setup) (moved_row setup)
+    cond_both (nat_eq setup.relocatable_kernel 0) (fixed_kernel_row setup) (relocatable_kernel_row setup)
     (λ (row : Row). (row.role ≡ Kernel) × (row.index ≡ 0))
     (λ _. (refl, refl)) (λ _. (refl, refl))
 
@@ -110,7 +111,7 @@ first_address setup p others is =
 
 pub payload_at : (facts : MachineFacts) (setup : Setup) (first others : List Place)
     → ArePlaced facts [] (linux_kernel_row setup ∷ []) first
-    → map seen_place (in_order first)
+    → map seen_place (places_in_order first)
     ≡ record {
       address = address_of Kernel 0 (first ++ others);
       length = (linux_kernel_row setup).length;

@@ -9,7 +9,7 @@ use Rattle.std.proofs.lemmas.List.{take-append-le, get_or-map, length-map}
 use Rattle.std.proofs.lemmas.List.Folds.{find_at, Any-from_list_any}
 use Rattle.std.proofs.lemmas.List.Sums.{position_or_len_is}
 use Rattle.std.proofs.lemmas.Option.{slice_get-get_or}
-use Rattle.bl_plan.specs.Order.{in_order, place_key}
+use Rattle.bl_plan.specs.AddressOrder.{places_in_order, place_key}
 use Rattle.bl_plan.specs.Roles.{role_number}
 use Rattle.bl_plan.specs.declared.part.Place.{Place}
 use Rattle.bl_plan.specs.declared.part.Role.{Role}
@@ -17,8 +17,8 @@ use Rattle.bl_plan.specs.declared.part.Role.TheVariants.{Kernel, Module, Informa
 use Rattle.bl_plan.specs.declared.part.Role.TheVariants.{CommandLine, Gdt, Initrd, PageTables}
 use Rattle.bl_plan.proofs.OrderCountLemmas.{list_any-in_order}
 use Rattle.bl_load.specs.Addresses.{address_of}
-use Rattle.bl_load.specs.Handover.{Part, end_of, placed_part, filled}
-use Rattle.bl_walk.specs.Inside.{lies_in, part_with, bytes_in}
+use Rattle.bl_load.specs.Handover.{Part, end_of, placed_part, zero_padded}
+use Rattle.bl_walk.specs.PartBytes.{lies_in, part_with, bytes_in}
 use Rattle.bl_walk.proofs.InsideLemmas.{lies-below}
 use Rattle.bl_walk.proofs.RangeLemmas.{nothing_in, inside_in}
 
@@ -106,16 +106,16 @@ front bytes rest a b n same fits =
 
 -- the part at a place: its content, and zeros after it
 abbrev pub part_of : (Role → ℕ → List ℕ) → Place → Part
-part_of content place = placed_part place (filled place.length (content place.role place.index))
+part_of content place = placed_part place (zero_padded place.length (content place.role place.index))
 
 abbrev pub parts_of : List Place → (Role → ℕ → List ℕ) → List Part
-parts_of places content = map (part_of content) (in_order places)
+parts_of places content = map (part_of content) (places_in_order places)
 
 module _ (places : List Place) (content : Role → ℕ → List ℕ)
     (apart : AllPairs (λ p q. end_of p ≤ q.address) (parts_of places content)) where
   -- where a place stands in address order
-  held_at : (role : Role) (index n k : ℕ) (q : Place) → k < length (in_order places)
-      → get_or (in_order places) k q ≡ q
+  held_at : (role : Role) (index n k : ℕ) (q : Place) → k < length (places_in_order places)
+      → get_or (places_in_order places) k q ≡ q
       → is_at role index (address_of role index places) q ≡ true → 1 ≤ n
       → n ≤ length (content role index)
       → bytes_in (parts_of places content) (address_of role index places) n
@@ -131,10 +131,10 @@ module _ (places : List Place) (content : Role → ℕ → List ℕ)
       let held : content q.role q.index ≡ content role index = ap₂ content of_role of_index in
       let part = part_of content q in
       let here : get_or parts k part ≡ part =
-      get_or-map (part_of content) (in_order places) k q part within
+      get_or-map (part_of content) (places_in_order places) k q part within
       ∙ ap (part_of content) is in
-      let many : length parts ≡ length (in_order places) =
-      length-map (in_order places) (part_of content) in
+      let many : length parts ≡ length (places_in_order places) =
+      length-map (places_in_order places) (part_of content) in
       let long : n ≤ length (content q.role q.index) = omega (arith, ap length held) in
       let size =
       length-append (content q.role q.index)
@@ -155,7 +155,7 @@ module _ (places : List Place) (content : Role → ℕ → List ℕ)
   some_held role index n held some fits =
       let test = is_at role index (address_of role index places) in
       let any =
-      Any-from_list_any test (in_order places)
+      Any-from_list_any test (places_in_order places)
       (list_any-in_order place_key test places ∙ address_held role index places held) in
       held_at role index n any.0 any.1 any.2 any.3 any.4 some fits
 

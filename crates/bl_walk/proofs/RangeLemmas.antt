@@ -5,7 +5,7 @@ use Rattle.std.proofs.Common.{arith, length-drop}
 use Rattle.std.proofs.lemmas.Bool.{ne_eqb}
 use Rattle.std.proofs.Math.Seq.{take-length}
 use Rattle.bl_load.specs.Handover.{Part}
-use Rattle.bl_walk.specs.Inside.{part_with, bytes_in, rest_in}
+use Rattle.bl_walk.specs.PartBytes.{part_with, bytes_in, rest_in}
 
 -- ---- the bytes of a range
 

@@ -8,8 +8,8 @@ use Rattle.bl_load.specs.Addresses.{address_of}
 use Rattle.bl_load.specs.Linux.{entry_64}
 use Rattle.bl_load.specs.Parts.{registers_of, kernel_entry_base}
 use Rattle.bl_load.specs.Protocols.{has_params, descriptors_of, is_wide}
-use Rattle.bl_load.specs.Reading.{Reading}
-use Rattle.bl_load.specs.Registers.{entry_in, information_in, params_in, gdt_in, tables_in}
+use Rattle.bl_load.specs.KernelReading.{KernelReading}
+use Rattle.bl_load.specs.Registers.{entry_in, information_in, params_in, gdt_in, page_tables_in}
 use Rattle.bl_walk.specs.State.{entry_registers}
 
 -- how many bytes after the first one a kernel is entered
@@ -18,7 +18,7 @@ entry_offset Multiboot2 = 0
 entry_offset Linux = 0
 entry_offset Linux64 = entry_64
 
-module _ (reading : Reading) (places : List Place) where
+module _ (reading : KernelReading) (places : List Place) where
   pub as_entered : (p : Protocol)
       → registers_of p reading places ≡ entry_registers p (registers_of p reading places)
   as_entered Multiboot2 = refl
@@ -50,7 +50,7 @@ module _ (reading : Reading) (places : List Place) where
   gdt_from Linux64 gdt handed = refl
 
   pub tables_from : (p : Protocol) → is_wide p ≡ true
-      → tables_in (registers_of p reading places) ≡ address_of PageTables 0 places
+      → page_tables_in (registers_of p reading places) ≡ address_of PageTables 0 places
   tables_from Multiboot2 wide = absurd (cc)
   tables_from Linux wide = absurd (cc)
   tables_from Linux64 wide = refl

@@ -8,7 +8,7 @@ use Rattle.bl_params.proofs.RunLemmas as params
 use Rattle.bl_load.specs.Handover.{Handover}
 use Rattle.bl_walk.specs.Seen.{InformationShows, ParametersShow, IsSeen}
 use Rattle.bl_walk.specs.SeenFacts.{SeenFacts}
-use Rattle.bl_walk.specs.Shown.{RunsEndLow}
+use Rattle.bl_walk.specs.EntryShown.{RunsEndLow}
 
 abbrev AllEndLow : List Region → Type 0
 AllEndLow runs = All (λ run. region_end run ≤ max_region_end) runs

@@ -6,18 +6,19 @@ use Rattle.std.specs.declared.ops.Range.{Range}
 use Rattle.bl_map.specs.MachineFacts.{MachineFacts}
 use Rattle.bl_mb2head.specs.declared.relocation.Relocation.{Relocation}
 use Rattle.bl_mem.specs.declared.segment.Segment.{Segment}
-use Rattle.bl_plan.specs.Order.{insert_sorted, in_order, in_order_among, in_order_by, ascending}
+use Rattle.bl_plan.specs.AddressOrder.{insert_sorted, places_in_order, in_order_among, in_order_by}
+use Rattle.bl_plan.specs.AddressOrder.{segments_in_order}
 use Rattle.bl_plan.specs.Placed.{ArePlaced, place_range}
 use Rattle.bl_plan.specs.PlannerFacts.{put_in}
 use Rattle.bl_plan.specs.declared.part.Place.{Place}
 use Rattle.bl_plan.specs.declared.part.Role.TheVariants.{Kernel}
 use Rattle.bl_load.specs.Addresses.{address_of}
-use Rattle.bl_load.specs.Blocks.{span_of}
+use Rattle.bl_load.specs.KernelBlock.{span_of}
 use Rattle.bl_load.specs.Parts.{entered_at}
 use Rattle.bl_load.specs.Rows.{segment_rows, kernel_rows}
 use Rattle.bl_load.proofs.RowPlaceLemmas.{Anywhere}
 use Rattle.bl_walk.specs.SeenFacts.{SeenFacts}
-use Rattle.bl_walk.specs.Shown.{ShowsSegments, segment_part}
+use Rattle.bl_walk.specs.EntryShown.{ShowsSegments, segment_part}
 use Rattle.bl_walk.specs.declared.seen.SeenPart.{SeenPart}
 use Rattle.bl_walk.proofs.KernelLemmas.{IsOfKernel, seen_place}
 
@@ -48,7 +49,7 @@ among_seen {X = X} g sorted (x ∷ xs) =
 
 in_order_seen : (places : List Place) (segments : List Segment)
     → map seen_place places ≡ map segment_part segments
-    → map seen_place (in_order places) ≡ map segment_part (ascending segments)
+    → map seen_place (places_in_order places) ≡ map segment_part (segments_in_order segments)
 in_order_seen places segments same =
     among_seen seen_place [] places ∙ ap (in_order_by seen_key) same
     ∙ sym (among_seen segment_part [] segments)
@@ -84,7 +85,7 @@ pub segments_shown : (facts : MachineFacts) (segments : List Segment) (entry : �
     (given : Option Relocation) (first others : List Place) (seen : SeenFacts)
     → ArePlaced facts [] (kernel_rows segments given) first
     → seen.entry ≡ entered_at entry segments given (address_of Kernel 0 (first ++ others))
-    → seen.kernel ≡ map seen_place (in_order first) → ShowsSegments segments entry given seen
+    → seen.kernel ≡ map seen_place (places_in_order first) → ShowsSegments segments entry given seen
 segments_shown facts segments entry None first others seen placed at kernel =
     (at, kernel ∙ in_order_seen first segments (segments_seen facts [] 0 segments first placed))
 segments_shown facts segments entry (Some r) [] others seen placed at kernel = absurd placed

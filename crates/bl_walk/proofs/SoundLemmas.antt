@@ -1,5 +1,6 @@
 -- Where something is seen in an image that is entered as it must be, no fault stands.
-use Rattle.std.proofs.Common.{◌≡◌, ◌*◌, ℕ, List, [], Option, Some, None, Result, Ok, Err, sym, ap, ◌∙◌}
+use Rattle.std.proofs.Common.{◌≡◌, ◌*◌, ℕ, List, [], Option, Some, None, Result, Ok, Err, sym, ap}
+use Rattle.std.proofs.Common.{◌∙◌}
 use Rattle.std.proofs.Common.{arith, subst, ⊎_elim}
 use Rattle.std.specs.Prelude.{IfOk, OnOk}
 use Rattle.std.specs.List.{Contains}
@@ -10,7 +11,7 @@ use Rattle.bl_params.specs.Reading.{IsParams}
 use Rattle.bl_params.proofs.ParamsLaws.{not_both}
 use Rattle.bl_plan.specs.declared.protocol.Protocol.TheVariants.{Multiboot2}
 use Rattle.bl_load.specs.Handover.{Handover}
-use Rattle.bl_load.specs.Registers.{information_in, tables_in}
+use Rattle.bl_load.specs.Registers.{information_in, page_tables_in}
 use Rattle.bl_params.specs.Translation.{translation}
 use Rattle.bl_walk.specs.Faults.{IsFollowed, IsOutside, HasBadInfo, HasBadState, IsSound}
 use Rattle.bl_walk.specs.Faults.{size_word, information, loaded_module, descriptors, boot_params}
@@ -18,7 +19,7 @@ use Rattle.bl_walk.specs.Faults.{command_line, initrd, page_tables, outside_kern
 use Rattle.bl_walk.specs.Faults.{short_information, other_information, other_parameters}
 use Rattle.bl_walk.specs.Faults.{endless_line, other_registers, other_descriptors}
 use Rattle.bl_walk.specs.Faults.{other_translation}
-use Rattle.bl_walk.specs.Inside.{bytes_in, rest_in}
+use Rattle.bl_walk.specs.PartBytes.{bytes_in, rest_in}
 use Rattle.bl_walk.specs.Seen.{HasInformation, AreSeenModules, InformationShows, HasParameters}
 use Rattle.bl_walk.specs.Seen.{IsLine, IsInitrd, ParametersShow, IsSeen, text_to_zero}
 use Rattle.bl_walk.specs.SeenFacts.{SeenModuleFacts, SeenFileFacts, SeenFacts}
@@ -139,7 +140,7 @@ module _ (h : Handover) (seen : SeenFacts) (entered : IsEntered h) where
       other
       (subst
       (λ (l : List ℕ).
-      translation l (tables_in h.registers) (page * 0x200000) ≡ Some (page * 0x200000)) same
+      translation l (page_tables_in h.registers) (page * 0x200000) ≡ Some (page * 0x200000)) same
       (tables.2 (page * 0x200000) (omega arith)))
 
   entered_inside : ((address count : ℕ) → IsFollowed h address count

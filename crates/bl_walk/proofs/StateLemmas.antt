@@ -1,7 +1,7 @@
 -- The part that the kernel is entered in.
 use Rattle.std.proofs.Common.{◌≡◌, ℕ, false, List, Some, None, sym}
 use Rattle.bl_load.specs.Handover.{Part}
-use Rattle.bl_walk.specs.Inside.{part_with}
+use Rattle.bl_walk.specs.PartBytes.{part_with}
 use Rattle.bl_walk.specs.State.{is_kernel, is_in_kernel}
 
 pub entered_part : (parts : List Part) (address : ℕ) (part : Part)

@@ -7,7 +7,7 @@ use Rattle.std.proofs.lemmas.Bool.{leb-true, ltb-true}
 use Rattle.std.proofs.lemmas.List.Elements.{All-cons, All-nil, All-append}
 use Rattle.bl_map.specs.MachineFacts.{MachineFacts}
 use Rattle.bl_mb2head.specs.declared.relocation.Relocation.{Relocation}
-use Rattle.bl_mbi.specs.InformationFacts.{IsText}
+use Rattle.bl_mbi.specs.InfoToWriteFacts.{IsText}
 use Rattle.bl_load.specs.Rows.{module_rows, information_row}
 use Rattle.bl_load.specs.EntryValue.{EntryValue, line_fault, lines_fault}
 use Rattle.bl_load.proofs.LineLemmas.{sound_short, first_sound}

@@ -2,7 +2,7 @@
 use Rattle.std.specs.Prelude.{◌≡◌, ◌-◌, ◌*◌, ◌<◌, ◌≤◌, ℕ, List, length, Some, None, Err, true}
 use Rattle.std.specs.Prelude.{false}
 use Rattle.std.specs.List.{Contains}
-use Rattle.bl_mbi.specs.InformationFacts.{ModuleInfo}
+use Rattle.bl_mbi.specs.InfoToWriteFacts.{ModuleInfo}
 use Rattle.bl_mbi.specs.InfoFacts.{InfoFacts}
 use Rattle.bl_mbi.specs.Reading.{info_of}
 use Rattle.bl_mbi.specs.declared.fault.InfoFault.{InfoFault}
@@ -14,16 +14,17 @@ use Rattle.bl_params.specs.declared.fault.ParamFault.TheVariants as param_fault
 use Rattle.bl_plan.specs.declared.protocol.Protocol.TheVariants.{Multiboot2}
 use Rattle.bl_load.specs.Handover.{Handover}
 use Rattle.bl_load.specs.Protocols.{has_params, descriptors_of, is_wide}
-use Rattle.bl_load.specs.Registers.{entry_in, information_in, params_in, gdt_in, tables_in}
+use Rattle.bl_load.specs.Registers.{entry_in, information_in, params_in, gdt_in, page_tables_in}
 use Rattle.bl_walk.specs.declared.fault.WalkFault.{WalkFault}
 use Rattle.bl_walk.specs.declared.fault.WalkFault.TheVariants.{OutsideImage, BadInfo, BadState}
 use Rattle.bl_walk.specs.declared.fault.WalkFault.TheVariants.{NoMemory}
-use Rattle.bl_walk.specs.Inside.{bytes_in, rest_in}
+use Rattle.bl_walk.specs.PartBytes.{bytes_in, rest_in}
 use Rattle.bl_walk.specs.State.{entry_registers, is_in_kernel}
 use Rattle.bl_walk.specs.Seen.{HasTotalSize, IsInformation, HasInformation, AreParameters}
 use Rattle.bl_walk.specs.Seen.{HasParameters, text_to_zero}
 use Rattle.bl_mbi.specs.Size.{min_info_size}
-use Rattle.bl_params.specs.SizesAndOffsets.{params_size, tables_size, page_size, low_pages}
+use Rattle.bl_params.specs.SizesAndOffsets.{params_size, page_tables_size, page_size}
+use Rattle.bl_params.specs.SizesAndOffsets.{mapped_page_count}
 
 abbrev pub walk_fault_number : WalkFault → ℕ
 walk_fault_number OutsideImage = 81
@@ -50,7 +51,8 @@ pub data IsFollowed (h : Handover) : ℕ → ℕ → Type 0 where
   initrd : (params : ParamsFacts) → HasParameters h params
       → IsFollowed h params.ramdisk_image params.ramdisk_size
   -- the page tables, where a kernel is entered with paging
-  page_tables : is_wide h.protocol ≡ true → IsFollowed h (tables_in h.registers) tables_size
+  page_tables : is_wide h.protocol ≡ true
+      → IsFollowed h (page_tables_in h.registers) page_tables_size
 
 -- 81: the kernel is entered outside of its parts, or a range that it follows lies in no one part
 pub data IsOutside (h : Handover) : Type 0 where
@@ -77,8 +79,9 @@ pub data HasBadState (h : Handover) : Type 0 where
       → bytes_in h.parts (gdt_in h.registers) (length gdt) ≡ Some bytes → ¬ (bytes ≡ gdt)
       → HasBadState h
   other_translation : (tables : List ℕ) (page : ℕ) → is_wide h.protocol ≡ true
-      → bytes_in h.parts (tables_in h.registers) tables_size ≡ Some tables → page < low_pages
-      → ¬ (translation tables (tables_in h.registers) (page * page_size)
+      → bytes_in h.parts (page_tables_in h.registers) page_tables_size ≡ Some tables
+      → page < mapped_page_count
+      → ¬ (translation tables (page_tables_in h.registers) (page * page_size)
       ≡ Some (page * page_size))
       → HasBadState h
 

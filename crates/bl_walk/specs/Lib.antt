@@ -1,7 +1,7 @@
-pub mod Inside
+pub mod PartBytes
 pub mod State
 pub mod SeenFacts
 pub mod Seen
 pub mod Faults
 pub mod Kept
-pub mod Shown
+pub mod EntryShown

@@ -5,7 +5,7 @@ use Rattle.std.specs.Prelude.{◌≡◌, ◌-◌, ◌<◌, ◌≤◌, ◌^◌, �
 use Rattle.std.specs.Prelude.{◌==◌, true, Option, Some, None, option_map}
 use Rattle.std.specs.List.{filter, position}
 use Rattle.bl_mem.specs.LittleEndian.{u32_at}
-use Rattle.bl_mbi.specs.InformationFacts.{ModuleInfo}
+use Rattle.bl_mbi.specs.InfoToWriteFacts.{ModuleInfo}
 use Rattle.bl_mbi.specs.InfoFacts.{InfoFacts, IsSpelling}
 use Rattle.bl_params.specs.ParamsFacts.{ParamsFacts}
 use Rattle.bl_params.specs.Reading.{IsParams}
@@ -14,7 +14,7 @@ use Rattle.bl_load.specs.Handover.{Part, Handover}
 use Rattle.bl_load.specs.Protocols.{has_params}
 use Rattle.bl_load.specs.Registers.{entry_in, information_in, params_in}
 use Rattle.bl_walk.specs.declared.seen.SeenPart.{SeenPart}
-use Rattle.bl_walk.specs.Inside.{bytes_in, rest_in}
+use Rattle.bl_walk.specs.PartBytes.{bytes_in, rest_in}
 use Rattle.bl_walk.specs.State.{is_kernel}
 use Rattle.bl_walk.specs.SeenFacts.{SeenModuleFacts, SeenFileFacts, SeenFacts}
 use Rattle.bl_mbi.specs.Size.{min_info_size}

@@ -6,9 +6,9 @@ ghost use Rattle.bl_walk.specs.Seen.{HasTotalSize, HasInformation, IsSeen};
 ghost use Rattle.bl_mbi.specs.Size.{min_info_size};
 
 use crate::fault::WalkFault;
-use crate::follow::follow;
-use crate::module::modules_at;
+use crate::followed_bytes::follow;
 use crate::seen::Seen;
+use crate::seen_modules::modules_at;
 use bl_image::Image;
 use bl_mbi::{Info, MIN_INFO_SIZE, read_info};
 use bl_mem::{SliceView, u32_at};

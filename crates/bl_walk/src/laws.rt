@@ -3,17 +3,17 @@ ghost use Rattle.std.specs.Prelude.{◌≡◌, ◌+◌, ◌<◌, ◌≤◌, ℕ,
 ghost use Rattle.std.specs.Prelude.{slice_index_or};
 ghost use Rattle.bl_map.specs.MachineFacts.{MachineFacts, IsWellFormedMachine};
 ghost use Rattle.bl_load.specs.Handover.{Handover, Part, end_of};
-ghost use Rattle.bl_load.specs.Offered.{IsOffered};
+ghost use Rattle.bl_load.specs.WellFormedEntry.{IsWellFormedValue};
 ghost use Rattle.bl_load.specs.Parts.{IsHandover};
 ghost use Rattle.bl_load.specs.EntryValue.{EntryValue};
 ghost use Rattle.bl_image.specs.Image.{spelling};
-ghost use Rattle.bl_image.specs.ImageParts.{IsImage, IsKeptByImages};
+ghost use Rattle.bl_image.specs.ImageHandover.{IsImage, IsKeptByImages};
 ghost use Rattle.bl_image.specs.declared.version.Version.{Version};
 ghost use Rattle.bl_walk.specs.Faults.{IsSound};
-ghost use Rattle.bl_walk.specs.Inside.{part_with};
+ghost use Rattle.bl_walk.specs.PartBytes.{part_with};
 ghost use Rattle.bl_walk.specs.Seen.{IsSeen};
 ghost use Rattle.bl_walk.specs.SeenFacts.{SeenFacts};
-ghost use Rattle.bl_walk.specs.Shown.{ShowsEntry, RunsEndLow};
+ghost use Rattle.bl_walk.specs.EntryShown.{ShowsEntry, RunsEndLow};
 ghost use Rattle.bl_walk.specs.State.{IsEntered};
 
 /// What is seen in an image is one thing.
@@ -40,12 +40,14 @@ pub fn ranges_lie_in_one_part()
 /// the machine's runs; the kernel is entered as its protocol says; and no fault stands in it.
 pub fn handovers_are_seen()
     ensures seen { (facts : MachineFacts) (value : EntryValue) (h : Handover)
-        → IsWellFormedMachine facts → IsOffered value → IsHandover facts value h
+        → IsWellFormedMachine facts → IsWellFormedValue value → IsHandover facts value h
         → (seen : SeenFacts) × IsSeen h seen × ShowsEntry facts value seen }
     ensures entered { (facts : MachineFacts) (value : EntryValue) (h : Handover)
-        → IsWellFormedMachine facts → IsOffered value → IsHandover facts value h → IsEntered h }
+        → IsWellFormedMachine facts → IsWellFormedValue value
+        → IsHandover facts value h → IsEntered h }
     ensures sound { (facts : MachineFacts) (value : EntryValue) (h : Handover)
-        → IsWellFormedMachine facts → IsOffered value → IsHandover facts value h → IsSound h }
+        → IsWellFormedMachine facts → IsWellFormedValue value
+        → IsHandover facts value h → IsSound h }
 {}
 
 /// Whatever is read from the image of what an entry hands over shows that entry and nothing else;
@@ -54,15 +56,16 @@ pub fn handovers_are_seen()
 /// is `write_image.kept`.
 pub fn images_show_their_entries()
     ensures seen { (facts : MachineFacts) (value : EntryValue) (version other : Version)
-        (h image : Handover) (seen : SeenFacts) → IsWellFormedMachine facts → IsOffered value
+        (h image : Handover) (seen : SeenFacts)
+        → IsWellFormedMachine facts → IsWellFormedValue value
         → IsHandover facts value h → IsKeptByImages h → IsImage other (spelling version h) image
         → IsSeen image seen → ShowsEntry facts value seen }
     ensures entered { (facts : MachineFacts) (value : EntryValue) (version other : Version)
-        (h image : Handover) → IsWellFormedMachine facts → IsOffered value
+        (h image : Handover) → IsWellFormedMachine facts → IsWellFormedValue value
         → IsHandover facts value h
         → IsKeptByImages h → IsImage other (spelling version h) image → IsEntered image }
     ensures sound { (facts : MachineFacts) (value : EntryValue) (version other : Version)
-        (h image : Handover) → IsWellFormedMachine facts → IsOffered value
+        (h image : Handover) → IsWellFormedMachine facts → IsWellFormedValue value
         → IsHandover facts value h
         → IsKeptByImages h → IsImage other (spelling version h) image → IsSound image }
 {}

@@ -2,14 +2,14 @@
 #![tactic(auto)]
 
 mod fault;
-mod follow;
+mod followed_bytes;
 mod information;
-mod inside;
 mod kernel_parts;
 mod laws;
-mod module;
 mod parameters;
+mod part_bytes;
 mod seen;
+mod seen_modules;
 mod state;
 mod walking;
 

@@ -5,8 +5,8 @@ ghost use Rattle.bl_walk.specs.Faults.{HasWalkFault};
 ghost use Rattle.bl_walk.specs.Seen.{HasParameters, IsLine, IsInitrd, IsSeen};
 
 use crate::fault::WalkFault;
-use crate::follow::{follow, text_to_zero};
-use crate::inside::rest_at;
+use crate::followed_bytes::{follow, text_to_zero};
+use crate::part_bytes::rest_at;
 use crate::seen::{Seen, SeenFile};
 use bl_image::Image;
 use bl_mem::Bytes;

@@ -3,16 +3,16 @@ ghost use Rattle.std.specs.Prelude.{◌≡◌, ◌==◌, ◌<◌, ◌*◌, ◌�
 ghost use Rattle.std.specs.Prelude.{IfErr, MatchOption, length};
 ghost use Rattle.bl_params.specs.Translation.{translation};
 ghost use Rattle.bl_load.specs.Protocols as protocols;
-ghost use Rattle.bl_load.specs.Registers.{entry_in, gdt_in, tables_in};
+ghost use Rattle.bl_load.specs.Registers.{entry_in, gdt_in, page_tables_in};
 ghost use Rattle.bl_walk.specs.Faults.{HasWalkFault};
-ghost use Rattle.bl_walk.specs.Inside.{bytes_in};
+ghost use Rattle.bl_walk.specs.PartBytes.{bytes_in};
 ghost use Rattle.bl_walk.specs.State as state;
 ghost use Rattle.bl_walk.specs.State.{IsEntered};
-ghost use Rattle.bl_params.specs.SizesAndOffsets.{tables_size, page_size, low_pages};
+ghost use Rattle.bl_params.specs.SizesAndOffsets.{page_tables_size, page_size, mapped_page_count};
 
 use crate::fault::WalkFault;
-use crate::follow::follow;
-use crate::inside::part_with;
+use crate::followed_bytes::follow;
+use crate::part_bytes::part_with;
 use bl_image::{Image, ImagePart};
 use bl_load::{
     Protocol, Registers, descriptors_of, linux_registers, linux64_registers, multiboot2_registers,
@@ -104,8 +104,8 @@ fn check_descriptors<A: Allocator>(
 
 /// The first page of 2 MiB below 4 GiB that page tables at an address do not translate to itself.
 fn moved_page(base: u64, tables: &[u8]) -> Option<u64>
-    ensures { MatchOption result (state.KeepsAddresses base tables.now)
-        (λ page. (page < low_pages)
+    ensures { MatchOption result (state.IsIdentityMapping base tables.now)
+        (λ page. (page < mapped_page_count)
         × ¬ (translation tables.now base (page * page_size) ≡ Some (page * page_size))) }
 {
     for page in 0..LOW_PAGES {
@@ -120,8 +120,9 @@ fn moved_page(base: u64, tables: &[u8]) -> Option<u64>
 fn check_tables<A: Allocator>(image: &Image<A>) -> Result<(), WalkFault>
     requires { protocols.is_wide image.now.protocol ≡ true }
     ensures ok { OnOk result ((tables : List ℕ)
-        × (bytes_in image.now.parts (tables_in image.now.registers) tables_size ≡ Some tables)
-        × state.KeepsAddresses (tables_in image.now.registers) tables) }
+        × (bytes_in image.now.parts (page_tables_in image.now.registers) page_tables_size
+        ≡ Some tables)
+        × state.IsIdentityMapping (page_tables_in image.now.registers) tables) }
     ensures fault { IfErr result (HasWalkFault image.now) }
 {
     let base = image.registers().tables();

@@ -2,7 +2,7 @@
 ghost use Rattle.std.specs.Prelude.{◌≡◌, IfOk, OnOk, IfErr};
 ghost use Rattle.bl_walk.specs.Faults.{HasWalkFault, IsSound};
 ghost use Rattle.bl_walk.specs.Seen.{IsSeen};
-ghost use Rattle.bl_walk.specs.Shown.{RunsEndLow};
+ghost use Rattle.bl_walk.specs.EntryShown.{RunsEndLow};
 
 use crate::fault::WalkFault;
 use crate::information::shown_by_information;

@@ -1,6 +1,6 @@
 -- A file that an image is written to. Own.
 use Rattle.std.specs.Prelude.{ℕ, List, [], Option, Some, None}
-use Rattle.bl_image.specs.Begun.{IoSinkFacts}
+use Rattle.bl_image.specs.SinkFacts.{IoSinkFacts}
 
 -- what it took, and its faults so far
 pub record ImageFileFacts : Type 0 where

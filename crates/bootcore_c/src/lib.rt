@@ -9,7 +9,7 @@ ghost use Rattle.bl_abi.specs.Boot.{IsBootEnd};
 ghost use Rattle.bl_abi.specs.BootTold.{TellsBoot};
 ghost use Rattle.bl_abi.specs.Load.{IsLoadEnd};
 ghost use Rattle.bl_abi.specs.Prepare.{IsPrepareEnd};
-ghost use Rattle.bl_abi.specs.Told.{TellsEnd};
+ghost use Rattle.bl_abi.specs.LoadTold.{TellsEnd};
 ghost use Rattle.bl_abi.specs.declared.load_fault.LoadFault.{LoadFault};
 ghost use Rattle.bl_abi.specs.declared.given_fault.GivenFault.{GivenFault};
 

@@ -10,8 +10,8 @@ ghost use Rattle.bl_abi.specs.Sessions.{IsSessionMade, TellsSession, TellsOutcom
 ghost use Rattle.bl_abi.specs.declared.given_fault.GivenFault.{GivenFault};
 ghost use Rattle.bl_handle.specs.declared.handle_fault.HandleFault.{HandleFault};
 ghost use Rattle.bl_handle.specs.declared.handle_fault.HandleFault.TheVariants.{NoSession};
-ghost use Rattle.bl_handle.specs.Told.{TellsRequest, progress_status, record_ticket};
-ghost use Rattle.bl_handle.specs.Turned.{IsStarted, IsStepped};
+ghost use Rattle.bl_handle.specs.RequestTold.{TellsRequest, progress_status, record_ticket};
+ghost use Rattle.bl_handle.specs.SessionSteps.{IsStarted, IsStepped};
 
 use bl_abi::{
     ByteRange, EntryRecord, Given, GivenFault, HandoffRecord, MachineRecord, ModuleRecord,

@@ -1,7 +1,7 @@
 //! A bad key of a description, in words.
 ghost use Rattle.std.specs.Prelude.{◌≡◌, ◌++◌, OnOk};
 ghost use Rattle.bl_desc.specs.Allowed.{keys_of_set};
-ghost use Rattle.bl_blame.specs.KeyWords as words;
+ghost use Rattle.bl_blame.specs.BadKeyWords as words;
 
 use crate::lines::key_values::{say_bad_value, say_instead, say_missing};
 use crate::lines::shown_names::say_name;
@@ -58,7 +58,7 @@ fn dot_words(table: TablePlace) -> &'static str
 }
 
 /// Appends a key's path.
-#[tactic(auto, unfolding(crate::specs::KeyWords::path_words))]
+#[tactic(auto, unfolding(crate::specs::BadKeyWords::path_words))]
 fn say_path<A: Allocator + Copy>(
     out: &mut Vec<u8, A>,
     table: TablePlace,

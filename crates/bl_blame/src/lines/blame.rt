@@ -1,16 +1,16 @@
 //! Why a description is a bad one, line by line.
 ghost use Rattle.std.specs.Prelude.{◌≡◌, ◌++◌, None, OnErr, OnOk, Some};
 ghost use Rattle.bl_desc.specs.Views.{view};
-ghost use Rattle.bl_blame.specs.declared.told.blame.Blame.TheVariants.{BadMachine};
+ghost use Rattle.bl_blame.specs.declared.line_subjects.blame.Blame.TheVariants.{BadMachine};
 ghost use Rattle.bl_blame.specs.BlameLines as hints;
 ghost use Rattle.bl_blame.specs.BlameLine as blames;
 
+use crate::line_subjects::{Blame, TextPlace};
 use crate::lines::bad_key::say_bad_key;
-use crate::lines::pieces::say_number;
+use crate::lines::number_and_line_end::say_number_in_brackets;
 use crate::lines::pool_lines::say_pool_lines;
 use crate::lines::radix_hints::{say_pool_hints, say_size_hint};
 use crate::lines::word_hints::say_key_hint;
-use crate::told::{Blame, TextPlace};
 use bl_desc::Description;
 use bl_map::MapFault;
 use std::alloc::{AllocError, Allocator};
@@ -46,7 +46,7 @@ fn say_told<A: Allocator + Copy>(out: &mut Vec<u8, A>, fault: MapFault) -> Resul
     ensures { OnOk result (out.new.items ≡ out.old.items ++ blames.map_fault_told fault) }
 {
     match fault {
-        MapFault::BadRegion(index) => say_number(out, index as u64),
+        MapFault::BadRegion(index) => say_number_in_brackets(out, index as u64),
         _ => Ok(()),
     }
 }

@@ -2,7 +2,7 @@
 ghost use Rattle.std.specs.Prelude.{◌≡◌, ◌++◌, OnOk, codes, decimal};
 ghost use Rattle.std.specs.Fmt.{signed_decimal};
 ghost use Rattle.toml.specs.View.{view};
-ghost use Rattle.bl_blame.specs.KeyWords as words;
+ghost use Rattle.bl_blame.specs.BadKeyWords as words;
 
 use crate::lines::shown_names::say_name;
 use bl_desc::Allowed;
@@ -10,7 +10,7 @@ use std::alloc::{AllocError, Allocator};
 use toml::Value;
 
 /// Appends a text, or how long it is.
-#[tactic(auto, unfolding(crate::specs::KeyWords::held_text_words))]
+#[tactic(auto, unfolding(crate::specs::BadKeyWords::held_text_words))]
 fn say_text<A: Allocator + Copy>(out: &mut Vec<u8, A>, text: &str) -> Result<(), AllocError>
     ensures { OnOk result (out.new.items ≡ out.old.items ++ words.held_text_words text.now) }
 {
@@ -102,7 +102,7 @@ pub fn say_allowed<A: Allocator + Copy>(
     }
 }
 
-#[tactic(auto, unfolding(crate::specs::KeyWords::actual_words))]
+#[tactic(auto, unfolding(crate::specs::BadKeyWords::actual_words))]
 fn say_is<A: Allocator + Copy>(out: &mut Vec<u8, A>, value: &Value) -> Result<(), AllocError>
     ensures { OnOk result (out.new.items ≡ out.old.items ++ words.actual_words (view value.now)) }
 {
@@ -118,7 +118,7 @@ fn say_must<A: Allocator + Copy>(out: &mut Vec<u8, A>, allowed: &str) -> Result<
     Ok(())
 }
 
-#[tactic(auto, unfolding(crate::specs::KeyWords::must_words))]
+#[tactic(auto, unfolding(crate::specs::BadKeyWords::must_words))]
 fn say_must_be<A: Allocator + Copy>(
     out: &mut Vec<u8, A>,
     allowed: Allowed,

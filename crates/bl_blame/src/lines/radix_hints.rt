@@ -42,8 +42,8 @@ fn is_unaligned(n: u64) -> bool
     n % FRAME_SIZE != 0
 }
 
-fn is_pool_end(size: u64, n: u64) -> bool
-    ensures { result ≡ hints.is_pool_end size n }
+fn is_pool_bound(size: u64, n: u64) -> bool
+    ensures { result ≡ hints.is_pool_bound size n }
 {
     if is_unaligned(n) {
         return false;
@@ -68,12 +68,12 @@ pub fn say_size_hint<A: Allocator + Copy>(out: &mut Vec<u8, A>, size: u64) -> Re
 }
 
 /// Appends the hint on one of the two numbers of a pool, if there is one.
-fn say_pool_end_hint<A: Allocator + Copy>(
+fn say_pool_bound_hint<A: Allocator + Copy>(
     out: &mut Vec<u8, A>,
     size: u64,
     n: u64,
 ) -> Result<(), AllocError>
-    ensures { OnOk result (out.new.items ≡ out.old.items ++ hints.pool_end_hint size n) }
+    ensures { OnOk result (out.new.items ≡ out.old.items ++ hints.pool_bound_hint size n) }
 {
     if !is_unaligned(n) {
         return Ok(());
@@ -82,7 +82,7 @@ fn say_pool_end_hint<A: Allocator + Copy>(
     match digits_as_hex(alloc, n)? {
         None => Ok(()),
         Some(reading) => {
-            if is_pool_end(size, reading) {
+            if is_pool_bound(size, reading) {
                 return say_hex(out, n);
             }
             Ok(())
@@ -98,6 +98,6 @@ pub fn say_pool_hints<A: Allocator + Copy>(
 ) -> Result<(), AllocError>
     ensures { OnOk result (out.new.items ≡ out.old.items ++ hints.pool_hints size pool.now) }
 {
-    say_pool_end_hint(out, size, pool.start)?;
-    say_pool_end_hint(out, size, pool.end)
+    say_pool_bound_hint(out, size, pool.start)?;
+    say_pool_bound_hint(out, size, pool.end)
 }

@@ -1,8 +1,8 @@
 //! A byte on which no part may lie.
 ghost use Rattle.std.specs.Prelude.{◌≡◌, ◌++◌, OnOk};
-ghost use Rattle.bl_blame.specs.UnusableWords as words;
+ghost use Rattle.bl_blame.specs.UnusableAddress as words;
 
-use crate::lines::pieces::say_line_end;
+use crate::lines::number_and_line_end::say_line_end;
 use bl_map::{FIRST_USABLE, Kind};
 use std::alloc::{AllocError, Allocator};
 

@@ -1,8 +1,8 @@
 //! The boot of what was found for a description.
 ghost use Rattle.std.specs.Prelude.{◌≡◌, [], ◌<◌, ◌^◌, length, map};
-ghost use Rattle.bl_session.specs.Outcome.{size_of};
+ghost use Rattle.bl_session.specs.MenuFiles.{size_of};
 ghost use Rattle.bl_session.specs.Phases.{boot_facts};
-ghost use Rattle.bl_boot.specs.Kept.{FoundEnds, HasFaults};
+ghost use Rattle.bl_boot.specs.Kept.{FoundBootEnds, CountsSinkFault};
 ghost use Rattle.bl_desc.specs.Views.{view};
 
 use crate::description_boot::end_fault::EndFault;
@@ -26,10 +26,10 @@ pub fn boot_found<A: Allocator + Copy, M: PhysMem, S: Sink, B: Allocator>(
     requires size { length (M.bytes memory.old) ≡ boot.now.machine.now.size }
     requires store { store.given ≡ [] }
     requires sink { S.faults out.old < 2 ^ 63 }
-    ensures ends { FoundEnds (view boot.now.description.now)
+    ensures ends { FoundBootEnds (view boot.now.description.now)
         (boot_facts boot.now.machine.now boot.now.menu.now (map size_of store.files)) store.files
         (S.contents out.old) (S.contents out.new) say.old.items say.new.items result }
-    ensures faults { HasFaults (S.faults out.old) (S.faults out.new) result }
+    ensures faults { CountsSinkFault (S.faults out.old) (S.faults out.new) result }
 {
     let ended = run(alloc, memory, &mut store, boot.machine, boot.menu);
     store.faithful();

@@ -1,11 +1,11 @@
 //! An entry is handed over, or it is told that none is left.
 ghost use Rattle.std.specs.Prelude.{◌≡◌, ◌+◌, ◌<◌, ◌≤◌, ◌^◌, ◌++◌, length, All, OnOk, OnErr, IfErr};
 ghost use Rattle.bl_image.specs.Image.{spelling};
-ghost use Rattle.bl_image.specs.ImageParts.{IsKeptByImages};
+ghost use Rattle.bl_image.specs.ImageHandover.{IsKeptByImages};
 ghost use Rattle.bl_image.specs.Versions.{written_version};
 ghost use Rattle.bl_session.specs.Phases.{handover_held};
 ghost use Rattle.bl_boot.specs.Kept.{IsImageWriteFault};
-ghost use Rattle.bl_say.specs.Says.{booted_line, refused_lines, no_entry_line};
+ghost use Rattle.bl_say.specs.BootAndMapLines.{booted_line, refused_lines, no_entry_line};
 
 use crate::description_boot::end_fault::EndFault;
 use bl_image::{Sink, write_image};

@@ -1,12 +1,12 @@
 //! One boot.
 ghost use Rattle.std.specs.Prelude.{◌≡◌, ◌≢◌, ℕ, List, ◌+◌, ◌<◌, ◌≤◌, ◌^◌, ◌++◌, length};
-ghost use Rattle.bl_menu.specs.Cases.{HasInlineFiles, names_sought, names_fetched};
+ghost use Rattle.bl_menu.specs.BootCases.{HasInlineFiles, names_sought, names_fetched};
 ghost use Rattle.bl_boot.specs.Ends.{IsBooted, IsCutShort, IsRefused};
 ghost use Rattle.bl_menu.specs.DescribedMachine.{IsBadDescription};
-ghost use Rattle.bl_menu.specs.Found.{AsksPrefix};
-ghost use Rattle.bl_boot.specs.Kept.{BootEnds, HasFaults, HasAsked};
-ghost use Rattle.bl_menu.specs.Attempted.{max_names};
-ghost use Rattle.bl_session.specs.Outcome.{File};
+ghost use Rattle.bl_menu.specs.FoundFiles.{AsksPrefix};
+ghost use Rattle.bl_boot.specs.Kept.{BootEnds, CountsSinkFault, HasAsked};
+ghost use Rattle.bl_menu.specs.DescribedMenu.{max_names};
+ghost use Rattle.bl_session.specs.MenuFiles.{File};
 ghost use Rattle.bl_desc.specs.Described.{described};
 
 use crate::description_boot::end_fault::EndFault;
@@ -32,7 +32,7 @@ fn run_boot<A: Allocator + Copy, F: Files, S: Sink, B: Allocator>(
     ensures ends { BootEnds F.answers F.faults desc.now
         (record { files = files.old; sink = S.contents out.old; said = say.old.items })
         (record { files = files.new; sink = S.contents out.new; said = say.new.items }) result }
-    ensures faults { HasFaults (S.faults out.old) (S.faults out.new) result }
+    ensures faults { CountsSinkFault (S.faults out.old) (S.faults out.new) result }
     ensures asked { HasAsked (names_fetched (described desc.now))
         (F.asked files.old) (F.asked files.new) result }
     ensures inline { HasInlineFiles desc.now → files.new ≡ files.old }

@@ -6,7 +6,7 @@ ghost use Rattle.bl_desc.specs.BadKeysKept as tests;
 ghost use Rattle.bl_desc.specs.EntriesKept as kept;
 
 use crate::bad_key::{Allowed, BadKey, KeyFault, KeySet, TablePlace};
-use crate::bad_keys::items::{Listed, bad_among, items_at};
+use crate::bad_keys::items::{TableArray, bad_among, items_at};
 use crate::bad_keys::rules::{broken_rules, optional_key, required_key, unknown_key};
 use crate::keys::at_key;
 use bl_plan::Protocol;
@@ -39,11 +39,11 @@ fn bad_texts<'a>(table: &'a Table, place: TablePlace) -> Option<BadKey<'a>>
 }
 
 /// A key that an entry with these keys may not have, or one that each entry has.
-fn bad_front<'a>(table: &'a Table, place: TablePlace, set: KeySet) -> Option<BadKey<'a>>
+fn bad_common_key<'a>(table: &'a Table, place: TablePlace, set: KeySet) -> Option<BadKey<'a>>
     ensures { MatchOption result
-        (kept.front_passes set (table_view table.now) ≡ true)
+        (kept.common_keys_pass set (table_view table.now) ≡ true)
         (λ bad. (bad.table ≡ place)
-        × kept.IsFrontFault set (table_view table.now) bad.fault) }
+        × kept.IsCommonKeyFault set (table_view table.now) bad.fault) }
 {
     match unknown_key(table, place, set) {
         Some(bad) => Some(bad),
@@ -53,9 +53,9 @@ fn bad_front<'a>(table: &'a Table, place: TablePlace, set: KeySet) -> Option<Bad
 
 fn bad_module_key<'a>(table: &'a Table, i: usize) -> Option<BadKey<'a>>
     ensures { MatchOption result
-        (tests.all_pass kept.module_rules (table_view table.now) ≡ true)
+        (tests.all_pass kept.module_array_rules (table_view table.now) ≡ true)
         (λ bad. (bad.table ≡ TablePlace.Entry i)
-        × BreaksAnyOf kept.module_rules (table_view table.now) bad.fault) }
+        × BreaksAnyOf kept.module_array_rules (table_view table.now) bad.fault) }
 {
     broken_rules(
         table,
@@ -72,7 +72,7 @@ fn bad_modules<'a>(table: &'a Table, i: usize) -> Option<BadKey<'a>>
 {
     match bad_module_key(table, i) {
         Some(bad) => Some(bad),
-        None => bad_among(items_at(table, "module"), Listed::Modules(i)),
+        None => bad_among(items_at(table, "module"), TableArray::Modules(i)),
     }
 }
 
@@ -93,7 +93,7 @@ fn bad_multiboot2<'a>(table: &'a Table, i: usize) -> Option<BadKey<'a>>
         (kept.multiboot2_passes (table_view table.now) ≡ true)
         (kept.IsEntryBad KeySet.Multiboot2Entry i (table_view table.now)) }
 {
-    match bad_front(table, TablePlace::Entry(i), KeySet::Multiboot2Entry) {
+    match bad_common_key(table, TablePlace::Entry(i), KeySet::Multiboot2Entry) {
         Some(bad) => Some(bad),
         None => match bad_modules(table, i) {
             Some(bad) => Some(bad),
@@ -121,7 +121,7 @@ fn bad_linux<'a>(table: &'a Table, i: usize) -> Option<BadKey<'a>>
         (kept.linux_passes (table_view table.now) ≡ true)
         (kept.IsEntryBad KeySet.LinuxEntry i (table_view table.now)) }
 {
-    match bad_front(table, TablePlace::Entry(i), KeySet::LinuxEntry) {
+    match bad_common_key(table, TablePlace::Entry(i), KeySet::LinuxEntry) {
         Some(bad) => Some(bad),
         None => bad_initrd(table, i),
     }

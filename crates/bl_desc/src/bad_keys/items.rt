@@ -14,29 +14,29 @@ use toml::{Table, Value};
 
 /// An array of tables; that of modules is one of the entry of this index.
 #[derive(Clone, Copy)]
-pub enum Listed {
+pub enum TableArray {
     Regions,
     Files,
     Modules(usize),
 }
 
-fn place_in(listed: Listed, index: usize) -> TablePlace
+fn place_in(listed: TableArray, index: usize) -> TablePlace
     ensures { result ≡ kept.place_in listed index }
 {
     match listed {
-        Listed::Regions => TablePlace::Region(index),
-        Listed::Files => TablePlace::File(index),
-        Listed::Modules(entry) => TablePlace::Module(entry, index),
+        TableArray::Regions => TablePlace::Region(index),
+        TableArray::Files => TablePlace::File(index),
+        TableArray::Modules(entry) => TablePlace::Module(entry, index),
     }
 }
 
-fn set_in(listed: Listed) -> KeySet
+fn set_in(listed: TableArray) -> KeySet
     ensures { result ≡ kept.set_in listed }
 {
     match listed {
-        Listed::Regions => KeySet::Region,
-        Listed::Files => KeySet::File,
-        Listed::Modules(_) => KeySet::Module,
+        TableArray::Regions => KeySet::Region,
+        TableArray::Files => KeySet::File,
+        TableArray::Modules(_) => KeySet::Module,
     }
 }
 
@@ -55,25 +55,25 @@ pub fn items_at<'a>(table: &'a Table, key: &str) -> &'a [Value]
 }
 
 /// A key with a value that is not allowed, or that is missing.
-fn broken_in<'a>(table: &'a Table, place: TablePlace, listed: Listed) -> Option<BadKey<'a>>
+fn broken_in<'a>(table: &'a Table, place: TablePlace, listed: TableArray) -> Option<BadKey<'a>>
     ensures { MatchOption result
         (kept.all_pass (key_rules 0 (kept.set_in listed)) (table_view table.now) ≡ true)
         (λ bad. (bad.table ≡ place)
         × BreaksAnyOf (key_rules 0 (kept.set_in listed)) (table_view table.now) bad.fault) }
 {
     match listed {
-        Listed::Regions => {
+        TableArray::Regions => {
             let base = required_key("base", Allowed::Number);
             let length = required_key("length", Allowed::Number);
             let kind = required_key("kind", Allowed::KindName);
             broken_rules(table, place, &[base, length, kind])
         }
-        Listed::Files => {
+        TableArray::Files => {
             let name = required_key("name", Allowed::AnyText);
             let hex = required_key("hex", Allowed::HexText);
             broken_rules(table, place, &[name, hex])
         }
-        Listed::Modules(_) => {
+        TableArray::Modules(_) => {
             let file = required_key("file", Allowed::AnyText);
             let line = optional_key("line", Allowed::AnyText);
             broken_rules(table, place, &[file, line])
@@ -81,7 +81,7 @@ fn broken_in<'a>(table: &'a Table, place: TablePlace, listed: Listed) -> Option<
     }
 }
 
-fn bad_in<'a>(table: &'a Table, place: TablePlace, listed: Listed) -> Option<BadKey<'a>>
+fn bad_in<'a>(table: &'a Table, place: TablePlace, listed: TableArray) -> Option<BadKey<'a>>
     ensures { MatchOption result
         (kept.table_passes (kept.set_in listed) (table_view table.now) ≡ true)
         (λ bad. (bad.table ≡ place)
@@ -93,7 +93,7 @@ fn bad_in<'a>(table: &'a Table, place: TablePlace, listed: Listed) -> Option<Bad
     }
 }
 
-fn bad_item<'a>(value: &'a Value, place: TablePlace, listed: Listed) -> Option<BadKey<'a>>
+fn bad_item<'a>(value: &'a Value, place: TablePlace, listed: TableArray) -> Option<BadKey<'a>>
     ensures { MatchOption result
         (kept.item_passes (kept.set_in listed) (view value.now) ≡ true)
         (λ bad. (bad.table ≡ place)
@@ -109,7 +109,7 @@ fn bad_item<'a>(value: &'a Value, place: TablePlace, listed: Listed) -> Option<B
 }
 
 /// The first bad key of the tables of an array.
-pub fn bad_among<'a>(items: &'a [Value], listed: Listed) -> Option<BadKey<'a>>
+pub fn bad_among<'a>(items: &'a [Value], listed: TableArray) -> Option<BadKey<'a>>
     ensures { MatchOption result
         (kept.all_items (kept.item_passes (kept.set_in listed)) (items_view items.now) ≡ true)
         (kept.IsListedBad listed (items_view items.now)) }

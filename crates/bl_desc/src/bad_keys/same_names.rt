@@ -26,8 +26,8 @@ pub fn name_value(value: &Value) -> &Value
 }
 
 /// A text, empty if the value is none.
-fn text_or_none(value: &Value) -> &str
-    ensures { result.now ≡ kept.text_or_none (view value.now) }
+fn value_text_or_empty(value: &Value) -> &str
+    ensures { result.now ≡ kept.value_text_or_empty (view value.now) }
 {
     match value.as_str() {
         Some(text) => text,
@@ -39,12 +39,12 @@ fn text_or_none(value: &Value) -> &str
 /// kept in memory of `global`.
 pub fn same_name(global: Global, items: &[Value]) -> Result<Option<usize>, AllocError>
     ensures { IfOk result (λ found. MatchOption found
-        (names_differ (map kept.named_file items.now) ≡ true)
+        (names_differ (map kept.name_only_file items.now) ≡ true)
         (λ i. kept.IsSameName items.now i)) }
 {
     let mut names = BTreeSet::new(global);
     for (i, item) in items.iter().enumerate() {
-        if !names.insert(text_or_none(name_value(item)))? {
+        if !names.insert(value_text_or_empty(name_value(item)))? {
             return Ok(Some(i));
         }
     }

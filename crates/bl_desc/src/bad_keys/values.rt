@@ -12,11 +12,11 @@ use crate::bad_key::Allowed;
 use crate::entries::is_title;
 use crate::values::{toml_byte, toml_number};
 use bl_map::Kind;
-use bl_plan::{MAX_COPY, MAX_ENTRIES, MAX_MODULES, Protocol};
+use bl_plan::{MAX_ENTRIES, MAX_MODULES, MAX_RSDP_LENGTH, Protocol};
 use toml::Value;
 
 /// Whether a byte is a hexadecimal digit.
-fn is_digit(c: u8) -> bool
+fn is_hex_character(c: u8) -> bool
     ensures { result ≡ is_hex_digit c }
 {
     if c >= 65 && c <= 70 {
@@ -28,10 +28,10 @@ fn is_digit(c: u8) -> bool
     }
 }
 
-fn has_digits(text: &str) -> bool
+fn all_hex_digits(text: &str) -> bool
     ensures { result ≡ list_all is_hex_digit text.now }
 {
-    text.as_bytes().iter().all(|c| is_digit(*c))
+    text.as_bytes().iter().all(|c| is_hex_character(*c))
 }
 
 /// Whether a text is an even number of hexadecimal digits.
@@ -41,7 +41,7 @@ fn is_hex(text: &str) -> bool
     if text.len() % 2 == 1 {
         return false;
     }
-    has_digits(text)
+    all_hex_digits(text)
 }
 
 fn is_within(n: usize, least: usize, most: usize) -> bool
@@ -54,7 +54,7 @@ fn is_within(n: usize, least: usize, most: usize) -> bool
 fn is_copy_text(text: &str) -> bool
     ensures { result ≡ kept.allows_text Allowed.CopyText text.now }
 {
-    if !is_within(text.len(), 2, 2 * MAX_COPY) {
+    if !is_within(text.len(), 2, 2 * MAX_RSDP_LENGTH) {
         return false;
     }
     is_hex(text)

@@ -7,16 +7,16 @@ ghost use Rattle.bl_load.specs.EntryValue.{initrd_file};
 ghost use Rattle.bl_load.specs.Addresses as addresses;
 ghost use Rattle.bl_load.specs.LinuxRows as table;
 ghost use Rattle.bl_load.specs.Protocols as protocols;
-ghost use Rattle.bl_load.specs.Reading.{linux};
+ghost use Rattle.bl_load.specs.KernelReading.{linux};
 ghost use Rattle.bl_load.specs.Parts.{content_of, payload_of};
 ghost use Rattle.bl_bzimage.specs.Setup.{IsSetup};
-ghost use Rattle.bl_load.specs.PlanFacts.{content_by};
+ghost use Rattle.bl_load.specs.PlanContents.{content_by};
 ghost use Rattle.bl_mem.specs.Files.{nth_file};
 ghost use Rattle.bl_load.specs.Loadable.{lengths_of, content_length, IsInFiles, IsLeanContent};
-ghost use Rattle.bl_load.specs.PlacingKept.{IsRowed, EndsLow};
-ghost use Rattle.bl_load.specs.ReadKept.{TablesFit};
+ghost use Rattle.bl_load.specs.PlacingKept.{HasRowLength, EndsLow};
+ghost use Rattle.bl_load.specs.KernelReadingKept.{TablesFit};
 ghost use Rattle.bl_load.specs.CheckedEntryKept.{texts_in, value_of_files};
-ghost use Rattle.bl_params.specs.BootParamsFacts.{max_e820_entries};
+ghost use Rattle.bl_params.specs.ParamsToWriteFacts.{max_e820_entries};
 
 use crate::addresses::address_of;
 use crate::checked_entry::CheckedEntry;
@@ -31,7 +31,7 @@ use bl_plan::{Place, Protocol, Role};
 use std::alloc::{AllocError, Allocator};
 
 /// What a kernel is told of an entry's parts, where they have these places.
-fn told_of<'a, A: Allocator>(
+fn boot_params_facts<'a, A: Allocator>(
     machine: &'a Machine<A>,
     ramdisk_size: u64,
     places: &[Place],
@@ -67,9 +67,9 @@ fn boot_params<A: Allocator, V: ByteView>(
     requires size { length (initrd_file (texts_in entry.now)) < 2 ^ 32 }
     requires low { All EndsLow places.now }
     ensures { IfOk result (λ bytes. bytes ≡ params.boot_params setup.now.header
-        (table.told_of entry.now.machine.now (value_of_files entry.now) places.now)) }
+        (table.boot_params_facts entry.now.machine.now (value_of_files entry.now) places.now)) }
 {
-    let facts = told_of(entry.machine, initrd_size(entry.files), places);
+    let facts = boot_params_facts(entry.machine, initrd_size(entry.files), places);
     let mut bytes = [0u8; 4096];
     write_params(setup, &facts, &mut bytes);
     Bytes::copy(alloc, &bytes)
@@ -149,7 +149,7 @@ pub fn linux_content<A: Allocator + Copy, V: ByteView>(
     requires size { length (initrd_file (texts_in entry.now)) < 2 ^ 32 }
     requires low { All EndsLow places.now }
     requires tables { TablesFit places.now }
-    requires rowed { IsRowed entry.now.machine.now (value_of_files entry.now)
+    requires rowed { HasRowLength entry.now.machine.now (value_of_files entry.now)
         (linux setup.now) place.now }
     ensures content { IfOk result (λ content. content_by (texts_in entry.now) content
         ≡ content_of entry.now.machine.now (value_of_files entry.now)

@@ -6,7 +6,7 @@ ghost use Rattle.bl_load.specs.PlacingKept as kept;
 ghost use Rattle.bl_load.specs.EntryValue.{initrd_file};
 ghost use Rattle.bl_map.specs.Limits.{high_start};
 
-use crate::lengths::capped_length;
+use crate::capped_lengths::capped_length;
 use bl_bzimage::Setup;
 use bl_map::{FIRST_USABLE, FRAME_SIZE, HIGH_START, MAX_SIZE};
 use bl_mem::ByteView;
@@ -15,15 +15,15 @@ use bl_plan::{Choice, Protocol, Role, Row};
 use std::alloc::{AllocError, Allocator};
 
 /// Where the line ends at most ("cmd_line_ptr").
-const LINE_LIMIT: u64 = 0xA_0000;
+const LINE_END_LIMIT: u64 = 0xA_0000;
 
 /// What a processor takes the address of a table to be a multiple of (Intel SDM, volume 3, chapter
 /// 4.5: bits 12 and up of CR3 and of a word that names a table).
 const TABLE_ALIGN: u64 = 0x1000;
 
 /// The row of a kernel that may be moved.
-fn moved_row(setup: &Setup) -> Row
-    ensures { result ≡ table.moved_row setup.now }
+fn relocatable_kernel_row(setup: &Setup) -> Row
+    ensures { result ≡ table.relocatable_kernel_row setup.now }
 {
     Row {
         role: Role::Kernel,
@@ -62,7 +62,7 @@ fn kernel_row(setup: &Setup) -> Row
     if setup.relocatable_kernel == 0 {
         fixed_kernel_row(setup)
     } else {
-        moved_row(setup)
+        relocatable_kernel_row(setup)
     }
 }
 
@@ -119,7 +119,7 @@ fn push_initrd_row<A: Allocator>(
     size: u64,
 ) -> Result<(), AllocError>
     ensures { IfOk result (λ _. (initrd : List ℕ) → length initrd ≡ size
-        → rows.new.items ≡ rows.old.items ++ kept.told_initrd_rows setup.now initrd) }
+        → rows.new.items ≡ rows.old.items ++ kept.capped_initrd_rows setup.now initrd) }
 {
     if size > 0 {
         rows.push(Row {
@@ -146,12 +146,12 @@ pub fn linux_rows<A: Allocator, V: ByteView>(
     requires { setup.now.relocatable_kernel ≡ 0
         → (high_start ≤ setup.now.pref_address) × (setup.now.pref_address < 2 ^ 32) }
     ensures { IfOk result (λ rows. rows.items
-        ≡ kept.told_linux_rows protocol setup.now (initrd_file (map V.bytes files.now))) }
+        ≡ kept.capped_linux_rows protocol setup.now (initrd_file (map V.bytes files.now))) }
 {
     let mut rows = Vec::new(alloc);
     rows.push(kernel_row(setup))?;
     rows.push(frame_row(Role::BootParams, MAX_SIZE))?;
-    rows.push(frame_row(Role::CommandLine, LINE_LIMIT))?;
+    rows.push(frame_row(Role::CommandLine, LINE_END_LIMIT))?;
     rows.push(frame_row(Role::Gdt, MAX_SIZE))?;
     if let Some(row) = paging_row(protocol) {
         rows.push(row)?;

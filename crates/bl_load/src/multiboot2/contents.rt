@@ -1,17 +1,17 @@
 //! The contents of a Multiboot2 entry's parts, at their places.
 ghost use Rattle.std.specs.Prelude.{◌≡◌, ◌≤◌, ◌<◌, ◌^◌, ◌+◌, All, IfOk, length, map};
 ghost use Rattle.bl_load.specs.EntryValue.{module_file};
-ghost use Rattle.bl_load.specs.Reading.{multiboot2};
-ghost use Rattle.bl_load.specs.KernelKept.{AreLoadable, kernel_by};
+ghost use Rattle.bl_load.specs.KernelReading.{multiboot2};
+ghost use Rattle.bl_load.specs.Multiboot2KernelKept.{AreLoadable, kernel_by};
 ghost use Rattle.bl_plan.specs.declared.part.Role.TheVariants as role;
 ghost use Rattle.bl_load.specs.Rows.{module_length};
 ghost use Rattle.bl_load.specs.Parts as parts;
 ghost use Rattle.bl_load.specs.Parts.{content_of};
-ghost use Rattle.bl_load.specs.PlanFacts.{content_by};
+ghost use Rattle.bl_load.specs.PlanContents.{content_by};
 ghost use Rattle.bl_mem.specs.Files.{nth_file};
 ghost use Rattle.bl_load.specs.Loadable.{lengths_of, content_length, IsInFiles, IsLeanContent};
 ghost use Rattle.bl_load.specs.CheckedEntryKept.{texts_in, value_of_files};
-ghost use Rattle.bl_load.specs.PlacingKept.{HasKernelLength, IsRowed, EndsLow, ModulesEndLow};
+ghost use Rattle.bl_load.specs.PlacingKept.{HasKernelLength, HasRowLength, EndsLow, ModulesEndLow};
 
 use crate::checked_entry::CheckedEntry;
 use crate::multiboot2::information::information;
@@ -92,7 +92,7 @@ pub fn multiboot2_content<A: Allocator + Copy, B: Allocator, V: ByteView>(
     requires ends { ModulesEndLow (texts_in entry.now) places.now
         (length entry.now.modules.now) }
     requires low { All EndsLow places.now }
-    requires rowed { IsRowed entry.now.machine.now (value_of_files entry.now)
+    requires rowed { HasRowLength entry.now.machine.now (value_of_files entry.now)
         (multiboot2 (kernel_by kernel.now)) place.now }
     requires small { place.now.length ≤ 2 ^ 32 }
     ensures content { IfOk result (λ content. content_by (texts_in entry.now) content

@@ -2,7 +2,7 @@
 ghost use Rattle.std.specs.Prelude.{◌≡◌, ◌≤◌, ◌<◌, ◌+◌, ◌^◌, None, All, length, map, sum_by, codes};
 ghost use Rattle.std.specs.Prelude.{option_map, option_copied, IfOk, IfSome};
 ghost use Rattle.bl_map.specs.NormalMap.{low_kib, high_kib};
-ghost use Rattle.bl_mbi.specs.InformationFacts.{AreBytes, IsModule, IsText};
+ghost use Rattle.bl_mbi.specs.InfoToWriteFacts.{AreBytes, IsModule, IsText};
 ghost use Rattle.bl_mbi.specs.Size.{tag_size};
 ghost use Rattle.bl_mbi.specs.Spelling.{info_spelling};
 ghost use Rattle.bl_plan.specs.declared.part.Role.TheVariants as role;

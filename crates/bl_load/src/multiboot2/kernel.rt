@@ -2,11 +2,12 @@
 ghost use Rattle.std.specs.Prelude.{◌≡◌, Some, None, IfOk};
 ghost use Rattle.std.specs.Prelude.{IfErr, MatchResult};
 ghost use Rattle.std.specs.List.{list_any};
-ghost use Rattle.bl_load.specs.Kernel as kernel;
-ghost use Rattle.bl_mem.specs.Contents.{is_in_segment};
-ghost use Rattle.bl_load.specs.Kernel.{IsKernel, IsLoadedBy, entry_fault};
-ghost use Rattle.bl_load.specs.KernelKept.{IsElfFault, IsElfRefusal, IsKernelFault, AreLoadable};
-ghost use Rattle.bl_load.specs.KernelKept.{executable_facts, kernel_by};
+ghost use Rattle.bl_load.specs.Multiboot2Kernel as kernel;
+ghost use Rattle.bl_mem.specs.SegmentContents.{is_in_segment};
+ghost use Rattle.bl_load.specs.Multiboot2Kernel.{IsMultiboot2Kernel, IsLoadedBy, entry_point_fault};
+ghost use Rattle.bl_load.specs.Multiboot2KernelKept.{IsElfFault, IsElfRefusal, IsMultiboot2Fault};
+ghost use Rattle.bl_load.specs.Multiboot2KernelKept.{AreLoadable};
+ghost use Rattle.bl_load.specs.Multiboot2KernelKept.{executable_facts, kernel_by};
 ghost use Rattle.bl_load.specs.declared.refusal.PrepFault.TheVariants.{Refused};
 
 use crate::refusal::{PrepFault, Refusal};
@@ -118,10 +119,10 @@ fn is_held(segments: &[Segment], a: u64) -> bool
 }
 
 /// The entry that counts, where it lies in a segment.
-fn counted_entry(segments: &[Segment], entry: Option<u64>) -> Result<u64, Refusal>
+fn check_entry_point(segments: &[Segment], entry: Option<u64>) -> Result<u64, Refusal>
     ensures { MatchResult result
-        (λ a. (entry ≡ Some a) × (entry_fault segments.now entry ≡ None))
-        (λ refusal. entry_fault segments.now entry ≡ Some refusal) }
+        (λ a. (entry ≡ Some a) × (entry_point_fault segments.now entry ≡ None))
+        (λ refusal. entry_point_fault segments.now entry ≡ Some refusal) }
 {
     let Some(a) = entry else {
         return Err(Refusal::NoEntry);
@@ -138,10 +139,11 @@ pub fn read_kernel<A: Allocator + Copy, V: ByteView>(
     alloc: A,
     file: &V,
 ) -> Result<Kernel<A>, PrepFault>
-    ensures kernel { IfOk result (λ kernel. IsKernel (V.bytes file.now) (kernel_by kernel)) }
+    ensures kernel { IfOk result (λ kernel. IsMultiboot2Kernel (V.bytes file.now)
+        (kernel_by kernel)) }
     ensures loadable { IfOk result (λ kernel. AreLoadable (V.bytes file.now)
         (kernel_by kernel).segments) }
-    ensures fault { IfErr result (λ fault. IsKernelFault (V.bytes file.now) fault) }
+    ensures fault { IfErr result (λ fault. IsMultiboot2Fault (V.bytes file.now) fault) }
 {
     // The file's length, and so that of the tag's segment, is known to be below 2^64 only once it
     // was asked for.
@@ -149,7 +151,7 @@ pub fn read_kernel<A: Allocator + Copy, V: ByteView>(
     let header = find_header(file)?;
     let executable = read_executable(alloc, file, header.segment)?;
     let counted = header.entry.or(executable.entry());
-    let entry = counted_entry(executable.segments(), counted)?;
+    let entry = check_entry_point(executable.segments(), counted)?;
     Ok(Kernel {
         executable,
         entry,

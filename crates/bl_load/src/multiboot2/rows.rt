@@ -1,17 +1,17 @@
 //! The table of places of a Multiboot2 entry's parts.
 ghost use Rattle.std.specs.Prelude.{◌≡◌, ◌≤◌, ◌<◌, ◌+◌, ◌^◌, ◌++◌, ◌*◌, All, length, map};
 ghost use Rattle.std.specs.Prelude.{option_map, IfOk};
-ghost use Rattle.bl_load.specs.Blocks as blocks;
+ghost use Rattle.bl_load.specs.KernelBlock as blocks;
 ghost use Rattle.bl_load.specs.Rows as table;
 ghost use Rattle.bl_load.specs.Kept.{lines_by};
 ghost use Rattle.bl_load.specs.PlacingKept as kept;
-ghost use Rattle.bl_load.specs.KernelKept.{kernel_by, max_segments};
+ghost use Rattle.bl_load.specs.Multiboot2KernelKept.{kernel_by, max_segments};
 ghost use Rattle.bl_load.specs.CheckedEntryKept.{value_of_files};
 ghost use Rattle.bl_plan.specs.MenuLimits.{max_line, max_modules};
 
+use crate::capped_lengths::capped_length;
 use crate::checked_entry::CheckedEntry;
 use crate::entry::Module;
-use crate::lengths::capped_length;
 use crate::multiboot2::kernel::Kernel;
 use crate::multiboot2::rows::kernel::push_kernel_rows;
 use bl_map::{FIRST_USABLE, FRAME_SIZE, HIGH_START, MAX_SIZE, round_up_to_frames};
@@ -33,7 +33,8 @@ fn push_module_rows<A: Allocator, B: Allocator, V: ByteView>(
     requires few { length modules.now ≤ max_modules }
     requires files { length files.now ≡ 1 + length modules.now }
     ensures { IfOk result (λ _. rows.new.items
-        ≡ rows.old.items ++ kept.capped_rows (map V.bytes files.now) 0 (lines_by modules.now)) }
+        ≡ rows.old.items
+        ++ kept.capped_module_rows (map V.bytes files.now) 0 (lines_by modules.now)) }
 {
     for (index, _) in modules.iter().enumerate() {
         rows.push(Row {
@@ -51,10 +52,10 @@ fn push_module_rows<A: Allocator, B: Allocator, V: ByteView>(
 }
 
 /// How many bytes the tags of modules take.
-fn tags_size<A: Allocator>(modules: &[Module<A>]) -> u64
+fn module_tags_size<A: Allocator>(modules: &[Module<A>]) -> u64
     requires short { All (λ m. length m.line ≤ max_line) modules.now }
     requires few { length modules.now ≤ max_modules }
-    ensures value { result ≡ kept.tags_size (lines_by modules.now) }
+    ensures value { result ≡ kept.module_tags_size (lines_by modules.now) }
     ensures small { result ≤ 4120 * length modules.now }
 {
     let mut size = 0;
@@ -84,7 +85,7 @@ fn information_row<A: Allocator, B: Allocator, V: ByteView>(
 {
     let length = size_by_lengths(
         entry.line.len() as u64,
-        tags_size(entry.modules),
+        module_tags_size(entry.modules),
         entry.machine.normal().len() as u64,
         length_of(entry.rsdp_old),
         length_of(entry.rsdp_new),
@@ -111,7 +112,7 @@ pub fn multiboot2_rows<A: Allocator, B: Allocator, V: ByteView>(
     requires files { length entry.now.files.now ≡ 1 + length entry.now.modules.now }
     requires few { length (kernel_by kernel.now).segments ≤ max_segments }
     requires span { blocks.span_of (kernel_by kernel.now).segments < 2 ^ 64 }
-    ensures { IfOk result (λ rows. rows.items ≡ kept.told_rows_of entry.now.machine.now
+    ensures { IfOk result (λ rows. rows.items ≡ kept.capped_multiboot2_rows entry.now.machine.now
         (value_of_files entry.now) (kernel_by kernel.now)) }
 {
     let mut rows = Vec::new(alloc);

@@ -1,7 +1,7 @@
 //! Frames get room.
 ghost use Rattle.std.specs.Prelude.{◌≡◌, ◌<◌, ◌≤◌, length, OnOk, IfOk};
 ghost use Rattle.bl_mem.specs.Memory.{KeepsRoom};
-ghost use Rattle.bl_mem.specs.SparseFrames.{IsHeld, AreOpen, SameBytes};
+ghost use Rattle.bl_mem.specs.SparseFrames.{HasRoomAt, FramesHaveRoom, SameBytes};
 
 use super::{SparseFrames, WIDTH};
 use crate::frame_room::give_room;
@@ -15,7 +15,7 @@ impl<A: Allocator + Copy> SparseFrames<A> {
     /// Has an entry for each frame below `end`.
     fn reach(&mut self, end: u64) -> Result<(), AllocError>
         ensures same { SameBytes self.old self.new }
-        ensures kept { KeepsRoom (IsHeld self.old) (IsHeld self.new) }
+        ensures kept { KeepsRoom (HasRoomAt self.old) (HasRoomAt self.new) }
         ensures made { OnOk result (end ≤ length self.new.table) }
     {
         if (self.table.len() as u64) < end {
@@ -29,8 +29,8 @@ impl<A: Allocator + Copy> SparseFrames<A> {
         requires forward { first ≤ end }
         requires inside { end ≤ length self.old.table }
         ensures same { SameBytes self.old self.new }
-        ensures kept { KeepsRoom (IsHeld self.old) (IsHeld self.new) }
-        ensures made { OnOk result (AreOpen self.new first end) }
+        ensures kept { KeepsRoom (HasRoomAt self.old) (HasRoomAt self.new) }
+        ensures made { OnOk result (FramesHaveRoom self.new first end) }
         ensures size { length self.new.table ≡ length self.old.table }
     {
         let more = (end - first) as usize;
@@ -60,9 +60,9 @@ impl<A: Allocator + Copy> SparseFrames<A> {
         requires before { at < end }
         requires inside { end ≤ length self.old.table }
         ensures same { SameBytes self.old self.new }
-        ensures kept { KeepsRoom (IsHeld self.old) (IsHeld self.new) }
+        ensures kept { KeepsRoom (HasRoomAt self.old) (HasRoomAt self.new) }
         ensures size { length self.new.table ≡ length self.old.table }
-        ensures made { IfOk result (λ next. AreOpen self.new at next) }
+        ensures made { IfOk result (λ next. FramesHaveRoom self.new at next) }
         ensures more { IfOk result (λ next. at < next) }
         ensures within { IfOk result (λ next. next ≤ end) }
     {
@@ -79,8 +79,8 @@ impl<A: Allocator + Copy> SparseFrames<A> {
     pub fn hold(&mut self, first: u64, end: u64) -> Result<(), AllocError>
         requires { first ≤ end }
         ensures same { SameBytes self.old self.new }
-        ensures kept { KeepsRoom (IsHeld self.old) (IsHeld self.new) }
-        ensures made { OnOk result (AreOpen self.new first end) }
+        ensures kept { KeepsRoom (HasRoomAt self.old) (HasRoomAt self.new) }
+        ensures made { OnOk result (FramesHaveRoom self.new first end) }
     {
         self.reach(end)?;
         let mut at = first;

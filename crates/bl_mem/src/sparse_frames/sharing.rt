@@ -1,7 +1,7 @@
 //! Frames that share a slot.
 ghost use Rattle.std.specs.Prelude.{◌≡◌, true, false};
 ghost use Rattle.bl_mem.specs.SparseFrames.{IsShared};
-ghost use Rattle.bl_mem.specs.Kept.{ArePair, IsReleased};
+ghost use Rattle.bl_mem.specs.Kept.{ArePair, IsUnshared};
 
 use super::SparseFrames;
 use crate::frame_state::FrameState;
@@ -10,8 +10,8 @@ use std::alloc::Allocator;
 impl<A: Allocator + Copy> SparseFrames<A> {
     /// Has a frame share no slot, so that it can be written: the other one keeps the slot. What the
     /// frame reads as is not said then, if it shared one; it has room as before.
-    pub(super) fn release(&mut self, number: u64)
-        ensures { IsReleased self.old self.new number }
+    pub(super) fn unshare(&mut self, number: u64)
+        ensures { IsUnshared self.old self.new number }
     {
         // Who shares a slot with whom is known once a field was asked for.
         let _owed = self.owed;
@@ -26,7 +26,7 @@ impl<A: Allocator + Copy> SparseFrames<A> {
     /// Has a frame leave its slot to the one with which it shares it.
     fn leave(&mut self, number: u64, other: u32, slot: u32)
         requires { ArePair self.old number other slot }
-        ensures { IsReleased self.old self.new number }
+        ensures { IsUnshared self.old self.new number }
     {
         self.table[other as usize] = FrameState::Kept(slot);
         self.table[number as usize] = FrameState::Plain(0);

@@ -3,14 +3,14 @@ ghost use Rattle.std.specs.Prelude.{◌≡◌, ◌+◌, ◌*◌, ◌%◌, ◌/�
 ghost use Rattle.std.specs.Prelude.{replicate};
 ghost use Rattle.bl_mem.specs.Memory.{overwrite};
 ghost use Rattle.bl_mem.specs.FrameState.{has_room};
-ghost use Rattle.bl_mem.specs.SparseFrames.{frame_numbered, IsHeld, IsWritten};
+ghost use Rattle.bl_mem.specs.SparseFrames.{frame_numbered, HasRoomAt, IsWritten};
 ghost use Rattle.bl_mem.specs.SparseFrames.{IsStored};
 ghost use Rattle.bl_mem.specs.Kept.{slot_of, owed_slots, partner, IsKeptIn, IsPutAt};
 
 use super::{SparseFrames, WIDTH};
+use crate::byte_writer::{put_at, put_bytes};
 use crate::frame_room::frame_over;
 use crate::frame_state::{FRAME_SIZE, FrameState};
-use crate::put::{put_at, put_bytes};
 use std::alloc::Allocator;
 
 impl<A: Allocator + Copy> SparseFrames<A> {
@@ -63,14 +63,14 @@ impl<A: Allocator + Copy> SparseFrames<A> {
         requires whole { length part.now ≡ 4096 }
         ensures { IsStored self.old self.new number part.now }
     {
-        self.release(number);
+        self.unshare(number);
         self.store_alone(number, part);
     }
 
     /// Keeps a frame whose bytes stay but for those of a part.
     fn store_over(&mut self, at: u64, part: &[u8])
         requires one { at % 4096 + length part.now ≤ 4096 }
-        requires held { IsHeld self.old at }
+        requires held { HasRoomAt self.old at }
         ensures { IsWritten self.old self.new at part.now }
     {
         let place = at % FRAME_SIZE;
@@ -82,7 +82,7 @@ impl<A: Allocator + Copy> SparseFrames<A> {
     /// Writes bytes of one frame.
     pub fn write(&mut self, at: u64, part: &[u8])
         requires one { at % 4096 + length part.now ≤ 4096 }
-        requires held { IsHeld self.old at }
+        requires held { HasRoomAt self.old at }
         ensures { IsWritten self.old self.new at part.now }
     {
         if part.len() == WIDTH {
@@ -119,14 +119,14 @@ impl<A: Allocator + Copy> SparseFrames<A> {
         requires held { has_room (frame_numbered self.old number) ≡ true }
         ensures { IsStored self.old self.new number (replicate 4096 0) }
     {
-        self.release(number);
+        self.unshare(number);
         self.clear_alone(number);
     }
 
     /// Clears `count` bytes of one frame to 0.
     pub fn zero(&mut self, at: u64, count: usize)
         requires one { at % 4096 + count ≤ 4096 }
-        requires held { IsHeld self.old at }
+        requires held { HasRoomAt self.old at }
         ensures { IsWritten self.old self.new at (replicate count 0) }
     {
         if count == WIDTH {

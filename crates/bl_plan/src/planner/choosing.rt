@@ -4,7 +4,7 @@ ghost use Rattle.bl_map.specs.Limits.{usable_limit};
 ghost use Rattle.bl_plan.specs.Permitted.{IsPermitted, IsAtSide, IsPreferred, HasNoRoom};
 ghost use Rattle.bl_plan.specs.Permitted.{OrNoMemory};
 ghost use Rattle.bl_plan.specs.PlannerFacts.{with_taken};
-ghost use Rattle.bl_plan.specs.Placed.{IsRow, IsChosen, HasChoiceFault};
+ghost use Rattle.bl_plan.specs.Placed.{IsWellFormedRow, IsChosen, HasChoiceFault};
 
 use crate::fault::PlanFault;
 use crate::part::{Choice, Row, Side, Window};
@@ -90,7 +90,7 @@ impl<'m, A: Allocator> Planner<'m, A> {
     /// Takes the place of a row, and answers its address. A fixed row has the faults of
     /// `take_fixed`, each other one those of `place`; a refusal leaves the planner as it was.
     pub(crate) fn place_row(&mut self, row: &Row) -> Result<u64, PlanFault>
-        requires row { IsRow row.now }
+        requires row { IsWellFormedRow row.now }
         ensures chosen { IfOk result (λ a.
             IsChosen self.old.facts self.old.taken row.now.length row.now.choice a) }
         ensures taken { IfOk result (λ a.

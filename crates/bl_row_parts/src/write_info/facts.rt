@@ -2,7 +2,7 @@
 //! the row is refused, and others stand for them.
 ghost use Rattle.std.specs.Prelude.{◌≡◌, ◌≢◌, ◌≤◌, ◌<◌, ◌^◌, ◌+◌, length, option_map};
 ghost use Rattle.std.specs.Prelude.{option_copied, All, IfOk, IfSome, IsTrue};
-ghost use Rattle.bl_mbi.specs.InformationFacts.{IsText, IsModule, AreBytes};
+ghost use Rattle.bl_mbi.specs.InfoToWriteFacts.{IsText, IsModule, AreBytes};
 ghost use Rattle.bl_mbi.specs.Size.{copy_size};
 
 use crate::write_info::row::{InfoRow, ModuleRow};

@@ -3,7 +3,7 @@
 //! A row is `ROLE INDEX len=N at=N`, or `ROLE INDEX len=N align=N low=N high=N` and then
 //! `lowest`, `highest` or `at=N` for a preferred address.
 ghost use Rattle.std.specs.Prelude.{All, IsTrue};
-ghost use Rattle.bl_plan.specs.Placed.{IsRow};
+ghost use Rattle.bl_plan.specs.Placed.{IsWellFormedRow};
 
 use crate::calls::plan::fault_text;
 use crate::row::Row;
@@ -73,7 +73,7 @@ impl Row<'_> {
 
 /// Whether the row has a byte at least, and an alignment from 1 on.
 fn is_row(row: &bl_plan::Row) -> bool
-    ensures { IsTrue result → IsRow row.now }
+    ensures { IsTrue result → IsWellFormedRow row.now }
 {
     let align = match row.choice {
         Choice::Fixed(_) => 1,
@@ -86,7 +86,7 @@ fn is_row(row: &bl_plan::Row) -> bool
 
 /// Whether each row has a byte at least, and an alignment from 1 on.
 fn are_rows(rows: &[bl_plan::Row]) -> bool
-    ensures { IsTrue result → All IsRow rows.now }
+    ensures { IsTrue result → All IsWellFormedRow rows.now }
 {
     rows.iter().all(is_row)
 }

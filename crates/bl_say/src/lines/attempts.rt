@@ -6,10 +6,10 @@ ghost use Rattle.bl_say.specs.AttemptLines.{attempt_lines, refused_attempt_lines
 ghost use Rattle.bl_say.specs.AttemptLines.{told_refusal_lines};
 ghost use Rattle.bl_desc.specs.Views.{entry_view};
 
+use crate::line_subjects::{Sought, ToldRefusal};
 use crate::lines::refusal::say_refusal;
 use crate::lines::refusal_detail::say_detail;
 use crate::lines::sought::say_entry_files;
-use crate::told::{Sought, ToldRefusal};
 use bl_desc::EntryRow;
 use bl_map::Machine;
 use std::alloc::{AllocError, Allocator};

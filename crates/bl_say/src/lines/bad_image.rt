@@ -1,6 +1,6 @@
 //! The line of an image that is refused.
 ghost use Rattle.std.specs.Prelude.{◌≡◌, ◌++◌, OnOk, OnErr};
-ghost use Rattle.bl_say.specs.Says.{bad_image_line};
+ghost use Rattle.bl_say.specs.BootAndMapLines.{bad_image_line};
 
 use std::alloc::{AllocError, Allocator};
 

@@ -2,9 +2,9 @@
 ghost use Rattle.std.specs.Prelude.{◌≡◌, ◌++◌, OnOk, slice_index_or};
 ghost use Rattle.std.specs.List.{flat_map};
 ghost use Rattle.bl_load.specs.Parts.{no_segment};
-ghost use Rattle.bl_say.specs.Sources as sources;
+ghost use Rattle.bl_say.specs.PartSources as sources;
 
-use crate::told::KernelSegments;
+use crate::line_subjects::KernelSegments;
 use bl_mem::Segment;
 use std::alloc::{AllocError, Allocator};
 
@@ -26,7 +26,7 @@ pub fn say_file<A: Allocator + Copy>(
 /// Appends what a segment takes of the kernel's file, behind what another one takes.
 fn say_next<A: Allocator + Copy>(out: &mut Vec<u8, A>, segment: &Segment) -> Result<(), AllocError>
     ensures { OnOk result
-        (out.new.items ≡ out.old.items ++ sources.next_words segment.now) }
+        (out.new.items ≡ out.old.items ++ sources.next_segment_words segment.now) }
 {
     let alloc = *out.allocator();
     let offset = segment.offset;
@@ -40,7 +40,7 @@ fn say_rest<A: Allocator + Copy>(
     segments: &[Segment],
 ) -> Result<(), AllocError>
     ensures { OnOk result
-        (out.new.items ≡ out.old.items ++ flat_map sources.next_words segments.now) }
+        (out.new.items ≡ out.old.items ++ flat_map sources.next_segment_words segments.now) }
 {
     for segment in segments {
         say_next(out, segment)?;

@@ -7,7 +7,7 @@ ghost use Rattle.bl_say.specs.Frames.{number_between, frames_line, frames_wanted
 ghost use Rattle.bl_say.specs.Frames.{names_at, sought_frames_line};
 ghost use Rattle.bl_desc.specs.Views.{entry_view, form_view, module_view};
 
-use crate::told::Sought;
+use crate::line_subjects::Sought;
 use bl_desc::{EntryForm, EntryRow, ModuleRow};
 use bl_map::{Machine, frames_in, frames_of, open_frames};
 use bl_session::Outcome;
@@ -43,7 +43,10 @@ fn frames_of_modules<A: Allocator, B: Allocator>(
 }
 
 /// How many frames the files beside the kernel take.
-fn frames_beside<A: Allocator, B: Allocator>(sought: &Sought<'_, A>, form: &EntryForm<B>) -> u64
+fn frames_of_files_beside<A: Allocator, B: Allocator>(
+    sought: &Sought<'_, A>,
+    form: &EntryForm<B>,
+) -> u64
     ensures frames { result ≡ frames_wanted sought.now (names_beside (form_view form.now)) }
     ensures most { result ≤ 2 ^ 58 }
 {
@@ -61,7 +64,7 @@ fn frames_beside<A: Allocator, B: Allocator>(sought: &Sought<'_, A>, form: &Entr
 fn frames_of_entry<A: Allocator, B: Allocator>(sought: &Sought<'_, A>, entry: &EntryRow<B>) -> u64
     ensures { result ≡ frames_wanted sought.now (file_names (entry_view entry.now)) }
 {
-    frames_of_name(sought, entry.kernel.as_str()) + frames_beside(sought, &entry.form)
+    frames_of_name(sought, entry.kernel.as_str()) + frames_of_files_beside(sought, &entry.form)
 }
 
 /// How many frames the files of an entry of the menu take, by its index.
@@ -109,7 +112,7 @@ pub fn say_frames<A: Allocator + Copy>(
 }
 
 /// Appends the line of the frames of an entry that is handed over.
-pub fn say_room<A: Allocator + Copy, B: Allocator>(
+pub fn say_handoff_frames<A: Allocator + Copy, B: Allocator>(
     out: &mut Vec<u8, A>,
     entries: &[EntryRow<B>],
     sought: &Sought<'_, A>,

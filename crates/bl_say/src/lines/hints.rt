@@ -4,8 +4,8 @@ ghost use Rattle.std.specs.List.{list_any};
 ghost use Rattle.bl_say.specs.Hints as hints;
 ghost use Rattle.bl_desc.specs.Views.{view};
 
+use crate::line_subjects::Sought;
 use crate::lines::kernel_hints::say_kernel_hints;
-use crate::told::Sought;
 use bl_blame::say_region_hints;
 use bl_desc::Description;
 use bl_session::RefusedEntry;

@@ -6,7 +6,7 @@ ghost use Rattle.bl_say.specs.Hints.{kernel_hint, kernel_hint_of};
 ghost use Rattle.bl_say.specs.Sought.{bytes_found};
 ghost use Rattle.bl_desc.specs.Views.{entry_view};
 
-use crate::told::Sought;
+use crate::line_subjects::Sought;
 use bl_desc::EntryRow;
 use bl_load::Refusal;
 use bl_mem::{SliceView, u16_at, u32_at};

@@ -1,8 +1,8 @@
 //! A machine's map, run by run.
 ghost use Rattle.std.specs.Prelude.{◌≡◌, ◌++◌, ◌+◌, ◌<◌, ◌^◌, All, OnOk, OnErr};
 ghost use Rattle.std.specs.List.{flat_map};
-ghost use Rattle.bl_say.specs.Says as says;
-ghost use Rattle.bl_say.specs.Says.{run_line};
+ghost use Rattle.bl_say.specs.BootAndMapLines as says;
+ghost use Rattle.bl_say.specs.BootAndMapLines.{run_line};
 
 use bl_map::Region;
 use std::alloc::{AllocError, Allocator};

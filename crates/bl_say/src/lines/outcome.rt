@@ -1,6 +1,6 @@
 //! What a boot comes to, entry by entry.
 ghost use Rattle.std.specs.Prelude.{◌≡◌, ◌++◌, OnOk, OnErr};
-ghost use Rattle.bl_say.specs.Says as says;
+ghost use Rattle.bl_say.specs.BootAndMapLines as says;
 
 use bl_session::RefusedEntry;
 use std::alloc::{AllocError, Allocator};

@@ -3,7 +3,7 @@ ghost use Rattle.std.specs.Prelude.{◌≡◌, ◌++◌, OnOk};
 ghost use Rattle.bl_say.specs.RefusalWords as words;
 
 use crate::lines::refusal_words::{refusal_meaning, refusal_name};
-use bl_blame::say_number;
+use bl_blame::say_number_in_brackets;
 use bl_load::Refusal;
 use std::alloc::{AllocError, Allocator};
 
@@ -34,8 +34,8 @@ fn say_told<A: Allocator + Copy>(out: &mut Vec<u8, A>, refusal: Refusal) -> Resu
         | Refusal::FileTooLong(n)
         | Refusal::UnsupportedRequest(n)
         | Refusal::SegmentCut(n)
-        | Refusal::AddressTooHigh(n) => say_number(out, n as u64),
-        Refusal::UnsupportedTag(n) => say_number(out, n as u64),
+        | Refusal::AddressTooHigh(n) => say_number_in_brackets(out, n as u64),
+        Refusal::UnsupportedTag(n) => say_number_in_brackets(out, n as u64),
         Refusal::BadTag(offset) => say_offset(out, offset),
         Refusal::SegmentsOverlap(i, j) => say_pair(out, i as u64, j as u64),
         _ => Ok(()),

@@ -5,9 +5,9 @@ ghost use Rattle.bl_map.specs.NormalMap.{kind_at};
 ghost use Rattle.bl_say.specs.DetailLines as words;
 ghost use Rattle.bl_desc.specs.Views.{entry_view};
 
+use crate::line_subjects::{RefusalDetail, Sought};
 use crate::lines::frames::{frames_at, say_counted, say_frames};
-use crate::lines::handed::role_name;
-use crate::told::{RefusalDetail, Sought};
+use crate::lines::kernel_handoff::role_name;
 use bl_blame::{say_address, say_line_end, say_unusable};
 use bl_desc::EntryRow;
 use bl_load::{Choice, Row};

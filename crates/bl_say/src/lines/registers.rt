@@ -2,7 +2,7 @@
 ghost use Rattle.std.specs.Prelude.{◌≡◌, ◌++◌, OnOk, map};
 ghost use Rattle.std.specs.List.{flat_map};
 ghost use Rattle.bl_load.specs.NamedRegisters.{named};
-ghost use Rattle.bl_say.specs.HandedLines as handed;
+ghost use Rattle.bl_say.specs.HandoffLines as handed;
 
 use bl_load::{NamedRegister, Registers};
 use std::alloc::{AllocError, Allocator};

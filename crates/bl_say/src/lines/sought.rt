@@ -5,7 +5,7 @@ ghost use Rattle.bl_say.specs.Sought as sought_files;
 ghost use Rattle.bl_say.specs.Sought.{sought_line, sought_lines};
 ghost use Rattle.bl_desc.specs.Views.{entry_view, module_view};
 
-use crate::told::Sought;
+use crate::line_subjects::Sought;
 use bl_blame::say_name;
 use bl_desc::{EntryForm, EntryRow, ModuleRow};
 use bl_map::frames_of;

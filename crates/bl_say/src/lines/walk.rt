@@ -1,7 +1,7 @@
 //! What a kernel sees in an image, line by line.
 ghost use Rattle.std.specs.Prelude.{◌≡◌, ◌++◌, OnOk, OnErr};
 ghost use Rattle.std.specs.List.{flat_map};
-ghost use Rattle.bl_walk.specs.Shown.{RunsEndLow};
+ghost use Rattle.bl_walk.specs.EntryShown.{RunsEndLow};
 ghost use Rattle.bl_say.specs.WalkLines as says;
 ghost use Rattle.bl_say.specs.WalkLines.{kernel_line, module_line};
 
@@ -41,8 +41,11 @@ pub(crate) fn say_protocol<A: Allocator + Copy>(
     out.extend_from_slice(line.as_bytes())
 }
 
-fn say_entry<A: Allocator + Copy>(out: &mut Vec<u8, A>, entry: u64) -> Result<(), AllocError>
-    ensures { OnOk result (out.new.items ≡ out.old.items ++ says.entry_line entry) }
+fn say_entry_address<A: Allocator + Copy>(
+    out: &mut Vec<u8, A>,
+    entry: u64,
+) -> Result<(), AllocError>
+    ensures { OnOk result (out.new.items ≡ out.old.items ++ says.entry_address_line entry) }
 {
     let alloc = *out.allocator();
     let line = format!(in alloc; "entry {entry:08x}\n")?;
@@ -50,7 +53,7 @@ fn say_entry<A: Allocator + Copy>(out: &mut Vec<u8, A>, entry: u64) -> Result<()
 }
 
 fn say_line<A: Allocator + Copy>(out: &mut Vec<u8, A>, text: &[u8]) -> Result<(), AllocError>
-    ensures { OnOk result (out.new.items ≡ out.old.items ++ says.line_line text.now) }
+    ensures { OnOk result (out.new.items ≡ out.old.items ++ says.command_line_line text.now) }
 {
     out.extend_from_slice(b"line ")?;
     say_text(out, text)?;
@@ -116,7 +119,7 @@ fn say_modules<A: Allocator + Copy, B: Allocator>(
     Ok(())
 }
 
-fn say_file<A: Allocator + Copy>(
+fn say_ramdisk<A: Allocator + Copy>(
     out: &mut Vec<u8, A>,
     file: &SeenFile<'_>,
 ) -> Result<(), AllocError>
@@ -137,7 +140,7 @@ fn say_initrd<A: Allocator + Copy>(
 {
     match initrd {
         None => Ok(()),
-        Some(file) => say_file(out, file),
+        Some(file) => say_ramdisk(out, file),
     }
 }
 
@@ -146,7 +149,7 @@ fn say_copy<A: Allocator + Copy, B: Allocator>(
     word: &[u8],
     copy: &Option<Bytes<B>>,
 ) -> Result<(), AllocError>
-    ensures { OnOk result (out.new.items ≡ out.old.items ++ says.copy_line word.now copy.now) }
+    ensures { OnOk result (out.new.items ≡ out.old.items ++ says.rsdp_copy_line word.now copy.now) }
 {
     if let Some(bytes) = copy {
         out.extend_from_slice(word)?;
@@ -170,7 +173,7 @@ pub fn say_walk<A: Allocator + Copy, B: Allocator, C: Allocator>(
 {
     let mut lines = Vec::new(alloc);
     say_protocol(&mut lines, seen.protocol)?;
-    say_entry(&mut lines, seen.entry)?;
+    say_entry_address(&mut lines, seen.entry)?;
     say_line(&mut lines, seen.line.as_slice())?;
     say_kernels(&mut lines, seen.kernel.as_slice())?;
     say_modules(&mut lines, seen.modules.as_slice())?;

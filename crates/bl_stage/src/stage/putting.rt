@@ -4,7 +4,7 @@ ghost use Rattle.std.specs.Prelude.{if◌then◌else◌, Some, None};
 ghost use Rattle.bl_mem.specs.Memory.{overwrite, HasRoom, KeepsSizeAndRoom};
 ghost use Rattle.bl_stage.specs.Staged.{staged_file, AreStaged, HasPool};
 ghost use Rattle.bl_stage.specs.Pieces.{is_piece, slot_in, put_answer, stage_with};
-ghost use Rattle.bl_stage.specs.PieceStates.{piece_states, put_piece_state};
+ghost use Rattle.bl_stage.specs.PieceStates.{piece_states, piece_states_after_put};
 ghost use Rattle.bl_stage.specs.Ranges.{IsSameOutside};
 
 use crate::stage::Stage;
@@ -76,7 +76,7 @@ impl<A: Allocator> Stage<A> {
             ≡ staged_file (M.bytes memory.old) self.old other }
         ensures piece_states { result ≡ Put.Stored
             → piece_states (M.bytes memory.new) self.new
-            ≡ put_piece_state (M.bytes memory.old) self.old file index bytes.now }
+            ≡ piece_states_after_put (M.bytes memory.old) self.old file index bytes.now }
         ensures unchanged { result ≢ Put.Stored
             → (self.new ≡ self.old) × (M.bytes memory.new ≡ M.bytes memory.old) }
         ensures staged { AreStaged self.new }

@@ -2,7 +2,7 @@ use Rattle.std.proofs.Common.{ℕ, arith, refl, subst}
 use Rattle.std.proofs.lemmas.List.{length-append, length-replicate}
 use Rattle.bl_mem.specs.Memory.{memory_from}
 use Rattle.bl_session.specs.Menu.{MenuFacts}
-use Rattle.bl_session.specs.Run.{boot_end}
+use Rattle.bl_session.specs.Run.{final_phase}
 use Rattle.bl_abi.specs.Boot.{few_places, bad_machine, bad_memory, bad_menu}
 use Rattle.bl_abi.specs.Boot.{HasBootEnded, given_files}
 use Rattle.bl_abi.proofs.booting.boot.Goals as goal
@@ -67,6 +67,6 @@ returns-clause-end g c =
           let new = memory_from c.args.base c.boot_given.new.memory in
           subst
           (λ (menu : MenuFacts).
-          HasBootEnded c.in-Ok.made menu files old new (boot_end c.boot_given.result))
+          HasBootEnded c.in-Ok.made menu files old new (final_phase c.boot_given.result))
           c.in-Ok-menu_of.ensures.menu c.boot_given.ensures;
     }

@@ -1,14 +1,14 @@
 use Rattle.std.proofs.lemmas.List.{take_all}
 use Rattle.std.proofs.lemmas.Result.{err_from_is_err_and}
 use Rattle.bl_session.specs.Menu.{facts_of}
-use Rattle.bl_abi.specs.Boot.{facts_given}
+use Rattle.bl_abi.specs.Boot.{entry_facts_given}
 use Rattle.bl_abi.proofs.ListLemmas.{one_more_mapped}
 use Rattle.bl_abi.proofs.entries.entries_of.Goals as goal
 
 pub loop-record-preserved : goal.loop-record-preserved
 loop-record-preserved g c =
     one_more_mapped c.loop-record.entries.items c.push.new.self.items c.in_ok-entry_of.field-0
-    c.args.records.now c.loop-record.record-index _ facts_of (facts_given c.args.given.now)
+    c.args.records.now c.loop-record.record-index _ facts_of (entry_facts_given c.args.given.now)
     c.loop-record-test.true c.in_ok-push.ensures.items c.in_ok-entry_of.ensures.facts
     c.loop-record.invariant
 

@@ -1,5 +1,5 @@
 use Rattle.std.proofs.Common.{length, arith}
-use Rattle.bl_load.specs.PlanFacts.{handover_in}
+use Rattle.bl_load.specs.PlanContents.{handover_in}
 use Rattle.bl_abi.proofs.FaultLaws as faults
 use Rattle.bl_abi.proofs.PrepareLaws.{one_handoff, only_memory, one_refusal, never_loaded}
 use Rattle.bl_abi.proofs.load_laws.loads_end_as_prepared.Goals as goal

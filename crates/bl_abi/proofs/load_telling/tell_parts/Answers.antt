@@ -1,6 +1,6 @@
 use Rattle.std.proofs.Common.{arith, ◌∙◌, ◌≡◌, length}
-use Rattle.bl_load.specs.Place.{planned_place}
-use Rattle.bl_abi.specs.Told.{place_told}
+use Rattle.bl_load.specs.PlannedPlaceKept.{planned_place}
+use Rattle.bl_abi.specs.LoadTold.{place_told}
 use Rattle.bl_abi.proofs.TellLemmas.{tell_one, told_under}
 use Rattle.bl_abi.proofs.load_telling.tell_parts.Goals as goal
 

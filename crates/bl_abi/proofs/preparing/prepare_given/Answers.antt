@@ -1,7 +1,7 @@
 use Rattle.std.proofs.Common.{ap, ◌∙◌, map, subst, sym}
 use Rattle.bl_mem.specs.declared.byte_view.SliceView.{SliceView}
 use Rattle.bl_load.specs.Parts.{IsHandover}
-use Rattle.bl_load.specs.PlanFacts.{handover_by}
+use Rattle.bl_load.specs.PlanContents.{handover_by}
 use Rattle.bl_load.specs.EntryValue.{EntryValue}
 use Rattle.bl_abi.specs.Load.{IsEntryFault}
 use Rattle.bl_abi.proofs.LoadLemmas.{given_value, given_count, entry_sound}

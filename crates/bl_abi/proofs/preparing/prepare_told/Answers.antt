@@ -1,5 +1,5 @@
 use Rattle.std.proofs.Common.{Ok, Err, refl}
-use Rattle.bl_load.specs.PlanFacts.{handoff_by}
+use Rattle.bl_load.specs.PlanContents.{handoff_by}
 use Rattle.bl_abi.proofs.preparing.prepare_told.Goals as goal
 
 pub returns-in-Ok : goal.returns-in-Ok

@@ -4,23 +4,23 @@ use Rattle.bl_desc.specs.Entries.{entry_by}
 use Rattle.bl_desc.proofs.ItemLemmas.{fails_on}
 use Rattle.bl_desc.proofs.entries.entry_by.Goals as goal
 
-pub returns-then-not-has_keys : goal.returns-then-not-has_keys
+pub returns-then-not-has_only_entry_keys : goal.returns-then-not-has_only_entry_keys
 unfolding entry_by
-returns-then-not-has_keys g c =
-    let known = sym c.has_keys.ensures ∙ c.if-not-has_keys.true in
+returns-then-not-has_only_entry_keys g c =
+    let known = sym c.has_only_entry_keys.ensures ∙ c.if-not-has_only_entry_keys.true in
     rw known refl
 
 pub returns-in_err-title : goal.returns-in_err-title
 unfolding entry_by
 returns-in_err-title g c =
-    let known = sym c.has_keys.ensures ∙ c.if-not-has_keys.false in
+    let known = sym c.has_only_entry_keys.ensures ∙ c.if-not-has_only_entry_keys.false in
     let p = err_from_is_err_and c.from_residual.result c.from_residual.ensures.1 in
     rw (p.1, p.2, known) (fails_on _ _ _ c.in_err-title.ensures)
 
 pub returns-in_err-kernel : goal.returns-in_err-kernel
 unfolding entry_by
 returns-in_err-kernel g c =
-    let known = sym c.has_keys.ensures ∙ c.if-not-has_keys.false in
+    let known = sym c.has_only_entry_keys.ensures ∙ c.if-not-has_only_entry_keys.false in
     let p =
     err_from_is_err_and c.from_residual-in_err-kernel.result
     c.from_residual-in_err-kernel.ensures.1 in
@@ -29,7 +29,7 @@ returns-in_err-kernel g c =
 pub returns-in_err-line : goal.returns-in_err-line
 unfolding entry_by
 returns-in_err-line g c =
-    let known = sym c.has_keys.ensures ∙ c.if-not-has_keys.false in
+    let known = sym c.has_only_entry_keys.ensures ∙ c.if-not-has_only_entry_keys.false in
     let p =
     err_from_is_err_and c.from_residual-in_err-line.result c.from_residual-in_err-line.ensures.1 in
     rw (
@@ -43,7 +43,7 @@ returns-in_err-line g c =
 pub returns-in_err-form : goal.returns-in_err-form
 unfolding entry_by
 returns-in_err-form g c =
-    let known = sym c.has_keys.ensures ∙ c.if-not-has_keys.false in
+    let known = sym c.has_only_entry_keys.ensures ∙ c.if-not-has_only_entry_keys.false in
     let p =
     err_from_is_err_and c.from_residual-in_err-form.result c.from_residual-in_err-form.ensures.1 in
     rw (
@@ -65,7 +65,7 @@ returns-in_err-entry_with g c =
 pub returns : goal.returns
 unfolding entry_by
 returns g c =
-    let known = sym c.has_keys.ensures ∙ c.if-not-has_keys.false in
+    let known = sym c.has_only_entry_keys.ensures ∙ c.if-not-has_only_entry_keys.false in
     rw (
       known,
       c.in_ok-title.ensures,

@@ -1,6 +1,6 @@
 -- A program header that holds the entry is the first, and one that does not leaves those after it.
 use Rattle.std.proofs.Common.{◌≡◌, length, true, false, None, sym, ◌∙◌}
-use Rattle.bl_elf.specs.Program.{is_entered, program_header, program_fault}
+use Rattle.bl_elf.specs.ProgramHeaders.{is_entered, program_header, program_fault}
 use Rattle.bl_elf.specs.Elf.{IsProgramHeaderIndex}
 use Rattle.bl_elf.proofs.ProgramLemmas.{find_here, find_behind, entered_below}
 use Rattle.bl_elf.proofs.entry.first_entered.Goals as goal

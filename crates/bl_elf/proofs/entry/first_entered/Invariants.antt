@@ -1,6 +1,6 @@
 use Rattle.std.proofs.Common.{◌≡◌, ◌-◌}
 use Rattle.std.specs.Prelude.{find}
-use Rattle.bl_elf.specs.Program.{program_headers_from, program_headers, is_entered}
+use Rattle.bl_elf.specs.ProgramHeaders.{program_headers_from, program_headers, is_entered}
 use Rattle.bl_elf.proofs.entry.first_entered.Given as goal
 
 -- the first of the program headers that are left is the first of all

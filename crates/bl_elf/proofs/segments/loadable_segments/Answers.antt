@@ -2,7 +2,7 @@
 -- first fault.
 use Rattle.std.proofs.Common.{◌≡◌, below_more, sym, ◌∙◌}
 use Rattle.std.proofs.lemmas.Result.{err_from_is_err_and}
-use Rattle.bl_elf.specs.Program.{is_loadable, program_header}
+use Rattle.bl_elf.specs.ProgramHeaders.{is_loadable, program_header}
 use Rattle.bl_elf.proofs.ProgramLemmas.{takes, skips}
 use Rattle.bl_elf.proofs.FaultLemmas.{program_first}
 use Rattle.bl_elf.proofs.segments.loadable_segments.Goals as goal

@@ -1,6 +1,6 @@
 use Rattle.std.proofs.Common.{◌≡◌, ◌<◌, ◌-◌, ◌++◌, ℕ, None}
-use Rattle.bl_elf.specs.Program.{program_headers_from, program_headers, segments_of}
-use Rattle.bl_elf.specs.Program.{program_fault_at}
+use Rattle.bl_elf.specs.ProgramHeaders.{program_headers_from, program_headers, segments_of}
+use Rattle.bl_elf.specs.ProgramHeaders.{program_fault_at}
 use Rattle.bl_elf.proofs.segments.loadable_segments.Given as goal
 
 -- no program header so far has a fault, and their segments are those before the rest

@@ -1,5 +1,5 @@
 use Rattle.std.proofs.Common.{map}
-use Rattle.bl_load.specs.PlanFacts.{handoff_by}
+use Rattle.bl_load.specs.PlanContents.{handoff_by}
 use Rattle.bl_load.specs.EntryValue.{value_of}
 use Rattle.bl_explain.proofs.DetailLemmas.{beside_plan}
 use Rattle.bl_say.proofs.FrameLemmas.{ascending_parts}

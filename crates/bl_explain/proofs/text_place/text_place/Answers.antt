@@ -1,7 +1,7 @@
 use Rattle.std.proofs.Common.{◌≡◌, ◌+◌, ◌∙◌, ap, sym, get_or, take}
 use Rattle.std.proofs.lemmas.List.{take_more}
 use Rattle.bl_explain.specs.BlameConditions.{after_byte, text_place}
-use Rattle.bl_blame.specs.declared.told.blame.TextPlace.{TextPlace}
+use Rattle.bl_blame.specs.declared.line_subjects.blame.TextPlace.{TextPlace}
 use Rattle.bl_explain.proofs.ExplainLemmas.{after_bytes_more, after_byte_small}
 use Rattle.bl_explain.proofs.text_place.text_place.Goals as goal
 

@@ -1,14 +1,14 @@
 use Rattle.std.proofs.Common.{Ok, ◌≡◌, ◌≤◌, ◌^◌, ℕ, Bool, All, length, sym, ap, ◌∙◌, subst, arith}
 use Rattle.std.proofs.lemmas.Result.{err_from_is_err_and}
 use Rattle.bl_image.specs.Image.{head, spelling}
-use Rattle.bl_image.specs.ImageParts.{IsKeptByImages}
+use Rattle.bl_image.specs.ImageHandover.{IsKeptByImages}
 use Rattle.bl_image.specs.ImageFaults.{image_fault, parts_fault, no_records, end_fault}
-use Rattle.bl_image.specs.RecordsKept.{bytes_at}
+use Rattle.bl_image.specs.RecordsKept.{total_length}
 use Rattle.bl_plan.specs.declared.part.Place.{Place}
 use Rattle.bl_plan.specs.declared.protocol.Protocol.{Protocol}
 use Rattle.bl_load.specs.declared.registers.Registers.{Registers}
 use Rattle.bl_load.specs.Handover.{Handover}
-use Rattle.bl_load.specs.HandoffFacts.{MayStand}
+use Rattle.bl_load.specs.HandoffFacts.{IsRoleAllowed}
 use Rattle.bl_load.specs.Protocols.{is_wide}
 use Rattle.bl_image.specs.declared.version.Version.{Version}
 use Rattle.bl_image.specs.Layouts.{max_role}
@@ -72,13 +72,13 @@ returns-in_err-parts-clause-refused g c =
     fronted head.version head.protocol head.registers head.count c.are_wide.result
     c.in_ok-head.ensures.ok c.in_ok-head.ensures.has c.in_ok-head.ensures.fit
     c.in_ok-head.ensures.few wide in
-    let passed : Passed image_fault _ _ (end_fault (bytes_at places)) =
+    let passed : Passed image_fault _ _ (end_fault (total_length places)) =
     passed_more _ front c.in_ok-places.ensures.ok c.in_ok-places.ensures.judged in
     let cut = rw c.deref.ensures.value at c.in_err-parts.ensures.cut in
     rw (p.1, p.2)
     (passed_refuses passed
-    _ _ (cut_refuses (end_fault (bytes_at places)) _ _ (bytes_at places)
-    _ (end_short (bytes_at places)) cut))
+    _ _ (cut_refuses (end_fault (total_length places)) _ _ (total_length places)
+    _ (end_short (total_length places)) cut))
 
 pub returns-in_err-read_end-clause-refused : goal.returns-in_err-read_end-clause-refused
 returns-in_err-read_end-clause-refused g c =
@@ -94,13 +94,13 @@ returns-in_err-read_end-clause-refused g c =
     fronted head.version head.protocol head.registers head.count c.are_wide.result
     c.in_ok-head.ensures.ok c.in_ok-head.ensures.has c.in_ok-head.ensures.fit
     c.in_ok-head.ensures.few wide in
-    let passed : Passed image_fault _ _ (end_fault (bytes_at places)) =
+    let passed : Passed image_fault _ _ (end_fault (total_length places)) =
     passed_more _ front c.in_ok-places.ensures.ok c.in_ok-places.ensures.judged in
-    let size : length (all_bytes parts) ≡ bytes_at places =
-    parts_size parts ∙ ap bytes_at (c.in_ok-parts.ensures.places ∙ c.deref.ensures.value) in
+    let size : length (all_bytes parts) ≡ total_length places =
+    parts_size parts ∙ ap total_length (c.in_ok-parts.ensures.places ∙ c.deref.ensures.value) in
     let left : Passed image_fault _ _ (end_fault 0) =
     passed_more _ passed c.in_ok-parts.ensures.ok
-    (λ bytes. end_more (bytes_at places) (all_bytes parts) bytes size) in
+    (λ bytes. end_more (total_length places) (all_bytes parts) bytes size) in
     rw (p.1, p.2) (passed_refuses left _ _ c.in_err-read_end.ensures.refused)
 
 pub read_parts-requires-clause-few : goal.read_parts-requires-clause-few
@@ -114,8 +114,8 @@ new-requires g c =
     let places = c.in_ok-places.places.items in
     let few : length places ≤ 256 =
     omega (arith, c.in_ok-places.ensures.count, c.in_ok-head.ensures.few) in
-    let roles : All (λ (p : Place). MayStand (is_wide head.protocol) p.role) places =
-    subst (λ (b : Bool). All (λ (p : Place). MayStand b p.role) places)
+    let roles : All (λ (p : Place). IsRoleAllowed (is_wide head.protocol) p.role) places =
+    subst (λ (b : Bool). All (λ (p : Place). IsRoleAllowed b p.role) places)
     (c.are_wide.ensures ∙ c.in_ok-head.ensures.fit.0) c.in_ok-places.ensures.may in
     parts_kept head.protocol head.registers places c.in_ok-parts.parts.items
     (c.in_ok-parts.ensures.places ∙ c.deref.ensures.value)
@@ -145,8 +145,8 @@ returns-clause-kept g c =
     let places = c.in_ok-places.places.items in
     let few : length places ≤ 256 =
     omega (arith, c.in_ok-places.ensures.count, c.in_ok-head.ensures.few) in
-    let roles : All (λ (p : Place). MayStand (is_wide head.protocol) p.role) places =
-    subst (λ (b : Bool). All (λ (p : Place). MayStand b p.role) places)
+    let roles : All (λ (p : Place). IsRoleAllowed (is_wide head.protocol) p.role) places =
+    subst (λ (b : Bool). All (λ (p : Place). IsRoleAllowed b p.role) places)
     (c.are_wide.ensures ∙ c.in_ok-head.ensures.fit.0) c.in_ok-places.ensures.may in
     subst IsKeptByImages (sym c.new.ensures)
     (image_kept head.protocol head.registers places

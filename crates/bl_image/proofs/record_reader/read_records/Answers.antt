@@ -2,11 +2,11 @@ use Rattle.std.proofs.Common.{◌≡◌, ◌+◌, ◌-◌, ◌<◌, ℕ, suc, Li
 use Rattle.std.proofs.Common.{All, subst, arith, length-append}
 use Rattle.std.specs.List.{flat_map}
 use Rattle.bl_plan.specs.declared.part.Place.{Place}
-use Rattle.bl_image.specs.RecordsKept.{place_record, AreSound, bytes_at}
+use Rattle.bl_image.specs.RecordsKept.{place_record, AreSound, total_length}
 use Rattle.std.proofs.lemmas.Result.{err_from_is_err_and}
-use Rattle.bl_load.specs.HandoffFacts.{MayStand}
+use Rattle.bl_load.specs.HandoffFacts.{IsRoleAllowed}
 use Rattle.bl_image.specs.Layouts.{max_role}
-use Rattle.bl_image.specs.ImageFaults.{parts_fault, no_records, Before}
+use Rattle.bl_image.specs.ImageFaults.{parts_fault, no_records, RecordsBefore}
 use Rattle.bl_image.proofs.Inputs.{comes_more, comes_as}
 use Rattle.bl_image.proofs.FieldLemmas.{Passed, passed_refuses}
 use Rattle.bl_image.proofs.RecordLemmas.{record_refuses}
@@ -19,11 +19,11 @@ returns-in_err-place-clause-refused g c =
     let p = err_from_is_err_and c.from_residual.result c.from_residual.ensures.1 in
     let count = c.args.count in
     let part = c.loop-part.part in
-    let before : Before =
+    let before : RecordsBefore =
     record {
       count = part;
       end = c.loop-part.before;
-      bytes = bytes_at c.loop-part.places.items;
+      bytes = total_length c.loop-part.places.items;
     } in
     let inside : part < count = omega arith in
     let left : count - part ≡ suc (count - (part + 1)) = omega arith in
@@ -76,8 +76,8 @@ loop-part-preserved g c =
           (so_far (part + 1) end ps) bytes)
           (sym e) judged;
       may =
-          subst (All (λ (p : Place). MayStand c.args.wide p.role)) (sym e)
-          (one_more (λ (p : Place). MayStand c.args.wide p.role) old place
+          subst (All (λ (p : Place). IsRoleAllowed c.args.wide p.role)) (sym e)
+          (one_more (λ (p : Place). IsRoleAllowed c.args.wide p.role) old place
           c.loop-part.invariant.may c.in_ok-place.ensures.may);
       faults = omega (arith, c.in_ok-place.ensures.faults, c.loop-part.invariant.faults);
     }

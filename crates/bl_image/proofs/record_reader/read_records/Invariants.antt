@@ -1,9 +1,9 @@
 use Rattle.std.proofs.Common.{◌≡◌, ◌-◌, ℕ, List, ◌++◌, length, All}
 use Rattle.std.specs.List.{flat_map}
 use Rattle.bl_plan.specs.declared.part.Place.{Place}
-use Rattle.bl_load.specs.HandoffFacts.{MayStand}
+use Rattle.bl_load.specs.HandoffFacts.{IsRoleAllowed}
 use Rattle.bl_image.specs.Layouts.{max_role}
-use Rattle.bl_image.specs.RecordsKept.{place_record, AreSound, bytes_at}
+use Rattle.bl_image.specs.RecordsKept.{place_record, AreSound, total_length}
 use Rattle.bl_image.specs.ImageFaults.{parts_fault, no_records}
 use Rattle.bl_image.specs.Source.{Comes}
 use Rattle.bl_image.proofs.record_reader.read_records.Given as goal
@@ -15,11 +15,11 @@ invariant-loop-part g l = record {
       (flat_map place_record l.places.items);
   size : length l.places.items ≡ l.part;
   sound : AreSound l.places.items l.before;
-  may : All (λ (place : Place). MayStand l.wide place.role) l.places.items;
+  may : All (λ (place : Place). IsRoleAllowed l.wide place.role) l.places.items;
   judged : (bytes : List ℕ)
       → parts_fault (max_role l.wide) l.count no_records
       (flat_map place_record l.places.items ++ bytes)
       ≡ parts_fault (max_role l.wide) (l.count - l.part)
-      (record { count = l.part; end = l.before; bytes = bytes_at l.places.items }) bytes;
+      (record { count = l.part; end = l.before; bytes = total_length l.places.items }) bytes;
   faults : g.S.Source.faults l.source ≡ g.S.Source.faults l.fn.source;
 }

@@ -1,6 +1,6 @@
 use Rattle.std.proofs.Common.{◌∙◌, sym, ap, map, Bor, List, ℕ}
 use Rattle.clap.specs.Words.{App, Text, fault_of, found_of, is_simple_and_free, rows_of, takes}
-use Rattle.bl_line.specs.Lines.{fault_of_kind}
+use Rattle.bl_line.specs.CommandLineJobs.{fault_of_kind}
 use Rattle.bl_line.proofs.LineLemmas.{chosen_by, line_is_free, no_other_name, refused_for}
 use Rattle.bl_line.proofs.matches.read_line.Goals as goal
 

@@ -4,9 +4,9 @@ use Rattle.std.proofs.lemmas.Result.{err_from_is_err_and}
 use Rattle.std.specs.declared.ops.Range.{Range}
 use Rattle.std.proofs.lemmas.List.Elements.{All-map}
 use Rattle.bl_plan.specs.Placed.{place_range}
-use Rattle.bl_load.specs.Handover.{Handover, written}
+use Rattle.bl_load.specs.Handover.{Handover, overwrite_parts}
 use Rattle.bl_load.specs.Parts.{IsHandover}
-use Rattle.bl_load.specs.PlanFacts.{places_of}
+use Rattle.bl_load.specs.PlanContents.{places_of}
 use Rattle.bl_load.specs.EntryValue.{value_of}
 use Rattle.bl_load.proofs.MemoryLemmas.{keeps_all, keeps_on}
 use Rattle.bl_load.proofs.entry_loading.load_entry.Goals as goal
@@ -129,7 +129,7 @@ returns-clause-handover g c =
 pub returns-clause-after : goal.returns-clause-after
 returns-clause-after g c =
     c.load.ensures.after
-    ∙ ap₂ (λ (handover : Handover) (bytes : List ℕ). written handover.parts bytes)
+    ∙ ap₂ (λ (handover : Handover) (bytes : List ℕ). overwrite_parts handover.parts bytes)
     (sym c.load.ensures.handed) c.reserve.ensures.same
 
 pub returns-clause-elsewhere : goal.returns-clause-elsewhere

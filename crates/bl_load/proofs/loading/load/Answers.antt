@@ -1,7 +1,7 @@
 use Rattle.std.proofs.Common.{◌≡◌, List, map, length, refl, ap, ◌∙◌, slice_index}
 use Rattle.bl_load.specs.declared.plan.PlannedPart.{PlannedPart}
-use Rattle.bl_load.specs.Handover.{Part, Handover, written}
-use Rattle.bl_load.specs.PlanFacts.{part_by}
+use Rattle.bl_load.specs.Handover.{Part, Handover, overwrite_parts}
+use Rattle.bl_load.specs.PlanContents.{part_by}
 use Rattle.bl_load.proofs.HeldLemmas.{can_load, all_end_within, all_are_before, held}
 use Rattle.bl_load.proofs.HeldLemmas.{held_elsewhere}
 use Rattle.bl_load.proofs.WrittenLemmas.{written_in}
@@ -17,7 +17,7 @@ load_parts-requires-clause-can g c =
 -- the plan's parts are written
 is_written : (g : _) (c : goal.After-load_parts g)
     → g.M.PhysMem.bytes c.load_parts.new.memory
-    ≡ written
+    ≡ overwrite_parts
     (map
     (part_by (g.F.FileSet.texts c.args.files.now (g.M.PhysMem.bytes c.args.memory.now)))
     c.args.plan.parts.items) (g.M.PhysMem.bytes c.args.memory.now)
@@ -25,7 +25,7 @@ is_written g c =
     c.load_parts.ensures.after
     ∙ ap
     (λ (ps : List (PlannedPart g.row.A.Denot)).
-    written
+    overwrite_parts
     (map
     (part_by
     (g.F.FileSet.texts c.args.files.now

@@ -1,8 +1,8 @@
 use Rattle.std.proofs.Common.{◌≡◌, ◌<◌, ◌≤◌, ◌+◌, ℕ, length, slice_index, refl, subst, arith, All}
 use Rattle.std.proofs.Common.{AllPairs}
-use Rattle.bl_mem.specs.Files.{IsBeside}
+use Rattle.bl_mem.specs.Files.{IsApartFrom}
 use Rattle.bl_mem.proofs.Overwrites.{beside_write}
-use Rattle.bl_load.specs.Blocks.{span_of}
+use Rattle.bl_load.specs.KernelBlock.{span_of}
 use Rattle.bl_load.specs.Loadable.{lengths_of, content_length, IsCopyable, SegmentsAscend}
 use Rattle.bl_load.proofs.HeldLemmas.{within_texts, length_at}
 use Rattle.bl_load.proofs.loading.load_content.Goals as goal
@@ -70,7 +70,7 @@ pub returns-in-Own-clause-texts : goal.returns-in-Own-clause-texts
 returns-in-Own-clause-texts g c =
     let old = g.M.PhysMem.bytes c.args.memory.now in
     let bytes = c.in-Own.bytes in
-    let beside : IsBeside (g.F.FileSet.holds c.args.files.now) c.args.at
+    let beside : IsApartFrom (g.F.FileSet.holds c.args.files.now) c.args.at
     (c.args.at + length bytes) = rw c.in-Own.is at c.requires.beside in
     let inside : c.args.at + length bytes ≤ length old = rw c.in-Own.is at c.requires.inside in
     rw (c.write.ensures.after, c.as_slice.ensures)

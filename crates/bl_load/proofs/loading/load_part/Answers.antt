@@ -1,6 +1,6 @@
 use Rattle.std.proofs.Common.{◌≡◌, ◌≤◌, ◌+◌, length, refl, sym, ◌∙◌, arith}
 use Rattle.bl_mem.proofs.Overwrites.{beside_zeros}
-use Rattle.bl_load.specs.PlanFacts.{content_by}
+use Rattle.bl_load.specs.PlanContents.{content_by}
 use Rattle.bl_load.proofs.HeldLemmas.{length-content_by}
 use Rattle.bl_load.proofs.WrittenLemmas.{zeros_behind}
 use Rattle.bl_load.proofs.loading.load_part.Goals as goal

@@ -1,11 +1,11 @@
 use Rattle.std.proofs.Common.{◌≤◌, ℕ, List, length, map, arith, inl, refl, subst}
 use Rattle.std.proofs.lemmas.List.{length-map}
 use Rattle.std.proofs.lemmas.Result.{IfOk-weaker, IfErr-weaker, err_from_is_err_and}
-use Rattle.bl_load.specs.KernelKept.{kernel_by, AreLoadable, IsKernelFault}
-use Rattle.bl_load.specs.Kernel.{IsKernel}
+use Rattle.bl_load.specs.Multiboot2KernelKept.{kernel_by, AreLoadable, IsMultiboot2Fault}
+use Rattle.bl_load.specs.Multiboot2Kernel.{IsMultiboot2Kernel}
 use Rattle.bl_load.specs.Kept.{lines_by}
-use Rattle.bl_load.specs.PlanFacts.{handover_by}
-use Rattle.bl_load.specs.Reading.{multiboot2}
+use Rattle.bl_load.specs.PlanContents.{handover_by}
+use Rattle.bl_load.specs.KernelReading.{multiboot2}
 use Rattle.bl_load.specs.EntryValue.{multiboot2_value, line_fault, lines_fault}
 use Rattle.bl_load.proofs.LineLemmas.{sound_short, first_sound, all_sound}
 use Rattle.bl_load.proofs.PrepareLemmas.{first_text, prepared, refused_multiboot2, refused_places}
@@ -34,7 +34,7 @@ plan_parts-requires g c =
     let kernel = kernel_by c.in_ok-kernel.kernel in
     record {
       read =
-          (refl, subst (λ (f : List ℕ). IsKernel f kernel) file c.in_ok-kernel.ensures.kernel);
+          (refl, subst (λ (f : List ℕ). IsMultiboot2Kernel f kernel) file c.in_ok-kernel.ensures.kernel);
       files = (
         omega (arith, c.requires.files, length-map c.args.files.now g.V.ByteView.bytes),
         subst (λ (f : List ℕ). AreLoadable f kernel.segments)
@@ -56,7 +56,7 @@ returns-in_err-kernel-clause-fault g c =
     rw (p.1, p.2)
     (refused_multiboot2 c.args.machine.now texts c.args.line.now (lines_by c.args.modules.now)
     c.args.rsdps.now.old.now c.args.rsdps.now.new.now c.in_ok-check_lines.ensures fault
-    (subst (λ (f : List ℕ). IsKernelFault f fault) file c.in_err-kernel.ensures.fault))
+    (subst (λ (f : List ℕ). IsMultiboot2Fault f fault) file c.in_err-kernel.ensures.fault))
 
 pub returns-clause-handover : goal.returns-clause-handover
 returns-clause-handover g c =
@@ -69,7 +69,7 @@ returns-clause-handover g c =
     let file =
     first_text g.V.ByteView.bytes c.args.files.now c.index-files-0.result some
     c.index-files-0.is in
-    let is = subst (λ (f : List ℕ). IsKernel f kernel) file c.in_ok-kernel.ensures.kernel in
+    let is = subst (λ (f : List ℕ). IsMultiboot2Kernel f kernel) file c.in_ok-kernel.ensures.kernel in
     IfOk-weaker c.plan_parts.result
     _ _ (λ plan h.
     prepared facts value c.in_ok-check_lines.ensures (multiboot2 kernel)
@@ -86,7 +86,7 @@ returns-clause-fault g c =
     let file =
     first_text g.V.ByteView.bytes c.args.files.now c.index-files-0.result some
     c.index-files-0.is in
-    let is = subst (λ (f : List ℕ). IsKernel f kernel) file c.in_ok-kernel.ensures.kernel in
+    let is = subst (λ (f : List ℕ). IsMultiboot2Kernel f kernel) file c.in_ok-kernel.ensures.kernel in
     IfErr-weaker c.plan_parts.result
     _ _ (λ fault h.
     refused_places facts value c.in_ok-check_lines.ensures (multiboot2 kernel) fault

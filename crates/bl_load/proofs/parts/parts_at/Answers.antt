@@ -5,10 +5,10 @@ use Rattle.std.proofs.lemmas.Result.{err_from_is_err_and}
 use Rattle.bl_plan.specs.declared.part.Place.{Place}
 use Rattle.bl_plan.specs.declared.part.Role.TheVariants.{Kernel}
 use Rattle.bl_load.specs.declared.plan.PlannedPart.{PlannedPart}
-use Rattle.bl_load.specs.Handover.{Part, placed_part, filled}
+use Rattle.bl_load.specs.Handover.{Part, placed_part, zero_padded}
 use Rattle.bl_load.specs.Parts.{part_from}
-use Rattle.bl_load.specs.Place.{planned_place}
-use Rattle.bl_load.specs.PlanFacts.{part_by}
+use Rattle.bl_load.specs.PlannedPlaceKept.{planned_place}
+use Rattle.bl_load.specs.PlanContents.{part_by}
 use Rattle.bl_load.specs.Loadable.{lengths_of, IsBacked, IsLeanContent}
 use Rattle.bl_load.specs.CheckedEntryKept.{texts_in, value_of_files}
 use Rattle.bl_load.proofs.parts.parts_at.Goals as goal
@@ -26,7 +26,7 @@ loop-place-preserved g c =
     let entry = c.args.entry.now in
     let texts = texts_in entry in
     let from : Place → Part =
-    part_from entry.machine.now (value_of_files entry) (g.K.ReadKernel.reading c.args.kernel.now)
+    part_from entry.machine.now (value_of_files entry) (g.K.LoadableKernel.reading c.args.kernel.now)
     c.args.places.now in
     let by : PlannedPart g.row.A.Denot → Part = part_by texts in
     let stays : PlannedPart g.row.A.Denot → Type 0 =
@@ -44,7 +44,7 @@ loop-place-preserved g c =
     record {
       parts = ap (map by) items ∙ map-append by c.loop-place.parts.items (new ∷ [])
           ∙ ap₂ (λ (xs : List Part) (x : Part). xs ++ x ∷ []) i.parts
-          (ap (λ (bytes : List ℕ). placed_part place (filled place.length bytes))
+          (ap (λ (bytes : List ℕ). placed_part place (zero_padded place.length bytes))
           c.in_ok-content.ensures.content)
           ∙ sym (map-append from (take k all) (place ∷ [])) ∙ ap (map from) (sym more);
       backed =
@@ -153,7 +153,7 @@ pub returns-clause-parts : goal.returns-clause-parts
 returns-clause-parts g c =
     let entry = c.args.entry.now in
     let from : Place → Part =
-    part_from entry.machine.now (value_of_files entry) (g.K.ReadKernel.reading c.args.kernel.now)
+    part_from entry.machine.now (value_of_files entry) (g.K.LoadableKernel.reading c.args.kernel.now)
     c.args.places.now in
     c.loop-place.invariant.parts
     ∙ ap (map from) (take_all c.loop-place.place-index c.args.sorted.now c.loop-place-test.false)

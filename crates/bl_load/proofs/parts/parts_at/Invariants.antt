@@ -1,7 +1,7 @@
 use Rattle.std.proofs.Common.{◌≡◌, take, map, All}
 use Rattle.bl_load.specs.Parts.{part_from}
-use Rattle.bl_load.specs.Place.{planned_place}
-use Rattle.bl_load.specs.PlanFacts.{part_by}
+use Rattle.bl_load.specs.PlannedPlaceKept.{planned_place}
+use Rattle.bl_load.specs.PlanContents.{part_by}
 use Rattle.bl_load.specs.Loadable.{lengths_of, IsBacked, IsLean}
 use Rattle.bl_load.specs.CheckedEntryKept.{texts_in, value_of_files}
 use Rattle.bl_load.proofs.parts.parts_at.Given as goal
@@ -13,7 +13,7 @@ invariant-loop-place g l =
     record {
       parts : map (part_by texts) l.parts.items
           ≡ map
-          (part_from l.entry.machine.now (value_of_files l.entry) (g.K.ReadKernel.reading l.kernel)
+          (part_from l.entry.machine.now (value_of_files l.entry) (g.K.LoadableKernel.reading l.kernel)
           l.places) (take l.place-index l.sorted);
       backed : All (IsBacked (lengths_of texts)) l.parts.items;
       lean : IsLean l.parts.items;

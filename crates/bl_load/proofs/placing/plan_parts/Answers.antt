@@ -5,17 +5,17 @@ use Rattle.std.proofs.Common.{◌∙◌}
 use Rattle.std.proofs.lemmas.Result.{err_from_is_err_and}
 use Rattle.bl_plan.specs.declared.part.Place.{Place}
 use Rattle.bl_plan.specs.declared.part.Row.{Row}
-use Rattle.bl_plan.specs.Placed.{ArePlaced, IsRow, IsPlacingFault, place_range}
-use Rattle.bl_plan.specs.Order.{in_order, place_key}
+use Rattle.bl_plan.specs.Placed.{ArePlaced, IsWellFormedRow, IsPlacingFault, place_range}
+use Rattle.bl_plan.specs.AddressOrder.{places_in_order, place_key}
 use Rattle.bl_plan.proofs.OrderLemmas.{in_order_all}
-use Rattle.bl_load.specs.Place.{planned_place}
+use Rattle.bl_load.specs.PlannedPlaceKept.{planned_place}
 use Rattle.bl_load.specs.HandoffFacts.{IsWellFormedHandoff}
 use Rattle.bl_load.specs.Parts.{registers_of}
 use Rattle.bl_load.specs.declared.registers.Registers.{Registers}
 use Rattle.bl_load.specs.declared.plan.PlannedPart.{PlannedPart}
-use Rattle.bl_load.specs.PlacingKept.{IsRowed, told_rows_by}
+use Rattle.bl_load.specs.PlacingKept.{HasRowLength, capped_rows_of}
 use Rattle.bl_load.specs.Rows.{rows_of}
-use Rattle.bl_load.specs.ReadKept.{FitsTold, CanEnter}
+use Rattle.bl_load.specs.KernelReadingKept.{FitsTold, EntryPointFits32Bits}
 use Rattle.bl_load.specs.CheckedEntryKept.{value_of_files}
 use Rattle.bl_load.proofs.PlacingLemmas.{refused_place}
 use Rattle.bl_load.proofs.ReadingLaws.{reading_rows, reading_rowed, reading_kept}
@@ -28,19 +28,19 @@ use Rattle.bl_load.proofs.placing.plan_parts.Goals as goal
 pub place_rows-requires : goal.place_rows-requires
 place_rows-requires g c =
     let facts = c.args.entry.now.machine.now in
-    let reading = g.K.ReadKernel.reading c.args.kernel.now in
+    let reading = g.K.LoadableKernel.reading c.args.kernel.now in
     let value = value_of_files c.args.entry.now in
-    let rows : c.as_slice.result.now ≡ told_rows_by facts value reading =
+    let rows : c.as_slice.result.now ≡ capped_rows_of facts value reading =
     c.as_slice.ensures.value ∙ c.in_ok-rows.ensures in
-    subst (λ (rs : List Row). All IsRow rs) (sym rows)
+    subst (λ (rs : List Row). All IsWellFormedRow rs) (sym rows)
     (told_are_rows facts value reading _ c.requires.read c.requires.files)
 
 pub as_prep_fault-requires : goal.as_prep_fault-requires
 as_prep_fault-requires g c =
     let facts = c.args.entry.now.machine.now in
-    let reading = g.K.ReadKernel.reading c.args.kernel.now in
+    let reading = g.K.LoadableKernel.reading c.args.kernel.now in
     let value = value_of_files c.args.entry.now in
-    let rows : c.as_slice.result.now ≡ told_rows_by facts value reading =
+    let rows : c.as_slice.result.now ≡ capped_rows_of facts value reading =
     c.as_slice.ensures.value ∙ c.in_ok-rows.ensures in
     reading_not_overlap facts value reading c.in-Err.fault c.requires.read
     (told_fault facts value reading c.in-Err.fault
@@ -50,9 +50,9 @@ as_prep_fault-requires g c =
 pub returns-in-Err-clause-fault : goal.returns-in-Err-clause-fault
 returns-in-Err-clause-fault g c =
     let facts = c.args.entry.now.machine.now in
-    let reading = g.K.ReadKernel.reading c.args.kernel.now in
+    let reading = g.K.LoadableKernel.reading c.args.kernel.now in
     let value = value_of_files c.args.entry.now in
-    let rows : c.as_slice.result.now ≡ told_rows_by facts value reading =
+    let rows : c.as_slice.result.now ≡ capped_rows_of facts value reading =
     c.as_slice.ensures.value ∙ c.in_ok-rows.ensures in
     refused_place facts (rows_of facts value reading) c.in-Err.fault c.as_prep_fault.result
     (told_fault facts value reading c.in-Err.fault
@@ -62,7 +62,7 @@ returns-in-Err-clause-fault g c =
 pub registers-registers-requires-clause-protocol : goal.registers-registers-requires-clause-protocol
 registers-registers-requires-clause-protocol g c =
     enters_by c.args.entry.now.machine.now (value_of_files c.args.entry.now)
-    (g.K.ReadKernel.reading c.args.kernel.now) c.requires.read
+    (g.K.LoadableKernel.reading c.args.kernel.now) c.requires.read
 
 pub registers-registers-requires-clause-low : goal.registers-registers-requires-clause-low
 registers-registers-requires-clause-low g c = rw c.as_slice-2.ensures.value c.in-Ok.ensures.below
@@ -70,26 +70,26 @@ registers-registers-requires-clause-low g c = rw c.as_slice-2.ensures.value c.in
 pub registers-registers-requires-clause-enter : goal.registers-registers-requires-clause-enter
 registers-registers-requires-clause-enter g c =
     let facts = c.args.entry.now.machine.now in
-    let reading = g.K.ReadKernel.reading c.args.kernel.now in
+    let reading = g.K.LoadableKernel.reading c.args.kernel.now in
     let value = value_of_files c.args.entry.now in
-    let rows : c.as_slice.result.now ≡ told_rows_by facts value reading =
+    let rows : c.as_slice.result.now ≡ capped_rows_of facts value reading =
     c.as_slice.ensures.value ∙ c.in_ok-rows.ensures in
-    let told : ArePlaced facts [] (told_rows_by facts value reading) c.in-Ok.places.items =
+    let told : ArePlaced facts [] (capped_rows_of facts value reading) c.in-Ok.places.items =
     subst (λ (rs : List Row). ArePlaced facts [] rs c.in-Ok.places.items) rows
     c.in-Ok.ensures.placed in
     let placed = told_placed facts value reading c.in-Ok.places.items told in
-    subst (λ (ps : List Place). CanEnter reading ps) (sym c.as_slice-2.ensures.value)
+    subst (λ (ps : List Place). EntryPointFits32Bits reading ps) (sym c.as_slice-2.ensures.value)
     (can_enter facts value reading _ c.in-Ok.places.items c.requires.read c.requires.files placed
     c.in-Ok.ensures.below)
 
 pub parts_at-requires-clause-fits : goal.parts_at-requires-clause-fits
 parts_at-requires-clause-fits g c =
     let facts = c.args.entry.now.machine.now in
-    let reading = g.K.ReadKernel.reading c.args.kernel.now in
+    let reading = g.K.LoadableKernel.reading c.args.kernel.now in
     let value = value_of_files c.args.entry.now in
-    let rows : c.as_slice.result.now ≡ told_rows_by facts value reading =
+    let rows : c.as_slice.result.now ≡ capped_rows_of facts value reading =
     c.as_slice.ensures.value ∙ c.in_ok-rows.ensures in
-    let told : ArePlaced facts [] (told_rows_by facts value reading) c.in-Ok.places.items =
+    let told : ArePlaced facts [] (capped_rows_of facts value reading) c.in-Ok.places.items =
     subst (λ (rs : List Row). ArePlaced facts [] rs c.in-Ok.places.items) rows
     c.in-Ok.ensures.placed in
     let placed = told_placed facts value reading c.in-Ok.places.items told in
@@ -100,26 +100,26 @@ parts_at-requires-clause-fits g c =
 pub parts_at-requires-clause-rowed : goal.parts_at-requires-clause-rowed
 parts_at-requires-clause-rowed g c =
     let facts = c.args.entry.now.machine.now in
-    let reading = g.K.ReadKernel.reading c.args.kernel.now in
+    let reading = g.K.LoadableKernel.reading c.args.kernel.now in
     let value = value_of_files c.args.entry.now in
-    let rows : c.as_slice.result.now ≡ told_rows_by facts value reading =
+    let rows : c.as_slice.result.now ≡ capped_rows_of facts value reading =
     c.as_slice.ensures.value ∙ c.in_ok-rows.ensures in
-    let told : ArePlaced facts [] (told_rows_by facts value reading) c.in-Ok.places.items =
+    let told : ArePlaced facts [] (capped_rows_of facts value reading) c.in-Ok.places.items =
     subst (λ (rs : List Row). ArePlaced facts [] rs c.in-Ok.places.items) rows
     c.in-Ok.ensures.placed in
     let placed = told_placed facts value reading c.in-Ok.places.items told in
-    let sorted : c.as_slice-5.result.now ≡ in_order c.in-Ok.places.items =
+    let sorted : c.as_slice-5.result.now ≡ places_in_order c.in-Ok.places.items =
     c.as_slice-5.ensures.value ∙ c.in_ok-sorted.ensures
-    ∙ ap in_order c.as_slice-3.ensures.value in
-    subst (λ (ps : List Place). All (IsRowed facts value reading) ps) (sym sorted)
-    (in_order_all place_key (IsRowed facts value reading) c.in-Ok.places.items
+    ∙ ap places_in_order c.as_slice-3.ensures.value in
+    subst (λ (ps : List Place). All (HasRowLength facts value reading) ps) (sym sorted)
+    (in_order_all place_key (HasRowLength facts value reading) c.in-Ok.places.items
     (reading_rowed facts value reading c.in-Ok.places.items placed))
 
 pub parts_at-requires-clause-small : goal.parts_at-requires-clause-small
 parts_at-requires-clause-small g c =
-    let sorted : c.as_slice-5.result.now ≡ in_order c.in-Ok.places.items =
+    let sorted : c.as_slice-5.result.now ≡ places_in_order c.in-Ok.places.items =
     c.as_slice-5.ensures.value ∙ c.in_ok-sorted.ensures
-    ∙ ap in_order c.as_slice-3.ensures.value in
+    ∙ ap places_in_order c.as_slice-3.ensures.value in
     subst (λ (ps : List Place). All (λ p. p.length ≤ 2 ^ 32) ps) (sym sorted)
     (in_order_all place_key (λ (p : Place). p.length ≤ 2 ^ 32) c.in-Ok.places.items
     (λ k d within. let low = c.in-Ok.ensures.below k d within in omega arith))
@@ -127,42 +127,42 @@ parts_at-requires-clause-small g c =
 pub ranges_of-requires : goal.ranges_of-requires
 ranges_of-requires g c =
     let facts = c.args.entry.now.machine.now in
-    let reading = g.K.ReadKernel.reading c.args.kernel.now in
+    let reading = g.K.LoadableKernel.reading c.args.kernel.now in
     let value = value_of_files c.args.entry.now in
-    let rows : c.as_slice.result.now ≡ told_rows_by facts value reading =
+    let rows : c.as_slice.result.now ≡ capped_rows_of facts value reading =
     c.as_slice.ensures.value ∙ c.in_ok-rows.ensures in
-    let told : ArePlaced facts [] (told_rows_by facts value reading) c.in-Ok.places.items =
+    let told : ArePlaced facts [] (capped_rows_of facts value reading) c.in-Ok.places.items =
     subst (λ (rs : List Row). ArePlaced facts [] rs c.in-Ok.places.items) rows
     c.in-Ok.ensures.placed in
     let placed = told_placed facts value reading c.in-Ok.places.items told in
-    let sorted : c.as_slice-5.result.now ≡ in_order c.in-Ok.places.items =
+    let sorted : c.as_slice-5.result.now ≡ places_in_order c.in-Ok.places.items =
     c.as_slice-5.ensures.value ∙ c.in_ok-sorted.ensures
-    ∙ ap in_order c.as_slice-3.ensures.value in
-    let places : map planned_place c.in_ok-parts.parts.items ≡ in_order c.in-Ok.places.items =
+    ∙ ap places_in_order c.as_slice-3.ensures.value in
+    let places : map planned_place c.in_ok-parts.parts.items ≡ places_in_order c.in-Ok.places.items =
     c.in_ok-parts.ensures.places ∙ sorted in
     let count = length-map c.args.entry.now.modules.now (λ m. m.line) in
     let kept =
     reading_kept facts value reading c.in-Ok.places.items c.requires.read
     (omega (arith, count, c.args.entry.now.few)) placed in
-    let small : All (λ p. p.address + p.length < 2 ^ 64) (in_order c.in-Ok.places.items) =
+    let small : All (λ p. p.address + p.length < 2 ^ 64) (places_in_order c.in-Ok.places.items) =
     λ k d within. let low = kept.below k d within in omega arith in
     rw (c.as_slice-6.ensures.value, places) small
 
 pub returns-clause-loadable : goal.returns-clause-loadable
 returns-clause-loadable g c =
     let facts = c.args.entry.now.machine.now in
-    let reading = g.K.ReadKernel.reading c.args.kernel.now in
+    let reading = g.K.LoadableKernel.reading c.args.kernel.now in
     let value = value_of_files c.args.entry.now in
-    let rows : c.as_slice.result.now ≡ told_rows_by facts value reading =
+    let rows : c.as_slice.result.now ≡ capped_rows_of facts value reading =
     c.as_slice.ensures.value ∙ c.in_ok-rows.ensures in
-    let told : ArePlaced facts [] (told_rows_by facts value reading) c.in-Ok.places.items =
+    let told : ArePlaced facts [] (capped_rows_of facts value reading) c.in-Ok.places.items =
     subst (λ (rs : List Row). ArePlaced facts [] rs c.in-Ok.places.items) rows
     c.in-Ok.ensures.placed in
     let placed = told_placed facts value reading c.in-Ok.places.items told in
-    let sorted : c.as_slice-5.result.now ≡ in_order c.in-Ok.places.items =
+    let sorted : c.as_slice-5.result.now ≡ places_in_order c.in-Ok.places.items =
     c.as_slice-5.ensures.value ∙ c.in_ok-sorted.ensures
-    ∙ ap in_order c.as_slice-3.ensures.value in
-    let places : map planned_place c.in_ok-parts.parts.items ≡ in_order c.in-Ok.places.items =
+    ∙ ap places_in_order c.as_slice-3.ensures.value in
+    let places : map planned_place c.in_ok-parts.parts.items ≡ places_in_order c.in-Ok.places.items =
     c.in_ok-parts.ensures.places ∙ sorted in
     let count = length-map c.args.entry.now.modules.now (λ m. m.line) in
     let registers : c.registers-registers.result
@@ -173,7 +173,7 @@ returns-clause-loadable g c =
     subst (λ (r : Registers). IsWellFormedHandoff (record {
       protocol = value.protocol;
       registers = r;
-      places = in_order c.in-Ok.places.items;
+      places = places_in_order c.in-Ok.places.items;
     })) (sym registers)
     (reading_kept facts value reading c.in-Ok.places.items c.requires.read
     (omega (arith, count, c.args.entry.now.few)) placed) in
@@ -198,11 +198,11 @@ returns-clause-loadable g c =
 pub returns-clause-handover : goal.returns-clause-handover
 returns-clause-handover g c =
     let facts = c.args.entry.now.machine.now in
-    let reading = g.K.ReadKernel.reading c.args.kernel.now in
+    let reading = g.K.LoadableKernel.reading c.args.kernel.now in
     let value = value_of_files c.args.entry.now in
-    let rows : c.as_slice.result.now ≡ told_rows_by facts value reading =
+    let rows : c.as_slice.result.now ≡ capped_rows_of facts value reading =
     c.as_slice.ensures.value ∙ c.in_ok-rows.ensures in
-    let told : ArePlaced facts [] (told_rows_by facts value reading) c.in-Ok.places.items =
+    let told : ArePlaced facts [] (capped_rows_of facts value reading) c.in-Ok.places.items =
     subst (λ (rs : List Row). ArePlaced facts [] rs c.in-Ok.places.items) rows
     c.in-Ok.ensures.placed in
     record {

@@ -1,8 +1,8 @@
 //! The rows of a Multiboot2 kernel: one for each segment, or one for the block.
 ghost use Rattle.std.specs.Prelude.{◌≡◌, ◌≤◌, ◌<◌, ◌+◌, ◌^◌, ◌++◌, length, IfOk};
-ghost use Rattle.bl_load.specs.Blocks as blocks;
+ghost use Rattle.bl_load.specs.KernelBlock as blocks;
 ghost use Rattle.bl_load.specs.Rows as table;
-ghost use Rattle.bl_load.specs.KernelKept.{kernel_by, max_segments};
+ghost use Rattle.bl_load.specs.Multiboot2KernelKept.{kernel_by, max_segments};
 
 use crate::multiboot2::kernel::Kernel;
 use bl_mb2head::Relocation;

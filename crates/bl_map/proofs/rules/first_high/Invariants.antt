@@ -1,7 +1,7 @@
 use Rattle.std.proofs.Common.{All, take}
-use Rattle.bl_map.specs.Faults.{IsLowRegion}
+use Rattle.bl_map.specs.Faults.{HasAllowedEnd}
 use Rattle.bl_map.proofs.rules.first_high.Given as goal
 
 -- the regions so far are low
 abbrev pub invariant-loop-i : goal.invariant-loop-i
-invariant-loop-i l = All IsLowRegion (take l.i l.regions)
+invariant-loop-i l = All HasAllowedEnd (take l.i l.regions)

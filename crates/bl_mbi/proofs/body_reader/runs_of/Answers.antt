@@ -1,7 +1,7 @@
 use Rattle.std.proofs.Common.{◌*◌, ap, ◌∙◌, Option, List}
 use Rattle.std.proofs.lemmas.List.{take_rest}
 use Rattle.bl_map.specs.declared.region.Region.{Region}
-use Rattle.bl_mbi.specs.Fields.{or_bad}
+use Rattle.bl_mbi.specs.ReadingSteps.{or_bad}
 use Rattle.bl_mbi.specs.Bodies.{run_of}
 use Rattle.bl_mbi.proofs.RunLemmas.{reads_on, stops}
 use Rattle.bl_mbi.proofs.body_reader.runs_of.Goals as goal

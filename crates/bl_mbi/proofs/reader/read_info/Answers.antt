@@ -1,7 +1,7 @@
 use Rattle.std.proofs.Common.{arith, rules, sym, subst, Result}
 use Rattle.bl_mbi.specs.declared.fault.InfoFault.{InfoFault}
 use Rattle.bl_mbi.specs.InfoFacts.{InfoFacts}
-use Rattle.bl_mbi.specs.Fields.{MatchesReading}
+use Rattle.bl_mbi.specs.ReadingSteps.{MatchesReading}
 use Rattle.bl_mbi.proofs.ReadLaws.{are_bytes, spelling_by, accepted_by}
 use Rattle.bl_mbi.proofs.reader.read_info.Goals as goal
 

@@ -1,7 +1,7 @@
 use Rattle.std.proofs.Common.{arith, ap, length}
 use Rattle.bl_mbi.proofs.Sizes.{length-spelling}
 use Rattle.bl_mbi.proofs.GroupLemmas.{groups_below, info_size_is}
-use Rattle.bl_mbi.specs.InformationFacts.{InformationFacts}
+use Rattle.bl_mbi.specs.InfoToWriteFacts.{InfoToWriteFacts}
 use Rattle.bl_mbi.proofs.write.info_size.Goals as goal
 
 pub texts_len-requires : goal.texts_len-requires
@@ -13,7 +13,7 @@ overflow_add-result c =
 
 pub overflow_add-result-2 : goal.overflow_add-result-2
 overflow_add-result-2 c =
-    let runs = ap (λ (f : InformationFacts). length f.runs) c.facts.view_is in
+    let runs = ap (λ (f : InfoToWriteFacts). length f.runs) c.facts.view_is in
     omega (
       arith,
       groups_below _ _ c.facts.invariant c.facts.view_is,
@@ -23,7 +23,7 @@ overflow_add-result-2 c =
 
 pub overflow_add-result-3 : goal.overflow_add-result-3
 overflow_add-result-3 c =
-    let runs = ap (λ (f : InformationFacts). length f.runs) c.facts.view_is in
+    let runs = ap (λ (f : InfoToWriteFacts). length f.runs) c.facts.view_is in
     omega (
       arith,
       groups_below _ _ c.facts.invariant c.facts.view_is,
@@ -34,7 +34,7 @@ overflow_add-result-3 c =
 
 pub returns-clause-size : goal.returns-clause-size
 returns-clause-size c =
-    let runs = ap (λ (f : InformationFacts). length f.runs) c.facts.view_is in
+    let runs = ap (λ (f : InfoToWriteFacts). length f.runs) c.facts.view_is in
     omega (
       arith,
       length-spelling c.args.facts.now,
@@ -46,7 +46,7 @@ returns-clause-size c =
 
 pub returns-clause-by_lengths : goal.returns-clause-by_lengths
 returns-clause-by_lengths c =
-    let runs = ap (λ (f : InformationFacts). length f.runs) c.facts.view_is in
+    let runs = ap (λ (f : InfoToWriteFacts). length f.runs) c.facts.view_is in
     omega (
       arith,
       info_size_is c.args.facts.now,
@@ -57,7 +57,7 @@ returns-clause-by_lengths c =
 
 pub returns-clause-small : goal.returns-clause-small
 returns-clause-small c =
-    let runs = ap (λ (f : InformationFacts). length f.runs) c.facts.view_is in
+    let runs = ap (λ (f : InfoToWriteFacts). length f.runs) c.facts.view_is in
     omega (
       arith,
       groups_below _ _ c.facts.invariant c.facts.view_is,

@@ -1,5 +1,5 @@
 use Rattle.std.proofs.Common.{◌+◌, ap, length, arith}
-use Rattle.bl_mbi.specs.InformationFacts.{ModuleInfo}
+use Rattle.bl_mbi.specs.InfoToWriteFacts.{ModuleInfo}
 use Rattle.bl_mbi.specs.Size.{tag_size}
 use Rattle.bl_mbi.proofs.SumLemmas.{next_fits, next_sum}
 use Rattle.bl_mbi.proofs.write.modules_len.Goals as goal

@@ -1,9 +1,9 @@
 use Rattle.std.proofs.Common.{◌≡◌, ◌+◌, ◌≤◌, ◌++◌, ℕ, List, IsSome, All, take, map}
 use Rattle.bl_desc.specs.Described.{file_named}
 use Rattle.bl_desc.specs.Views.{view}
-use Rattle.bl_session.specs.Outcome.{File}
+use Rattle.bl_session.specs.MenuFiles.{File}
 use Rattle.bl_session.specs.Stores.{file_of}
-use Rattle.bl_menu.specs.Found.{AreFound, names_asked}
+use Rattle.bl_menu.specs.FoundFiles.{AreFound, names_asked}
 use Rattle.bl_menu.proofs.found_files.find_files.Given as goal
 
 abbrev pub invariant-loop-name : goal.invariant-loop-name

@@ -2,7 +2,7 @@ use Rattle.std.proofs.Common.{◌≡◌, All, length, map, take}
 use Rattle.bl_load.specs.EntryValue.{IsWithinLimits}
 use Rattle.bl_session.specs.Menu.{facts_of}
 use Rattle.bl_desc.specs.Views.{entry_view}
-use Rattle.bl_menu.specs.Attempted.{entry_facts}
+use Rattle.bl_menu.specs.DescribedMenu.{entry_facts}
 use Rattle.bl_menu.proofs.menu.entries_of.Given as goal
 
 abbrev pub invariant-loop-row : goal.invariant-loop-row

@@ -2,7 +2,7 @@ use Rattle.std.proofs.Common.{arith, subst}
 use Rattle.std.specs.Prelude.{IfSome}
 use Rattle.std.proofs.lemmas.List.{length-map}
 use Rattle.bl_load.specs.EntryValue.{IsWithinLimits}
-use Rattle.bl_desc.specs.Forms.{form_view, HasCopyLength}
+use Rattle.bl_desc.specs.EntryFormViews.{form_view, HasCopyLength}
 use Rattle.bl_menu.proofs.MenuLemmas.{copied}
 use Rattle.bl_menu.proofs.menu.entry_of.Goals as goal
 

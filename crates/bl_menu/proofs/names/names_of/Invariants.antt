@@ -1,7 +1,7 @@
 use Rattle.std.proofs.Common.{◌≡◌, drop, map}
 use Rattle.std.specs.List.{flat_map}
 use Rattle.bl_desc.specs.Views.{view}
-use Rattle.bl_menu.specs.Attempted.{entry_of, names_of_entries}
+use Rattle.bl_menu.specs.DescribedMenu.{described_entry, names_of_entries}
 use Rattle.bl_menu.specs.NamesKept.{with_new_names}
 use Rattle.bl_desc.specs.EntryNames.{file_names}
 use Rattle.bl_menu.proofs.names.names_of.Given as goal
@@ -10,6 +10,6 @@ use Rattle.bl_menu.proofs.names.names_of.Given as goal
 abbrev pub invariant-loop-index : goal.invariant-loop-index
 invariant-loop-index g l =
     with_new_names (map (λ n. n.now) l.names.items)
-    (flat_map (λ index. file_names (entry_of (view l.description) index))
+    (flat_map (λ index. file_names (described_entry (view l.description) index))
     (drop l.index-index l.indices))
     ≡ names_of_entries (view l.description) l.indices

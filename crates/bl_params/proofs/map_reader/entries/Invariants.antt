@@ -1,6 +1,6 @@
 use Rattle.std.proofs.Common.{◌≡◌, length}
 use Rattle.bl_params.specs.BootParamsForm.{e820_entry_offset}
-use Rattle.bl_params.specs.Reading.{AreEntries}
+use Rattle.bl_params.specs.Reading.{AreE820Entries}
 use Rattle.bl_params.specs.Kept.{HasFormBelow}
 use Rattle.bl_params.proofs.map_reader.entries.Given as goal
 
@@ -9,5 +9,5 @@ abbrev pub invariant-loop-i : goal.invariant-loop-i
 invariant-loop-i g l = record {
   sound : HasFormBelow l.bytes (e820_entry_offset l.i);
   count : length l.runs.items ≡ l.i;
-  are : AreEntries l.bytes 0x2D0 l.runs.items;
+  are : AreE820Entries l.bytes 0x2D0 l.runs.items;
 }

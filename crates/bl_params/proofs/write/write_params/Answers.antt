@@ -1,12 +1,12 @@
 use Rattle.std.proofs.Common.{◌∙◌, length, ap, refl}
 use Rattle.bl_params.specs.BootParams.{boot_params}
-use Rattle.bl_params.specs.BootParamsFacts.{BootParamsFacts}
+use Rattle.bl_params.specs.ParamsToWriteFacts.{ParamsToWriteFacts}
 use Rattle.bl_params.proofs.WriteLemmas.{written}
 use Rattle.bl_params.proofs.write.write_params.Goals as goal
 
 pub returns : goal.returns
 returns c =
-    let inside : BootParamsFacts = record {
+    let inside : ParamsToWriteFacts = record {
       code32_start = c.facts.inside.code32_start;
       ramdisk_image = c.facts.inside.ramdisk_image;
       ramdisk_size = c.facts.inside.ramdisk_size;
@@ -19,4 +19,4 @@ returns c =
     c.write_field.ensures c.put_entries.ensures c.write_u64.ensures
     c.write_u32.ensures c.write_u32-2.ensures c.write_u32-3.ensures c.write_u32-4.ensures c.write_field-2.ensures
     c.write_u16.ensures c.write_field-3.ensures c.write_field-3.array_long
-    ∙ ap (λ (f : BootParamsFacts). boot_params c.args.setup.now.header f) c.facts.view_is
+    ∙ ap (λ (f : ParamsToWriteFacts). boot_params c.args.setup.now.header f) c.facts.view_is

@@ -3,7 +3,7 @@ ghost use Rattle.std.specs.Prelude.{◌≡◌, ◌≤◌, ◌++◌, OnOk, All};
 ghost use Rattle.std.specs.List.{flat_map};
 ghost use Rattle.bl_map.specs.NormalMap.{region_end};
 ghost use Rattle.bl_map.specs.Limits.{max_region_end};
-ghost use Rattle.bl_say.specs.Says.{hex16};
+ghost use Rattle.bl_say.specs.BootAndMapLines.{hex16};
 ghost use Rattle.bl_say.specs.WalkLines as says;
 ghost use Rattle.bl_say.specs.WalkLines.{seen_run_line};
 

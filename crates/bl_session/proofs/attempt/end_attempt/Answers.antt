@@ -3,11 +3,11 @@ use Rattle.std.proofs.Common.{subst, slice_index}
 use Rattle.bl_load.specs.Handover.{Handover}
 use Rattle.bl_load.specs.declared.refusal.PrepFault.{PrepFault}
 use Rattle.bl_load.specs.declared.refusal.PrepFault.TheVariants.{Refused, NoMemory}
-use Rattle.bl_load.specs.After.{IsAfter}
+use Rattle.bl_load.specs.MemoryAfter.{IsMemoryAfter}
 use Rattle.bl_load.specs.EntryValue.{value_of}
 use Rattle.bl_stage.specs.Staged.{staged_texts}
-use Rattle.bl_session.specs.AttemptResult.{handed, refused, HasResult}
-use Rattle.bl_session.specs.Finished.{IsNotHandedOver}
+use Rattle.bl_session.specs.AttemptResult.{handed, refused, HasWholeFilesResult}
+use Rattle.bl_session.specs.FinishedAttempt.{IsNotHandedOver}
 use Rattle.bl_session.specs.Phases.{handover_held}
 use Rattle.bl_session.proofs.AttemptLemmas.{not_whole, ends_by_piece_states}
 use Rattle.bl_session.proofs.WholeLemmas.{came_whole}
@@ -69,7 +69,7 @@ returns-in-Ok-clause-memory g c =
     let told = c.in-Ok.ensures.ok in
     subst
     (λ (h : Handover).
-    IsAfter c.args.machine.now.pool h.parts (bytes c.args.memory.now)
+    IsMemoryAfter c.args.machine.now.pool h.parts (bytes c.args.memory.now)
     (bytes c.finish_attempt.new.memory))
     (sym told.held) told.after
 
@@ -148,7 +148,7 @@ returns-in-Ok-clause-attempt g c =
     let ends =
     subst
     (λ (h : Handover).
-    HasResult facts (value_of (staged_texts bytes stage) c.args.entry.now) (handed h))
+    HasWholeFilesResult facts (value_of (staged_texts bytes stage) c.args.entry.now) (handed h))
     (sym told.held) told.ends in (
       came_whole bytes stage kept came,
       ends_by_piece_states facts c.args.entry.now bytes stage

@@ -5,7 +5,7 @@ use Rattle.std.specs.declared.ops.Range.{Range}
 use Rattle.bl_map.proofs.PoolLemmas.{pool_in_memory}
 use Rattle.bl_plan.specs.Placed.{place_range}
 use Rattle.bl_stage.specs.Staged.{staged_texts}
-use Rattle.bl_load.specs.PlanFacts.{handover_by, places_of}
+use Rattle.bl_load.specs.PlanContents.{handover_by, places_of}
 use Rattle.bl_load.specs.EntryValue.{value_of}
 use Rattle.bl_session.proofs.AfterLemmas.{after_before}
 use Rattle.bl_session.proofs.KeptMemoryLemmas.{keeps_on}

@@ -1,6 +1,6 @@
 use Rattle.std.proofs.Common.{arith, ◌∙◌, List, length, map, slice_index, ap, sym, refl}
 use Rattle.bl_load.specs.Handover.{Part, Handover}
-use Rattle.bl_load.specs.PlanFacts.{handover_by}
+use Rattle.bl_load.specs.PlanContents.{handover_by}
 use Rattle.bl_load.proofs.HeldLemmas.{all_end_within}
 use Rattle.bl_load.proofs.WrittenLemmas.{written_elsewhere}
 use Rattle.bl_stage.specs.Staged.{staged_texts}

@@ -1,8 +1,8 @@
 use Rattle.std.proofs.Common.{List, [], None, map, refl, sym, subst}
 use Rattle.bl_session.specs.History.{HistoryItem}
-use Rattle.bl_session.specs.Outcome.{size_of}
+use Rattle.bl_session.specs.MenuFiles.{size_of}
 use Rattle.bl_session.specs.Phases.{PhaseFacts, boot_facts, state_at}
-use Rattle.bl_session.specs.Run.{IsRun, boot_end}
+use Rattle.bl_session.specs.Run.{IsRun, final_phase}
 use Rattle.bl_session.proofs.ScheduleLaws.{run_ended}
 use Rattle.bl_session.proofs.FaithfulLaws.{faithful_is_genuine}
 use Rattle.bl_session.proofs.runs.run.Goals as goal
@@ -17,7 +17,7 @@ returns-in-Ok-clause-outcome g c = λ faults genuine ended.
     let run =
     subst (λ (p : PhaseFacts). IsRun facts files old new (state_at bytes p))
     (sym c.end_of.ensures.end) c.in-Ok.ensures.run in
-    run_ended facts files faults refl old new (state_at bytes (boot_end c.end_of.result)) run
+    run_ended facts files faults refl old new (state_at bytes (final_phase c.end_of.result)) run
     genuine ended
 
 pub returns-in-Ok-clause-faithful : goal.returns-in-Ok-clause-faithful
@@ -27,7 +27,7 @@ returns-in-Ok-clause-faithful g c = λ none faithful ended.
     let old = g.S.Store.given c.args.store.now in
     let new = g.S.Store.given c.run_session.new.store in
     let facts = boot_facts c.args.machine.now c.args.menu.now (map size_of files) in
-    let end = boot_end c.end_of.result in
+    let end = final_phase c.end_of.result in
     let run =
     subst (λ (p : PhaseFacts). IsRun facts files old new (state_at bytes p))
     (sym c.end_of.ensures.end) c.in-Ok.ensures.run in

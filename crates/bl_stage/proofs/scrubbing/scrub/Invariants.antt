@@ -1,6 +1,6 @@
 use Rattle.std.proofs.Common.{◌≡◌, ℕ, ◌<◌, ◌≤◌, ◌-◌, get_or}
 use Rattle.bl_mem.specs.Memory.{KeepsSizeAndRoom}
-use Rattle.bl_stage.specs.Ranges.{scrubbed}
+use Rattle.bl_stage.specs.Ranges.{scrubbed_byte}
 use Rattle.bl_stage.proofs.scrubbing.scrub.Given as goal
 
 -- the pool is zeroed up to `at`
@@ -11,7 +11,7 @@ invariant-loop-at g l =
       low : l.pool.start ≤ l.at;
       high : l.pool.start ≤ l.pool.end → l.at ≤ l.pool.end;
       done : (a : ℕ) → a < l.at
-          → get_or (bytes l.memory) a 0 ≡ scrubbed l.pool l.keep (bytes l.fn.memory) a;
+          → get_or (bytes l.memory) a 0 ≡ scrubbed_byte l.pool l.keep (bytes l.fn.memory) a;
       rest : (a : ℕ) → l.at ≤ a → get_or (bytes l.memory) a 0 ≡ get_or (bytes l.fn.memory) a 0;
       kept : KeepsSizeAndRoom g.M.PhysMem.lender bytes g.M.PhysMem.room l.fn.memory l.memory;
     }

@@ -2,7 +2,7 @@ use Rattle.std.proofs.Common.{◌+◌, length, arith, ap, ◌∙◌}
 use Rattle.std.proofs.lemmas.List.{length_push}
 use Rattle.std.proofs.lemmas.List.Sums.{sum_by_more, sum_by_more_le}
 use Rattle.bl_map.specs.PoolFrames.{frames_of}
-use Rattle.bl_stage.specs.Staged.{first_of}
+use Rattle.bl_stage.specs.Staged.{frames_before}
 use Rattle.bl_stage.proofs.TableLemmas.{each_more}
 use Rattle.bl_stage.proofs.tables.starts_of.Goals as goal
 
@@ -33,6 +33,6 @@ loop-size-preserved g c =
           ap length is ∙ length_push loop.starts.items loop.all
           ∙ ap (λ n. n + 1) loop.invariant.len;
       each =
-          each_more (first_of sizes) loop.starts.items c.push.new.self.items loop.all
+          each_more (frames_before sizes) loop.starts.items c.push.new.self.items loop.all
           loop.size-index is loop.invariant.len loop.invariant.each loop.invariant.all;
     }

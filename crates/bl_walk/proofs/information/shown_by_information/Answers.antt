@@ -1,6 +1,6 @@
 use Rattle.std.proofs.Common.{◌≡◌, ◌-◌, List, All, get_or, sym, ap, ◌∙◌, subst}
 use Rattle.std.proofs.lemmas.List.Elements.{All-contains_itself}
-use Rattle.bl_mbi.specs.InformationFacts.{ModuleInfo, IsModule}
+use Rattle.bl_mbi.specs.InfoToWriteFacts.{ModuleInfo, IsModule}
 use Rattle.bl_mbi.specs.InfoFacts.{InfoFacts}
 use Rattle.bl_walk.specs.Faults.{IsFollowed, loaded_module}
 use Rattle.bl_walk.proofs.information.shown_by_information.Goals as goal

@@ -1,9 +1,9 @@
 use Rattle.std.proofs.Common.{◌≡◌, ◌∙◌, ◌*◌, ℕ, Some, ap, subst}
 use Rattle.bl_params.specs.Translation.{translation}
-use Rattle.bl_load.specs.Registers.{tables_in}
+use Rattle.bl_load.specs.Registers.{page_tables_in}
 use Rattle.bl_walk.specs.Faults.{page_tables, other_translation}
-use Rattle.bl_walk.specs.Inside.{bytes_in}
-use Rattle.bl_walk.specs.State.{KeepsAddresses}
+use Rattle.bl_walk.specs.PartBytes.{bytes_in}
+use Rattle.bl_walk.specs.State.{IsIdentityMapping}
 use Rattle.bl_walk.proofs.state.check_tables.Goals as goal
 
 pub follow-requires : goal.follow-requires
@@ -12,20 +12,20 @@ follow-requires g c = rw (c.tables-base.ensures, c.registers.ensures) (page_tabl
 pub returns-in-None-clause-ok : goal.returns-in-None-clause-ok
 returns-in-None-clause-ok g c =
     let tables = c.in_ok-tables.tables.now in
-    let base : c.tables-base.result ≡ tables_in c.args.image.now.registers =
-    c.tables-base.ensures ∙ ap tables_in c.registers.ensures in (
+    let base : c.tables-base.result ≡ page_tables_in c.args.image.now.registers =
+    c.tables-base.ensures ∙ ap page_tables_in c.registers.ensures in (
       tables,
       subst (λ (b : ℕ). bytes_in c.args.image.now.parts b 0x6000 ≡ Some tables) base
           c.in_ok-tables.ensures.ok,
-      subst (λ (b : ℕ). KeepsAddresses b tables) base c.in-None.ensures,
+      subst (λ (b : ℕ). IsIdentityMapping b tables) base c.in-None.ensures,
     )
 
 pub returns-in-Some-clause-fault : goal.returns-in-Some-clause-fault
 returns-in-Some-clause-fault g c =
     let tables = c.in_ok-tables.tables.now in
     let page = c.in-Some.field-0 in
-    let base : c.tables-base.result ≡ tables_in c.args.image.now.registers =
-    c.tables-base.ensures ∙ ap tables_in c.registers.ensures in
+    let base : c.tables-base.result ≡ page_tables_in c.args.image.now.registers =
+    c.tables-base.ensures ∙ ap page_tables_in c.registers.ensures in
     other_translation tables page c.requires
     (subst (λ (b : ℕ). bytes_in c.args.image.now.parts b 0x6000 ≡ Some tables) base
     c.in_ok-tables.ensures.ok) c.in-Some.ensures.0

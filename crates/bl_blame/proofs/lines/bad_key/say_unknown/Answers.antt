@@ -1,6 +1,6 @@
 use Rattle.std.proofs.Common.{◌++◌, ◌∙◌, ℕ, List, ap, codes}
 use Rattle.bl_desc.specs.Allowed.{keys_of_set}
-use Rattle.bl_blame.specs.KeyWords.{listed_words, unknown_words}
+use Rattle.bl_blame.specs.BadKeyWords.{listed_words, unknown_words}
 use Rattle.bl_blame.proofs.KeyLemmas.{two_said}
 use Rattle.bl_blame.proofs.lines.bad_key.say_unknown.Goals as goal
 

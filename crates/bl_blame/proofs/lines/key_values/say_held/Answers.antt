@@ -3,7 +3,7 @@ use Rattle.std.proofs.Common.{append_assoc, arith}
 use Rattle.std.proofs.lemmas.Result.{on_ok_weaker}
 use Rattle.toml.specs.View.{view}
 use Rattle.toml.specs.declared.value.Value.{Value}
-use Rattle.bl_blame.specs.KeyWords.{held_words}
+use Rattle.bl_blame.specs.BadKeyWords.{held_words}
 use Rattle.bl_blame.proofs.KeyLemmas.{held_array}
 use Rattle.bl_blame.proofs.lines.key_values.say_held.Goals as goal
 

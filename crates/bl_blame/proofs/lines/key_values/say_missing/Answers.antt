@@ -1,6 +1,6 @@
 use Rattle.std.proofs.Common.{codes}
 use Rattle.std.proofs.lemmas.Result.{on_ok_weaker}
-use Rattle.bl_blame.specs.KeyWords.{allowed_words, missing_words}
+use Rattle.bl_blame.specs.BadKeyWords.{allowed_words, missing_words}
 use Rattle.bl_blame.proofs.KeyLemmas.{two_said}
 use Rattle.bl_blame.proofs.lines.key_values.say_missing.Goals as goal
 

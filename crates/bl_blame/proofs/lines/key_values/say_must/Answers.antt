@@ -1,5 +1,5 @@
 use Rattle.std.proofs.Common.{◌++◌, ◌∙◌, ℕ, List, ap, codes}
-use Rattle.bl_blame.specs.KeyWords.{must_words}
+use Rattle.bl_blame.specs.BadKeyWords.{must_words}
 use Rattle.bl_blame.proofs.KeyLemmas.{two_said}
 use Rattle.bl_blame.proofs.lines.key_values.say_must.Goals as goal
 

@@ -1,7 +1,7 @@
 use Rattle.std.proofs.Common.{rules, arith, ◌≡◌, ◌++◌, ◌^◌, ◌-◌}
 use Rattle.std.proofs.lemmas.Grind.{common_steps}
 use Rattle.bl_blame.proofs.AddressLemmas.{hex8_hole, hex8_is}
-use Rattle.bl_blame.specs.UnusableWords.{address_words}
+use Rattle.bl_blame.specs.UnusableAddress.{address_words}
 use Rattle.bl_blame.proofs.lines.unusable.say_address.Goals as goal
 
 pub returns : goal.returns

@@ -1,13 +1,13 @@
 use Rattle.std.proofs.Common.{◌∙◌, All, length, refl, ap, subst}
 use Rattle.std.proofs.lemmas.List.{length-replicate}
 use Rattle.std.proofs.lemmas.Result.{err_from_is_err_and}
-use Rattle.bl_load.specs.Offered.{IsOffered}
+use Rattle.bl_load.specs.WellFormedEntry.{IsWellFormedValue}
 use Rattle.bl_session.specs.Menu.{MenuFacts}
 use Rattle.bl_session.proofs.MenuLemmas.{offered_values}
 use Rattle.bl_desc.specs.Described.{described}
 use Rattle.bl_desc.specs.Views.{view}
-use Rattle.bl_menu.specs.Attempted.{boot_of, max_names}
-use Rattle.bl_menu.specs.Cases.{names_fetched, names_sought}
+use Rattle.bl_menu.specs.DescribedMenu.{boot_of, max_names}
+use Rattle.bl_menu.specs.BootCases.{names_fetched, names_sought}
 use Rattle.bl_menu.proofs.AskedLemmas.{fetched, inline_in, none_missing, sought}
 use Rattle.bl_boot.proofs.EndLemmas.{asked_by, asked_undescribed, asked_without, ends_by}
 use Rattle.bl_boot.proofs.EndLemmas.{sound_undescribed, sound_without, undescribed, without_machine}
@@ -124,7 +124,7 @@ returns-clause-ends g c =
     c.in_ok-machine.machine c.in_ok-machine.ensures.machine _ _ files c.in_ok-ready.ensures.found
     (λ entry. offered_values
     (boot_of (view c.in_ok-description.description) c.in_ok-machine.machine files) files entry
-    (subst (λ (m : MenuFacts). All (λ e. IsOffered e.blank) m.entries)
-    c.in_ok-ready.ensures.menu c.in_ok-ready.ensures.offered))
+    (subst (λ (m : MenuFacts). All (λ e. IsWellFormedValue e.blank) m.entries)
+    c.in_ok-ready.ensures.menu c.in_ok-ready.ensures.well_formed))
     _ _ _ _ c.boot_found.result
     (rw c.in_ok-ready.ensures.menu at c.boot_found.ensures.ends)

@@ -2,7 +2,7 @@ use Rattle.std.proofs.Common.{◌≡◌, ◌∙◌, true, map, take, rules, sym,
 use Rattle.std.specs.Str.{bytes_eq}
 use Rattle.std.proofs.lemmas.Map.Text.{is_eq-slice_cmp}
 use Rattle.bl_desc.specs.Described.{has_file, names_differ}
-use Rattle.bl_desc.specs.DescriptionKept.{named_file, text_or_none}
+use Rattle.bl_desc.specs.DescriptionKept.{name_only_file, value_text_or_empty}
 use Rattle.bl_desc.proofs.NameLemmas.{differ_more, has_more}
 use Rattle.bl_desc.proofs.SameNameLemmas.{first_values}
 use Rattle.bl_desc.proofs.bad_keys.same_names.same_name.Goals as goal
@@ -11,11 +11,11 @@ pub loop-i-preserved : goal.loop-i-preserved
 loop-i-preserved c =
     let loop = c.loop-i in
     let items = c.args.items.now in
-    let f = named_file c.index-items-i.result in
-    let key = c.text_or_none.result in
+    let f = name_only_file c.index-items-i.result in
+    let key = c.value_text_or_empty.result in
     let named : key.now ≡ f.name =
-    c.text_or_none.ensures ∙ ap text_or_none c.name_value.ensures in
-    let before = map named_file (take loop.i items) in
+    c.value_text_or_empty.ensures ∙ ap value_text_or_empty c.name_value.ensures in
+    let before = map name_only_file (take loop.i items) in
     let next =
     first_values items loop.i c.index-items-i.result c.loop-i-test.true c.index-items-i.is in
     let had = loop.invariant.has key ∙ ap (λ name. has_file name before) named in

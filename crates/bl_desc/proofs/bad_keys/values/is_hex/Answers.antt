@@ -5,4 +5,4 @@ use Rattle.bl_desc.proofs.bad_keys.values.is_hex.Goals as goal
 pub returns : goal.returns
 returns c =
     let even : length c.args.text.now % 2 ≡ 0 = omega arith in
-    c.has_digits.ensures ∙ hex_even c.args.text.now even
+    c.all_hex_digits.ensures ∙ hex_even c.args.text.now even

@@ -20,7 +20,7 @@ use Rattle.std.specs.declared.option.Option.{Option}
 use Rattle.std.specs.declared.option.Option.TheVariants.{None}
 use Rattle.std.specs.contracts.impls.GlobalAllocator.TheImpl.{ghosts}
 use Rattle.std.proofs.raw_atomic.Walks.{proved_at, leaves}
-use Rattle.bl_handle.proofs.LooseSteps.{two, al}
+use Rattle.bl_handle.proofs.RawBoxSteps.{two, al}
 use Rattle.bl_handle.proofs.HandleSteps.{R, Z, L, handle_good, handle_in}
 use Rattle.bl_handle.specs.contracts.handle.Handle.empty.{ended, clauses}
 use Rattle.bl_handle.specs.contracts.handle.Handle.empty.Key.{name as #self}

@@ -2,8 +2,8 @@ use Rattle.std.proofs.Common.{◌≡◌, ◌≤◌, List, length, take, map, sym
 use Rattle.std.proofs.lemmas.List.{take_all}
 use Rattle.bl_load.specs.Handover.{Part}
 use Rattle.bl_load.specs.HandoffFacts.{IsWellFormedHandoff}
-use Rattle.bl_load.specs.PlanFacts.{part_in}
-use Rattle.bl_image.specs.ImageParts.{handoff_of}
+use Rattle.bl_load.specs.PlanContents.{part_in}
+use Rattle.bl_image.specs.ImageHandover.{handoff_of}
 use Rattle.bl_image.proofs.PartLemmas.{memory_kept}
 use Rattle.bl_image.proofs.image.Image.of.Goals as goal
 

@@ -1,5 +1,5 @@
 use Rattle.std.proofs.Common.{◌≡◌, take, map}
-use Rattle.bl_load.specs.PlanFacts.{part_in}
+use Rattle.bl_load.specs.PlanContents.{part_in}
 use Rattle.bl_image.proofs.image.Image.of.Given as goal
 
 -- the parts at the first places

@@ -5,8 +5,8 @@ use Rattle.bl_params.proofs.PagingLemmas.{length-paging}
 use Rattle.bl_plan.specs.declared.part.Role.TheVariants.{PageTables}
 use Rattle.bl_load.specs.Addresses.{address_of}
 use Rattle.bl_load.specs.Protocols.{is_wide}
-use Rattle.bl_load.specs.LinuxRows.{told_of}
-use Rattle.bl_load.specs.Reading.{linux}
+use Rattle.bl_load.specs.LinuxRows.{boot_params_facts}
+use Rattle.bl_load.specs.KernelReading.{linux}
 use Rattle.bl_load.specs.PlacingKept.{HasLength}
 use Rattle.bl_load.specs.CheckedEntryKept.{value_of_files}
 use Rattle.bl_load.proofs.linux.contents.linux_content.Goals as goal
@@ -23,7 +23,7 @@ returns-in_ok-boot_params-in-BootParams-clause-short g c =
     omega (
       arith,
       long,
-      length-boot_params setup.header (told_of facts value c.args.places.now),
+      length-boot_params setup.header (boot_params_facts facts value c.args.places.now),
       ap (λ (bytes : List ℕ). length bytes) c.in_ok-boot_params-in-BootParams.ensures,
     )
 

@@ -1,7 +1,7 @@
 use Rattle.std.proofs.Common.{ℕ, List, length, map, arith, ap, ◌∙◌}
 use Rattle.std.proofs.lemmas.List.{length-map}
-use Rattle.bl_plan.specs.Order.{ascending}
-use Rattle.bl_load.specs.KernelKept.{executable_facts}
+use Rattle.bl_plan.specs.AddressOrder.{segments_in_order}
+use Rattle.bl_load.specs.Multiboot2KernelKept.{executable_facts}
 use Rattle.bl_load.proofs.ContentLemmas.{block_content, block_copied, block_ascends, block_some}
 use Rattle.bl_load.proofs.ContentLemmas.{block_short}
 use Rattle.bl_load.proofs.HeldLemmas.{length_at}
@@ -11,11 +11,11 @@ pub returns-in_ok-in_order-in-Some-clause-content : goal.returns-in_ok-in_order-
 returns-in_ok-in_order-in-Some-clause-content g c =
     block_content _ (executable_facts c.args.kernel.now.executable).segments _ c.in-Some.field-0
     _ _ c.requires.loadable
-    (c.in_ok-in_order-in-Some.ensures ∙ ap ascending c.segments-segments.ensures) c.in-Some.is
+    (c.in_ok-in_order-in-Some.ensures ∙ ap segments_in_order c.segments-segments.ensures) c.in-Some.is
 
 pub returns-in_ok-in_order-in-Some-clause-there : goal.returns-in_ok-in_order-in-Some-clause-there
 returns-in_ok-in_order-in-Some-clause-there g c =
-    let is = c.in_ok-in_order-in-Some.ensures ∙ ap ascending c.segments-segments.ensures in
+    let is = c.in_ok-in_order-in-Some.ensures ∙ ap segments_in_order c.segments-segments.ensures in
     let texts = map g.V.ByteView.bytes c.args.files.now in
     let some = c.requires.file in (
       omega (
@@ -37,5 +37,5 @@ pub returns-in_ok-in_order-in-Some-clause-short : goal.returns-in_ok-in_order-in
 returns-in_ok-in_order-in-Some-clause-short g c =
     block_short _ (executable_facts c.args.kernel.now.executable).segments _ _ c.in-Some.field-0
     _ _ c.requires.loadable
-    (c.in_ok-in_order-in-Some.ensures ∙ ap ascending c.segments-segments.ensures) c.in-Some.is
+    (c.in_ok-in_order-in-Some.ensures ∙ ap segments_in_order c.segments-segments.ensures) c.in-Some.is
     c.requires.length

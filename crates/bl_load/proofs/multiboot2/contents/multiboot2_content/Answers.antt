@@ -1,8 +1,8 @@
 use Rattle.std.proofs.Common.{◌≡◌, ℕ, List, [], length, arith, ap, subst}
-use Rattle.bl_mbi.specs.InformationFacts.{info_size}
+use Rattle.bl_mbi.specs.InfoToWriteFacts.{info_size}
 use Rattle.bl_plan.specs.declared.part.Role.{Role}
-use Rattle.bl_load.specs.Reading.{multiboot2}
-use Rattle.bl_load.specs.KernelKept.{kernel_by}
+use Rattle.bl_load.specs.KernelReading.{multiboot2}
+use Rattle.bl_load.specs.Multiboot2KernelKept.{kernel_by}
 use Rattle.bl_map.specs.PoolFrames.{round_up_to_frames}
 use Rattle.bl_load.specs.Rows.{information_of}
 use Rattle.bl_load.specs.PlacingKept.{HasLength}

@@ -1,6 +1,6 @@
 use Rattle.std.proofs.Common.{◌+◌, length, arith, sym, subst}
 use Rattle.std.specs.Prelude.{map, is_some, sum_by}
-use Rattle.bl_mbi.specs.InformationFacts.{IsText, ModuleInfo}
+use Rattle.bl_mbi.specs.InfoToWriteFacts.{IsText, ModuleInfo}
 use Rattle.bl_mbi.specs.Size.{tag_size}
 use Rattle.bl_load.proofs.InformationLemmas.{told_below}
 use Rattle.bl_load.proofs.multiboot2.information.facts_of.Goals as goal

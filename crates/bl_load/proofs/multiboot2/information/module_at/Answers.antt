@@ -1,5 +1,5 @@
 use Rattle.std.proofs.Common.{arith, sym, subst}
-use Rattle.bl_mbi.specs.InformationFacts.{IsText}
+use Rattle.bl_mbi.specs.InfoToWriteFacts.{IsText}
 use Rattle.bl_load.proofs.multiboot2.information.module_at.Goals as goal
 
 pub returns-clause-fits : goal.returns-clause-fits

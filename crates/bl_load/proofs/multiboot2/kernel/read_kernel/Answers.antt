@@ -2,8 +2,8 @@ use Rattle.std.proofs.Common.{ap, ◌∙◌, subst, refl, inl, inr, arith, List,
 use Rattle.std.specs.Option.{option_or}
 use Rattle.std.proofs.lemmas.Result.{err_from_is_err_and}
 use Rattle.bl_mem.specs.declared.segment.Segment.{Segment}
-use Rattle.bl_load.specs.Kernel.{entry_fault}
-use Rattle.bl_load.specs.KernelKept.{executable_facts}
+use Rattle.bl_load.specs.Multiboot2Kernel.{entry_point_fault}
+use Rattle.bl_load.specs.Multiboot2KernelKept.{executable_facts}
 use Rattle.bl_load.proofs.KernelLaws.{kernel_loadable, load_refused}
 use Rattle.bl_load.proofs.multiboot2.kernel.read_kernel.Goals as goal
 
@@ -30,7 +30,7 @@ returns-in_err-entry-clause-fault g c =
     let header = c.in_ok-header.header in
     let counted : c.or-counted.result ≡ option_or header.entry facts.entry =
     c.or-counted.ensures ∙ ap (option_or header.entry) c.entry.ensures in
-    let faulty : entry_fault facts.segments (option_or header.entry facts.entry)
+    let faulty : entry_point_fault facts.segments (option_or header.entry facts.entry)
     ≡ Some c.in_err-entry.field-0.0 =
     rw (← counted, ← c.segments.ensures) c.in_err-entry.ensures in
     rw (p.1, p.2)
@@ -46,8 +46,8 @@ returns-in_err-entry-clause-fault g c =
 pub returns-clause-loadable : goal.returns-clause-loadable
 returns-clause-loadable g c =
     let facts = executable_facts c.in_ok-executable.executable in
-    let sound : entry_fault facts.segments c.or-counted.result ≡ None =
-    subst (λ (ss : List Segment). entry_fault ss c.or-counted.result ≡ None) c.segments.ensures
+    let sound : entry_point_fault facts.segments c.or-counted.result ≡ None =
+    subst (λ (ss : List Segment). entry_point_fault ss c.or-counted.result ≡ None) c.segments.ensures
     c.in_ok-entry.ensures.1 in
     kernel_loadable _ c.in_ok-header.header.segment facts c.or-counted.result
     c.in_ok-header.ensures.segment c.in_ok-executable.ensures.loaded sound

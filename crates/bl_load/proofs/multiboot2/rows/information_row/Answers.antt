@@ -1,6 +1,6 @@
 use Rattle.std.proofs.Common.{◌≡◌, ◌<◌, ◌^◌, ℕ, [], length, ap, ◌∙◌, arith}
 use Rattle.bl_map.specs.PoolFrames.{round_up_to_frames}
-use Rattle.bl_mbi.specs.InformationFacts.{info_size}
+use Rattle.bl_mbi.specs.InfoToWriteFacts.{info_size}
 use Rattle.bl_plan.specs.declared.part.Choice.TheVariants.{Lowest}
 use Rattle.bl_plan.specs.declared.part.Role.TheVariants.{Information}
 use Rattle.bl_plan.specs.declared.part.Row.{Row}
@@ -14,8 +14,8 @@ row_of : ℕ → Row
 row_of length =
     record { role = Information; index = 0; length = length; choice = Lowest 4096 4096 0x100000000 }
 
-pub tags_size-requires-clause-short : goal.tags_size-requires-clause-short
-tags_size-requires-clause-short g c =
+pub module_tags_size-requires-clause-short : goal.module_tags_size-requires-clause-short
+module_tags_size-requires-clause-short g c =
     all_short c.args.entry.now.modules.now c.args.entry.now.sound_modules
 
 pub size_by_lengths-length-requires-clause-old : goal.size_by_lengths-length-requires-clause-old
@@ -37,7 +37,7 @@ round_up_to_frames-requires g c =
       c.normal.ensures.runs,
     ) (told_below _ _ _ entry.rsdp_old.now entry.rsdp_new.now _ entry.short
     c.normal.ensures.facts.few
-    (omega (arith, c.tags_size.ensures.small, entry.few)) entry.old entry.new) in
+    (omega (arith, c.module_tags_size.ensures.small, entry.few)) entry.old entry.new) in
     omega (arith, size)
 
 pub returns : goal.returns
@@ -54,7 +54,7 @@ returns g c =
       e,
       ← c.normal.ensures.runs,
       ← c.is_some.ensures,
-      ← c.tags_size.ensures.value,
+      ← c.module_tags_size.ensures.value,
       ← c.length_of.ensures,
       ← c.length_of-2.ensures,
     ) c.size_by_lengths-length.ensures in

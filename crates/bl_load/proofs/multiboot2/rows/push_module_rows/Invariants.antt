@@ -1,11 +1,11 @@
 use Rattle.std.proofs.Common.{◌≡◌, ◌++◌, drop, map}
 use Rattle.bl_load.specs.Kept.{lines_by}
-use Rattle.bl_load.specs.PlacingKept.{capped_rows}
+use Rattle.bl_load.specs.PlacingKept.{capped_module_rows}
 use Rattle.bl_load.proofs.multiboot2.rows.push_module_rows.Given as goal
 
 -- the rows so far, and those that are left, are all
 abbrev pub invariant-loop-index : goal.invariant-loop-index
 invariant-loop-index g l =
     l.rows.items
-    ++ capped_rows (map g.V.ByteView.bytes l.files) l.index (lines_by (drop l.index l.modules))
-    ≡ l.fn.rows.items ++ capped_rows (map g.V.ByteView.bytes l.files) 0 (lines_by l.modules)
+    ++ capped_module_rows (map g.V.ByteView.bytes l.files) l.index (lines_by (drop l.index l.modules))
+    ≡ l.fn.rows.items ++ capped_module_rows (map g.V.ByteView.bytes l.files) 0 (lines_by l.modules)

@@ -1,7 +1,7 @@
 use Rattle.std.proofs.Common.{◌≡◌, ◌-◌, ◌≤◌, length, take}
 use Rattle.bl_mem.specs.Memory.{overwrite, KeepsRoom}
 use Rattle.bl_mem.specs.Sparse.{bytes_of}
-use Rattle.bl_mem.specs.SparseFrames.{IsHeld}
+use Rattle.bl_mem.specs.SparseFrames.{HasRoomAt}
 use Rattle.bl_mem.proofs.sparse.SparsePhysMem.write.Given as goal
 
 -- what was written so far
@@ -13,7 +13,7 @@ invariant-loop-done g l =
       after : bytes_of l.self.frames l.self.size
           ≡ overwrite (bytes_of l.fn.self.frames l.fn.self.size) l.at
           (take l.done l.part);
-      kept : KeepsRoom (IsHeld l.fn.self.frames) (IsHeld l.self.frames);
+      kept : KeepsRoom (HasRoomAt l.fn.self.frames) (HasRoomAt l.self.frames);
     }
 
 abbrev pub decreases-loop-done : goal.decreases-loop-done

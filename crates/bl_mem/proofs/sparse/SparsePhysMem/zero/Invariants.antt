@@ -1,7 +1,7 @@
 use Rattle.std.proofs.Common.{◌≡◌, ◌-◌, ◌≤◌, replicate}
 use Rattle.bl_mem.specs.Memory.{overwrite, KeepsRoom}
 use Rattle.bl_mem.specs.Sparse.{bytes_of}
-use Rattle.bl_mem.specs.SparseFrames.{IsHeld}
+use Rattle.bl_mem.specs.SparseFrames.{HasRoomAt}
 use Rattle.bl_mem.proofs.sparse.SparsePhysMem.zero.Given as goal
 
 -- the zeros so far
@@ -14,7 +14,7 @@ invariant-loop-at g l =
       after : bytes_of l.self.frames l.self.size
           ≡ overwrite (bytes_of l.fn.self.frames l.fn.self.size) l.range.start
           (replicate (l.at - l.range.start) 0);
-      kept : KeepsRoom (IsHeld l.fn.self.frames) (IsHeld l.self.frames);
+      kept : KeepsRoom (HasRoomAt l.fn.self.frames) (HasRoomAt l.self.frames);
     }
 
 abbrev pub decreases-loop-at : goal.decreases-loop-at

@@ -1,6 +1,6 @@
 use Rattle.std.proofs.Common.{◌-◌, ◌≤◌, length}
 use Rattle.bl_mem.specs.Memory.{KeepsRoom}
-use Rattle.bl_mem.specs.SparseFrames.{SameBytes, IsHeld, AreOpen}
+use Rattle.bl_mem.specs.SparseFrames.{SameBytes, HasRoomAt, FramesHaveRoom}
 use Rattle.bl_mem.proofs.sparse_frames.SparseFrames.hold.Given as goal
 
 -- the frames so far have room
@@ -11,8 +11,8 @@ invariant-loop-at g l =
       within : l.at ≤ l.end;
       size : l.end ≤ length l.self.table;
       same : SameBytes l.fn.self l.self;
-      kept : KeepsRoom (IsHeld l.fn.self) (IsHeld l.self);
-      made : AreOpen l.self l.first l.at;
+      kept : KeepsRoom (HasRoomAt l.fn.self) (HasRoomAt l.self);
+      made : FramesHaveRoom l.self l.first l.at;
     }
 
 abbrev pub decreases-loop-at : goal.decreases-loop-at

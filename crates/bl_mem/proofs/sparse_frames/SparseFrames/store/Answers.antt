@@ -6,7 +6,7 @@ use Rattle.bl_mem.proofs.sparse_frames.SparseFrames.store.Goals as goal
 pub store_alone-requires-clause-held : goal.store_alone-requires-clause-held
 store_alone-requires-clause-held g c =
     let number : (4096 * c.args.number) / 4096 ≡ c.args.number = omega arith in
-    subst (λ n. has_room (frame_numbered c.release.new.self n) ≡ true) number
-    (c.release.ensures.room (4096 * c.args.number)
+    subst (λ n. has_room (frame_numbered c.unshare.new.self n) ≡ true) number
+    (c.unshare.ensures.room (4096 * c.args.number)
     (subst (λ n. has_room (frame_numbered c.args.self.now n) ≡ true) (sym number)
     c.requires.held))

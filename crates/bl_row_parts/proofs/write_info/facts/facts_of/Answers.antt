@@ -1,7 +1,7 @@
 use Rattle.std.proofs.Common.{◌≤◌, ◌+◌, ◌∷◌, [], List, All, Bool, true, false, length, map, arith}
 use Rattle.std.specs.Prelude.{is_some, sum_by}
 use Rattle.bl_mbi.specs.Size.{load_base_size, tag_size}
-use Rattle.bl_mbi.specs.InformationFacts.{ModuleInfo}
+use Rattle.bl_mbi.specs.InfoToWriteFacts.{ModuleInfo}
 use Rattle.bl_row_parts.proofs.write_info.facts.facts_of.Goals as goal
 
 most_load_base : (b : Bool) → load_base_size b ≤ 16

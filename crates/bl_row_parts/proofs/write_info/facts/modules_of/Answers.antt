@@ -1,6 +1,6 @@
 use Rattle.std.proofs.Common.{◌≤◌, length, All, rules, sym, subst}
 use Rattle.std.proofs.lemmas.List.Elements.{All-push}
-use Rattle.bl_mbi.specs.InformationFacts.{IsModule}
+use Rattle.bl_mbi.specs.InfoToWriteFacts.{IsModule}
 use Rattle.bl_row_parts.proofs.write_info.facts.modules_of.Goals as goal
 
 pub loop-read-preserved : goal.loop-read-preserved

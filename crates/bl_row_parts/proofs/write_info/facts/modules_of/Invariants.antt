@@ -1,5 +1,5 @@
 use Rattle.std.proofs.Common.{◌≡◌, ◌≤◌, All, length}
-use Rattle.bl_mbi.specs.InformationFacts.{IsModule}
+use Rattle.bl_mbi.specs.InfoToWriteFacts.{IsModule}
 use Rattle.bl_row_parts.proofs.write_info.facts.modules_of.Given as goal
 
 -- each module so far

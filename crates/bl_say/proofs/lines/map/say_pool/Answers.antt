@@ -1,7 +1,7 @@
 use Rattle.std.proofs.Common.{rules, arith, ◌≡◌, ◌++◌}
 use Rattle.std.specs.Prelude.{codes}
 use Rattle.std.proofs.lemmas.Grind.{common_steps}
-use Rattle.bl_say.specs.Says.{pool_line}
+use Rattle.bl_say.specs.BootAndMapLines.{pool_line}
 use Rattle.bl_say.proofs.HexLemmas.{hex_hole, hex16_hole}
 use Rattle.bl_say.proofs.lines.map.say_pool.Goals as goal
 

@@ -2,7 +2,7 @@ use Rattle.std.proofs.Common.{rules, arith, ◌≡◌, ◌++◌, ◌+◌}
 use Rattle.std.specs.Prelude.{codes}
 use Rattle.std.proofs.lemmas.Grind.{common_steps}
 use Rattle.bl_map.specs.Kinds.{kind_name}
-use Rattle.bl_say.specs.Says.{run_line}
+use Rattle.bl_say.specs.BootAndMapLines.{run_line}
 use Rattle.bl_say.proofs.HexLemmas.{hex_hole, hex16_hole}
 use Rattle.bl_say.proofs.lines.map.say_run.Goals as goal
 

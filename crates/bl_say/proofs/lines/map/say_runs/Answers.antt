@@ -1,4 +1,4 @@
-use Rattle.bl_say.specs.Says.{run_line}
+use Rattle.bl_say.specs.BootAndMapLines.{run_line}
 use Rattle.bl_say.proofs.SaidLemmas.{one_more_said_at, all_said}
 use Rattle.bl_say.proofs.lines.map.say_runs.Goals as goal
 

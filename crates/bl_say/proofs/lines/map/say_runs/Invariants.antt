@@ -1,6 +1,6 @@
 use Rattle.std.proofs.Common.{◌≡◌, ◌++◌, take}
 use Rattle.std.specs.List.{flat_map}
-use Rattle.bl_say.specs.Says.{run_line}
+use Rattle.bl_say.specs.BootAndMapLines.{run_line}
 use Rattle.bl_say.proofs.lines.map.say_runs.Given as goal
 
 abbrev pub invariant-loop-run : goal.invariant-loop-run

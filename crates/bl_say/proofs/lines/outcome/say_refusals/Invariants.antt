@@ -1,5 +1,5 @@
 use Rattle.std.proofs.Common.{◌≡◌, ◌++◌, take}
-use Rattle.bl_say.specs.Says.{refused_lines}
+use Rattle.bl_say.specs.BootAndMapLines.{refused_lines}
 use Rattle.bl_say.proofs.lines.outcome.say_refusals.Given as goal
 
 abbrev pub invariant-loop-entry : goal.invariant-loop-entry

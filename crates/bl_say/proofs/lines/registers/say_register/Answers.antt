@@ -1,7 +1,7 @@
 use Rattle.std.proofs.Common.{rules, arith, ◌≡◌, ◌++◌}
 use Rattle.std.specs.Prelude.{codes}
 use Rattle.std.proofs.lemmas.Grind.{common_steps}
-use Rattle.bl_say.specs.HandedLines.{register_line}
+use Rattle.bl_say.specs.HandoffLines.{register_line}
 use Rattle.bl_say.proofs.HexLemmas.{hex_hole, hex16_hole}
 use Rattle.bl_say.proofs.lines.registers.say_register.Goals as goal
 

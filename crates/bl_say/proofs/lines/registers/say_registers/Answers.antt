@@ -1,7 +1,7 @@
 use Rattle.std.proofs.Common.{◌≡◌, ◌++◌, ℕ, List, OnOk, sym, subst}
 use Rattle.std.specs.List.{flat_map}
 use Rattle.bl_load.specs.declared.registers.Registers.{Registers}
-use Rattle.bl_say.specs.HandedLines.{register_line, registers_lines}
+use Rattle.bl_say.specs.HandoffLines.{register_line, registers_lines}
 use Rattle.bl_say.proofs.lines.registers.say_registers.Goals as goal
 
 pub returns-in-Bits32 : goal.returns-in-Bits32

@@ -1,5 +1,5 @@
 use Rattle.std.proofs.Common.{◌≡◌, All, List, ◌≤◌, length, refl, sym, subst, arith, rules}
-use Rattle.bl_load.specs.Offered.{IsOfferedEntry}
+use Rattle.bl_load.specs.WellFormedEntry.{IsWellFormedEntry}
 use Rattle.bl_load.specs.declared.entry.Entry.{Entry}
 use Rattle.bl_session.specs.Attempts.{AreEntryIndices, AreWithinLimits, attempt_order}
 use Rattle.bl_session.proofs.MenuLemmas.{offered_entries}
@@ -26,17 +26,17 @@ invariant_of-result g c =
       rw c.in_ok-attempts.ensures
           (all_attempts (length entries) c.args.default fallbacks named.0 named.1),
       small.1,
-      subst (λ (es : List (Entry g.row.A.Denot)). All IsOfferedEntry es) same
-          c.learn_entries.ensures,
+      subst (λ (es : List (Entry g.row.A.Denot)). All IsWellFormedEntry es) same
+          c.entries_are_well_formed.ensures,
       rw c.in_ok-attempts.ensures most,
     )
 
-pub returns-clause-offered : goal.returns-clause-offered
-returns-clause-offered g c =
+pub returns-clause-well_formed : goal.returns-clause-offered
+returns-clause-well_formed g c =
     offered_entries c.args.entries.items
-    (subst (λ (es : List (Entry g.row.A.Denot)). All IsOfferedEntry es)
+    (subst (λ (es : List (Entry g.row.A.Denot)). All IsWellFormedEntry es)
     c.as_slice-offered.ensures.value
-    c.learn_entries.ensures)
+    c.entries_are_well_formed.ensures)
 
 pub returns-then-not-are_entry_indices-clause-first_fault :
     goal.returns-then-not-are_entry_indices-clause-first_fault

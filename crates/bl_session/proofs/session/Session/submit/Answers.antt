@@ -1,9 +1,9 @@
 use Rattle.std.proofs.Common.{ℕ, List, subst}
 use Rattle.std.specs.Prelude.{OnErr}
 use Rattle.bl_session.specs.History.{HistoryItem}
-use Rattle.bl_session.specs.Asked.{attempt_submissions}
+use Rattle.bl_session.specs.Submissions.{attempt_submissions}
 use Rattle.bl_session.specs.Phases.{SessionFacts, state_at}
-use Rattle.bl_session.specs.TurnsKept.{IsAsked}
+use Rattle.bl_session.specs.RunKept.{AreAskedButRest}
 use Rattle.bl_session.proofs.session.Session.submit.Goals as goal
 
 pub returns-clause-err : goal.returns-clause-err
@@ -11,6 +11,6 @@ returns-clause-err g c =
     let given = g.S.Store.given in
     subst
     (λ (s : SessionFacts). OnErr c.submit.result ((bytes : List ℕ)
-    → (rest : List HistoryItem) × IsAsked (attempt_submissions s.boot (state_at bytes s.phase)) rest
+    → (rest : List HistoryItem) × AreAskedButRest (attempt_submissions s.boot (state_at bytes s.phase)) rest
     (given c.args.store.now) (given c.submit.new.store)))
     c.self.view_is c.submit.ensures.err

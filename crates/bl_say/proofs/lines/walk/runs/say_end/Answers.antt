@@ -1,6 +1,6 @@
 use Rattle.std.proofs.Common.{rules, arith, ◌≡◌}
 use Rattle.std.proofs.lemmas.Grind.{common_steps}
-use Rattle.bl_say.specs.Says.{hex16}
+use Rattle.bl_say.specs.BootAndMapLines.{hex16}
 use Rattle.bl_say.proofs.HexLemmas.{hex_hole, hex16_hole}
 use Rattle.bl_say.proofs.lines.walk.runs.say_end.Goals as goal
 

@@ -1,0 +1,162 @@
+use Rattle.std.proofs.Common.{◌≡◌, ◌+◌, ◌<◌, ◌≤◌, length, arith, refl, sym, ◌∙◌, get_or, drop, ◌∷◌}
+use Rattle.std.proofs.Common.{add-zero, zero-add}
+use Rattle.std.proofs.lemmas.List.{drop_more, get_or_default}
+use Rattle.bl_mem.specs.Files.{nth_file}
+use Rattle.bl_load.specs.KernelBlock.{span_of}
+use Rattle.bl_load.specs.Parts.{no_segment}
+use Rattle.bl_load.proofs.BlockLemmas.{block_from}
+use Rattle.bl_load.proofs.BlockStepLemmas.{block_from_first, first_below, left_behind, gap_beside}
+use Rattle.bl_load.proofs.BlockStepLemmas.{segment_beside, block_step}
+use Rattle.bl_load.proofs.MemoryLemmas.{keeps_all, keeps_on}
+use Rattle.bl_load.proofs.kernel_block.load_block.Goals as goal
+
+pub loop-segment-init : goal.loop-segment-init
+loop-segment-init g c =
+    let segments = c.args.segments.now in
+    let first =
+    block_from_first
+    (nth_file (g.F.FileSet.texts c.args.files.now (g.M.PhysMem.bytes c.args.memory.now))
+    c.args.file) segments no_segment c.requires.some c.requires.copied
+    c.requires.ascending in
+    record {
+      same = refl;
+      above =
+          λ k d from within. let low =
+          first_below segments no_segment c.requires.ascending k d within in omega arith;
+      count = simp (add-zero, zero-add) (sym first.0);
+      rest = simp (add-zero, first.1);
+      kept = keeps_all;
+    }
+
+-- the files are as they were once zeros fill the gap
+files_kept : (g : _) (c : goal.After-load_segment-arg-1 g)
+    → g.F.FileSet.texts c.args.files.now (g.M.PhysMem.bytes c.zero.new.self)
+    ≡ g.F.FileSet.texts c.args.files.now (g.M.PhysMem.bytes c.args.memory.now)
+files_kept g c =
+    let segments = c.args.segments.now in
+    let i = c.loop-segment.segment-index in
+    let s = get_or segments i no_segment in
+    let low = (get_or segments 0 no_segment).address in
+    let done = c.loop-segment.done in
+    let old = g.M.PhysMem.bytes c.loop-segment.memory in
+    let text =
+    nth_file (g.F.FileSet.texts c.args.files.now (g.M.PhysMem.bytes c.args.memory.now))
+    c.args.file in
+    let here = c.loop-segment-test.true in
+    let rest = drop (i + 1) segments in
+    let copied = c.requires.copied i no_segment here in
+    let up = c.loop-segment.invariant.above i no_segment (omega arith) here in
+    let left = rw (drop_more segments i no_segment here) at c.loop-segment.invariant.count in
+    let inside : c.args.at + (done + length (block_from text (low + done) (s ∷ rest)))
+    ≤ length old = omega arith in
+    let gap =
+    gap_beside text old c.args.at low done s rest copied up inside
+    (g.F.FileSet.holds c.args.files.now)
+    (λ a from to. c.requires.beside a from (omega arith)) in
+    let same = g.met.F.FileSet.same c.args.files.now old _ gap ∙ c.loop-segment.invariant.same in
+    rw c.zero.ensures.after same
+
+pub load_segment-requires-clause-file : goal.load_segment-requires-clause-file
+load_segment-requires-clause-file g c = rw (files_kept g c) c.requires.file
+
+pub load_segment-requires-clause-copied : goal.load_segment-requires-clause-copied
+load_segment-requires-clause-copied g c =
+    rw (files_kept g c)
+    (c.requires.copied c.loop-segment.segment-index no_segment c.loop-segment-test.true)
+
+pub load_segment-requires-clause-beside : goal.load_segment-requires-clause-beside
+load_segment-requires-clause-beside g c =
+    let segments = c.args.segments.now in
+    let i = c.loop-segment.segment-index in
+    let s = get_or segments i no_segment in
+    let low = (get_or segments 0 no_segment).address in
+    let done = c.loop-segment.done in
+    let old = g.M.PhysMem.bytes c.loop-segment.memory in
+    let text =
+    nth_file (g.F.FileSet.texts c.args.files.now (g.M.PhysMem.bytes c.args.memory.now))
+    c.args.file in
+    let here = c.loop-segment-test.true in
+    let rest = drop (i + 1) segments in
+    let copied = c.requires.copied i no_segment here in
+    let up = c.loop-segment.invariant.above i no_segment (omega arith) here in
+    let left = rw (drop_more segments i no_segment here) at c.loop-segment.invariant.count in
+    let inside : c.args.at + (done + length (block_from text (low + done) (s ∷ rest)))
+    ≤ length old = omega arith in
+    segment_beside text old c.args.at low done s rest copied up inside
+    (g.F.FileSet.holds c.args.files.now) (λ a from to. c.requires.beside a from (omega arith))
+
+pub load_segment-requires-clause-room : goal.load_segment-requires-clause-room
+load_segment-requires-clause-room g c =
+    let segments = c.args.segments.now in
+    let i = c.loop-segment.segment-index in
+    let s = get_or segments i no_segment in
+    let low = (get_or segments 0 no_segment).address in
+    let done = c.loop-segment.done in
+    let old = g.M.PhysMem.bytes c.loop-segment.memory in
+    let text =
+    nth_file (g.F.FileSet.texts c.args.files.now (g.M.PhysMem.bytes c.args.memory.now))
+    c.args.file in
+    let here = c.loop-segment-test.true in
+    let rest = drop (i + 1) segments in
+    let copied = c.requires.copied i no_segment here in
+    let up = c.loop-segment.invariant.above i no_segment (omega arith) here in
+    let left = rw (drop_more segments i no_segment here) at c.loop-segment.invariant.count in
+    let inside : c.args.at + (done + length (block_from text (low + done) (s ∷ rest)))
+    ≤ length old = omega arith in
+    let behind = left_behind text old c.args.at low done s rest copied up inside in
+    λ a from to.
+    let bound : a < c.args.at + span_of segments = omega arith in
+    c.zero.ensures.kept.room a
+    (c.loop-segment.invariant.kept.room a (c.requires.room a (omega arith) bound))
+
+pub loop-segment-preserved : goal.loop-segment-preserved
+loop-segment-preserved g c =
+    let segments = c.args.segments.now in
+    let i = c.loop-segment.segment-index in
+    let s = get_or segments i no_segment in
+    let low = (get_or segments 0 no_segment).address in
+    let done = c.loop-segment.done in
+    let old = g.M.PhysMem.bytes c.loop-segment.memory in
+    let text =
+    nth_file (g.F.FileSet.texts c.args.files.now (g.M.PhysMem.bytes c.args.memory.now))
+    c.args.file in
+    let here = c.loop-segment-test.true in
+    let rest = drop (i + 1) segments in
+    let copied = c.requires.copied i no_segment here in
+    let up = c.loop-segment.invariant.above i no_segment (omega arith) here in
+    let left = rw (drop_more segments i no_segment here) at c.loop-segment.invariant.count in
+    let inside : c.args.at + (done + length (block_from text (low + done) (s ∷ rest)))
+    ≤ length old = omega arith in
+    let whole = rw (drop_more segments i no_segment here) at c.loop-segment.invariant.rest in
+    let gap =
+    gap_beside text old c.args.at low done s rest copied up inside
+    (g.F.FileSet.holds c.args.files.now)
+    (λ a from to. c.requires.beside a from (omega arith)) in
+    let same = g.met.F.FileSet.same c.args.files.now old _ gap ∙ c.loop-segment.invariant.same in
+    let kept : g.F.FileSet.texts c.args.files.now (g.M.PhysMem.bytes c.zero.new.self)
+    ≡ g.F.FileSet.texts c.args.files.now (g.M.PhysMem.bytes c.args.memory.now) =
+    rw c.zero.ensures.after same in
+    record {
+      same = c.load_segment.ensures.texts ∙ kept;
+      above =
+          λ k d next within. let ahead =
+          rw (get_or_default segments i d no_segment here) at
+          (c.requires.ascending i k d (omega arith) within) in omega arith;
+      count = left_behind text old c.args.at low done s rest copied up inside ∙ left;
+      rest =
+          rw (c.load_segment.ensures.after, kept, c.zero.ensures.after)
+          (block_step text old c.args.at low done s rest copied up inside ∙ whole);
+      kept =
+          keeps_on (keeps_on c.loop-segment.invariant.kept c.zero.ensures.kept)
+          c.load_segment.ensures.kept;
+    }
+
+pub load_segment-requires-clause-held : goal.load_segment-requires-clause-held
+load_segment-requires-clause-held g c =
+    rw (c.zero.ensures.kept.size, c.loop-segment.invariant.kept.size) c.requires.held
+
+pub returns-clause-texts : goal.returns-clause-texts
+returns-clause-texts g c = c.loop-segment.invariant.same
+
+pub returns-clause-kept : goal.returns-clause-kept
+returns-clause-kept g c = c.loop-segment.invariant.kept

@@ -1,5 +1,0 @@
-use Rattle.bl_load.proofs.SegmentLaws.{named}
-use Rattle.bl_load.proofs.segment_register_laws.selectors_name_the_segments.Goals as goal
-
-pub returns : goal.returns
-returns c = named

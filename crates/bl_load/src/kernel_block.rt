@@ -1,0 +1,77 @@
+//! A relocatable kernel's image comes into memory.
+ghost use Rattle.std.specs.Prelude.{◌≡◌, ◌+◌, ◌<◌, ◌≤◌, length, All, AllPairs};
+ghost use Rattle.bl_mem.specs.SegmentContents.{contents_of};
+ghost use Rattle.bl_mem.specs.Files.{nth_file, AreAddressesBelow, IsApartFrom};
+ghost use Rattle.bl_mem.specs.Memory.{overwrite, HasRoom, KeepsSizeAndRoom};
+ghost use Rattle.bl_load.specs.KernelBlock.{span_of, block_of};
+ghost use Rattle.bl_load.specs.Loadable.{IsCopyable, SegmentsAscend};
+
+use crate::copying::copy;
+use bl_mem::{FileSet, PhysMem, Segment};
+
+/// Writes a segment at `at`: its bytes of the file, and zeros after them.
+fn load_segment<M: PhysMem, F: FileSet>(
+    memory: &mut M,
+    at: u64,
+    files: &F,
+    file: usize,
+    segment: &Segment,
+)
+    requires held { AreAddressesBelow (F.holds files.now) (length (M.bytes memory.old)) }
+    requires file { file < length (F.texts files.now (M.bytes memory.old)) }
+    requires copied { IsCopyable
+        (length (nth_file (F.texts files.now (M.bytes memory.old)) file)) segment.now }
+    requires inside { at + segment.now.memsz ≤ length (M.bytes memory.old) }
+    requires room { HasRoom (M.room memory.old) at (at + segment.now.memsz) }
+    requires beside { IsApartFrom (F.holds files.now) at (at + segment.now.memsz) }
+    ensures after { M.bytes memory.new ≡ overwrite (M.bytes memory.old) at
+        (contents_of (nth_file (F.texts files.now (M.bytes memory.old)) file) segment.now) }
+    ensures texts { F.texts files.now (M.bytes memory.new)
+        ≡ F.texts files.now (M.bytes memory.old) }
+    ensures kept { KeepsSizeAndRoom M.lender M.bytes M.room memory.old memory.new }
+{
+    // Memory's size is known to be below 2^64, so that no sum here wraps, only once it was asked
+    // for.
+    let _size = memory.size();
+    copy(memory, at, files, file, segment.offset, segment.filesz);
+    memory.zero(at + segment.filesz..at + segment.memsz);
+}
+
+/// Writes the block of these segments at `at`, and says how long it is. Each of its bytes is
+/// written once: zeros go into the gaps and after the bytes of the file alone.
+pub(crate) fn load_block<M: PhysMem, F: FileSet>(
+    memory: &mut M,
+    at: u64,
+    files: &F,
+    file: usize,
+    segments: &[Segment],
+) -> u64
+    requires held { AreAddressesBelow (F.holds files.now) (length (M.bytes memory.old)) }
+    requires file { file < length (F.texts files.now (M.bytes memory.old)) }
+    requires some { 1 ≤ length segments.now }
+    requires copied { All (IsCopyable
+        (length (nth_file (F.texts files.now (M.bytes memory.old)) file))) segments.now }
+    requires ascending { AllPairs SegmentsAscend segments.now }
+    requires inside { at + span_of segments.now ≤ length (M.bytes memory.old) }
+    requires room { HasRoom (M.room memory.old) at (at + span_of segments.now) }
+    requires beside { IsApartFrom (F.holds files.now) at (at + span_of segments.now) }
+    ensures count { result ≡ span_of segments.now }
+    ensures after { M.bytes memory.new ≡ overwrite (M.bytes memory.old) at
+        (block_of (nth_file (F.texts files.now (M.bytes memory.old)) file) segments.now) }
+    ensures texts { F.texts files.now (M.bytes memory.new)
+        ≡ F.texts files.now (M.bytes memory.old) }
+    ensures kept { KeepsSizeAndRoom M.lender M.bytes M.room memory.old memory.new }
+{
+    // Memory's size is known to be below 2^64, so that no sum here wraps, only once it was asked
+    // for.
+    let _size = memory.size();
+    let low = segments[0].address;
+    let mut done = 0u64;
+    for segment in segments {
+        let start = segment.address - low;
+        memory.zero(at + done..at + start);
+        load_segment(memory, at + start, files, file, segment);
+        done = start + segment.memsz;
+    }
+    done
+}

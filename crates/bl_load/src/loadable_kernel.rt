@@ -1,0 +1,64 @@
+//! What an entry's parts are by its kernel's file.
+ghost use Rattle.std.specs.Prelude.{◌≡◌, ◌≤◌, ◌^◌, All, IfOk};
+ghost use Rattle.bl_load.specs.Parts.{content_of, registers_of};
+ghost use Rattle.bl_load.specs.PlanContents.{content_by};
+ghost use Rattle.bl_load.specs.Loadable.{lengths_of, content_length, IsInFiles, IsLeanContent};
+ghost use Rattle.bl_load.specs.PlacingKept.{HasRowLength, EndsLow, capped_rows_of};
+ghost use Rattle.bl_load.specs.KernelReadingKept.{EntersBy, EntryPointFits32Bits, FitsTold};
+ghost use Rattle.bl_load.specs.KernelReading.{KernelReading};
+ghost use Rattle.bl_load.specs.CheckedEntryKept.{texts_in, value_of_files, IsReadWithFiles};
+
+use crate::checked_entry::CheckedEntry;
+use crate::plan::Content;
+use crate::registers::Registers;
+use bl_mem::ByteView;
+use bl_plan::{Place, Protocol, Row};
+use std::alloc::{AllocError, Allocator};
+
+/// What was read of a kernel's file: the parts of its entry follow from it. There is one for each
+/// kind of file.
+pub trait LoadableKernel {
+    /// What was read.
+    ghost reading: { Self → KernelReading };
+
+    /// The rows of the entry's parts.
+    fn rows<A: Allocator + Copy, V: ByteView>(
+        &self,
+        alloc: A,
+        entry: &CheckedEntry<'_, A, V>,
+    ) -> Result<Vec<Row, A>, AllocError>
+        requires { IsReadWithFiles entry.now (reading self.now) }
+        ensures { IfOk result (λ rows. rows.items ≡ capped_rows_of entry.now.machine.now
+            (value_of_files entry.now) (reading self.now)) };
+
+    /// The content of the part at a place, where the parts have these places.
+    fn content<A: Allocator + Copy, V: ByteView>(
+        &self,
+        alloc: A,
+        entry: &CheckedEntry<'_, A, V>,
+        places: &[Place],
+        place: &Place,
+    ) -> Result<Content<A>, AllocError>
+        requires ready { IsReadWithFiles entry.now (reading self.now) }
+        requires fits { FitsTold (value_of_files entry.now) (reading self.now) places.now }
+        requires low { All EndsLow places.now }
+        requires rowed { HasRowLength entry.now.machine.now (value_of_files entry.now)
+            (reading self.now)
+            place.now }
+        requires small { place.now.length ≤ 2 ^ 32 }
+        ensures content { IfOk result (λ content. content_by (texts_in entry.now) content
+            ≡ content_of entry.now.machine.now (value_of_files entry.now) (reading self.now)
+            places.now place.now.role place.now.index) }
+        ensures there { IfOk result (λ content. IsInFiles (lengths_of (texts_in entry.now))
+            content) }
+        ensures short { IfOk result (λ content. content_length content ≤ place.now.length) }
+        ensures lean { IfOk result (IsLeanContent place.now.role) };
+
+    /// The registers as a kernel begins that is entered by this protocol, where the parts have
+    /// these places.
+    fn registers(&self, protocol: Protocol, places: &[Place]) -> Registers
+        requires protocol { EntersBy protocol (reading self.now) }
+        requires low { All EndsLow places.now }
+        requires enter { EntryPointFits32Bits (reading self.now) places.now }
+        ensures { result ≡ registers_of protocol (reading self.now) places.now };
+}

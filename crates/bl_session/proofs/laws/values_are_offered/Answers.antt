@@ -1,5 +1,0 @@
-use Rattle.bl_session.proofs.MenuLemmas.{offered_values}
-use Rattle.bl_session.proofs.laws.values_are_offered.Goals as goal
-
-pub returns : goal.returns
-returns c = offered_values

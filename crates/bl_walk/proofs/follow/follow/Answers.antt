@@ -1,7 +1,0 @@
-use Rattle.std.proofs.Common.{sym}
-use Rattle.bl_walk.specs.Faults.{outside_parts}
-use Rattle.bl_walk.proofs.follow.follow.Goals as goal
-
-pub returns-in-None-clause-fault : goal.returns-in-None-clause-fault
-returns-in-None-clause-fault g c =
-    outside_parts c.args.address c.args.count c.requires (sym c.in-None.ensures.exact)
