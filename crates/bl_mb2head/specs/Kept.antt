@@ -1,5 +1,5 @@
--- What the scan of the tags keeps: words for the clauses of src/last_of_type.rt alone. What a header
--- says is defined without them.
+-- What the scan of the tags keeps: words for the clauses of src/last_of_type.rt alone. What a
+-- header says is defined without them.
 use Rattle.std.specs.Prelude.{◌≤◌, ◌+◌, ℕ, List, IfSome}
 use Rattle.bl_mb2head.specs.declared.tag.Tag.{Tag}
 use Rattle.bl_mb2head.specs.declared.last_of_type.LastTags.{LastTags}
