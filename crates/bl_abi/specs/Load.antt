@@ -58,7 +58,7 @@ IsEntryFault facts given entry NoMemory = Unit {0}
 
 -- memory holds what is handed over, and is what it was with those parts written into it: each byte
 -- of no part is as before
-pub record IsHandoffInMemory (facts : MachineFacts) (given : GivenFacts) (entry : EntryRecord)
+pub record IsEntryLoaded (facts : MachineFacts) (given : GivenFacts) (entry : EntryRecord)
     (old new : List ℕ) (handoff : HandoffFacts) : Type 0 where
   pub handover : IsHandover facts (value_given given entry)
       (handover_in new handoff.protocol handoff.registers handoff.places)
@@ -79,7 +79,7 @@ pub record IsLoaded (machine : MachineRecord) (regions : List RegionRecord) (giv
   pub machine_sound : IsMachineSound machine regions
   pub has_memory : machine.size ≤ length old
   pub entry_sound : IsEntrySound given entry
-  pub handed : IsHandoffInMemory facts given entry old new handoff
+  pub handed : IsEntryLoaded facts given entry old new handoff
 
 -- there is such a machine, and its entry has this fault
 pub record HasEntryFault (machine : MachineRecord) (regions : List RegionRecord)

@@ -1,7 +1,7 @@
 -- What C is told of registers, places and refusals. Own.
 use Rattle.std.specs.Prelude.{◌≡◌, ℕ, List, length, map, drop, ◌++◌, Result, Ok, Err}
 use Rattle.bl_plan.specs.declared.part.Place.{Place}
-use Rattle.bl_plan.specs.Roles.{role_number}
+use Rattle.bl_plan.specs.RoleNumbers.{role_number}
 use Rattle.bl_plan.specs.Protocols.{protocol_number}
 use Rattle.bl_load.specs.HandoffFacts.{HandoffFacts}
 use Rattle.bl_load.specs.declared.registers.Registers.{Registers}

@@ -7,7 +7,7 @@ ghost use Rattle.bl_load.specs.Parts.{IsHandover, IsPrepFault};
 ghost use Rattle.bl_load.specs.PlanContents.{handover_in};
 ghost use Rattle.bl_load.specs.EntryValue.{value_of, file_count, IsWithinLimits};
 ghost use Rattle.bl_load.specs.HandoffFacts.{HandoffFacts};
-ghost use Rattle.bl_abi.specs.Load.{IsHandoffInMemory, IsEntryFault, IsEntrySound, IsLoadEnd};
+ghost use Rattle.bl_abi.specs.Load.{IsEntryLoaded, IsEntryFault, IsEntrySound, IsLoadEnd};
 ghost use Rattle.bl_abi.specs.LoadTold.{TellsEnd};
 ghost use Rattle.bl_abi.specs.declared.load_fault.LoadFault.{LoadFault};
 
@@ -67,7 +67,7 @@ fn load_given<A: Allocator + Copy>(
     row: &EntryRecord,
 ) -> Result<Handoff<A>, LoadFault>
     requires { machine.now.size ≤ base + length memory.old }
-    ensures handed { IfOk result (λ handoff. IsHandoffInMemory machine.now given.now row.now
+    ensures handed { IfOk result (λ handoff. IsEntryLoaded machine.now given.now row.now
         (memory_from base memory.old) (memory_from base memory.new) handoff) }
     ensures sound { OnOk result (IsEntrySound given.now row.now) }
     ensures fault { IfErr result (IsEntryFault machine.now given.now row.now) }

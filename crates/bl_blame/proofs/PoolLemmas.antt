@@ -13,7 +13,7 @@ use Rattle.bl_map.specs.declared.kind.Kind.{Kind}
 use Rattle.bl_map.specs.declared.kind.Kind.TheVariants.{Usable, Reserved, Acpi, Nvs, Bad}
 use Rattle.bl_map.specs.declared.region.Region.{Region}
 use Rattle.bl_plan.specs.Unusable.{IsUnusableFrom}
-use Rattle.bl_desc.specs.Described.{Described}
+use Rattle.bl_desc.specs.Described.{DescriptionFacts}
 use Rattle.bl_blame.specs.PoolLines.{is_usable_among, unusable_in}
 
 -- ---- the first number that passes a test
@@ -63,7 +63,7 @@ so_usable regions size a test = record {
 }
 
 -- by the runs of a machine and by its regions
-module _ (description : Described) (facts : MachineFacts) (size : facts.size ≡ description.size)
+module _ (description : DescriptionFacts) (facts : MachineFacts) (size : facts.size ≡ description.size)
     (runs : IsNormalMap description.regions facts.runs) where
   abbrev is_usable : ℕ → Bool
   is_usable a = is_usable_among description.regions description.size a
@@ -127,7 +127,7 @@ module _ (description : Described) (facts : MachineFacts) (size : facts.size ≡
       (before_here description.pool.start a found.1))
 
 -- a pool that ends before its start has no byte
-pub none_behind : (description : Described) → description.pool.end < description.pool.start
+pub none_behind : (description : DescriptionFacts) → description.pool.end < description.pool.start
     → None ≡ unusable_in description
 unfolding unusable_in
 none_behind description behind =

@@ -2,7 +2,7 @@
 use Rattle.std.specs.Prelude.{ℕ, List, [], ◌++◌, Option, Some, None}
 use Rattle.bl_map.specs.declared.fault.MapFault.{MapFault}
 use Rattle.bl_map.specs.declared.fault.MapFault.TheVariants.{BadSize, BadPool}
-use Rattle.bl_desc.specs.Described.{Described}
+use Rattle.bl_desc.specs.Described.{DescriptionFacts}
 use Rattle.bl_blame.specs.declared.line_subjects.blame.Blame.{Blame}
 use Rattle.bl_blame.specs.declared.line_subjects.blame.Blame.TheVariants as blames
 use Rattle.bl_blame.specs.BlameLine.{blame_line}
@@ -11,21 +11,21 @@ use Rattle.bl_blame.specs.PoolLines.{pool_lines}
 use Rattle.bl_blame.specs.WordHints.{key_hint}
 
 -- what is told of a machine that is described, behind its fault
-abbrev pub machine_lines : MapFault → Described → List ℕ
+abbrev pub machine_lines : MapFault → DescriptionFacts → List ℕ
 machine_lines BadSize description = size_hint description.size
 machine_lines BadPool description =
     pool_lines description ++ pool_hints description.size description.pool
 machine_lines _ description = []
 
-abbrev pub machine_lines_if : MapFault → Option Described → List ℕ
+abbrev pub machine_lines_if : MapFault → Option DescriptionFacts → List ℕ
 machine_lines_if fault None = []
 machine_lines_if fault (Some description) = machine_lines fault description
 
 -- what is told behind a blame, by what is described
-abbrev pub lines_behind : Blame → Option Described → List ℕ
+abbrev pub lines_behind : Blame → Option DescriptionFacts → List ℕ
 lines_behind (blames.BadKey bad) description = key_hint bad.fault
 lines_behind (blames.BadMachine fault) description = machine_lines_if fault description
 lines_behind _ description = []
 
-abbrev pub blame_lines : Blame → Option Described → List ℕ
+abbrev pub blame_lines : Blame → Option DescriptionFacts → List ℕ
 blame_lines blame description = blame_line blame ++ lines_behind blame description

@@ -18,7 +18,7 @@ use Rattle.bl_session.specs.Outcome.{faulty_file}
 use Rattle.bl_session.specs.Pieces.{are_whole}
 use Rattle.bl_session.proofs.EndLaws.{one_end}
 use Rattle.bl_session.proofs.OutcomeLaws.{same_handover}
-use Rattle.bl_desc.specs.Described.{Described}
+use Rattle.bl_desc.specs.Described.{DescriptionFacts}
 use Rattle.bl_menu.specs.DescribedMenu.{boot_of}
 use Rattle.bl_menu.specs.DescribedMachine.{IsMachineOf}
 use Rattle.bl_menu.specs.BootCases.{BootCase, HasResultAt, file_sizes_at, entry_value_at}
@@ -81,7 +81,7 @@ facts_of : (s t : ℕ) (x y : List Region) (p q : Range ℕ) → s ≡ t → x �
     record { size = t; runs = y; pool = q }
 facts_of s t x y p q size runs pool = rw (size, runs, pool) refl
 
-pub same_facts : (one two : Described) (f g : MachineFacts) → IsMachineOf one f → IsMachineOf two g
+pub same_facts : (one two : DescriptionFacts) (f g : MachineFacts) → IsMachineOf one f → IsMachineOf two g
     → one.size ≡ two.size → one.pool ≡ two.pool
     → ((a : ℕ) → kind_at one.regions a ≡ kind_at two.regions a) → f ≡ g
 same_facts one two f g a b size pool kinds =

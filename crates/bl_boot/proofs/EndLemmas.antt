@@ -12,7 +12,7 @@ use Rattle.bl_session.specs.Schedules.{no_fault}
 use Rattle.bl_session.specs.Outcome.{IsOutcome}
 use Rattle.bl_session.specs.Phases.{boot_facts}
 use Rattle.bl_desc.specs.declared.desc.Description.{Description}
-use Rattle.bl_desc.specs.Described.{Described, described}
+use Rattle.bl_desc.specs.Described.{DescriptionFacts, described}
 use Rattle.bl_desc.specs.declared.fault.DescFault.{DescFault}
 use Rattle.bl_desc.specs.declared.fault.DescFault.TheVariants as desc_fault
 use Rattle.bl_desc.specs.Views.{IsReaderFault, view}
@@ -39,7 +39,7 @@ faults_by old new s t image Device broken = broken.0
 faults_by old new s t image NoMemory kept = kept.0
 
 -- an entry that is not handed over after all
-pub not_handed : (description : Described) (facts : BootFacts) (files : List File)
+pub not_handed : (description : DescriptionFacts) (facts : BootFacts) (files : List File)
     (entry : ℕ) (earlier : List RefusedEntry) (handover : Handover)
     → IsOutcome facts files no_fault (handed_over entry earlier handover)
     → (old new : ℕ) (s t u v : List ℕ) (fault : EndFault)
@@ -55,7 +55,7 @@ not_handed description facts files entry earlier handover came old new s t u v N
 -- ---- the names that were asked for
 
 -- none is, if there is no machine
-pub asked_without : (description : Described) (names before : List (List ℕ)) (fault : DescFault)
+pub asked_without : (description : DescriptionFacts) (names before : List (List ℕ)) (fault : DescFault)
     → IsMachineFault description fault
     → HasAsked names before before (Err (end_of_desc_fault fault))
 asked_without description names before desc_fault.BadDescription is = none_asked names before
@@ -89,7 +89,7 @@ without_machine desc d is answers faults around desc_fault.BadDescription bad =
     (inr (view d, is, bad), refl)
 without_machine desc d is answers faults around desc_fault.NoMemory given = (refl, refl)
 
-pub sound_without : (description : Described) (faults : ℕ) (fault : DescFault)
+pub sound_without : (description : DescriptionFacts) (faults : ℕ) (fault : DescFault)
     → IsMachineFault description fault → CountsSinkFault faults faults (Err (end_of_desc_fault fault))
 sound_without description faults desc_fault.BadDescription bad = refl
 sound_without description faults desc_fault.NoMemory given = refl

@@ -10,7 +10,7 @@ use Rattle.bl_map.specs.MachineFacts.{IsWellFormedMachine, IsPool, IsSize, Machi
 use Rattle.bl_map.proofs.EdgeLemmas.{edges_above, edges_fall, edges_fall_once, edges_most}
 use Rattle.bl_map.proofs.KindLemmas.{kind_not_held, none_before, not_held_behind, number_positive}
 use Rattle.bl_map.proofs.MapLaws.{fewer_runs, kind_in, later_runs, same_kind}
-use Rattle.bl_desc.specs.Described.{Described}
+use Rattle.bl_desc.specs.Described.{DescriptionFacts}
 use Rattle.bl_menu.specs.DescribedMachine.{IsMachineOf}
 
 later_bases : (x : Region) (xs : List Region) → AreRuns (x ∷ xs)
@@ -68,7 +68,7 @@ few_runs regions (x ∷ xs) at runs same from =
     (λ a past. sym (behind a past) ∙ same a (omega arith)) (later_bases x xs runs) in
     omega arith
 
-pub machine_facts : (description : Described) (facts : MachineFacts) → IsMachineOf description facts
+pub machine_facts : (description : DescriptionFacts) (facts : MachineFacts) → IsMachineOf description facts
     → IsWellFormedMachine facts
 machine_facts description facts is =
     let regions = description.regions in

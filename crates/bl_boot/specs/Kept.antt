@@ -1,7 +1,7 @@
 -- What the code keeps of how a call ends, by its result. Own.
 use Rattle.std.specs.Prelude.{◌≡◌, ℕ, ◌+◌, ◌++◌, List, Result, Ok, Err}
 use Rattle.bl_image.specs.SinkFacts.{TookBeginning}
-use Rattle.bl_desc.specs.Described.{Described}
+use Rattle.bl_desc.specs.Described.{DescriptionFacts}
 use Rattle.bl_desc.specs.declared.fault.DescFault.{DescFault}
 use Rattle.bl_desc.specs.declared.fault.DescFault.TheVariants as desc_fault
 use Rattle.bl_image.specs.Image.{spelling}
@@ -54,7 +54,7 @@ BootEnds answers faults desc before after (Err NoMemory) =
 
 -- the boot of what was found for a description ends so: what it came to, of these files, what the
 -- sink took, and what is said
-abbrev pub FoundBootEnds : Described → BootFacts → List File → (s t u v : List ℕ)
+abbrev pub FoundBootEnds : DescriptionFacts → BootFacts → List File → (s t u v : List ℕ)
     → Result End EndFault → Type 0
 FoundBootEnds description facts files s t u v (Ok Booted) =
     (entry : ℕ) × (earlier : List RefusedEntry) × (handover : Handover)

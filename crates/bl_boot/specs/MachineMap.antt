@@ -2,13 +2,13 @@
 use Rattle.std.specs.Prelude.{◌≡◌, ℕ, List, ◌++◌, Some}
 use Rattle.bl_map.specs.MachineFacts.{MachineFacts}
 use Rattle.bl_map.specs.NormalMap.{low_kib, high_kib}
-use Rattle.bl_desc.specs.Described.{Described, described}
+use Rattle.bl_desc.specs.Described.{DescriptionFacts, described}
 use Rattle.bl_menu.specs.DescribedMachine.{IsMachineOf}
 use Rattle.bl_say.specs.BootAndMapLines.{map_lines}
 
 -- what is said grew by the map of the machine that the bytes describe
 pub record SaysMachineMap (desc before after : List ℕ) : Type 0 where
-  pub description : Described
+  pub description : DescriptionFacts
   pub facts : MachineFacts
   pub is_described : described desc ≡ Some description
   pub machine : IsMachineOf description facts

@@ -14,7 +14,7 @@ ghost use Rattle.bl_walk.specs.EntryShown.{ShowsEntry};
 ghost use Rattle.bl_walk.specs.State.{IsEntered};
 ghost use Rattle.bl_session.specs.AttemptResult.{AttemptResult};
 ghost use Rattle.bl_boot.specs.Converted.{Converts, Walks, WalkRefuses};
-ghost use Rattle.bl_desc.specs.Described.{Described};
+ghost use Rattle.bl_desc.specs.Described.{DescriptionFacts};
 ghost use Rattle.bl_menu.specs.DescribedMachine.{IsMachineOf};
 ghost use Rattle.bl_menu.specs.BootCases.{BootCase, entry_value_at, file_sizes_at, HasResultAt};
 ghost use Rattle.bl_boot.specs.Ends.{IsBooted, Surroundings};
@@ -44,7 +44,7 @@ pub fn two_boots<F: Files, G: Files>()
 
     // Machines have equal facts where size and pool are equal and each address has one kind in
     // the two.
-    ensures same_facts { (one two : Described) (f g : MachineFacts) →
+    ensures same_facts { (one two : DescriptionFacts) (f g : MachineFacts) →
         IsMachineOf one f → IsMachineOf two g → one.size ≡ two.size → one.pool ≡ two.pool →
         ((a : ℕ) → kind_at one.regions a ≡ kind_at two.regions a) → f ≡ g }
 {}

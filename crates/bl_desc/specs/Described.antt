@@ -25,7 +25,7 @@ file_named name [] = None
 file_named name (f ∷ fs) = if bytes_eq f.name name then Some f.bytes else file_named name fs
 
 -- what the whole says; the default and each fallback is the index of an entry
-pub record Described : Type 0 where
+pub record DescriptionFacts : Type 0 where
   pub size : ℕ
   pub pool : Range ℕ
   pub fill : ℕ
@@ -74,7 +74,7 @@ toml_files d = in_tables file_in d >>= some_when names_differ
 
 -- ---- the whole
 
-unfoldable pub described_in : Members → Option Described
+unfoldable pub described_in : Members → Option DescriptionFacts
 described_in ms =
     if has_only (codes "size" ∷ codes "pool" ∷ codes "fill" ∷ codes "default" ∷ codes "fallback"
     ∷ codes "region" ∷ codes "file" ∷ codes "entry" ∷ []) ms
@@ -100,5 +100,5 @@ described_in ms =
     else None
 
 -- what these bytes describe: UTF-8, the text of a TOML document
-unfoldable pub described : List ℕ → Option Described
+unfoldable pub described : List ℕ → Option DescriptionFacts
 described bytes = if is_utf8 bytes then parse_document bytes >>= described_in else None

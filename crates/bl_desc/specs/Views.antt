@@ -1,6 +1,6 @@
 -- How a description is seen as what its bytes say, and how its readers answer. Own.
 use Rattle.std.specs.Prelude.{◌≡◌, ◌<◌, ◌≤◌, length, map, All, Option, Some, None, Result, Ok, Err}
-use Rattle.bl_desc.specs.Described.{InlineFile, Described}
+use Rattle.bl_desc.specs.Described.{InlineFile, DescriptionFacts}
 use Rattle.bl_desc.specs.Entries.{Entry}
 pub use Rattle.bl_desc.specs.EntryFormViews.{module_view, form_view}
 use Rattle.bl_plan.specs.MenuLimits.{max_entries}
@@ -16,7 +16,7 @@ file_view f = record { name = f.name; bytes = f.bytes }
 abbrev pub entry_view : {A : Type 0} → EntryRow A → Entry
 entry_view e = record { title = e.title; kernel = e.kernel; line = e.line; form = form_view e.form }
 
-abbrev pub view : {A : Type 0} → Description A → Described
+abbrev pub view : {A : Type 0} → Description A → DescriptionFacts
 view d = record {
   size = d.size;
   pool = d.pool;

@@ -16,7 +16,7 @@ use Rattle.bl_session.specs.AttemptResult.{part_range}
 use Rattle.bl_session.specs.BootSteps.{handed_over}
 use Rattle.bl_session.specs.Phases.{handover_held}
 use Rattle.bl_desc.specs.declared.entry_row.EntryRow.{EntryRow}
-use Rattle.bl_desc.specs.Described.{Described}
+use Rattle.bl_desc.specs.Described.{DescriptionFacts}
 use Rattle.bl_desc.specs.Entries.{Entry}
 use Rattle.bl_desc.specs.Views.{entry_view}
 use Rattle.bl_say.specs.HandoffLines.{SourceWords, handoff_lines, part_line, place_line}
@@ -70,7 +70,7 @@ held_told entries sought kernel pool entry bytes handoff h =
     ) refl
 
 -- an entry that memory hands over is told
-pub told_booted : (description : Described) (facts : MachineFacts) (sought : SoughtFacts)
+pub told_booted : (description : DescriptionFacts) (facts : MachineFacts) (sought : SoughtFacts)
     (kernel : KernelSegmentsFacts) (entry : ℕ) (told : List ToldRefusal)
     (earlier : List RefusedEntry) (bytes : List ℕ)
     (handoff : HandoffFacts) (old new : List ℕ) (size : ℕ) → length bytes ≡ size

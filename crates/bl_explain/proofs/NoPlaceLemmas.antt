@@ -24,8 +24,8 @@ use Rattle.bl_plan.specs.declared.protocol.Protocol.TheVariants.{Multiboot2, Lin
 use Rattle.bl_load.specs.Multiboot2Kernel.{HasMultiboot2Fault, HasElfRefusal, effective_entry_point}
 use Rattle.bl_load.specs.Multiboot2Kernel.{elf_refusal}
 use Rattle.bl_load.specs.Multiboot2Kernel.{entry_point_fault, head_refusal}
-use Rattle.bl_load.specs.Linux.{entering_fault, entry_64, has_64_bit_entry, linux_fault}
-use Rattle.bl_load.specs.Linux.{setup_refusal, telling_fault}
+use Rattle.bl_load.specs.LinuxKernel.{entering_fault, entry_64, has_64_bit_entry, linux_fault}
+use Rattle.bl_load.specs.LinuxKernel.{setup_refusal, telling_fault}
 use Rattle.bl_load.specs.Parts.{IsRefusal, OrRefused, handover_of}
 use Rattle.bl_load.specs.KernelReading.{HasKernelFileFault}
 use Rattle.bl_load.specs.Unplaced.{IsUnplaced, IsFaultBeforePlacing}

@@ -25,7 +25,7 @@ use Rattle.bl_session.specs.Schedules.{no_fault}
 use Rattle.bl_session.specs.Phases.{boot_facts}
 use Rattle.bl_session.specs.Pieces.{are_whole}
 use Rattle.bl_session.specs.declared.outcome.RefusedEntry.{RefusedEntry}
-use Rattle.bl_desc.specs.Described.{Described}
+use Rattle.bl_desc.specs.Described.{DescriptionFacts}
 use Rattle.bl_desc.specs.Entries.{Entry}
 use Rattle.bl_menu.specs.DescribedMenu.{boot_of, entry_facts, menu_of, attempted_file_names}
 use Rattle.bl_desc.specs.EntryNames.{file_names, file_index}
@@ -109,7 +109,7 @@ refused_results facts files (entry ∷ rest) earlier state all (refused r, ends,
 -- ---- by what was found
 
 -- the value of an entry of a description
-pub value_of_entry : (d : Described) (facts : MachineFacts) (files : List File) (index : ℕ)
+pub value_of_entry : (d : DescriptionFacts) (facts : MachineFacts) (files : List File) (index : ℕ)
     (e : Entry)
     → slice_get d.entries index ≡ Some e
     → entry_value_in (boot_of d facts files) files index ≡ value_sought (sought_in d files) e
@@ -122,7 +122,7 @@ value_of_entry d facts files index e here =
     ap (λ (f : EntryFacts). value_with f (map text f.files)) at
     ∙ ap (value_with (facts_by e)) (map-map text (file_index (attempted_file_names d)) (file_names e))
 
-by_found : (d : Described) (facts : MachineFacts) (files : List File) (r : RefusedEntry)
+by_found : (d : DescriptionFacts) (facts : MachineFacts) (files : List File) (r : RefusedEntry)
     → IsResult (boot_of d facts files) files r
     → HasPlaceRefusal facts d.entries (sought_in d files) r
 by_found d facts files r is = λ e here placing.
@@ -131,7 +131,7 @@ by_found d facts files r is = λ e here placing.
     (placing_result (boot_of d facts files) files r.entry r.refusal placing is)
 
 -- each refusal by 19 or 20 is the first one of its entry's value
-pub place_refusals : (d : Described) (facts : MachineFacts) (files : List File) (state : State)
+pub place_refusals : (d : DescriptionFacts) (facts : MachineFacts) (files : List File) (state : State)
     → IsOutcome (boot_of d facts files) files no_fault state
     → All (HasPlaceRefusal facts d.entries (sought_in d files)) (refused_in state)
 place_refusals d facts files state is = λ k r within.
@@ -141,7 +141,7 @@ place_refusals d facts files state is = λ k r within.
     by_found d facts files _ (all k r within)
 
 -- where a menu is that of the description
-pub place_refusals_of : (d : Described) (facts : MachineFacts) (files : List File)
+pub place_refusals_of : (d : DescriptionFacts) (facts : MachineFacts) (files : List File)
     (menu : MenuFacts) (state : State) → menu ≡ menu_of d
     → IsOutcome (boot_facts facts menu (map size_of files)) files no_fault state
     → All (HasPlaceRefusal facts d.entries (sought_in d files)) (refused_in state)
@@ -152,7 +152,7 @@ place_refusals_of d facts files menu state same is =
     same is)
 
 -- as these are given
-pub place_refusals_for : (d : Described) (facts : MachineFacts) (files : List File)
+pub place_refusals_for : (d : DescriptionFacts) (facts : MachineFacts) (files : List File)
     (menu : MenuFacts) (state : State) (sought : SoughtFacts) (given : List RefusedEntry)
     → sought ≡ sought_in d files → given ≡ refused_in state → menu ≡ menu_of d
     → IsOutcome (boot_facts facts menu (map size_of files)) files no_fault state

@@ -30,7 +30,7 @@ use Rattle.bl_session.specs.Phases.{boot_facts}
 use Rattle.bl_session.specs.declared.outcome.RefusedEntry.{RefusedEntry}
 use Rattle.bl_session.proofs.OutcomeLaws.{is_handover}
 use Rattle.bl_desc.specs.declared.entry_row.EntryRow.{EntryRow}
-use Rattle.bl_desc.specs.Described.{Described}
+use Rattle.bl_desc.specs.Described.{DescriptionFacts}
 use Rattle.bl_desc.specs.Entries.{Entry}
 use Rattle.bl_desc.specs.Views.{entry_view}
 use Rattle.bl_menu.specs.DescribedMenu.{boot_of, menu_of}
@@ -117,7 +117,7 @@ kernel_read facts value (multiboot2 kernel) by read = (kernel, read.1)
 kernel_read facts value (linux setup) by read =
     let bad : false ≡ true = sym (ap has_params by) ∙ read.0 in absurd cc
 
-handed_kernel : (d : Described) (facts : MachineFacts) (files : List File) (entry : ℕ)
+handed_kernel : (d : DescriptionFacts) (facts : MachineFacts) (files : List File) (entry : ℕ)
     (earlier : List RefusedEntry) (handover : Handover)
     → IsOutcome (boot_of d facts files) files no_fault (handed_over entry earlier handover)
     → HasKernelIfMultiboot2At d.entries (sought_in d files) entry
@@ -131,7 +131,7 @@ handed_kernel d facts files entry earlier handover came = λ e here by.
 
 -- its kernel is one where its protocol is that of Multiboot2, where a menu is that of the
 -- description, and this was found
-pub handed_kernel_for : (d : Described) (facts : MachineFacts) (files : List File)
+pub handed_kernel_for : (d : DescriptionFacts) (facts : MachineFacts) (files : List File)
     (menu : MenuFacts) (entry : ℕ) (earlier : List RefusedEntry) (handover : Handover)
     (sought : SoughtFacts) → sought ≡ sought_in d files → menu ≡ menu_of d
     → IsOutcome (boot_facts facts menu (map size_of files)) files no_fault

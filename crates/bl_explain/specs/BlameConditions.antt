@@ -7,7 +7,7 @@ use Rattle.toml.specs.Parse.{parse_document}
 use Rattle.bl_map.specs.Faults.{HasFirstMapFault}
 use Rattle.bl_map.specs.declared.fault.MapFault.{MapFault}
 use Rattle.bl_map.specs.declared.fault.MapFault.TheVariants.{NoMemory}
-use Rattle.bl_desc.specs.Described.{Described, described, described_in}
+use Rattle.bl_desc.specs.Described.{DescriptionFacts, described, described_in}
 use Rattle.bl_desc.specs.BadKeys.{IsBadKey}
 use Rattle.bl_desc.specs.declared.bad_key.BadKey.{BadKey}
 use Rattle.bl_blame.specs.declared.line_subjects.blame.TextPlace.{TextPlace}
@@ -54,7 +54,7 @@ pub record HasBadKey (desc : List ℕ) (bad : BadKey) : Type 0 where
 
 -- it describes a machine that breaks a rule; this fault is the first
 pub record HasBadMachine (desc : List ℕ) (fault : MapFault) : Type 0 where
-  pub description : Described
+  pub description : DescriptionFacts
   pub is_described : described desc ≡ Some description
   pub named : fault ≢ NoMemory
   pub first : HasFirstMapFault description.size description.regions description.pool fault

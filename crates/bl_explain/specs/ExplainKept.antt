@@ -17,7 +17,7 @@ use Rattle.bl_session.specs.BootSteps.{BootFacts, handed_over, none_left}
 use Rattle.bl_session.specs.MenuFiles.{File}
 use Rattle.bl_session.specs.Schedules.{no_fault}
 use Rattle.bl_session.specs.Outcome.{IsOutcome}
-use Rattle.bl_desc.specs.Described.{Described}
+use Rattle.bl_desc.specs.Described.{DescriptionFacts}
 use Rattle.bl_desc.specs.Entries.{Entry}
 use Rattle.bl_menu.specs.declared.boot_end.End.{End}
 use Rattle.bl_menu.specs.declared.boot_end.End.TheVariants.{Booted, NoEntryLeft}
@@ -45,7 +45,7 @@ SaysLines lines old new Blamed = new ≡ old ++ lines
 SaysLines lines old new NoMemory = new ≡ old
 
 -- why there is no such machine: a rule is broken, for what is said, or memory ran out
-abbrev pub IsMachineBlame : Described → (old new : List ℕ) → ExplainFault → Type 0
+abbrev pub IsMachineBlame : DescriptionFacts → (old new : List ℕ) → ExplainFault → Type 0
 IsMachineBlame description old new Blamed =
     (fault : MapFault) × (fault ≢ map_fault.NoMemory)
     × HasFirstMapFault description.size description.regions description.pool fault
@@ -83,7 +83,8 @@ HasKernelIfMultiboot2At entries sought index =
 
 -- the boot of what was found for a description is explained so: what it came to, of these files,
 -- and what is said
-abbrev pub ExplainFoundEnds : Described → BootFacts → List File → SoughtFacts → (old new : List ℕ)
+abbrev pub ExplainFoundEnds :
+    DescriptionFacts → BootFacts → List File → SoughtFacts → (old new : List ℕ)
     → Result End ExplainFault → Type 0
 ExplainFoundEnds description facts files sought old new (Ok Booted) =
     (entry : ℕ) × (earlier : List RefusedEntry) × (handover : Handover)

@@ -11,7 +11,7 @@ use Rattle.bl_session.specs.AttemptResult.{part_range}
 use Rattle.bl_session.specs.BootSteps.{State, unstarted, running, handed_over, none_left}
 use Rattle.bl_session.specs.BootSteps.{out_of_memory}
 use Rattle.bl_session.specs.MenuFiles.{File}
-use Rattle.bl_desc.specs.Described.{Described}
+use Rattle.bl_desc.specs.Described.{DescriptionFacts}
 use Rattle.bl_desc.specs.Entries.{Entry}
 use Rattle.bl_menu.specs.DescribedMenu.{described_entry, attempted_file_names}
 use Rattle.bl_say.specs.Frames.{names_at, sought_frames_line}
@@ -27,7 +27,7 @@ use Rattle.bl_say.specs.AttemptLines.{attempt_lines, refused_attempt_lines}
 -- ---- the boot
 
 -- what is told of a description's files, where these were found for the names that are looked for
-abbrev pub sought_in : Described → List File → SoughtFacts
+abbrev pub sought_in : DescriptionFacts → List File → SoughtFacts
 sought_in description files =
     record { names = attempted_file_names description; files = files }
 
@@ -48,14 +48,14 @@ entry_handoff_lines entries sought kernel pool entry handoff =
 
 -- each entry that was attempted was refused, and this is told of the refusals
 abbrev pub none_left_lines :
-    Described → MachineFacts → SoughtFacts → List ToldRefusal → List RefusedEntry → List ℕ
+    DescriptionFacts → MachineFacts → SoughtFacts → List ToldRefusal → List RefusedEntry → List ℕ
 none_left_lines description facts sought told refused =
     flat_map (refused_attempt_lines description.entries facts sought) told
     ++ no_entry_line ++ hint_lines description sought refused
 
 -- an entry is handed over after these refusals, with these lines of what is handed over
 abbrev pub booted_lines :
-    Described → MachineFacts → SoughtFacts → ℕ → List ToldRefusal → List RefusedEntry
+    DescriptionFacts → MachineFacts → SoughtFacts → ℕ → List ToldRefusal → List RefusedEntry
     → (handed : List ℕ) → List ℕ
 booted_lines description facts sought entry told earlier handed =
     flat_map (refused_attempt_lines description.entries facts sought) told
@@ -74,7 +74,7 @@ refused_in out_of_memory = []
 -- what a boot on a machine of these facts came to, where this is told of its refusals, and these
 -- segments of the kernel that is handed over
 abbrev pub explanation_lines :
-    Described → MachineFacts → SoughtFacts → List ToldRefusal → KernelSegmentsFacts → State
+    DescriptionFacts → MachineFacts → SoughtFacts → List ToldRefusal → KernelSegmentsFacts → State
     → List ℕ
 explanation_lines description facts sought told kernel unstarted = []
 explanation_lines description facts sought told kernel (running entry rest earlier pieces) = []

@@ -3,7 +3,7 @@ use Rattle.std.proofs.Common.{◌≡◌, Bool, Option, None, Some, subst}
 use Rattle.std.specs.Option.{MatchOption}
 use Rattle.bl_session.specs.declared.ticket.Request.{Request}
 use Rattle.bl_handle.specs.declared.records.RequestRecord.{RequestRecord}
-use Rattle.bl_handle.specs.RequestTold.{TellsRequest}
+use Rattle.bl_handle.specs.HandleTold.{TellsRequest}
 
 pub told_of_kept : {S : Type 0} (kept : Option S) (request : Option Request)
     (of : S → Option Request) (told : Bool) (old new : RequestRecord)

@@ -27,10 +27,10 @@ handle_owns alloc at (Some session) =
 
 -- a session is kept before and after, and the two stand so to each other; or none before and after,
 -- and the other holds
-abbrev pub MatchKept :
+abbrev pub RelatesKeptSessions :
     Option SessionFacts → Option SessionFacts → (none : Type 0)
     → (SessionFacts → SessionFacts → Type 0) → Type 0
-MatchKept None None none some = none
-MatchKept None (Some new) none some = ⊥
-MatchKept (Some old) None none some = ⊥
-MatchKept (Some old) (Some new) none some = some old new
+RelatesKeptSessions None None none some = none
+RelatesKeptSessions None (Some new) none some = ⊥
+RelatesKeptSessions (Some old) None none some = ⊥
+RelatesKeptSessions (Some old) (Some new) none some = some old new

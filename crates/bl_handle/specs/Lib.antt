@@ -1,4 +1,4 @@
 pub mod Faults
 pub mod Handles
-pub mod RequestTold
+pub mod HandleTold
 pub mod SessionSteps

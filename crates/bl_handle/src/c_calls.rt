@@ -6,7 +6,7 @@ ghost use Rattle.bl_session.specs.BootSteps.{piece, fault};
 ghost use Rattle.bl_session.specs.Phases.{state_at};
 ghost use Rattle.bl_session.specs.Requests.{first_request, request_after};
 ghost use Rattle.bl_handle.specs.declared.handle_fault.HandleFault.{HandleFault as Faulted};
-ghost use Rattle.bl_handle.specs.RequestTold.{TellsRequest, progress_status, record_ticket};
+ghost use Rattle.bl_handle.specs.HandleTold.{TellsRequest, progress_status, record_ticket};
 ghost use Rattle.bl_handle.specs.SessionSteps.{IsStarted, IsStepped};
 
 use crate::handle::Handle;

@@ -3,9 +3,9 @@
 
 mod c_calls;
 mod handle;
+mod handle_calls;
 mod handle_fault;
 mod handle_over_slice;
-mod kept_session;
 mod layouts;
 mod raw_box;
 mod records;

@@ -1,6 +1,6 @@
 //! What a call through a handle answers in C.
 ghost use Rattle.std.specs.Prelude.{◌≡◌};
-ghost use Rattle.bl_handle.specs.RequestTold.{TellsRequest, progress_status};
+ghost use Rattle.bl_handle.specs.HandleTold.{TellsRequest, progress_status};
 
 use crate::handle_fault::HandleFault;
 use crate::records::RequestRecord;

@@ -7,7 +7,7 @@ use Rattle.bl_mem.specs.LittleEndian.{number_at, u64_at, u32_bytes, u64_bytes}
 use Rattle.bl_mem.proofs.LittleEndianLaws.{length-u32_bytes, length-u64_bytes, u64_again}
 use Rattle.bl_plan.specs.declared.part.Role.{Role}
 use Rattle.bl_plan.specs.declared.part.Place.{Place}
-use Rattle.bl_plan.specs.Roles as roles
+use Rattle.bl_plan.specs.RoleNumbers as roles
 use Rattle.bl_image.specs.declared.fault.ImageFault.{ImageFault}
 use Rattle.bl_image.specs.declared.fault.ImageFault.TheVariants.{BadMagic, BadVersion, BadHeader}
 use Rattle.bl_image.specs.declared.fault.ImageFault.TheVariants.{BadPart, WrongLength, DeviceFault}

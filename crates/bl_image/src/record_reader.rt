@@ -3,7 +3,7 @@ ghost use Rattle.std.specs.Prelude.{◌≡◌, ◌+◌, ◌≤◌, ◌<◌, ◌^
 ghost use Rattle.std.specs.Prelude.{◌&&◌, All, IfOk, IfErr, IfSome, MatchOption};
 ghost use Rattle.std.specs.List.{flat_map};
 ghost use Rattle.bl_mem.specs.LittleEndian.{u32_bytes, u64_bytes};
-ghost use Rattle.bl_plan.specs.Roles as roles;
+ghost use Rattle.bl_plan.specs.RoleNumbers as roles;
 ghost use Rattle.bl_load.specs.HandoffFacts.{max_parts, IsRoleAllowed};
 ghost use Rattle.bl_image.specs.Fields as fields;
 ghost use Rattle.bl_image.specs.Layouts.{max_role};

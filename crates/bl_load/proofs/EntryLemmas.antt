@@ -16,7 +16,7 @@ use Rattle.bl_plan.specs.declared.part.Row.{Row}
 use Rattle.bl_plan.specs.declared.part.Place.{Place}
 use Rattle.bl_plan.specs.declared.part.Role.TheVariants.{Kernel}
 use Rattle.bl_plan.specs.declared.part.Role.{Role}
-use Rattle.bl_plan.specs.Roles.{role_number}
+use Rattle.bl_plan.specs.RoleNumbers.{role_number}
 use Rattle.bl_load.specs.EntryValue.{EntryValue}
 use Rattle.bl_load.specs.KernelReading.{multiboot2}
 use Rattle.bl_load.specs.Multiboot2Kernel.{Multiboot2KernelFacts, IsMultiboot2Kernel}

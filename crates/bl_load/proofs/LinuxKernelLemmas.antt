@@ -12,8 +12,8 @@ use Rattle.bl_plan.specs.declared.protocol.Protocol.{Protocol}
 use Rattle.bl_plan.specs.declared.protocol.Protocol.TheVariants.{Linux64}
 use Rattle.bl_load.specs.declared.refusal.Refusal.{Refusal}
 use Rattle.bl_load.specs.declared.refusal.Refusal.TheVariants as refusal
-use Rattle.bl_load.specs.Linux.{IsLinuxKernel, setup_refusal, entering_fault, telling_fault}
-use Rattle.bl_load.specs.Linux.{has_64_bit_entry, entry_64}
+use Rattle.bl_load.specs.LinuxKernel.{IsLinuxKernel, setup_refusal, entering_fault, telling_fault}
+use Rattle.bl_load.specs.LinuxKernel.{has_64_bit_entry, entry_64}
 use Rattle.bl_load.proofs.LineLemmas.{first_sound}
 
 none_mapped : (fault : Option SetupFault) → option_map setup_refusal fault ≡ None → fault ≡ None

@@ -13,7 +13,7 @@ use Rattle.bl_map.specs.MachineFacts.{MachineFacts}
 use Rattle.bl_map.specs.PoolFrames.{round_up_to_frames}
 use Rattle.bl_plan.specs.Placed.{ArePlaced, place_range}
 use Rattle.bl_plan.specs.PlannerFacts.{put_in}
-use Rattle.bl_plan.specs.Roles.{role_number}
+use Rattle.bl_plan.specs.RoleNumbers.{role_number}
 use Rattle.bl_plan.specs.declared.part.Place.{Place}
 use Rattle.bl_plan.specs.declared.part.Role.{Role}
 use Rattle.bl_plan.specs.declared.part.Role.TheVariants.{Kernel, Module, Information, BootParams}

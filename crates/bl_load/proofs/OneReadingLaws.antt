@@ -10,7 +10,7 @@ use Rattle.bl_load.specs.declared.refusal.Refusal.{Refusal}
 use Rattle.bl_load.specs.EntryValue.{EntryValue, kernel_file}
 use Rattle.bl_load.specs.KernelReading.{KernelReading, multiboot2, linux, IsKernelReading}
 use Rattle.bl_load.specs.KernelReading.{HasKernelFileFault}
-use Rattle.bl_load.specs.Linux.{IsLinuxKernel, HasLinuxFault}
+use Rattle.bl_load.specs.LinuxKernel.{IsLinuxKernel, HasLinuxFault}
 use Rattle.bl_load.specs.Protocols.{has_params}
 use Rattle.bl_load.proofs.OneKernelLaws.{one_kernel, one_kernel_fault, kernel_not_fault}
 

@@ -10,7 +10,7 @@ use Rattle.bl_map.specs.Limits.{frame_size}
 use Rattle.bl_bzimage.specs.declared.setup.Setup.{Setup}
 use Rattle.bl_plan.specs.PlannerFacts.{put_in}
 use Rattle.bl_plan.specs.Placed.{ArePlaced, IsChosen, place_range}
-use Rattle.bl_plan.specs.Roles.{role_number}
+use Rattle.bl_plan.specs.RoleNumbers.{role_number}
 use Rattle.bl_plan.specs.declared.part.Row.{Row}
 use Rattle.bl_plan.specs.declared.part.Place.{Place}
 use Rattle.bl_plan.specs.declared.part.Role.{Role}

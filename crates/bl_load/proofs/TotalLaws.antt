@@ -29,7 +29,7 @@ use Rattle.bl_load.specs.Multiboot2Kernel.{entry_point_fault, effective_entry_po
 use Rattle.bl_load.specs.Multiboot2Kernel.{elf_refusal}
 use Rattle.bl_load.specs.KernelReading.{KernelReading, multiboot2, linux, IsKernelReading}
 use Rattle.bl_load.specs.KernelReading.{HasKernelFileFault}
-use Rattle.bl_load.specs.Linux.{IsLinuxKernel, HasLinuxFault, linux_fault}
+use Rattle.bl_load.specs.LinuxKernel.{IsLinuxKernel, HasLinuxFault, linux_fault}
 use Rattle.bl_load.specs.Protocols.{has_params}
 use Rattle.bl_load.specs.Rows.{rows_of}
 use Rattle.bl_load.specs.Handover.{Handover}

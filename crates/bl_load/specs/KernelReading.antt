@@ -8,7 +8,7 @@ use Rattle.bl_load.specs.Protocols.{has_params}
 use Rattle.bl_load.specs.EntryValue.{EntryValue, kernel_file}
 use Rattle.bl_load.specs.Multiboot2Kernel.{Multiboot2KernelFacts, IsMultiboot2Kernel}
 use Rattle.bl_load.specs.Multiboot2Kernel.{HasMultiboot2Fault}
-use Rattle.bl_load.specs.Linux.{IsLinuxKernel, HasLinuxFault}
+use Rattle.bl_load.specs.LinuxKernel.{IsLinuxKernel, HasLinuxFault}
 
 pub data KernelReading : Type 0 where
   multiboot2 : Multiboot2KernelFacts → KernelReading

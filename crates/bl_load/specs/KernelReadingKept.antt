@@ -11,7 +11,7 @@ use Rattle.bl_load.specs.declared.refusal.PrepFault.TheVariants as prep_fault
 use Rattle.bl_load.specs.Addresses.{address_of}
 use Rattle.bl_load.specs.KernelBlock.{low_of}
 use Rattle.bl_load.specs.Multiboot2KernelKept.{AreLoadable}
-use Rattle.bl_load.specs.Linux.{HasLinuxFault}
+use Rattle.bl_load.specs.LinuxKernel.{HasLinuxFault}
 use Rattle.bl_load.specs.Parts.{entered_at}
 use Rattle.bl_load.specs.Protocols.{has_params}
 use Rattle.bl_load.specs.PlacingKept.{ModulesEndLow}

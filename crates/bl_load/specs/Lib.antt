@@ -10,7 +10,7 @@ pub mod WellFormedEntry
 pub mod RefusalNumbers
 pub mod Multiboot2Kernel
 pub mod Multiboot2KernelKept
-pub mod Linux
+pub mod LinuxKernel
 pub mod Addresses
 pub mod KernelReading
 pub mod LinuxRows

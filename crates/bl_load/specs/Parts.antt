@@ -32,7 +32,7 @@ use Rattle.bl_load.specs.KernelBlock.{low_of, block_of}
 use Rattle.bl_load.specs.Rows.{rows_of, information_of}
 use Rattle.bl_load.specs.LinuxRows.{boot_params_facts}
 use Rattle.bl_load.specs.Registers.{multiboot2_registers, linux_registers, linux64_registers}
-use Rattle.bl_load.specs.Linux.{entry_64}
+use Rattle.bl_load.specs.LinuxKernel.{entry_64}
 use Rattle.bl_load.specs.Protocols.{descriptors_of}
 use Rattle.bl_plan.specs.AddressOrder.{places_in_order}
 use Rattle.bl_load.specs.Handover.{Part, Handover, placed_part, zero_padded}

@@ -41,7 +41,7 @@ pub enum Registers {
 impl Registers {
     ghost use Rattle.std.specs.Prelude.{◌≡◌};
     ghost use Rattle.bl_load.specs.Registers.{entry_in, information_in, params_in, gdt_in};
-    ghost use Rattle.bl_load.specs.Registers.{tables_in, are_wide};
+    ghost use Rattle.bl_load.specs.Registers.{page_tables_in, are_wide};
 
     /// Whether they are those of 64 bits.
     pub fn are_wide(self) -> bool
@@ -96,7 +96,7 @@ impl Registers {
 
     /// Where the page tables stand, 0 with 32 bits, which have none.
     pub fn tables(self) -> u64
-        ensures { result ≡ tables_in self }
+        ensures { result ≡ page_tables_in self }
     {
         match self {
             Registers::Bits32(_) => 0,

@@ -14,7 +14,7 @@ pub struct Region {
 impl Region {
     ghost use Rattle.std.specs.Prelude.{◌≡◌, MatchBool};
     ghost use Rattle.bl_map.specs.NormalMap as normal_map;
-    ghost use Rattle.bl_map.specs.Faults.{IsLowRegion};
+    ghost use Rattle.bl_map.specs.Faults.{HasAllowedEnd};
 
     /// Whether the region holds this address.
     pub(crate) fn holds(&self, a: u64) -> bool
@@ -25,7 +25,7 @@ impl Region {
 
     /// Whether the region ends at most at 2^52.
     pub(crate) fn has_allowed_end(&self) -> bool
-        ensures { MatchBool result (IsLowRegion self.now) (¬ IsLowRegion self.now) }
+        ensures { MatchBool result (HasAllowedEnd self.now) (¬ HasAllowedEnd self.now) }
     {
         self.base <= MAX_REGION_END && self.length <= MAX_REGION_END - self.base
     }

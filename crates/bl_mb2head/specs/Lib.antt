@@ -1,5 +1,5 @@
 pub mod Address
 pub mod Header
-pub mod Kept
+pub mod LastTagsKept
 pub mod HeaderPlace
 pub mod Tags

@@ -21,9 +21,9 @@ pub struct InfoToWrite<'a> {
 
 impl<'a> Model for InfoToWrite<'a> {
     ghost use Rattle.std.specs.Prelude.{option_copied};
-    ghost use Rattle.bl_mbi.specs.InfoToWriteFacts.{InformationFacts, HasSpelling};
+    ghost use Rattle.bl_mbi.specs.InfoToWriteFacts.{InfoToWriteFacts, HasSpelling};
 
-    ghost Value = { InformationFacts };
+    ghost Value = { InfoToWriteFacts };
 
     ghost view = { λ f. record {
       line = f.line.now;

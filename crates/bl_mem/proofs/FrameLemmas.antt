@@ -12,7 +12,7 @@ use Rattle.bl_mem.specs.Memory.{overwrite}
 use Rattle.bl_mem.specs.FrameState.{has_room, byte_in, cleared, slot_read}
 use Rattle.bl_mem.specs.SparseFrames.{SparseFramesFacts, frame_numbered, frame_byte, IsWritten}
 use Rattle.bl_mem.specs.SparseFrames.{IsStored}
-use Rattle.bl_mem.specs.SparseFrames.{IsLent}
+use Rattle.bl_mem.specs.SparseFrames.{AreLentBytes}
 use Rattle.bl_mem.specs.SparseFrames.{AreBytesAt}
 use Rattle.bl_mem.specs.Kept.{slot_of, owed_slots, partner, IsKeptIn, IsPutAt, AreTogether}
 use Rattle.bl_mem.proofs.Overwrites.{get_or-overwrite_below, get_or-overwrite_above}
@@ -297,7 +297,7 @@ cleared_stored fill table kept i had =
 pub lent : (facts : SparseFramesFacts) (at slot count start : ℕ)
     → AreTogether facts (at / 4096) slot (at % 4096 + count) → start ≡ 4096 * slot + at % 4096
     → start + count ≤ length facts.kept
-    → IsLent facts at count (slice_range facts.kept start (start + count))
+    → AreLentBytes facts at count (slice_range facts.kept start (start + count))
 lent facts at slot count start are from within =
     let len : length (slice_range facts.kept start (start + count)) ≡ count =
     search (rules, places) in

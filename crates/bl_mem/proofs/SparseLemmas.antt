@@ -5,7 +5,7 @@ use Rattle.std.proofs.Common.{take, slice_range, arith, rules, ap, ◌∙◌}
 use Rattle.std.proofs.Common.{Option, Some, None, IfSome}
 use Rattle.std.proofs.lemmas.List.{places, same_lists}
 use Rattle.bl_mem.specs.Memory.{overwrite}
-use Rattle.bl_mem.specs.SparseFrames.{SparseFramesFacts, frame_byte, IsLent, IsShared}
+use Rattle.bl_mem.specs.SparseFrames.{SparseFramesFacts, frame_byte, AreLentBytes, IsShared}
 use Rattle.bl_mem.specs.Sparse.{bytes_of}
 use Rattle.bl_mem.proofs.ValueLemmas.{values_range, values_overwritten, get_or-values}
 use Rattle.bl_mem.proofs.ValueLemmas.{bytes_of_length}
@@ -38,7 +38,7 @@ write_on bytes part at done next within inside =
 -- what frames lend is what memory has there
 pub lent_on : {B : Type 0} → (frames : SparseFramesFacts) (size at count : ℕ) (found : Option B)
     (now : B → List ℕ) → at + count ≤ length (bytes_of frames size)
-    → IfSome found (λ piece. IsLent frames at count (now piece))
+    → IfSome found (λ piece. AreLentBytes frames at count (now piece))
     → IfSome found (λ piece. now piece ≡ slice_range (bytes_of frames size) at (at + count))
 lent_on frames size at count None now inside is = is
 lent_on frames size at count (Some piece) now inside is =

@@ -37,7 +37,8 @@ abbrev pub AreBytesAt : (ℕ → ℕ) → ℕ → List ℕ → Type 0
 AreBytesAt byte at part = (k : ℕ) → k < length part → byte (at + k) ≡ slice_index_or part k 0
 
 -- likewise, of a part that is lent
-pub record IsLent (facts : SparseFramesFacts) (at : ℕ) (count : ℕ) (part : List ℕ) : Type 0 where
+pub record AreLentBytes (facts : SparseFramesFacts) (at : ℕ) (count : ℕ)
+    (part : List ℕ) : Type 0 where
   pub len : length part ≡ count
   pub bytes : AreBytesAt (frame_byte facts) at part
 

@@ -3,7 +3,7 @@ ghost use Rattle.std.specs.Prelude.{◌≡◌, ◌+◌, ◌*◌, ◌%◌, ◌/�
 ghost use Rattle.std.specs.Prelude.{IfSome};
 ghost use Rattle.std.specs.Prelude.{Some};
 ghost use Rattle.bl_mem.specs.FrameState.{slot_read};
-ghost use Rattle.bl_mem.specs.SparseFrames.{frame_numbered, frame_byte, AreBytesAt, IsLent};
+ghost use Rattle.bl_mem.specs.SparseFrames.{frame_numbered, frame_byte, AreBytesAt, AreLentBytes};
 ghost use Rattle.bl_mem.specs.Kept.{AreTogether};
 
 use crate::frame_state::{FRAME_SIZE, FrameState};
@@ -127,7 +127,7 @@ impl<A: Allocator + Copy> SparseFrames<A> {
     /// Lends bytes if they are kept and lie together.
     pub fn lend(&self, at: u64, count: usize) -> Option<&[u8]>
         requires { at + count < 2 ^ 64 }
-        ensures { IfSome result (λ part. IsLent self.now at count part.now) }
+        ensures { IfSome result (λ part. AreLentBytes self.now at count part.now) }
     {
         let place = (at % FRAME_SIZE) as usize;
         if let Some(slot) = self.frame(at / FRAME_SIZE).slot_read() {

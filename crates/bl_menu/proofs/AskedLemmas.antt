@@ -4,7 +4,7 @@ use Rattle.std.proofs.Common.{subst, arith}
 use Rattle.std.proofs.lemmas.List.{append-nil}
 use Rattle.std.proofs.lemmas.Option.{same_Some}
 use Rattle.bl_desc.specs.declared.desc.Description.{Description}
-use Rattle.bl_desc.specs.Described.{Described, described, file_named}
+use Rattle.bl_desc.specs.Described.{DescriptionFacts, described, file_named}
 use Rattle.bl_desc.specs.Views.{view}
 use Rattle.bl_menu.specs.DescribedMenu.{attempted_file_names}
 use Rattle.bl_menu.specs.BootCases.{HasInlineFiles, names_sought, names_fetched}
@@ -32,7 +32,7 @@ module _ {A : Type 0} (desc : List ℕ) (d : Description A) (is : described desc
         → All (λ name. IsSome (file_named name (view d).files)) (attempted_file_names (view d))
     inline_in has =
         let same : has.description ≡ view d = same_Some _ _ (sym has.is_described ∙ is) in
-        subst (λ (x : Described). All (λ name. IsSome (file_named name x.files)) (attempted_file_names x)) same
+        subst (λ (x : DescriptionFacts). All (λ name. IsSome (file_named name x.files)) (attempted_file_names x)) same
         has.inline
 
     pub sought : names_sought (described desc) ≡ attempted_file_names (view d)

@@ -17,7 +17,7 @@ use Rattle.bl_desc.specs.declared.entry_form.ModuleRow.{ModuleRow}
 use Rattle.bl_desc.specs.Views.{HasMenu, entry_view, form_view, module_view, view}
 use Rattle.bl_session.specs.Attempts.{without_repeats_by}
 use Rattle.bl_menu.specs.DescribedMenu.{absent_entry, described_entry, attempted_file_names}
-use Rattle.bl_menu.specs.NamesKept.{with_new_names}
+use Rattle.bl_menu.specs.DistinctNamesKept.{with_new_names}
 use Rattle.bl_desc.specs.EntryNames.{file_names, names_beside}
 
 -- names as they are kept

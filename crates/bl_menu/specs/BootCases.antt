@@ -7,7 +7,7 @@ use Rattle.bl_session.specs.BootSteps.{State, sizes_of}
 use Rattle.bl_session.specs.MenuFiles.{File, entry_value_in}
 use Rattle.bl_session.specs.Schedules.{no_fault}
 use Rattle.bl_session.specs.Outcome.{IsOutcome, EntryHasResult}
-use Rattle.bl_desc.specs.Described.{Described, described, file_named}
+use Rattle.bl_desc.specs.Described.{DescriptionFacts, described, file_named}
 use Rattle.bl_menu.specs.DescribedMenu.{attempted_file_names, boot_of}
 use Rattle.bl_menu.specs.DescribedMachine.{IsMachineOf}
 use Rattle.bl_menu.specs.FoundFiles.{AreFound, names_asked}
@@ -17,7 +17,7 @@ module _ {F : Type 0} (answers : F → List ℕ → File → Type 0) (faults : F
   -- what is booted: the description that the bytes are, the facts of its machine, and what was
   -- found for the names of the files of the entries that are attempted
   pub record BootCase (desc : List ℕ) (before after : F) : Type 0 where
-    pub description : Described
+    pub description : DescriptionFacts
     pub facts : MachineFacts
     pub files : List File
     pub is_described : described desc ≡ Some description
@@ -35,18 +35,18 @@ module _ {F : Type 0} (answers : F → List ℕ → File → Type 0) (faults : F
 
 -- the bytes describe a menu; each file of the entries that are attempted stands in the description
 pub record HasInlineFiles (desc : List ℕ) : Type 0 where
-  pub description : Described
+  pub description : DescriptionFacts
   pub is_described : described desc ≡ Some description
   pub inline : All (λ name. IsSome (file_named name description.files))
       (attempted_file_names description)
 
 -- the names that are looked for in a description; none if there is no description
-abbrev pub names_sought : Option Described → List (List ℕ)
+abbrev pub names_sought : Option DescriptionFacts → List (List ℕ)
 names_sought None = []
 names_sought (Some description) = attempted_file_names description
 
 -- those of them that no file of the description has, which are asked for
-abbrev pub names_fetched : Option Described → List (List ℕ)
+abbrev pub names_fetched : Option DescriptionFacts → List (List ℕ)
 names_fetched None = []
 names_fetched (Some description) = names_asked description.files (attempted_file_names description)
 

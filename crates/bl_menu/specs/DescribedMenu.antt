@@ -9,7 +9,7 @@ use Rattle.bl_session.specs.Menu.{EntryFacts, MenuFacts}
 use Rattle.bl_session.specs.Attempts.{without_repeats_by, attempt_order}
 use Rattle.bl_session.specs.BootSteps.{BootFacts}
 use Rattle.bl_session.specs.MenuFiles.{File, size_of}
-use Rattle.bl_desc.specs.Described.{Described}
+use Rattle.bl_desc.specs.Described.{DescriptionFacts}
 use Rattle.bl_desc.specs.Entries.{Entry, bare_form}
 use Rattle.bl_desc.specs.EntryNames.{file_names, file_index}
 
@@ -29,25 +29,25 @@ entry_value entry files = record {
 -- ---- the files of a menu
 
 -- the entries that are attempted, by their index, in order
-abbrev pub attempted : Described → List ℕ
+abbrev pub attempted : DescriptionFacts → List ℕ
 attempted description = attempt_order description.default description.fallbacks
 
 -- what is read after the last entry
 abbrev pub absent_entry : Entry
 absent_entry = record { title = []; kernel = []; line = []; form = bare_form Multiboot2 }
 
-abbrev pub described_entry : Described → ℕ → Entry
+abbrev pub described_entry : DescriptionFacts → ℕ → Entry
 described_entry description index = slice_index_or description.entries index absent_entry
 
 -- the names of the files of these entries, by their index, in order, one that was named before left
 -- out
-abbrev pub names_of_entries : Described → List ℕ → List (List ℕ)
+abbrev pub names_of_entries : DescriptionFacts → List ℕ → List (List ℕ)
 names_of_entries description indices =
     without_repeats_by bytes_eq []
     (flat_map (λ index. file_names (described_entry description index)) indices)
 
 -- the names that are looked for: those of the entries that are attempted
-abbrev pub attempted_file_names : Described → List (List ℕ)
+abbrev pub attempted_file_names : DescriptionFacts → List (List ℕ)
 attempted_file_names description = names_of_entries description (attempted description)
 
 -- at most so many: 32 entries, each with a kernel and 64 modules
@@ -62,7 +62,7 @@ entry_facts names entry = record {
   blank = entry_value entry [];
 }
 
-abbrev pub menu_of : Described → MenuFacts
+abbrev pub menu_of : DescriptionFacts → MenuFacts
 menu_of description = record {
   entries = map (entry_facts (attempted_file_names description)) description.entries;
   attempts = attempted description;
@@ -72,7 +72,7 @@ menu_of description = record {
 
 -- what does not change in the boot of a description's menu on a machine of these facts, with these
 -- files for the names
-abbrev pub boot_of : Described → MachineFacts → List File → BootFacts
+abbrev pub boot_of : DescriptionFacts → MachineFacts → List File → BootFacts
 boot_of description facts files = record {
   machine = facts;
   menu = menu_of description;

@@ -20,8 +20,8 @@ answer_if None = missing
 answer_if (Some bytes) = answer_for bytes
 
 -- of these files, the first of the name
-abbrev pub answer_in : List InlineFile → List ℕ → File
-answer_in files name = answer_if (file_named name files)
+abbrev pub inline_answer : List InlineFile → List ℕ → File
+inline_answer files name = answer_if (file_named name files)
 
 -- a file's bytes are found only if they are not too many
 abbrev pub KeepsLimit : File → Type 0

@@ -3,4 +3,4 @@ pub mod FoundFiles
 pub mod DescribedMenu
 pub mod DescribedMachine
 pub mod BootCases
-pub mod NamesKept
+pub mod DistinctNamesKept

@@ -5,7 +5,7 @@ ghost use Rattle.std.specs.Str.{bytes_eq};
 ghost use Rattle.std.specs.List.{list_any};
 ghost use Rattle.bl_menu.specs.DescribedMenu as attempted;
 ghost use Rattle.bl_menu.specs.DescribedMenu.{names_of_entries};
-ghost use Rattle.bl_menu.specs.NamesKept.{with_new_names};
+ghost use Rattle.bl_menu.specs.DistinctNamesKept.{with_new_names};
 ghost use Rattle.bl_desc.specs.EntryNames.{file_names};
 ghost use Rattle.bl_desc.specs.Views.{HasMenu, entry_view, module_view, view};
 

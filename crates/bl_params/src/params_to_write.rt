@@ -21,9 +21,9 @@ pub struct ParamsToWrite<'a> {
 }
 
 impl<'a> Model for ParamsToWrite<'a> {
-    ghost use Rattle.bl_params.specs.ParamsToWriteFacts.{BootParamsFacts, AreE820Runs};
+    ghost use Rattle.bl_params.specs.ParamsToWriteFacts.{ParamsToWriteFacts, AreE820Runs};
 
-    ghost Value = { BootParamsFacts };
+    ghost Value = { ParamsToWriteFacts };
 
     ghost view = { λ f. record {
       code32_start = f.code32_start;

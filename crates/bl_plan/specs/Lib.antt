@@ -1,4 +1,4 @@
-pub mod Roles
+pub mod RoleNumbers
 pub mod Protocols
 pub mod MenuLimits
 pub mod AddressOrder

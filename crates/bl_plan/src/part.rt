@@ -1,6 +1,6 @@
 //! The parts of an entry: what each is, how its address is chosen, and where it is placed.
 ghost use Rattle.std.specs.Prelude.{◌≡◌};
-ghost use Rattle.bl_plan.specs.Roles as roles;
+ghost use Rattle.bl_plan.specs.RoleNumbers as roles;
 
 /// What a part is. An image names it by its number.
 #[derive(Clone, Copy, Debug, PartialEq, Eq)]
@@ -33,7 +33,7 @@ impl Role {
     }
 
     /// The role of a number, or none of another number than 1 to 8.
-    #[tactic(auto, unfolding(crate::specs::Roles::role_numbered))]
+    #[tactic(auto, unfolding(crate::specs::RoleNumbers::role_numbered))]
     pub fn from_number(number: u32) -> Option<Role>
         ensures { result ≡ roles.role_numbered number }
     {

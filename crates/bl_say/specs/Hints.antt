@@ -6,7 +6,7 @@ use Rattle.bl_mem.specs.LittleEndian.{u16_at, u32_at}
 use Rattle.bl_load.specs.declared.refusal.Refusal.{Refusal}
 use Rattle.bl_load.specs.declared.refusal.Refusal.TheVariants.{NoHeader, NotBzImage}
 use Rattle.bl_session.specs.declared.outcome.RefusedEntry.{RefusedEntry}
-use Rattle.bl_desc.specs.Described.{Described}
+use Rattle.bl_desc.specs.Described.{DescriptionFacts}
 use Rattle.bl_desc.specs.Entries.{Entry}
 use Rattle.bl_blame.specs.RegionHints.{region_hints}
 use Rattle.bl_say.specs.Sought.{SoughtFacts, bytes_found}
@@ -54,7 +54,7 @@ kernel_hint_of entries sought refused =
 -- ---- entries that are never attempted
 
 -- the default or a fallback is this entry
-abbrev pub is_attempted : Described → ℕ → Bool
+abbrev pub is_attempted : DescriptionFacts → ℕ → Bool
 is_attempted description index =
     (description.default == index) || list_any (λ f. f == index) description.fallbacks
 
@@ -63,18 +63,18 @@ unattempted_line index =
     codes "hint: entry " ++ decimal index
     ++ codes " is not attempted: neither default nor fallback names it\n"
 
-abbrev pub unattempted_hint_at : Described → ℕ → List ℕ
+abbrev pub unattempted_hint_at : DescriptionFacts → ℕ → List ℕ
 unattempted_hint_at description index =
     if is_attempted description index then [] else unattempted_line index
 
-abbrev pub unattempted_hints : Described → List ℕ
+abbrev pub unattempted_hints : DescriptionFacts → List ℕ
 unattempted_hints description =
     flat_map (unattempted_hint_at description) (range_with_len 0 (length description.entries))
 
 -- ---- all of them
 
 -- after a boot with these refusals
-abbrev pub hint_lines : Described → SoughtFacts → List RefusedEntry → List ℕ
+abbrev pub hint_lines : DescriptionFacts → SoughtFacts → List RefusedEntry → List ℕ
 hint_lines description sought refused =
     flat_map (kernel_hint_of description.entries sought) refused
     ++ region_hints description.regions ++ unattempted_hints description

@@ -20,7 +20,8 @@ use Rattle.bl_session.specs.BootSteps.{BeginsUnless, Begins, is_wanted, TakesEve
 use Rattle.bl_session.specs.BootSteps.{StepsToOrFails}
 use Rattle.bl_session.specs.BootSteps.{Starts, StartsOrFails, attempt_number}
 use Rattle.bl_session.specs.History.{HistoryItem}
-use Rattle.bl_session.specs.Submissions.{file_submissions, attempt_submissions, new_submissions}
+use Rattle.bl_session.specs.Submissions.{submissions_for_files, attempt_submissions}
+use Rattle.bl_session.specs.Submissions.{new_submissions}
 
 -- equal machines and menus, and equal sizes wherever an entry looks
 pub record AreAlike (f g : BootFacts) : Type 0 where
@@ -34,7 +35,7 @@ pub orders_alike : (f g : BootFacts) → AreAlike f g → (state : State)
     → attempt_submissions f state ≡ attempt_submissions g state
 orders_alike f g alike unstarted = refl
 orders_alike f g alike (running entry rest earlier files) =
-    ap (λ (m : MenuFacts). file_submissions (length earlier) 0 (entry_at m entry).files files)
+    ap (λ (m : MenuFacts). submissions_for_files (length earlier) 0 (entry_at m entry).files files)
     alike.menu
 orders_alike f g alike (handed_over entry earlier handover) = refl
 orders_alike f g alike (none_left earlier) = refl

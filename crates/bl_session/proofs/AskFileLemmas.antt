@@ -10,7 +10,8 @@ use Rattle.bl_session.specs.History.{HistoryItem}
 use Rattle.bl_session.specs.declared.outcome.RefusedEntry.{RefusedEntry}
 use Rattle.bl_session.specs.BootSteps.{BootFacts}
 use Rattle.bl_session.specs.Menu.{entry_at}
-use Rattle.bl_session.specs.Submissions.{piece_submissions, file_submissions, attempt_submissions}
+use Rattle.bl_session.specs.Submissions.{piece_submissions, submissions_for_files}
+use Rattle.bl_session.specs.Submissions.{attempt_submissions}
 use Rattle.bl_session.specs.Phases.{PhaseFacts, waits, state_at}
 use Rattle.bl_session.specs.RunKept.{AreAskedButRest}
 use Rattle.bl_session.proofs.PieceStateLemmas.{length-piece_states_of}
@@ -28,7 +29,7 @@ sized_orders attempt place (file ∷ files) (size ∷ sizes) =
 
 sized_by : (S : ℕ → List PieceState) (attempt place start : ℕ) (files sizes : List ℕ)
     → ((k : ℕ) → k < length sizes → length (S (start + k)) ≡ frames_of (get_or sizes k 0))
-    → file_submissions attempt place files (map S (range_with_len start (length sizes)))
+    → submissions_for_files attempt place files (map S (range_with_len start (length sizes)))
     ≡ sized_orders attempt place files sizes
 sized_by S attempt place start [] sizes h = refl
 sized_by S attempt place start (file ∷ files) [] h = refl
@@ -42,12 +43,12 @@ sized_by S attempt place start (file ∷ files) (size ∷ sizes) h =
     ap (λ n. length (S n)) next ∙ h (suc k) (omega arith)) in
     ap (λ n.
     piece_submissions attempt place file n
-    ++ file_submissions attempt (place + 1) files
+    ++ submissions_for_files attempt (place + 1) files
     (map S (range_with_len (start + 1) (length sizes)))) here
     ∙ ap (λ (l : List HistoryItem). piece_submissions attempt place file (frames_of size) ++ l) more
 
 pub orders_sized : (bytes : List ℕ) (stage : Staging) (attempt : ℕ) (files : List ℕ)
-    → file_submissions attempt 0 files (piece_states bytes stage)
+    → submissions_for_files attempt 0 files (piece_states bytes stage)
     ≡ sized_orders attempt 0 files stage.sizes
 orders_sized bytes stage attempt files =
     sized_by (λ file. piece_states_of bytes stage file) attempt 0 0 files stage.sizes
@@ -110,7 +111,7 @@ pub asked_files : (bytes : List ℕ) (stage : Staging) (attempt place : ℕ) (fi
     (old new : List HistoryItem) → length files ≤ place
     → AreAskedButRest (sized_orders attempt 0 files stage.sizes)
     (sized_orders attempt place (drop place files) (drop place stage.sizes)) old new
-    → new ≡ old ++ file_submissions attempt 0 files (piece_states bytes stage)
+    → new ≡ old ++ submissions_for_files attempt 0 files (piece_states bytes stage)
 asked_files bytes stage attempt place files old new h a =
     let none : sized_orders attempt place (drop place files) (drop place stage.sizes) ≡ [] =
     ap (λ (fs : List ℕ). sized_orders attempt place fs (drop place stage.sizes))
@@ -123,7 +124,7 @@ pub asked_sized : (bytes : List ℕ) (stage : Staging) (attempt : ℕ) (files : 
     (old new : List HistoryItem)
     → (rest : List HistoryItem) × AreAskedButRest (sized_orders attempt 0 files stage.sizes) rest old new
     → (rest : List HistoryItem)
-    × AreAskedButRest (file_submissions attempt 0 files (piece_states bytes stage)) rest old
+    × AreAskedButRest (submissions_for_files attempt 0 files (piece_states bytes stage)) rest old
     new
 asked_sized bytes stage attempt files old new a = (
   a.0,
@@ -140,7 +141,7 @@ pub asked_in : {T E : Type 0} (result : Result T E) (facts : BootFacts) (phase :
     → OnErr result
     ((bytes : List ℕ)
     → (left : List HistoryItem)
-    × AreAskedButRest (file_submissions number 0 files (piece_states bytes stage)) left old new)
+    × AreAskedButRest (submissions_for_files number 0 files (piece_states bytes stage)) left old new)
     → OnErr result
     ((bytes : List ℕ)
     → (left : List HistoryItem)
@@ -150,10 +151,10 @@ asked_in (Ok x) facts phase entry rest earlier stage number files old new is num
 asked_in (Err e) facts phase entry rest earlier stage number files old new is number_is files_is
     asked = λ bytes.
     let one = asked bytes in
-    let same : file_submissions number 0 files (piece_states bytes stage)
+    let same : submissions_for_files number 0 files (piece_states bytes stage)
     ≡ attempt_submissions facts (state_at bytes phase) =
-    ap (λ n. file_submissions n 0 files (piece_states bytes stage)) number_is
-    ∙ ap (λ (fs : List ℕ). file_submissions (length earlier) 0 fs (piece_states bytes stage))
+    ap (λ n. submissions_for_files n 0 files (piece_states bytes stage)) number_is
+    ∙ ap (λ (fs : List ℕ). submissions_for_files (length earlier) 0 fs (piece_states bytes stage))
     files_is
     ∙ sym (ap (λ (p : PhaseFacts). attempt_submissions facts (state_at bytes p)) is) in
     (one.0, subst (λ (l : List HistoryItem). AreAskedButRest l one.0 old new) same one.1)

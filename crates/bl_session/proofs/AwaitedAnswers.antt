@@ -12,7 +12,7 @@ use Rattle.bl_session.specs.History.{HistoryItem, submitted, came, failed, nothi
 use Rattle.bl_session.specs.History.{file_under}
 use Rattle.bl_session.specs.History.{IsPieceOf}
 use Rattle.bl_session.specs.MenuFiles.{File, size_of}
-use Rattle.bl_session.specs.Schedules.{AgreesWithFaults}
+use Rattle.bl_session.specs.Schedules.{EventAgreesWithFaults}
 use Rattle.bl_session.specs.Submissions.{first_ticket}
 use Rattle.bl_session.specs.Run.{IsAnswer, IsMarked}
 use Rattle.bl_session.specs.Faithful.{times_asked, times_answered, HasPiece, IsFaithfulItem}
@@ -137,13 +137,13 @@ module _ (facts : BootFacts) (files : List File) (known : facts.sizes ≡ map si
   pub tell_true : (item : HistoryItem) (event : EventFacts) → IsFaithfulItem files given item
       → IsAnswer files given earlier piece_states item event
       → is_wanted earlier piece_states event ≡ true
-      → IsMarked item × AgreesWithFaults (λ attempt. None) earlier piece_states event
+      → IsMarked item × EventAgreesWithFaults (λ attempt. None) earlier piece_states event
   tell_true (submitted file t) event faithful is wanted = absurd is
   tell_true (came t count genuine) event faithful (bytes, same, long, of_file) wanted =
       let here : is_wanted earlier piece_states (piece t bytes) ≡ true =
       ap (is_wanted earlier piece_states) (sym same) ∙ wanted in (
         marked t count genuine (wanted_piece t bytes here) faithful,
-        subst (λ (e : EventFacts). AgreesWithFaults (λ attempt. None) earlier piece_states e)
+        subst (λ (e : EventFacts). EventAgreesWithFaults (λ attempt. None) earlier piece_states e)
             (sym same)
             (λ whole. refl),
       )

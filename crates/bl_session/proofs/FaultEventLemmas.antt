@@ -7,7 +7,7 @@ use Rattle.bl_session.specs.BootSteps.{BootFacts, EventFacts, State, unstarted, 
 use Rattle.bl_session.specs.BootSteps.{handed_over}
 use Rattle.bl_session.specs.BootSteps.{none_left, out_of_memory, is_wanted, TakesEvent, StepsTo}
 use Rattle.bl_session.specs.MenuFiles.{File}
-use Rattle.bl_session.specs.Schedules.{Faults, AgreesWithFaults}
+use Rattle.bl_session.specs.Schedules.{Faults, EventAgreesWithFaults}
 use Rattle.bl_session.specs.History.{HistoryItem}
 use Rattle.bl_session.specs.Submissions.{new_submissions}
 use Rattle.bl_session.specs.Run.{IsAnswer, RunState, Delivers, IsMarked, IsGenuineItem}
@@ -78,10 +78,10 @@ module _ (facts : BootFacts) (files : List File) where
         → (is_last piece_states event ≡ true → others (length earlier) ≡ told event)
         → IsAnswer files given earlier piece_states item other
         → is_wanted earlier piece_states other ≡ true
-        → IsMarked item × AgreesWithFaults others earlier piece_states other
+        → IsMarked item × EventAgreesWithFaults others earlier piece_states other
     told_right others event other p is q wanted = (
       marked other q wanted,
-      subst (AgreesWithFaults others earlier piece_states) (sym (is_event other event q wanted p))
+      subst (EventAgreesWithFaults others earlier piece_states) (sym (is_event other event q wanted p))
           (are_told others earlier piece_states event is),
     )
 

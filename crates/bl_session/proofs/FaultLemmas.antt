@@ -11,7 +11,7 @@ use Rattle.bl_session.specs.Pieces.{are_whole, with_piece}
 use Rattle.bl_session.specs.BootSteps.{BootFacts, EventFacts, piece, fault, State, running}
 use Rattle.bl_session.specs.BootSteps.{TextsHaveResult, AfterAttempt, Begins, TakesEvent}
 use Rattle.bl_session.specs.MenuFiles.{File}
-use Rattle.bl_session.specs.Schedules.{Faults, AgreesWithFaults}
+use Rattle.bl_session.specs.Schedules.{Faults, EventAgreesWithFaults}
 use Rattle.bl_session.specs.History.{HistoryItem, submitted, came, failed, nothing, file_under}
 use Rattle.bl_session.specs.History.{IsPieceOf}
 use Rattle.bl_session.specs.Run.{IsAnswer, IsMarked}
@@ -57,7 +57,7 @@ pub are_told : (faults : Faults) (earlier : List RefusedEntry)
     (piece_states : List (List PieceState))
     (event : EventFacts) → (is_last piece_states event ≡ true
     → faults (length earlier) ≡ told event)
-    → AgreesWithFaults faults earlier piece_states event
+    → EventAgreesWithFaults faults earlier piece_states event
 are_told faults earlier piece_states (piece ticket bytes) is = is
 are_told faults earlier piece_states (fault ticket) is = is refl
 

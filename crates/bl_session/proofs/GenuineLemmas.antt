@@ -11,7 +11,7 @@ use Rattle.bl_session.specs.Menu.{entry_at}
 use Rattle.bl_session.specs.Pieces.{awaits, piece_state_of}
 use Rattle.bl_session.specs.BootSteps.{BootFacts, EventFacts, piece, running, is_wanted}
 use Rattle.bl_session.specs.MenuFiles.{File, missing, file_bytes, texts_of}
-use Rattle.bl_session.specs.Schedules.{IsGenuineEvent, AgreesWithFaults}
+use Rattle.bl_session.specs.Schedules.{IsGenuineEvent, EventAgreesWithFaults}
 use Rattle.bl_session.specs.History.{HistoryItem, submitted, came, failed, nothing, file_under}
 use Rattle.bl_session.specs.History.{IsPieceOf}
 use Rattle.bl_session.specs.Run.{IsEventOf, IsGenuineItem}
@@ -97,7 +97,7 @@ module _ (facts : BootFacts) (files : List File) (faults : ℕ → Option ℕ) w
       subst (λ (e : EventFacts). is_wanted earlier piece_states e ≡ true) same wanted in
       let told = genuine wanted in
       let faultless =
-      subst (λ (e : EventFacts). AgreesWithFaults faults earlier piece_states e) same told.1 in
+      subst (λ (e : EventFacts). EventAgreesWithFaults faults earlier piece_states e) same told.1 in
       subst (IsGenuineEvent facts files faults entry earlier piece_states) (sym same) (
         true_piece given entry rest earlier piece_states ticket bytes asked want (marked.0 told.0),
         faultless,
@@ -105,13 +105,13 @@ module _ (facts : BootFacts) (files : List File) (faults : ℕ → Option ℕ) w
   genuine_event given entry rest earlier piece_states (failed ticket) event asked same genuine
       wanted =
       subst (IsGenuineEvent facts files faults entry earlier piece_states) (sym same)
-      (subst (λ (e : EventFacts). AgreesWithFaults faults earlier piece_states e) same
+      (subst (λ (e : EventFacts). EventAgreesWithFaults faults earlier piece_states e) same
       (genuine wanted).1)
   genuine_event given entry rest earlier piece_states nothing event asked (ticket, first, same)
       genuine
       wanted =
       subst (IsGenuineEvent facts files faults entry earlier piece_states) (sym same)
-      (subst (λ (e : EventFacts). AgreesWithFaults faults earlier piece_states e) same
+      (subst (λ (e : EventFacts). EventAgreesWithFaults faults earlier piece_states e) same
       (genuine wanted).1)
 
   -- an answer asks for nothing

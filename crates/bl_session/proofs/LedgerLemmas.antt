@@ -13,8 +13,9 @@ use Rattle.bl_session.specs.declared.submission.Submission.{Submission}
 use Rattle.bl_session.specs.BootSteps.{EventFacts}
 use Rattle.bl_session.specs.MenuFiles.{File}
 use Rattle.bl_session.specs.History.{HistoryItem}
-use Rattle.bl_session.specs.Stores.{event_of, answer_to, item_of_event, item_of_told, without_index}
-use Rattle.bl_session.specs.StoresKept.{item_of, IsLedgerKept}
+use Rattle.bl_session.specs.Stores.{event_of, answer_to, item_of_event, item_of_answer}
+use Rattle.bl_session.specs.Stores.{without_index}
+use Rattle.bl_session.specs.StoresKept.{item_of_completion, IsLedgerKept}
 use Rattle.bl_session.specs.Ledger.{LedgerFacts, pending_answer, ledger_answered}
 use Rattle.bl_session.proofs.StoreLemmas.{kept_answer, kept_nothing}
 use Rattle.bl_session.proofs.ToldLemmas.{Tells, tells_taken}
@@ -27,13 +28,13 @@ without_any place = rw (take-nil {A = Submission} place, drop-nil {A = Submissio
 kept_place : (files : List File) (pending : List Submission) (place : ℕ) (given : List HistoryItem)
     (told : Option EventFacts) → (0 < length pending → place < length pending)
     → told ≡ option_map (answer_to files) (slice_get pending place) → IsLedgerKept files pending given
-    → IsLedgerKept files (without_index pending place) (given ++ item_of_told files given told ∷ [])
+    → IsLedgerKept files (without_index pending place) (given ++ item_of_answer files given told ∷ [])
 kept_place files [] place given told within is kept =
     subst
     (λ (left : List Submission).
-    IsLedgerKept files left (given ++ item_of_told files given told ∷ []))
+    IsLedgerKept files left (given ++ item_of_answer files given told ∷ []))
     (sym (without_any place))
-    (subst (λ (t : Option EventFacts). IsLedgerKept files [] (given ++ item_of_told files given t ∷ []))
+    (subst (λ (t : Option EventFacts). IsLedgerKept files [] (given ++ item_of_answer files given t ∷ []))
     (sym is) (kept_nothing files given kept))
 kept_place files (first ∷ others) place given told within is kept =
     let pending : List Submission = first ∷ others in
@@ -46,7 +47,7 @@ kept_place files (first ∷ others) place given told within is kept =
     kept in
     subst
     (λ (t : Option EventFacts).
-    IsLedgerKept files (without_index pending place) (given ++ item_of_told files given t ∷ []))
+    IsLedgerKept files (without_index pending place) (given ++ item_of_answer files given t ∷ []))
     (sym e)
     (subst
     (λ (n : ℕ).
@@ -60,7 +61,7 @@ pub kept_at : {A : Type 0} (files : List File) (pending : List Submission) (plac
     → (0 < length pending → place < length pending)
     → option_map event_of answer ≡ option_map (answer_to files) (slice_get pending place)
     → IsLedgerKept files pending given
-    → IsLedgerKept files (without_index pending place) (given ++ item_of files given answer ∷ [])
+    → IsLedgerKept files (without_index pending place) (given ++ item_of_completion files given answer ∷ [])
 kept_at files pending place given answer within is kept =
     kept_place files pending place given (option_map event_of answer) within is kept
 
@@ -76,7 +77,7 @@ ledger_tells old new place (Ok answer) within is ok unchanged =
     tells_taken (answer_to old.files) old.files new.files old.given new.given old.pending
     new.pending place answer within is (ap (λ (l : LedgerFacts). l.files) ok)
     (ap (λ (l : LedgerFacts). l.given) ok
-    ∙ ap (λ (t : Option EventFacts). old.given ++ item_of_told old.files old.given t ∷ []) (sym is))
+    ∙ ap (λ (t : Option EventFacts). old.given ++ item_of_answer old.files old.given t ∷ []) (sym is))
     (ap (λ (l : LedgerFacts). l.pending) ok)
 ledger_tells old new place (Err fault) within is ok unchanged = record {
   files = ap (λ (l : LedgerFacts). l.files) unchanged;

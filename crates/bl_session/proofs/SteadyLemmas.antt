@@ -11,7 +11,7 @@ use Rattle.bl_session.specs.BootSteps.{BootFacts, State, unstarted, running, han
 use Rattle.bl_session.specs.BootSteps.{out_of_memory, sizes_of, fresh}
 use Rattle.bl_session.specs.History.{HistoryItem}
 use Rattle.bl_session.specs.MenuFiles.{File, missing, size_of, file_bytes, texts_of}
-use Rattle.bl_session.specs.Submissions.{attempt_submissions, file_submissions}
+use Rattle.bl_session.specs.Submissions.{attempt_submissions, submissions_for_files}
 use Rattle.bl_session.proofs.EntryEndLemmas.{are_read, length_read}
 use Rattle.bl_session.proofs.TicketLemmas.{IsUntouched, IsAskedOnce, untouched_both, once_last}
 use Rattle.bl_session.proofs.OrderLemmas.{untouched_files, once_files}
@@ -55,7 +55,7 @@ module _ (facts : BootFacts) where
   steady_new given count number (running entry rest later piece_states) (long, few, sized, first)
       apart =
       let indices = (entry_at facts.menu entry).files in
-      let asked_for = file_submissions (length later) 0 indices piece_states in (
+      let asked_for = submissions_for_files (length later) 0 indices piece_states in (
         sized,
         λ file piece e. rw first refl,
         λ t l.

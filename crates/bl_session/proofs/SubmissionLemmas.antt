@@ -16,7 +16,8 @@ use Rattle.bl_session.specs.History.{HistoryItem, submitted, is_same, file_under
 use Rattle.bl_session.specs.History.{IsItemOfAnswer}
 use Rattle.bl_session.specs.Faithful.{times_asked, IsFaithfulItem, IsFaithfulAfter}
 use Rattle.bl_session.specs.Stores.{are_equal, is_piece_of}
-use Rattle.bl_session.specs.StoresKept.{item_of, count_of, WasAsked, AreAskedFor, IsLedgerKept}
+use Rattle.bl_session.specs.StoresKept.{item_of_completion, count_of, WasAsked, AreAskedFor}
+use Rattle.bl_session.specs.StoresKept.{IsLedgerKept}
 use Rattle.bl_session.proofs.TicketLemmas.{is_same_self, asked_both, answered_both, file_both}
 
 -- ---- the mark of an answer
@@ -39,7 +40,7 @@ marks files (Some file) index bytes =
 
 pub item_is : {A : Type 0} (files : List File) (given : List HistoryItem)
     (answer : Option (Completion A))
-    → IsItemOfAnswer files given answer (item_of files given answer)
+    → IsItemOfAnswer files given answer (item_of_completion files given answer)
 item_is files given None = refl
 item_is files given (Some (Fault ticket)) = refl
 item_is files given (Some (Piece ticket bytes)) = (

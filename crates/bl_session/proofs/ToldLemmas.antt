@@ -12,7 +12,7 @@ use Rattle.bl_session.specs.MenuFiles.{File}
 use Rattle.bl_session.specs.History.{HistoryItem, IsItemOfAnswer}
 use Rattle.bl_session.specs.Stores.{FileStoreFacts, event_of, answer_to, next_event}
 use Rattle.bl_session.specs.Stores.{next_place, without_index, after_answer}
-use Rattle.bl_session.specs.StoresKept.{item_of}
+use Rattle.bl_session.specs.StoresKept.{item_of_completion}
 use Rattle.bl_session.specs.Scripts as scripts
 use Rattle.bl_session.specs.Scripts.{ScriptStoreFacts, event_of_reply, picked_place}
 use Rattle.bl_session.proofs.SubmissionLemmas.{item_is}
@@ -66,13 +66,13 @@ pub tells_taken : {A E R : Type 0} (event : R → EventFacts) (files1 files2 : L
     (given1 given2 : List HistoryItem) (pending1 pending2 : List R) (place : ℕ)
     (answer : Option (Completion A)) → (0 < length pending1 → place < length pending1)
     → option_map event_of answer ≡ option_map event (slice_get pending1 place)
-    → files2 ≡ files1 → given2 ≡ given1 ++ item_of files1 given1 answer ∷ []
+    → files2 ≡ files1 → given2 ≡ given1 ++ item_of_completion files1 given1 answer ∷ []
     → pending2 ≡ without_index pending1 place
     → Tells {E = E} files1 files2 given1 given2 (length pending1) (length pending2) (Ok answer)
 tells_taken event files1 files2 given1 given2 pending1 pending2 place answer within is files given
     pending = record {
       files = files;
-      given = (item_of files1 given1 answer, item_is files1 given1 answer, given);
+      given = (item_of_completion files1 given1 answer, item_is files1 given1 answer, given);
       none = none_left event pending1 place answer within is;
       fewer = rw pending (fewer_left event pending1 place answer within is);
       as_many =

@@ -64,8 +64,8 @@ KeepsAttempt facts count (Ended (Refused refusal)) = Unit {0}
 
 -- memory beside: after a handover it is that which is handed over; else no byte outside the pool
 -- changed
-abbrev pub IsMemoryOf : {A : Type 0} → Range ℕ → (old new : List ℕ) → Attempt A → Type 0
-IsMemoryOf pool old new (Waits stage) = IsSameOutside pool old new
-IsMemoryOf pool old new (Ended (HandedOver handoff)) =
+abbrev pub IsMemoryAfterAttempt : {A : Type 0} → Range ℕ → (old new : List ℕ) → Attempt A → Type 0
+IsMemoryAfterAttempt pool old new (Waits stage) = IsSameOutside pool old new
+IsMemoryAfterAttempt pool old new (Ended (HandedOver handoff)) =
     IsMemoryAfter pool (handover_held new handoff).parts old new
-IsMemoryOf pool old new (Ended (Refused refusal)) = IsSameOutside pool old new
+IsMemoryAfterAttempt pool old new (Ended (Refused refusal)) = IsSameOutside pool old new

@@ -4,7 +4,7 @@ use Rattle.bl_session.specs.declared.submission.Submission.{Submission}
 use Rattle.bl_session.specs.BootSteps.{EventFacts}
 use Rattle.bl_session.specs.MenuFiles.{File, missing, whole}
 use Rattle.bl_session.specs.History.{HistoryItem, submitted}
-use Rattle.bl_session.specs.Stores.{answer_to, item_of_told, without_index}
+use Rattle.bl_session.specs.Stores.{answer_to, item_of_answer, without_index}
 
 -- a file in a slice, or none
 abbrev pub sliced_file : Option (List ℕ) → File
@@ -35,5 +35,5 @@ ledger_answered ledger place = record {
   files = ledger.files;
   pending = without_index ledger.pending place;
   given =
-      ledger.given ++ item_of_told ledger.files ledger.given (pending_answer ledger place) ∷ [];
+      ledger.given ++ item_of_answer ledger.files ledger.given (pending_answer ledger place) ∷ [];
 }

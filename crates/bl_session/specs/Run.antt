@@ -11,7 +11,7 @@ use Rattle.bl_session.specs.BootSteps.{out_of_memory, is_running, is_wanted, Sta
 use Rattle.bl_session.specs.BootSteps.{StepsToOrFails}
 use Rattle.bl_session.specs.BootSteps.{on_running}
 use Rattle.bl_session.specs.MenuFiles.{File}
-use Rattle.bl_session.specs.Schedules.{Faults, AgreesWithFaults}
+use Rattle.bl_session.specs.Schedules.{Faults, EventAgreesWithFaults}
 use Rattle.bl_session.specs.History.{HistoryItem, submitted, came, failed, nothing, file_under}
 use Rattle.bl_session.specs.History.{IsPieceOf}
 use Rattle.bl_session.specs.Submissions.{attempt_submissions, new_submissions, first_ticket}
@@ -100,7 +100,7 @@ abbrev pub IsGenuineItem : Faults → State → HistoryItem → EventFacts → T
 IsGenuineItem faults state item event =
     on_running state (Unit {0}) (λ entry rest earlier piece_states. is_wanted earlier piece_states
     event ≡ true
-    → IsMarked item × AgreesWithFaults faults earlier piece_states event)
+    → IsMarked item × EventAgreesWithFaults faults earlier piece_states event)
 
 -- of these items, after this history, each answer is so where it comes
 abbrev pub EachAnswerIs :

@@ -18,12 +18,12 @@ abbrev pub no_fault : Faults
 no_fault attempt = None
 
 -- a piece completes its attempt only if no fault comes of it; a fault is the one that comes
-abbrev pub AgreesWithFaults :
+abbrev pub EventAgreesWithFaults :
     Faults → List RefusedEntry → List (List PieceState) → EventFacts → Type 0
-AgreesWithFaults faults earlier piece_states (piece ticket bytes) =
+EventAgreesWithFaults faults earlier piece_states (piece ticket bytes) =
     are_whole (with_piece piece_states ticket.file ticket.piece bytes) ≡ true
     → faults (length earlier) ≡ None
-AgreesWithFaults faults earlier piece_states (fault ticket) =
+EventAgreesWithFaults faults earlier piece_states (fault ticket) =
     faults (length earlier) ≡ Some ticket.file
 
 -- a piece holds its file's bytes at its place; and the faults are these
@@ -32,9 +32,9 @@ abbrev pub IsGenuineEvent :
     → Type 0
 IsGenuineEvent facts files faults entry earlier piece_states (piece ticket bytes) =
     (bytes ≡ piece_of (slice_index_or (texts_of facts files entry) ticket.file []) ticket.piece)
-    × AgreesWithFaults faults earlier piece_states (piece ticket bytes)
+    × EventAgreesWithFaults faults earlier piece_states (piece ticket bytes)
 IsGenuineEvent facts files faults entry earlier piece_states (fault ticket) =
-    AgreesWithFaults faults earlier piece_states (fault ticket)
+    EventAgreesWithFaults faults earlier piece_states (fault ticket)
 
 -- an event that is not wanted may be anything
 abbrev pub IsGenuineAt : BootFacts → List File → Faults → State → EventFacts → Type 0

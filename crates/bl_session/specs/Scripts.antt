@@ -10,7 +10,7 @@ use Rattle.bl_session.specs.declared.script_reply.ScriptReply.TheVariants.{Answe
 use Rattle.bl_session.specs.BootSteps.{EventFacts, piece, fault}
 use Rattle.bl_session.specs.MenuFiles.{File}
 use Rattle.bl_session.specs.History.{HistoryItem, submitted, is_same}
-use Rattle.bl_session.specs.Stores.{answer_to, item_of_told, without_index}
+use Rattle.bl_session.specs.Stores.{answer_to, item_of_answer, without_index}
 
 -- each byte of a piece exclusive-or 0xFF
 abbrev pub altered : EventFacts → EventFacts
@@ -71,5 +71,5 @@ after_script_answer store told = record {
   fail = store.fail;
   picks = drop 1 store.picks;
   pending = without_index store.pending (picked_place store);
-  given = store.given ++ item_of_told store.files store.given told ∷ [];
+  given = store.given ++ item_of_answer store.files store.given told ∷ [];
 }

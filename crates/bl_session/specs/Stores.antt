@@ -64,9 +64,9 @@ item_of_event files given (piece ticket bytes) =
 item_of_event files given (fault ticket) = failed ticket
 
 -- what an answer adds to the history so far
-abbrev pub item_of_told : List File → List HistoryItem → Option EventFacts → HistoryItem
-item_of_told files given None = nothing
-item_of_told files given (Some event) = item_of_event files given event
+abbrev pub item_of_answer : List File → List HistoryItem → Option EventFacts → HistoryItem
+item_of_answer files given None = nothing
+item_of_answer files given (Some event) = item_of_event files given event
 
 -- ---- a store over files that were fetched
 
@@ -108,5 +108,5 @@ after_answer store told = record {
   files = store.files;
   order = store.order;
   pending = without_index store.pending (next_place store.order store.pending);
-  given = store.given ++ item_of_told store.files store.given told ∷ [];
+  given = store.given ++ item_of_answer store.files store.given told ∷ [];
 }

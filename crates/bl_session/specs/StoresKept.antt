@@ -7,7 +7,7 @@ use Rattle.bl_session.specs.MenuFiles.{File}
 use Rattle.bl_session.specs.History.{HistoryItem, is_same, file_under}
 use Rattle.bl_session.specs.Faithful.{IsFaithful, times_asked, times_answered}
 use Rattle.bl_session.specs.declared.store.Completion.{Completion}
-use Rattle.bl_session.specs.Stores.{event_of, item_of_told}
+use Rattle.bl_session.specs.Stores.{event_of, item_of_answer}
 
 -- how many of these submissions have a ticket
 abbrev pub count_of : List Submission → Ticket → ℕ
@@ -36,6 +36,6 @@ pub record IsLedgerKept (files : List File) (pending : List Submission) (given :
   pub asked_for : AreAskedFor given pending
 
 -- what a completion adds to the history so far
-abbrev pub item_of : {A : Type 0} → List File → List HistoryItem → Option (Completion A)
+abbrev pub item_of_completion : {A : Type 0} → List File → List HistoryItem → Option (Completion A)
     → HistoryItem
-item_of files given answer = item_of_told files given (option_map event_of answer)
+item_of_completion files given answer = item_of_answer files given (option_map event_of answer)

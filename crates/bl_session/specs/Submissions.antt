@@ -19,19 +19,19 @@ piece_submissions attempt place file count =
 
 -- the files of an entry, by their index, from this place on, the one with the first of these
 -- pieces, and so on
-abbrev pub file_submissions : (attempt place : ℕ) → List ℕ → List (List PieceState)
+abbrev pub submissions_for_files : (attempt place : ℕ) → List ℕ → List (List PieceState)
     → List HistoryItem
-file_submissions attempt place [] files = []
-file_submissions attempt place (index ∷ indices) [] = []
-file_submissions attempt place (index ∷ indices) (piece_states ∷ files) =
+submissions_for_files attempt place [] files = []
+submissions_for_files attempt place (index ∷ indices) [] = []
+submissions_for_files attempt place (index ∷ indices) (piece_states ∷ files) =
     piece_submissions attempt place index (length piece_states)
-    ++ file_submissions attempt (place + 1) indices files
+    ++ submissions_for_files attempt (place + 1) indices files
 
 -- each piece of the attempt that runs: files ascending, and in each of them pieces ascending
 abbrev pub attempt_submissions : BootFacts → State → List HistoryItem
 attempt_submissions facts state =
     on_running state [] (λ entry rest earlier files.
-    file_submissions (length earlier) 0 (entry_at facts.menu entry).files files)
+    submissions_for_files (length earlier) 0 (entry_at facts.menu entry).files files)
 
 -- what is to be asked for after a step from one state to another: nothing more if the attempt goes
 -- on, else each piece of the attempt that runs now

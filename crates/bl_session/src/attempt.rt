@@ -4,7 +4,8 @@ ghost use Rattle.bl_mem.specs.Memory.{HasRoom, KeepsSizeAndRoom};
 ghost use Rattle.bl_load.specs.EntryValue.{IsWithinLimits};
 ghost use Rattle.bl_stage.specs.Ranges.{IsSameOutside};
 ghost use Rattle.bl_stage.specs.PieceStates.{piece_states};
-ghost use Rattle.bl_session.specs.AttemptKept.{IsAttempt, IsAttemptBegun, IsMemoryOf, KeepsAttempt};
+ghost use Rattle.bl_session.specs.AttemptKept.{IsAttempt, IsAttemptBegun, IsMemoryAfterAttempt};
+ghost use Rattle.bl_session.specs.AttemptKept.{KeepsAttempt};
 ghost use Rattle.bl_session.specs.AttemptKept.{attempt_with};
 ghost use Rattle.bl_session.specs.Menu.{facts_of, files_of};
 ghost use Rattle.bl_session.specs.PhasesKept.{HasSmallFiles};
@@ -61,7 +62,7 @@ pub fn end_attempt<M: PhysMem, A: Allocator + Copy>(
         (attempt_with stage.new end)) }
     ensures keeps { IfOk result (λ end. KeepsAttempt machine.now (length (files_of entry.now))
         (attempt_with stage.new end)) }
-    ensures memory { IfOk result (λ end. IsMemoryOf machine.now.pool
+    ensures memory { IfOk result (λ end. IsMemoryAfterAttempt machine.now.pool
         (M.bytes memory.old) (M.bytes memory.new) (attempt_with stage.new end)) }
     ensures err { OnErr result
         (IsSameOutside machine.now.pool (M.bytes memory.old) (M.bytes memory.new)) }
@@ -95,7 +96,7 @@ pub fn begin_attempt<M: PhysMem, A: Allocator + Copy>(
         (M.bytes memory.new)) }
     ensures keeps { IfOk result (KeepsAttempt machine.now (length (files_of entry.now))) }
     ensures memory { IfOk result
-        (IsMemoryOf machine.now.pool (M.bytes memory.old) (M.bytes memory.new)) }
+        (IsMemoryAfterAttempt machine.now.pool (M.bytes memory.old) (M.bytes memory.new)) }
     ensures err { OnErr result
         (IsSameOutside machine.now.pool (M.bytes memory.old) (M.bytes memory.new)) }
     ensures kept { KeepsSizeAndRoom M.lender M.bytes M.room memory.old memory.new }

@@ -66,7 +66,7 @@ impl<A: Allocator + Copy> FileStore<A> {
 impl<A: Allocator + Copy> Store for FileStore<A> {
     ghost use Rattle.std.specs.Prelude.{◌≡◌, length, Ok, IfOk, OnOk, OnErr, option_map};
     ghost use Rattle.std.specs.Prelude.{slice_index_or};
-    ghost use Rattle.bl_session.specs.Outcome.{missing, size_of};
+    ghost use Rattle.bl_session.specs.MenuFiles.{missing, size_of};
     ghost use Rattle.bl_session.specs.Stores.{event_of, next_event, after_submission, after_answer};
 
     type Alloc = A;

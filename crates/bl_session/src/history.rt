@@ -29,7 +29,7 @@ impl Model for History {
 
 impl History {
     ghost use Rattle.bl_session.specs.History.{submitted};
-    ghost use Rattle.bl_session.specs.StoresKept.{item_of};
+    ghost use Rattle.bl_session.specs.StoresKept.{item_of_completion};
 
     /// Nothing was asked or answered.
     pub fn new() -> History
@@ -53,7 +53,8 @@ impl History {
         _answer: &Option<Completion<A>>,
     ) -> History
         ensures { result.items
-            ≡ self.now.items ++ item_of (F.files _files.now) self.now.items _answer.now ∷ [] }
+            ≡ self.now.items
+            ++ item_of_completion (F.files _files.now) self.now.items _answer.now ∷ [] }
     {
         History {}
     }

@@ -54,7 +54,7 @@ pub struct Ledger<F: StoredFiles, A: Allocator + Copy> {
 
 impl<F: StoredFiles, A: Allocator + Copy> Model for Ledger<F, A> {
     ghost use Rattle.bl_session.specs.Ledger.{LedgerFacts};
-    ghost use Rattle.bl_session.specs.StoresKept.{AreKept};
+    ghost use Rattle.bl_session.specs.StoresKept.{IsLedgerKept};
 
     ghost Value = { LedgerFacts };
 
@@ -64,14 +64,14 @@ impl<F: StoredFiles, A: Allocator + Copy> Model for Ledger<F, A> {
       given = l.history.items;
     } };
 
-    ghost invariant = { λ l. AreKept (F.files l.files) l.pending l.history.items };
+    ghost invariant = { λ l. IsLedgerKept (F.files l.files) l.pending l.history.items };
 }
 
 impl<F: StoredFiles, A: Allocator + Copy> Ledger<F, A> {
     ghost use Rattle.std.specs.Prelude.{◌≡◌, ◌↔◌, ◌+◌, ◌<◌, ◌≤◌, [], ◌∷◌, ◌++◌, length};
     ghost use Rattle.std.specs.Prelude.{slice_get, slice_index_or, option_map};
     ghost use Rattle.std.specs.Prelude.{IfOk, OnOk, OnErr, IfSome, IsNone};
-    ghost use Rattle.bl_session.specs.Outcome.{missing, size_of};
+    ghost use Rattle.bl_session.specs.MenuFiles.{missing, size_of};
     ghost use Rattle.bl_session.specs.History.{HistoryItem, submitted, IsItemOfAnswer};
     ghost use Rattle.bl_session.specs.Faithful.{IsFaithful};
     ghost use Rattle.bl_session.specs.Stores.{event_of};

@@ -8,8 +8,8 @@ mod boot_requests;
 mod ends;
 mod events;
 mod fetched;
-mod file_frames;
 mod file_store;
+mod frame_counts;
 mod handing_over;
 mod history;
 mod laws;
@@ -40,8 +40,8 @@ mod ticket;
 
 pub use bl_plan::{MAX_ENTRIES, MAX_MODULES};
 pub use fetched::Fetched;
-pub use file_frames::frames_for;
 pub use file_store::FileStore;
+pub use frame_counts::frames_for;
 pub use handing_over::finish_attempt;
 pub use history::History;
 pub use laws::{

@@ -101,7 +101,7 @@ impl<A: Allocator + Copy> ScriptStore<A> {
 impl<A: Allocator + Copy> Store for ScriptStore<A> {
     ghost use Rattle.std.specs.Prelude.{◌≡◌, length, Ok, IfOk, OnOk, OnErr, option_map};
     ghost use Rattle.std.specs.Prelude.{slice_index_or};
-    ghost use Rattle.bl_session.specs.Outcome.{missing, size_of};
+    ghost use Rattle.bl_session.specs.MenuFiles.{missing, size_of};
     ghost use Rattle.bl_session.specs.Stores.{event_of};
     ghost use Rattle.bl_session.specs.Scripts.{next_script_event, after_script_submission};
     ghost use Rattle.bl_session.specs.Scripts.{after_script_answer};

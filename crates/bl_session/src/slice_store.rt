@@ -50,7 +50,7 @@ impl<'a, A: Allocator + Copy> Store for SliceStore<'a, A> {
     ghost use Rattle.std.specs.Prelude.{◌≡◌, ◌↔◌, ◌+◌, ◌≤◌, [], ◌∷◌, ◌++◌, length, option_map};
     ghost use Rattle.std.specs.Prelude.{IsOk, IfOk, OnOk, OnErr, IfSome, IsNone, slice_index_or};
     ghost use Rattle.bl_session.specs.History.{HistoryItem, submitted, IsItemOfAnswer};
-    ghost use Rattle.bl_session.specs.Outcome.{missing, size_of};
+    ghost use Rattle.bl_session.specs.MenuFiles.{missing, size_of};
     ghost use Rattle.bl_session.specs.Stores.{event_of, next_place};
     ghost use Rattle.bl_session.specs.Ledger.{pending_answer, ledger_asked, ledger_answered};
 

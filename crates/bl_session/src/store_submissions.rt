@@ -5,7 +5,7 @@ ghost use Rattle.bl_map.specs.PoolFrames as room;
 ghost use Rattle.bl_stage.specs.PieceStates.{piece_states};
 ghost use Rattle.bl_session.specs.History.{HistoryItem};
 ghost use Rattle.bl_session.specs.Menu.{files_of};
-ghost use Rattle.bl_session.specs.Submissions.{piece_submissions, file_submissions};
+ghost use Rattle.bl_session.specs.Submissions.{piece_submissions, submissions_for_files};
 ghost use Rattle.bl_session.specs.PhasesKept.{HasSmallFiles};
 ghost use Rattle.bl_session.specs.RunKept.{AreAskedButRest};
 
@@ -89,9 +89,9 @@ pub fn submit_files<S: Store, A: Allocator>(
     requires small { HasSmallFiles stage.now }
     ensures ok { OnOk result ((bytes : List ℕ) → S.given store.new
         ≡ S.given store.old
-        ++ file_submissions attempt 0 (files_of entry.now) (piece_states bytes stage.now)) }
+        ++ submissions_for_files attempt 0 (files_of entry.now) (piece_states bytes stage.now)) }
     ensures err { OnErr result ((bytes : List ℕ) → (rest : List HistoryItem) × AreAskedButRest
-        (file_submissions attempt 0 (files_of entry.now) (piece_states bytes stage.now)) rest
+        (submissions_for_files attempt 0 (files_of entry.now) (piece_states bytes stage.now)) rest
         (S.given store.old) (S.given store.new)) }
     ensures files { S.files store.new ≡ S.files store.old }
 {

@@ -48,8 +48,8 @@ impl<A: Allocator> Model for Stage<A> {
 
 impl<A: Allocator> Stage<A> {
     ghost use Rattle.std.specs.Prelude.{◌≡◌, ◌<◌, ◌↔◌, IsTrue, length, slice_index};
-    ghost use Rattle.bl_stage.specs.Staged.{staged, staged_file, table_of, AreStaged, AllCame};
-    ghost use Rattle.bl_stage.specs.Staged.{HasPool, AreInside};
+    ghost use Rattle.bl_stage.specs.Staged.{staged, staged_file, frames_of_file, AreStaged};
+    ghost use Rattle.bl_stage.specs.Staged.{AllCame, HasPool, AreInside};
     ghost use Rattle.bl_stage.specs.Pieces.{is_missing};
 
     /// Whether each piece of each file came.
@@ -117,7 +117,7 @@ impl<A: Allocator> Stage<A> {
     /// A file where it lies, whether it is complete or not.
     pub(crate) fn lies_in<'a, M: PhysMem>(&'a self, memory: &'a M, file: usize) -> FrameView<'a, M>
         requires file { file < length self.now.sizes }
-        requires inside { AreInside (table_of self.now file) (length (M.bytes memory.now)) }
+        requires inside { AreInside (frames_of_file self.now file) (length (M.bytes memory.now)) }
         ensures bytes { staged (M.bytes result.memory.now) result.frames.now result.size
             ≡ staged_file (M.bytes memory.now) self.now file }
         ensures memory { M.bytes result.memory.now ≡ M.bytes memory.now }

@@ -16,7 +16,7 @@ use Rattle.bl_mbi.specs.InfoToWriteFacts.{InfoToWriteFacts, AreBytes, IsModule}
 use Rattle.bl_mbi.specs.Spelling.{info_spelling, tags}
 use Rattle.bl_plan.specs.Placed.{ArePlaced, place_range}
 use Rattle.bl_plan.specs.PlannerFacts.{put_in}
-use Rattle.bl_plan.specs.Roles.{role_number}
+use Rattle.bl_plan.specs.RoleNumbers.{role_number}
 use Rattle.bl_plan.specs.declared.part.Place.{Place}
 use Rattle.bl_plan.specs.declared.part.Role.{Role}
 use Rattle.bl_plan.specs.declared.part.Role.TheVariants.{Module}

@@ -21,7 +21,7 @@ use Rattle.bl_plan.specs.declared.part.Role.{Role}
 use Rattle.bl_plan.specs.declared.part.Role.TheVariants.{Kernel, BootParams, CommandLine, Initrd}
 use Rattle.bl_load.specs.Addresses.{address_of}
 use Rattle.bl_load.specs.Handover.{Handover, end_of, zero_padded}
-use Rattle.bl_load.specs.Linux.{IsLinuxKernel}
+use Rattle.bl_load.specs.LinuxKernel.{IsLinuxKernel}
 use Rattle.bl_load.specs.LinuxRows.{linux_kernel_row, boot_params_facts}
 use Rattle.bl_load.specs.WellFormedEntry.{IsWellFormedValue}
 use Rattle.bl_load.specs.Parts.{content_of, handover_of}

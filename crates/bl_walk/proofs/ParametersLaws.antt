@@ -15,7 +15,7 @@ use Rattle.bl_plan.specs.declared.protocol.Protocol.TheVariants.{Multiboot2, Lin
 use Rattle.bl_plan.specs.declared.part.Role.TheVariants.{Kernel, Gdt, PageTables}
 use Rattle.bl_load.specs.Addresses.{address_of}
 use Rattle.bl_load.specs.Handover.{end_of}
-use Rattle.bl_load.specs.Linux.{IsLinuxKernel}
+use Rattle.bl_load.specs.LinuxKernel.{IsLinuxKernel}
 use Rattle.bl_load.specs.LinuxRows.{linux_kernel_row}
 use Rattle.bl_load.specs.WellFormedEntry.{IsWellFormedValue}
 use Rattle.bl_load.specs.Parts.{handover_of}

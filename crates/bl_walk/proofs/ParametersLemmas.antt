@@ -18,7 +18,7 @@ use Rattle.bl_plan.specs.declared.protocol.Protocol.{Protocol}
 use Rattle.bl_plan.specs.declared.protocol.Protocol.TheVariants as protocols
 use Rattle.bl_plan.specs.declared.part.Row.{Row}
 use Rattle.bl_load.specs.Addresses.{address_of}
-use Rattle.bl_load.specs.Linux.{IsLinuxKernel}
+use Rattle.bl_load.specs.LinuxKernel.{IsLinuxKernel}
 use Rattle.bl_load.specs.LinuxRows.{fixed_kernel_row, relocatable_kernel_row, linux_kernel_row}
 use Rattle.bl_load.specs.LinuxRows.{frame_row}
 use Rattle.bl_load.specs.LinuxRows.{line_end_limit}

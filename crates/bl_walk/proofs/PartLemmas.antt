@@ -10,7 +10,7 @@ use Rattle.std.proofs.lemmas.List.Folds.{find_at, Any-from_list_any}
 use Rattle.std.proofs.lemmas.List.Sums.{position_or_len_is}
 use Rattle.std.proofs.lemmas.Option.{slice_get-get_or}
 use Rattle.bl_plan.specs.AddressOrder.{places_in_order, place_key}
-use Rattle.bl_plan.specs.Roles.{role_number}
+use Rattle.bl_plan.specs.RoleNumbers.{role_number}
 use Rattle.bl_plan.specs.declared.part.Place.{Place}
 use Rattle.bl_plan.specs.declared.part.Role.{Role}
 use Rattle.bl_plan.specs.declared.part.Role.TheVariants.{Kernel, Module, Information, BootParams}

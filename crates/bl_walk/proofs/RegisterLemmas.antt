@@ -5,7 +5,7 @@ use Rattle.bl_plan.specs.declared.part.Role.TheVariants.{Information, BootParams
 use Rattle.bl_plan.specs.declared.protocol.Protocol.{Protocol}
 use Rattle.bl_plan.specs.declared.protocol.Protocol.TheVariants.{Multiboot2, Linux, Linux64}
 use Rattle.bl_load.specs.Addresses.{address_of}
-use Rattle.bl_load.specs.Linux.{entry_64}
+use Rattle.bl_load.specs.LinuxKernel.{entry_64}
 use Rattle.bl_load.specs.Parts.{registers_of, kernel_entry_base}
 use Rattle.bl_load.specs.Protocols.{has_params, descriptors_of, is_wide}
 use Rattle.bl_load.specs.KernelReading.{KernelReading}

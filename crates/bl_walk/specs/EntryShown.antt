@@ -13,7 +13,7 @@ use Rattle.bl_plan.specs.declared.protocol.Protocol.{Protocol}
 use Rattle.bl_plan.specs.declared.protocol.Protocol.TheVariants.{Multiboot2, Linux, Linux64}
 use Rattle.bl_load.specs.KernelBlock.{span_of}
 use Rattle.bl_load.specs.Multiboot2Kernel.{Multiboot2KernelFacts, IsMultiboot2Kernel}
-use Rattle.bl_load.specs.Linux.{entry_64}
+use Rattle.bl_load.specs.LinuxKernel.{entry_64}
 use Rattle.bl_load.specs.LinuxRows.{linux_kernel_row}
 use Rattle.bl_load.specs.Parts.{entered_at}
 use Rattle.bl_load.specs.EntryValue.{EntryValue, kernel_file, module_file, initrd_file}

@@ -10,7 +10,7 @@ ghost use Rattle.bl_abi.specs.Sessions.{IsSessionMade, TellsSession, TellsOutcom
 ghost use Rattle.bl_abi.specs.declared.given_fault.GivenFault.{GivenFault};
 ghost use Rattle.bl_handle.specs.declared.handle_fault.HandleFault.{HandleFault};
 ghost use Rattle.bl_handle.specs.declared.handle_fault.HandleFault.TheVariants.{NoSession};
-ghost use Rattle.bl_handle.specs.RequestTold.{TellsRequest, progress_status, record_ticket};
+ghost use Rattle.bl_handle.specs.HandleTold.{TellsRequest, progress_status, record_ticket};
 ghost use Rattle.bl_handle.specs.SessionSteps.{IsStarted, IsStepped};
 
 use bl_abi::{

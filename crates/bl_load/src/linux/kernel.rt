@@ -1,7 +1,7 @@
 //! A Linux kernel's file.
 ghost use Rattle.std.specs.Prelude.{◌≡◌, Some, None, IfOk, IfErr, MatchResult};
-ghost use Rattle.bl_load.specs.Linux as linux;
-ghost use Rattle.bl_load.specs.Linux.{IsLinuxKernel, entering_fault, telling_fault};
+ghost use Rattle.bl_load.specs.LinuxKernel as linux;
+ghost use Rattle.bl_load.specs.LinuxKernel.{IsLinuxKernel, entering_fault, telling_fault};
 ghost use Rattle.bl_load.specs.KernelReadingKept.{IsLinuxFault};
 ghost use Rattle.bl_load.specs.declared.refusal.PrepFault.TheVariants.{Refused};
 

@@ -46,9 +46,9 @@ impl<A: Allocator> MemFiles<A> {
 
 impl<A: Allocator> Files for MemFiles<A> {
     ghost use Rattle.std.specs.Prelude.{◌≡◌};
-    ghost use Rattle.bl_menu.specs.Files.{answer_in};
+    ghost use Rattle.bl_menu.specs.Files.{inline_answer};
 
-    ghost answers = { λ f name answer. answer ≡ answer_in f.files name };
+    ghost answers = { λ f name answer. answer ≡ inline_answer f.files name };
 
     ghost faults = { λ f. f.faults };
 

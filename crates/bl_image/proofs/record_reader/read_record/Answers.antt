@@ -4,7 +4,7 @@ use Rattle.bl_image.specs.ImageFaults.{record_fault}
 use Rattle.bl_image.specs.Layouts.{max_role}
 use Rattle.std.proofs.lemmas.Result.{err_from_is_err_and}
 use Rattle.bl_mem.specs.LittleEndian.{u64_at, u32_bytes, u64_bytes}
-use Rattle.bl_plan.specs.Roles as roles
+use Rattle.bl_plan.specs.RoleNumbers as roles
 use Rattle.bl_image.specs.Fields.{fields_fault, record_fields, role_field, index_field}
 use Rattle.bl_image.specs.Fields.{address_field, length_field}
 use Rattle.std.proofs.Common.{drop}

@@ -3,7 +3,7 @@ use Rattle.std.specs.Prelude.{nat_le, ◌&&◌}
 use Rattle.std.proofs.lemmas.Result.{err_from_is_err_and}
 use Rattle.bl_mem.specs.LittleEndian.{u32_bytes}
 use Rattle.bl_mem.proofs.LittleEndianLaws.{length-u32_bytes}
-use Rattle.bl_plan.specs.Roles as roles
+use Rattle.bl_plan.specs.RoleNumbers as roles
 use Rattle.bl_image.specs.declared.fault.ImageFault.TheVariants.{BadPart}
 use Rattle.bl_image.specs.Fields.{role_field}
 use Rattle.bl_image.specs.Layouts.{max_role}

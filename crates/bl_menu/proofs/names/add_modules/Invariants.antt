@@ -1,6 +1,6 @@
 use Rattle.std.proofs.Common.{◌≡◌, ◌++◌, ℕ, List, map, drop}
 use Rattle.bl_desc.specs.Views.{module_view}
-use Rattle.bl_menu.specs.NamesKept.{with_new_names}
+use Rattle.bl_menu.specs.DistinctNamesKept.{with_new_names}
 use Rattle.bl_menu.proofs.names.add_modules.Given as goal
 
 -- what was added so far, and what is left, give all

@@ -2,7 +2,7 @@ use Rattle.std.proofs.Common.{◌≡◌, drop, map}
 use Rattle.std.specs.List.{flat_map}
 use Rattle.bl_desc.specs.Views.{view}
 use Rattle.bl_menu.specs.DescribedMenu.{described_entry, names_of_entries}
-use Rattle.bl_menu.specs.NamesKept.{with_new_names}
+use Rattle.bl_menu.specs.DistinctNamesKept.{with_new_names}
 use Rattle.bl_desc.specs.EntryNames.{file_names}
 use Rattle.bl_menu.proofs.names.names_of.Given as goal
 

@@ -1,6 +1,6 @@
 use Rattle.std.proofs.Common.{◌≡◌, ◌<◌, ◌≤◌, ◌∙◌, [], length, ap, rules, refl, arith}
 use Rattle.std.proofs.Common.{subst}
-use Rattle.bl_session.specs.AttemptKept.{IsMemoryOf, KeepsAttempt}
+use Rattle.bl_session.specs.AttemptKept.{IsMemoryAfterAttempt, KeepsAttempt}
 use Rattle.bl_session.specs.Menu.{EntryFacts, facts_of}
 use Rattle.bl_session.specs.BootSteps.{unstarted, handed_over}
 use Rattle.bl_session.specs.Phases.{handover_held}
@@ -67,7 +67,7 @@ returns-in-Waits-clause-memory g c =
     let mid = bytes c.attempts.memory in
     let new = bytes c.begin_attempt.new.memory in
     same_on pool old mid new c.attempts.invariant.outside
-    (subst (λ (x : Attempt g.row.A.Denot). IsMemoryOf pool mid new x) c.in-Waits.is
+    (subst (λ (x : Attempt g.row.A.Denot). IsMemoryAfterAttempt pool mid new x) c.in-Waits.is
     c.in_ok-stage.ensures.memory)
 
 pub returns-in-Waits-clause-phase : goal.returns-in-Waits-clause-phase
@@ -138,7 +138,7 @@ returns-in_err-push-in-Ended-Refused-clause-err g c =
     let is : c.in_ok-stage.field-0 ≡ Ended (Refused c.in-Ended-Refused.refusal) = cc in
     on_error c.from_residual-in_err-push-in-Ended-Refused.result
     (same_on pool old mid new c.attempts.invariant.outside
-    (subst (λ (x : Attempt g.row.A.Denot). IsMemoryOf pool mid new x) is
+    (subst (λ (x : Attempt g.row.A.Denot). IsMemoryAfterAttempt pool mid new x) is
     c.in_ok-stage.ensures.memory))
 
 pub returns-in_err-push-in-Ended-Refused-clause-kept :
@@ -209,7 +209,7 @@ returns-in-Ended-HandedOver-clause-memory g c =
     memory_on pool
     (handed_over c.entry_of-entry.result c.attempts.refused.items (handover_held new handoff))
     (bytes c.args.memory.now) mid new c.attempts.invariant.outside
-    (subst (λ (x : Attempt g.row.A.Denot). IsMemoryOf pool mid new x) is
+    (subst (λ (x : Attempt g.row.A.Denot). IsMemoryAfterAttempt pool mid new x) is
     c.in_ok-stage.ensures.memory)
 
 pub returns-in-Ended-HandedOver-clause-kept : goal.returns-in-Ended-HandedOver-clause-kept
@@ -239,7 +239,7 @@ attempts-preserved g c =
           c.in_ok-push-in-Ended-Refused.ensures.items further);
       outside =
           same_on pool (bytes c.args.memory.now) mid new so_far.outside
-          (subst (λ (x : Attempt g.row.A.Denot). IsMemoryOf pool mid new x) is
+          (subst (λ (x : Attempt g.row.A.Denot). IsMemoryAfterAttempt pool mid new x) is
           c.in_ok-stage.ensures.memory);
       kept = keeps_on so_far.kept c.begin_attempt.ensures.kept;
     }

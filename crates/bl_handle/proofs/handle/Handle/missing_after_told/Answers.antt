@@ -3,7 +3,7 @@ use Rattle.std.specs.Option.{MatchOption}
 use Rattle.bl_session.specs.declared.ticket.Ticket.{Ticket}
 use Rattle.bl_session.specs.Phases.{SessionFacts, state_at}
 use Rattle.bl_session.specs.Requests.{request_after}
-use Rattle.bl_handle.specs.RequestTold.{record_ticket}
+use Rattle.bl_handle.specs.HandleTold.{record_ticket}
 use Rattle.bl_handle.proofs.ToldLemmas.{told_of_kept}
 use Rattle.bl_handle.proofs.handle.Handle.missing_after_told.Goals as goal
 

@@ -17,7 +17,7 @@ use denote.Signature.{plain, types_at}
 use denote.Triple.Entry.{alive}
 use denote.Triple.Walked.{says, Stays, stay_none_ref, Goes-none_ref, walk_of, ends_at}
 use Rattle.std.proofs.raw_atomic.Walks.{proved}
-use Rattle.bl_session.specs.StoresKept.{item_of}
+use Rattle.bl_session.specs.StoresKept.{item_of_completion}
 use Rattle.std.specs.contracts.option.Option as O
 use Rattle.bl_session.specs.contracts.store.Completion as C
 use Rattle.bl_session.specs.contracts.history.History as H
@@ -62,7 +62,7 @@ and_answer_spec 𝓤 𝓛 𝓜 𝓡 wired B A L h g d e f k met lends drops =
     let files : Val = vptr a.1.0.ref_ptr.0 a.1.0.ref_ptr.1 in
     let answer : Val = vptr a.1.1.0.ref_ptr.0 a.1.1.0.ref_ptr.1 in
     let made : H.the_row.Denot = record {
-      items = a.0.now.items ++ item_of (g.files a.1.0.now) a.0.now.items a.1.1.0.now ∷ [];
+      items = a.0.now.items ++ item_of_completion (g.files a.1.0.now) a.0.now.items a.1.1.0.now ∷ [];
     } in
     let bound : (walk_of 𝓛 ended stayed clauses).Ghost =
     ((κs, qs, bounds, a, (before ∷ [], (files ∷ [], (answer ∷ [], tt)))), ghost) in

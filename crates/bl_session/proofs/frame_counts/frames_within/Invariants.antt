@@ -1,6 +1,6 @@
 use Rattle.std.proofs.Common.{◌≡◌, ◌≤◌, take}
 use Rattle.bl_map.specs.PoolFrames.{frames_for}
-use Rattle.bl_session.proofs.file_frames.frames_within.Given as goal
+use Rattle.bl_session.proofs.frame_counts.frames_within.Given as goal
 
 abbrev pub invariant-loop-size : goal.invariant-loop-size
 invariant-loop-size l = record {
