@@ -2,7 +2,7 @@ use Rattle.bl_load.specs.CheckedEntryKept.{value_of_files}
 use Rattle.bl_load.specs.EntryValue.{kernel_file}
 use Rattle.bl_bzimage.proofs.CheckLaws.{fixed_preferred}
 use Rattle.bl_load.proofs.LinuxKernelLemmas.{setup_is}
-use Rattle.bl_load.proofs.linux.SetupReadKernel.rows.Goals as goal
+use Rattle.bl_load.proofs.linux.SetupLoadableKernel.rows.Goals as goal
 
 pub linux_rows-requires : goal.linux_rows-requires
 linux_rows-requires g c = λ fixed.

@@ -1,5 +1,5 @@
 use Rattle.bl_load.proofs.LinuxKernelLemmas.{setup_is, few_runs}
-use Rattle.bl_load.proofs.linux.SetupReadKernel.content.Goals as goal
+use Rattle.bl_load.proofs.linux.SetupLoadableKernel.content.Goals as goal
 
 pub linux_content-requires-clause-setup : goal.linux_content-requires-clause-setup
 linux_content-requires-clause-setup g c = setup_is c.requires.ready.read.1

@@ -1,6 +1,6 @@
 use Rattle.bl_load.specs.CheckedEntryKept.{texts_in}
 use Rattle.bl_load.proofs.ReadingLemmas.{modules_fit}
-use Rattle.bl_load.proofs.multiboot2.KernelReadKernel.content.Goals as goal
+use Rattle.bl_load.proofs.multiboot2.KernelLoadableKernel.content.Goals as goal
 
 pub multiboot2_content-requires-clause-ends : goal.multiboot2_content-requires-clause-ends
 multiboot2_content-requires-clause-ends g c =
