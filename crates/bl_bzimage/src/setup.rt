@@ -1,6 +1,6 @@
 //! What is read of a kernel's file.
-ghost use Rattle.std.specs.Prelude.{◌≡◌, ◌≤◌, ◌<◌, ◌+◌, ◌-◌, Some, None, length, IfOk, IfErr};
-ghost use Rattle.bl_bzimage.specs.Setup.{IsSetup, header_end, payload_at, setup_fault, setup_of};
+ghost use Rattle.std.specs.Prelude.{◌≡◌, ◌≤◌, ◌<◌, ◌-◌, Some, length, IfOk, IfErr};
+ghost use Rattle.bl_bzimage.specs.Setup.{IsSetup, payload_at, setup_fault, setup_of};
 
 use crate::checks::{
     end_of_header, has_sound_alignment, has_sound_pref_address, is_bz_image, is_loaded_high,

@@ -1,5 +1,5 @@
 //! The default entry of a menu and its fallbacks.
-ghost use Rattle.std.specs.Prelude.{◌≡◌, ◌<◌, ◌≤◌, [], length, map, codes, All, IfOk};
+ghost use Rattle.std.specs.Prelude.{◌<◌, ◌≤◌, [], length, map, codes, All, IfOk};
 ghost use Rattle.toml.specs.View.{view, table_view, items_view};
 ghost use Rattle.bl_desc.specs.Values as spec;
 ghost use Rattle.bl_plan.specs.MenuLimits.{max_entries};

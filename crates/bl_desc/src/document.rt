@@ -1,5 +1,5 @@
 //! A description as a whole.
-ghost use Rattle.std.specs.Prelude.{◌≡◌, codes, IfOk};
+ghost use Rattle.std.specs.Prelude.{codes, IfOk};
 ghost use Rattle.toml.specs.View.{table_view};
 ghost use Rattle.bl_desc.specs.Values as values;
 ghost use Rattle.bl_desc.specs.Described as spec;

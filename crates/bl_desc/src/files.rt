@@ -1,5 +1,5 @@
 //! The files of a description.
-ghost use Rattle.std.specs.Prelude.{◌≡◌, [], map, codes, Some};
+ghost use Rattle.std.specs.Prelude.{[], map, codes, Some};
 ghost use Rattle.toml.specs.View.{view, table_view, items_view};
 ghost use Rattle.bl_desc.specs.Values as values;
 ghost use Rattle.bl_desc.specs.Described as spec;

@@ -1,5 +1,5 @@
 //! The modules of an entry.
-ghost use Rattle.std.specs.Prelude.{◌≡◌, [], map, codes};
+ghost use Rattle.std.specs.Prelude.{[], map, codes};
 ghost use Rattle.toml.specs.View.{view, table_view, items_view};
 ghost use Rattle.bl_desc.specs.Values as values;
 ghost use Rattle.bl_desc.specs.Entries as spec;

@@ -1,5 +1,5 @@
 //! The image of what memory hands over.
-ghost use Rattle.std.specs.Prelude.{◌≡◌, ◌+◌, ◌≤◌, length, take, map, All, IfOk};
+ghost use Rattle.std.specs.Prelude.{◌≡◌, ◌+◌, ◌≤◌, length, All, IfOk};
 ghost use Rattle.bl_load.specs.PlanContents.{part_in, handover_in};
 
 use crate::image::{Image, ImagePart};

@@ -1,5 +1,5 @@
 //! The registers of an image, read.
-ghost use Rattle.std.specs.Prelude.{◌≡◌, ◌+◌, ◌<◌, ◌^◌, ◌++◌, ℕ, All, IfOk, OnOk, length};
+ghost use Rattle.std.specs.Prelude.{◌≡◌, ◌+◌, ◌<◌, ◌^◌, All, IfOk, OnOk, length};
 ghost use Rattle.std.specs.Prelude.{replicate};
 ghost use Rattle.std.specs.List.{flat_map};
 ghost use Rattle.bl_mem.specs.LittleEndian.{u64_bytes};

@@ -1,5 +1,5 @@
 //! What the bodies of tags tell.
-ghost use Rattle.std.specs.Prelude.{◌≡◌, ◌≤◌, ◌%◌, ◌/◌, ◌==◌, length, option_map, IfSome};
+ghost use Rattle.std.specs.Prelude.{◌≡◌, ◌≤◌, ◌%◌, ◌/◌, ◌==◌, length, option_map};
 ghost use Rattle.std.specs.List.{list_all, list_any};
 ghost use Rattle.bl_mbi.specs.ReadingSteps.{MatchesReading, or_bad};
 ghost use Rattle.bl_mbi.specs.ReadingSteps as fields;

@@ -1,5 +1,5 @@
 //! Boot information, read.
-ghost use Rattle.std.specs.Prelude.{◌≡◌, ◌^◌, ◌<◌, length, Err, IfOk, IfErr};
+ghost use Rattle.std.specs.Prelude.{◌≡◌, ◌<◌, Err, IfOk, IfErr};
 ghost use Rattle.std.specs.Prelude.{MatchResult};
 ghost use Rattle.bl_mbi.specs.InfoFacts.{InfoFacts, IsSpelling};
 ghost use Rattle.bl_mbi.specs.declared.fault.InfoFault.TheVariants.{NoMemory};

@@ -1,5 +1,5 @@
 //! Each tag of boot information, read where it stands.
-ghost use Rattle.std.specs.Prelude.{◌≡◌, ◌≤◌, ◌+◌, length, option_map, IfOk};
+ghost use Rattle.std.specs.Prelude.{◌≡◌, ◌≤◌, ◌+◌, length, IfOk};
 ghost use Rattle.bl_mbi.specs.ReadingSteps.{MatchesReading};
 ghost use Rattle.bl_mbi.specs.RestKept.{rest_facts};
 ghost use Rattle.bl_mbi.specs.ReadingSteps as fields;

@@ -1,6 +1,6 @@
 //! The form of boot parameters, from the first offset to the last.
-ghost use Rattle.std.specs.Prelude.{◌≡◌, ◌≤◌, ◌<◌, ◌+◌, ◌==◌, ℕ, not, true, false, length};
-ghost use Rattle.std.specs.Prelude.{slice_index, MatchResult};
+ghost use Rattle.std.specs.Prelude.{◌≡◌, ◌≤◌, ◌<◌, ◌+◌, ℕ, false, length};
+ghost use Rattle.std.specs.Prelude.{MatchResult};
 ghost use Rattle.bl_bzimage.specs.Setup.{header_end};
 ghost use Rattle.bl_params.specs.BootParamsForm.{breaks_at, is_nonzero_at, e820_entry_count};
 ghost use Rattle.bl_params.specs.Reading.{HasFirstParamFault};

@@ -1,8 +1,7 @@
 //! The memory map in boot parameters.
-ghost use Rattle.std.specs.Prelude.{◌≡◌, ◌≤◌, ◌<◌, ◌+◌, ◌*◌, ◌&&◌, ℕ, nat_le, not, true, false};
+ghost use Rattle.std.specs.Prelude.{◌≡◌, ◌≤◌, ◌<◌, ◌+◌, ◌*◌, ◌&&◌, nat_le, true};
 ghost use Rattle.std.specs.Prelude.{length, MatchResult};
 ghost use Rattle.bl_map.specs.Kinds.{kind_number};
-ghost use Rattle.bl_bzimage.specs.Setup.{header_end};
 ghost use Rattle.bl_params.specs.BootParamsForm.{e820_entry_count, e820_entry_offset};
 ghost use Rattle.bl_params.specs.Reading.{HasFirstParamFault, AreE820Entries, IsE820Entry};
 ghost use Rattle.bl_params.specs.ParamsToWriteFacts.{max_e820_entries};

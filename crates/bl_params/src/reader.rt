@@ -1,5 +1,5 @@
 //! Boot parameters, read back.
-ghost use Rattle.std.specs.Prelude.{◌≡◌, ◌≤◌, ◌+◌, ◌*◌, length, IfOk, IfErr};
+ghost use Rattle.std.specs.Prelude.{◌+◌, ◌*◌, IfOk, IfErr};
 ghost use Rattle.bl_params.specs.Reading.{IsParams, HasFirstParamFault};
 
 use crate::checks::{end_of_header, pass_front, pass_header, pass_zeros};

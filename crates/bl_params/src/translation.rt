@@ -1,5 +1,5 @@
 //! Addresses translated by page tables.
-ghost use Rattle.std.specs.Prelude.{◌≡◌, ◌+◌, ◌*◌, ◌^◌, ◌<◌, IfSome, length};
+ghost use Rattle.std.specs.Prelude.{◌≡◌, ◌+◌, ◌*◌, ◌<◌, IfSome, length};
 ghost use Rattle.bl_params.specs.Translation as spec;
 ghost use Rattle.bl_params.specs.SizesAndOffsets.{page_tables_size};
 

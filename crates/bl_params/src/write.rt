@@ -1,5 +1,5 @@
 //! Boot parameters as bytes.
-ghost use Rattle.std.specs.Prelude.{◌≡◌, ◌≤◌, ◌+◌, ◌*◌, ℕ, length, replicate, slice_index};
+ghost use Rattle.std.specs.Prelude.{◌≡◌, ◌≤◌, ◌+◌, ℕ, length, replicate, slice_index};
 ghost use Rattle.std.specs.List.{flat_map};
 ghost use Rattle.bl_params.specs.BootParams.{boot_params, e820_entry_bytes};
 ghost use Rattle.bl_params.specs.FieldBytes.{byte_over};

@@ -1,5 +1,5 @@
 //! Laws of the definitions: rows have one list of places or one first fault.
-ghost use Rattle.std.specs.Prelude.{◌≡◌, ◌≢◌, ◌⊎◌, ℕ, List, [], length, All, AllPairs};
+ghost use Rattle.std.specs.Prelude.{◌≡◌, ◌≢◌, ◌⊎◌, ℕ, List, length, All, AllPairs};
 ghost use Rattle.std.specs.List.{AllZip};
 ghost use Rattle.std.specs.declared.ops.Range.{Range};
 ghost use Rattle.bl_map.specs.MachineFacts.{MachineFacts};

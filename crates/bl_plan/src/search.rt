@@ -1,6 +1,6 @@
 //! The search for a permitted address. It goes from one blocked stretch to the next, never from
 //! byte to byte.
-ghost use Rattle.std.specs.Prelude.{◌≡◌, ℕ, ◌+◌, ◌≤◌, MatchOption, MatchBool};
+ghost use Rattle.std.specs.Prelude.{ℕ, ◌+◌, ◌≤◌, MatchOption, MatchBool};
 ghost use Rattle.bl_mem.specs.Least.{IsLeast, IsGreatest};
 ghost use Rattle.bl_plan.specs.Permitted.{IsAtSide};
 ghost use Rattle.bl_plan.specs.Kept.{IsPermittedIn};

@@ -1,7 +1,7 @@
 //! `made_image limit=N step=N` and `made_images limits=A..B step=N`: the image of a handover that
 //! no description leads to, into a sink in memory, or into one of each limit. Its registers all
 //! differ, and its second part is longer than what is copied at once.
-ghost use Rattle.std.specs.Prelude.{◌≡◌, ◌+◌, ◌≤◌, length, All, IfSome};
+ghost use Rattle.std.specs.Prelude.{◌+◌, ◌≤◌, length, All, IfSome};
 
 mod handover;
 

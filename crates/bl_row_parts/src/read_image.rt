@@ -1,6 +1,5 @@
 //! `read_image FIELD .. of BYTES`, `image_fault BYTES` (the fault alone, or `none`), and
 //! `read_images fails=A..B FIELD .. of BYTES` (where each read from A to B - 1 is a fault).
-ghost use Rattle.std.specs.Prelude.{◌≡◌};
 
 use crate::handoff::{say_place, say_registers};
 use crate::source::{SourceFields, read_source};

@@ -1,5 +1,5 @@
 //! A file that was fetched, and one of its pieces.
-ghost use Rattle.std.specs.Prelude.{◌≡◌, ◌↔◌, ℕ, ◌*◌, ◌<◌, ◌^◌, length};
+ghost use Rattle.std.specs.Prelude.{◌≡◌, ◌↔◌, ◌*◌, ◌<◌, ◌^◌, length};
 ghost use Rattle.std.specs.Prelude.{IfSome, IsSome, slice_index_or};
 ghost use Rattle.bl_stage.specs.PieceStates.{piece_of};
 ghost use Rattle.bl_session.specs.MenuFiles.{missing, size_of, file_bytes};

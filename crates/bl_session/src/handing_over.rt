@@ -1,5 +1,5 @@
 //! An attempt ends, once each piece of its files came.
-ghost use Rattle.std.specs.Prelude.{◌≡◌, ◌+◌, ◌≤◌, ◌<◌, ◌^◌, IfErr, IfOk, OnErr, OnOk, All};
+ghost use Rattle.std.specs.Prelude.{◌≡◌, ◌+◌, ◌<◌, ◌^◌, IfErr, IfOk, OnErr, OnOk};
 ghost use Rattle.std.specs.Prelude.{length, map};
 ghost use Rattle.bl_map.specs.PoolFrames.{HasFramesFor};
 ghost use Rattle.bl_mem.specs.Files.{AreAddressesBelow, AllApartFrom};

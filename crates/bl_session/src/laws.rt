@@ -1,5 +1,5 @@
 //! Laws of the definitions: a boot has one end, and each step leads on to it.
-ghost use Rattle.std.specs.Prelude.{◌≡◌, ◌≤◌, ℕ, List, [], Option, map, length, All};
+ghost use Rattle.std.specs.Prelude.{◌≡◌, ℕ, List, [], Option, map, All};
 ghost use Rattle.bl_map.specs.MachineFacts.{MachineFacts};
 ghost use Rattle.bl_load.specs.WellFormedEntry.{IsWellFormedValue};
 ghost use Rattle.bl_load.specs.EntryValue.{EntryValue};

@@ -1,8 +1,8 @@
 //! What a script store is still to answer.
-ghost use Rattle.std.specs.Prelude.{◌≡◌, ◌++◌, ℕ, List, map, IfOk, OnOk, OnErr};
+ghost use Rattle.std.specs.Prelude.{◌≡◌, ◌++◌, map, IfOk, OnOk, OnErr};
 ghost use Rattle.std.specs.Int.Bits.{bit_xor};
 ghost use Rattle.bl_session.specs.Stores.{event_of};
-ghost use Rattle.bl_session.specs.Scripts.{altered, event_of_reply, replies_to};
+ghost use Rattle.bl_session.specs.Scripts.{event_of_reply, replies_to};
 
 use crate::store::Completion;
 use crate::stored_files::StoredFiles;

@@ -1,5 +1,5 @@
 //! The files of a store, and their pieces.
-ghost use Rattle.std.specs.Prelude.{◌≡◌, ◌↔◌, ℕ, ◌*◌, ◌<◌, List, length};
+ghost use Rattle.std.specs.Prelude.{◌≡◌, ◌↔◌, ◌*◌, ◌<◌, List, length};
 ghost use Rattle.std.specs.Prelude.{IfSome, IsSome, slice_index_or};
 ghost use Rattle.bl_stage.specs.PieceStates.{piece_of};
 ghost use Rattle.bl_session.specs.MenuFiles.{File, missing, size_of, file_bytes};

@@ -1,5 +1,5 @@
 //! What a store was asked for, and the answer to it.
-ghost use Rattle.std.specs.Prelude.{◌≡◌, ℕ, List, IfOk};
+ghost use Rattle.std.specs.Prelude.{◌≡◌, IfOk};
 ghost use Rattle.bl_session.specs.Stores.{answer_to, event_of};
 
 use crate::store::Completion;

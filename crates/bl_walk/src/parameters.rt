@@ -1,5 +1,5 @@
 //! What boot parameters show a Linux kernel.
-ghost use Rattle.std.specs.Prelude.{◌≡◌, ◌-◌, ◌≤◌, true, IfOk, IfErr};
+ghost use Rattle.std.specs.Prelude.{◌≡◌, ◌-◌, true, IfOk, IfErr};
 ghost use Rattle.bl_load.specs.Protocols.{has_params};
 ghost use Rattle.bl_walk.specs.Faults.{HasWalkFault};
 ghost use Rattle.bl_walk.specs.Seen.{HasParameters, IsLine, IsInitrd, IsSeen};

@@ -1,5 +1,5 @@
 //! Bytes by address, in the parts of an image.
-ghost use Rattle.std.specs.Prelude.{◌≡◌, ◌+◌, ◌<◌, ◌≤◌, ◌^◌, true, false, length, option_copied};
+ghost use Rattle.std.specs.Prelude.{◌≡◌, ◌+◌, ◌<◌, ◌≤◌, true, false, length, option_copied};
 ghost use Rattle.std.specs.Prelude.{IfSome, AllPairs};
 ghost use Rattle.std.specs.List.Sorted.{IsPartitionPoint};
 ghost use Rattle.bl_image.specs.ImageHandover.{PartAscends};

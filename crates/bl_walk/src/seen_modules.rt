@@ -1,6 +1,5 @@
 //! The modules of a Multiboot2 kernel.
-ghost use Rattle.std.specs.Prelude.{◌≡◌, ◌-◌, ◌≤◌, ℕ, length, IfOk, IfErr, All};
-ghost use Rattle.std.specs.List.{Contains};
+ghost use Rattle.std.specs.Prelude.{◌-◌, ◌≤◌, IfOk, IfErr, All};
 ghost use Rattle.bl_mbi.specs.InfoToWriteFacts.{IsModule};
 ghost use Rattle.bl_walk.specs.Faults.{IsFollowed, HasWalkFault};
 ghost use Rattle.bl_walk.specs.Seen.{IsSeenModule, AreSeenModules};

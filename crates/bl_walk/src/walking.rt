@@ -1,5 +1,5 @@
 //! What a kernel sees in an image.
-ghost use Rattle.std.specs.Prelude.{◌≡◌, IfOk, OnOk, IfErr};
+ghost use Rattle.std.specs.Prelude.{IfOk, OnOk, IfErr};
 ghost use Rattle.bl_walk.specs.Faults.{HasWalkFault, IsSound};
 ghost use Rattle.bl_walk.specs.Seen.{IsSeen};
 ghost use Rattle.bl_walk.specs.EntryShown.{RunsEndLow};

@@ -1,5 +1,5 @@
 //! The items of arrays: regions, files, modules, numbers.
-ghost use Rattle.std.specs.Prelude.{◌≡◌, true, codes, MatchOption};
+ghost use Rattle.std.specs.Prelude.{◌≡◌, true, MatchOption};
 ghost use Rattle.toml.specs.Data.{get_member};
 ghost use Rattle.toml.specs.View.{view, table_view, items_view};
 ghost use Rattle.bl_desc.specs.Allowed.{allows as allowed_of, key_rules};

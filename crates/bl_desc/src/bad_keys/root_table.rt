@@ -1,7 +1,6 @@
 //! The first bad key of a description.
-ghost use Rattle.std.specs.Prelude.{◌≡◌, true, codes, IfOk, IsSome, MatchOption};
-ghost use Rattle.toml.specs.View.{view, table_view, items_view};
-ghost use Rattle.toml.specs.Data.{get_member};
+ghost use Rattle.std.specs.Prelude.{◌≡◌, true, IfOk, IsSome, MatchOption};
+ghost use Rattle.toml.specs.View.{table_view};
 ghost use Rattle.bl_desc.specs.Described.{described_in};
 ghost use Rattle.bl_desc.specs.BadKeys.{BreaksAnyOf, IsBadKey};
 ghost use Rattle.bl_desc.specs.BadKeysKept as tests;

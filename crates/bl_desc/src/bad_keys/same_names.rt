@@ -1,9 +1,7 @@
 //! Two files of one name.
-ghost use Rattle.std.specs.Prelude.{◌≡◌, ◌<◌, true, map, length, get_or, take, IfOk, MatchOption};
-ghost use Rattle.std.specs.Prelude.{codes, option_map};
-ghost use Rattle.toml.specs.Data.{get};
+ghost use Rattle.std.specs.Prelude.{◌≡◌, ◌<◌, true, map, IfOk, MatchOption};
 ghost use Rattle.toml.specs.View.{view};
-ghost use Rattle.bl_desc.specs.Described.{has_file, names_differ};
+ghost use Rattle.bl_desc.specs.Described.{names_differ};
 ghost use Rattle.bl_desc.specs.BadKeysKept as tests;
 ghost use Rattle.bl_desc.specs.DescriptionKept as kept;
 
