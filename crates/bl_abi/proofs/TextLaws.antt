@@ -9,7 +9,8 @@ use Rattle.std.proofs.lemmas.List.{append-nil}
 use Rattle.std.proofs.Math.Seq.{drop-append_seam, take-append_seam}
 use Rattle.bl_walk.specs.SeenFacts.{SeenFacts, SeenModuleFacts}
 use Rattle.bl_abi.specs.Given.{are_among, range_bytes}
-use Rattle.bl_abi.specs.SeenTold.{copy_range, lines_seen, modules_told, text_seen, text_upto_new}
+use Rattle.bl_abi.specs.SeenTold.{copy_range, lines_seen, modules_told, text_seen}
+use Rattle.bl_abi.specs.SeenTold.{text_before_rsdp_new}
 
 -- as many elements as the piece has, from where it begins
 piece_at : (before piece after text : List ℕ) (at n : ℕ) → text ≡ before ++ (piece ++ after)
@@ -91,5 +92,5 @@ old_copy seen copy is =
     copy_of (lines_seen seen) (unwrap_or seen.rsdp_new []) copy seen.rsdp_old is
 
 pub new_copy : (seen : SeenFacts) (copy : List ℕ) → seen.rsdp_new ≡ Some copy
-    → range_bytes (text_seen seen) (copy_range (length (text_upto_new seen)) seen.rsdp_new) ≡ copy
-new_copy seen copy is = last_copy_of (text_upto_new seen) copy seen.rsdp_new is
+    → range_bytes (text_seen seen) (copy_range (length (text_before_rsdp_new seen)) seen.rsdp_new) ≡ copy
+new_copy seen copy is = last_copy_of (text_before_rsdp_new seen) copy seen.rsdp_new is

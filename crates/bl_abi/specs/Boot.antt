@@ -164,11 +164,11 @@ pub data IsBootGivenFault (machine : MachineRecord) (regions : List RegionRecord
 
 -- how a call ends that has room for so many places, with memory that held the old bytes from
 -- address 0 on
-abbrev pub IsBootEnd : MachineRecord → List RegionRecord → GivenFacts → List EntryRecord → ℕ
+abbrev pub IsGivenBootEnd : MachineRecord → List RegionRecord → GivenFacts → List EntryRecord → ℕ
     → List ℕ → ℕ → (old new : List ℕ) → Result PhaseFacts GivenFault → Type 0
-IsBootEnd machine regions given entries default fallbacks room old new (Ok end) =
+IsGivenBootEnd machine regions given entries default fallbacks room old new (Ok end) =
     HasGivenBootEnded machine regions given entries default fallbacks room old new end
-IsBootEnd machine regions given entries default fallbacks room old new (Err fault) =
+IsGivenBootEnd machine regions given entries default fallbacks room old new (Err fault) =
     IsBootGivenFault machine regions given entries default fallbacks room (length old) fault
     × (new ≡ old)
 

@@ -105,9 +105,9 @@ pub data IsNotLoaded (machine : MachineRecord) (regions : List RegionRecord) (gi
 
 -- how a call ends that has room for so many places, with memory that held the old bytes from
 -- address 0 on: after a fault it has them still
-abbrev pub IsLoadEnd : MachineRecord → List RegionRecord → GivenFacts → EntryRecord → ℕ
+abbrev pub IsGivenLoadEnd : MachineRecord → List RegionRecord → GivenFacts → EntryRecord → ℕ
     → (old new : List ℕ) → Result HandoffFacts LoadFault → Type 0
-IsLoadEnd machine regions given entry room old new (Ok handoff) =
+IsGivenLoadEnd machine regions given entry room old new (Ok handoff) =
     IsLoaded machine regions given entry room old new handoff
-IsLoadEnd machine regions given entry room old new (Err fault) =
+IsGivenLoadEnd machine regions given entry room old new (Err fault) =
     IsNotLoaded machine regions given entry room (length old) fault × (new ≡ old)

@@ -34,9 +34,9 @@ pub record IsPrepared (machine : MachineRecord) (regions : List RegionRecord) (g
 
 -- how a call ends that has room for so many places: a fault is that of a load into memory that
 -- ends with the machine's
-abbrev pub IsPrepareEnd : MachineRecord → List RegionRecord → GivenFacts → EntryRecord → ℕ
+abbrev pub IsGivenPrepareEnd : MachineRecord → List RegionRecord → GivenFacts → EntryRecord → ℕ
     → Result HandoffFacts LoadFault → Type 0
-IsPrepareEnd machine regions given entry room (Ok handoff) =
+IsGivenPrepareEnd machine regions given entry room (Ok handoff) =
     IsPrepared machine regions given entry room handoff
-IsPrepareEnd machine regions given entry room (Err fault) =
+IsGivenPrepareEnd machine regions given entry room (Err fault) =
     IsNotLoaded machine regions given entry room machine.size fault

@@ -21,11 +21,11 @@ abbrev pub lines_seen : SeenFacts → List ℕ
 lines_seen seen = seen.line ++ flat_map (λ m. m.line) seen.modules
 
 -- up to the new copy
-abbrev pub text_upto_new : SeenFacts → List ℕ
-text_upto_new seen = lines_seen seen ++ unwrap_or seen.rsdp_old []
+abbrev pub text_before_rsdp_new : SeenFacts → List ℕ
+text_before_rsdp_new seen = lines_seen seen ++ unwrap_or seen.rsdp_old []
 
 abbrev pub text_seen : SeenFacts → List ℕ
-text_seen seen = text_upto_new seen ++ unwrap_or seen.rsdp_new []
+text_seen seen = text_before_rsdp_new seen ++ unwrap_or seen.rsdp_new []
 
 -- the range of a copy that lies in the text from this offset on; a copy that is not there has the
 -- range of a file that can't be read
@@ -57,7 +57,7 @@ seen_told seen = record {
   initrd_length = initrd_length seen.initrd;
   text_length = length (text_seen seen);
   rsdp_old = copy_range (length (lines_seen seen)) seen.rsdp_old;
-  rsdp_new = copy_range (length (text_upto_new seen)) seen.rsdp_new;
+  rsdp_new = copy_range (length (text_before_rsdp_new seen)) seen.rsdp_new;
 }
 
 -- ---- the arrays

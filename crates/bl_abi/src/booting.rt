@@ -5,7 +5,7 @@ ghost use Rattle.bl_mem.specs.Memory.{KeepsSizeAndRoom, memory_from};
 ghost use Rattle.bl_session.specs.Ledger.{sliced_file};
 ghost use Rattle.bl_session.specs.Run.{final_phase};
 ghost use Rattle.bl_session.specs.Phases.{PhaseFacts};
-ghost use Rattle.bl_abi.specs.Boot.{HasBootEnded, IsBootEnd, IsBootMenuFault, IsMenuAllowed};
+ghost use Rattle.bl_abi.specs.Boot.{HasBootEnded, IsGivenBootEnd, IsBootMenuFault, IsMenuAllowed};
 ghost use Rattle.bl_abi.specs.Boot.{files_misuse, typed_end, menu_given};
 ghost use Rattle.bl_abi.specs.Boot as spec;
 ghost use Rattle.bl_abi.specs.BootTold.{TellsBoot};
@@ -120,7 +120,7 @@ pub(crate) fn boot<A: Allocator + Copy>(
     fallbacks: &[u32],
     room: usize,
 ) -> Result<Result<Outcome<A>, BootFault<A>>, GivenFault>
-    ensures end { IsBootEnd machine.now regions.now given.now entries.now default fallbacks.now
+    ensures end { IsGivenBootEnd machine.now regions.now given.now entries.now default fallbacks.now
         room (memory_from base memory.old) (memory_from base memory.new) (typed_end result) }
     ensures room { OnOk result (MAX_PARTS ≤ room) }
 {
@@ -159,7 +159,7 @@ pub fn boot_told<A: Allocator + Copy>(
     count: &mut u64,
 ) -> u32
     ensures { (end : Result PhaseFacts GivenFault)
-        × IsBootEnd machine.now regions.now given.now entries.now default fallbacks.now
+        × IsGivenBootEnd machine.now regions.now given.now entries.now default fallbacks.now
         (length places.old) (memory_from base memory.old) (memory_from base memory.new) end
         × TellsBoot end result
         (record {

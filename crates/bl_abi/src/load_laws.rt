@@ -8,8 +8,8 @@ ghost use Rattle.bl_abi.specs.declared.given_records.EntryRecord.{EntryRecord};
 ghost use Rattle.bl_abi.specs.declared.given_records.MachineRecord.{MachineRecord};
 ghost use Rattle.bl_abi.specs.declared.given_records.RegionRecord.{RegionRecord};
 ghost use Rattle.bl_abi.specs.Given.{GivenFacts};
-ghost use Rattle.bl_abi.specs.Load.{IsLoadEnd};
-ghost use Rattle.bl_abi.specs.Prepare.{IsPrepareEnd};
+ghost use Rattle.bl_abi.specs.Load.{IsGivenLoadEnd};
+ghost use Rattle.bl_abi.specs.Prepare.{IsGivenPrepareEnd};
 
 /// A load of what was prepared, into memory that reaches to the machine's end and with room for the
 /// places, says the same handoff, or memory runs out; and a preparation of what was loaded succeeds
@@ -20,33 +20,33 @@ pub fn loads_end_as_prepared()
     ensures one_handoff { (machine : MachineRecord) (regions : List RegionRecord)
         (given : GivenFacts) (entry : EntryRecord) (room space : ℕ) (old new : List ℕ)
         (prepared loaded : HandoffFacts)
-        → IsPrepareEnd machine regions given entry room (Ok prepared)
-        → IsLoadEnd machine regions given entry space old new (Ok loaded)
+        → IsGivenPrepareEnd machine regions given entry room (Ok prepared)
+        → IsGivenLoadEnd machine regions given entry space old new (Ok loaded)
         → loaded ≡ prepared }
     ensures else_no_memory { (machine : MachineRecord) (regions : List RegionRecord)
         (given : GivenFacts) (entry : EntryRecord) (room space : ℕ) (old new : List ℕ)
         (prepared : HandoffFacts) (fault : LoadFault)
         → machine.size ≤ length old → max_parts ≤ space
-        → IsPrepareEnd machine regions given entry room (Ok prepared)
-        → IsLoadEnd machine regions given entry space old new (Err fault) → fault ≡ NoMemory }
+        → IsGivenPrepareEnd machine regions given entry room (Ok prepared)
+        → IsGivenLoadEnd machine regions given entry space old new (Err fault) → fault ≡ NoMemory }
     ensures prepared_too { (machine : MachineRecord) (regions : List RegionRecord)
         (given : GivenFacts) (entry : EntryRecord) (room space : ℕ) (old new : List ℕ)
         (fault : LoadFault) (loaded : HandoffFacts) → max_parts ≤ room
-        → IsPrepareEnd machine regions given entry room (Err fault)
-        → IsLoadEnd machine regions given entry space old new (Ok loaded) → fault ≡ NoMemory }
+        → IsGivenPrepareEnd machine regions given entry room (Err fault)
+        → IsGivenLoadEnd machine regions given entry space old new (Ok loaded) → fault ≡ NoMemory }
     ensures one_refusal { (machine : MachineRecord) (regions : List RegionRecord)
         (given : GivenFacts) (entry : EntryRecord) (room space : ℕ) (old new : List ℕ)
         (r s : Refusal)
-        → IsPrepareEnd machine regions given entry room (Err (Refused r))
-        → IsLoadEnd machine regions given entry space old new (Err (Refused s)) → s ≡ r }
+        → IsGivenPrepareEnd machine regions given entry room (Err (Refused r))
+        → IsGivenLoadEnd machine regions given entry space old new (Err (Refused s)) → s ≡ r }
     ensures never_loaded { (machine : MachineRecord) (regions : List RegionRecord)
         (given : GivenFacts) (entry : EntryRecord) (room space : ℕ) (old new : List ℕ)
         (r : Refusal) (loaded : HandoffFacts)
-        → IsPrepareEnd machine regions given entry room (Err (Refused r))
-        → IsLoadEnd machine regions given entry space old new (Ok loaded) → ⊥ }
+        → IsGivenPrepareEnd machine regions given entry room (Err (Refused r))
+        → IsGivenLoadEnd machine regions given entry space old new (Ok loaded) → ⊥ }
     ensures one_fault { (machine : MachineRecord) (regions : List RegionRecord)
         (given : GivenFacts) (entry : EntryRecord) (room : ℕ) (old new : List ℕ)
         (f g : LoadFault) → machine.size ≤ length old → f ≢ NoMemory → g ≢ NoMemory
-        → IsPrepareEnd machine regions given entry room (Err f)
-        → IsLoadEnd machine regions given entry room old new (Err g) → g ≡ f }
+        → IsGivenPrepareEnd machine regions given entry room (Err f)
+        → IsGivenLoadEnd machine regions given entry room old new (Err g) → g ≡ f }
 {}

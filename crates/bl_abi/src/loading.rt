@@ -7,7 +7,7 @@ ghost use Rattle.bl_load.specs.Parts.{IsHandover, IsPrepFault};
 ghost use Rattle.bl_load.specs.PlanContents.{handover_in};
 ghost use Rattle.bl_load.specs.EntryValue.{value_of, file_count, IsWithinLimits};
 ghost use Rattle.bl_load.specs.HandoffFacts.{HandoffFacts};
-ghost use Rattle.bl_abi.specs.Load.{IsEntryLoaded, IsEntryFault, IsEntrySound, IsLoadEnd};
+ghost use Rattle.bl_abi.specs.Load.{IsEntryLoaded, IsEntryFault, IsEntrySound, IsGivenLoadEnd};
 ghost use Rattle.bl_abi.specs.LoadTold.{TellsEnd};
 ghost use Rattle.bl_abi.specs.declared.load_fault.LoadFault.{LoadFault};
 
@@ -16,8 +16,8 @@ use crate::entries::take_entry;
 use crate::file_views::views_of;
 use crate::given_arrays::Given;
 use crate::given_records::{EntryRecord, MachineRecord, RegionRecord};
+use crate::handoff_telling::tell_end;
 use crate::load_fault::{LoadFault, given_fault, load_fault};
-use crate::load_telling::tell_end;
 use crate::machines::machine_of;
 use crate::misuse::Misuse;
 use bl_load::{Entry, Handoff, PrepFault, load_entry};
@@ -98,7 +98,7 @@ pub(crate) fn load<A: Allocator + Copy>(
     entry: &EntryRecord,
     room: usize,
 ) -> Result<Handoff<A>, LoadFault>
-    ensures end { IsLoadEnd machine.now regions.now given.now entry.now room
+    ensures end { IsGivenLoadEnd machine.now regions.now given.now entry.now room
         (memory_from base memory.old) (memory_from base memory.new) result }
     ensures room { OnOk result (MAX_PARTS ≤ room) }
 {
@@ -133,7 +133,7 @@ pub fn load_told<A: Allocator + Copy>(
     refusal: &mut RefusalRecord,
 ) -> u32
     ensures { (end : Result HandoffFacts LoadFault)
-        × IsLoadEnd machine.now regions.now given.now entry.now (length places.old)
+        × IsGivenLoadEnd machine.now regions.now given.now entry.now (length places.old)
         (memory_from base memory.old) (memory_from base memory.new) end
         × TellsEnd end result told.old told.new places.old places.new refusal.old refusal.new }
 {

@@ -3,7 +3,7 @@ ghost use Rattle.std.specs.Prelude.{◌≤◌, length, IfOk, IfErr, OnOk, Result
 ghost use Rattle.bl_load.specs.HandoffFacts.{HandoffFacts};
 ghost use Rattle.bl_load.specs.PlanContents.{handoff_by};
 ghost use Rattle.bl_abi.specs.Load.{IsEntryFault, IsEntrySound, IsNotLoaded};
-ghost use Rattle.bl_abi.specs.Prepare.{IsHandoffOf, IsPrepared, IsPrepareEnd};
+ghost use Rattle.bl_abi.specs.Prepare.{IsHandoffOf, IsPrepared, IsGivenPrepareEnd};
 ghost use Rattle.bl_abi.specs.LoadTold.{TellsEnd};
 ghost use Rattle.bl_abi.specs.declared.load_fault.LoadFault.{LoadFault};
 
@@ -12,8 +12,8 @@ use crate::entries::take_entry;
 use crate::file_views::views_of;
 use crate::given_arrays::Given;
 use crate::given_records::{EntryRecord, MachineRecord, RegionRecord};
+use crate::handoff_telling::{tell_fault, tell_plan};
 use crate::load_fault::{LoadFault, given_fault, load_fault};
-use crate::load_telling::{tell_fault, tell_plan};
 use crate::machines::machine_of;
 use crate::misuse::Misuse;
 use bl_load::{Plan, prepare};
@@ -89,7 +89,7 @@ pub fn prepare_told<A: Allocator + Copy>(
     refusal: &mut RefusalRecord,
 ) -> u32
     ensures { (end : Result HandoffFacts LoadFault)
-        × IsPrepareEnd machine.now regions.now given.now entry.now (length places.old) end
+        × IsGivenPrepareEnd machine.now regions.now given.now entry.now (length places.old) end
         × TellsEnd end result told.old told.new places.old places.new refusal.old refusal.new }
 {
     match prepare_entry(alloc, machine, regions, given, entry, places.len()) {

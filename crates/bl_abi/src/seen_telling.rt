@@ -143,7 +143,7 @@ fn seen_told<A: Allocator>(
     requires old { rsdp_old
         ≡ spec.copy_range (length (spec.lines_seen seen.now)) seen.now.rsdp_old }
     requires new { rsdp_new
-        ≡ spec.copy_range (length (spec.text_upto_new seen.now)) seen.now.rsdp_new }
+        ≡ spec.copy_range (length (spec.text_before_rsdp_new seen.now)) seen.now.rsdp_new }
     ensures { result ≡ spec.seen_told seen.now }
 {
     SeenRecord {

@@ -27,7 +27,8 @@ use Rattle.bl_menu.specs.DescribedMenu.{attempted_file_names, menu_of, boot_of}
 use Rattle.bl_menu.specs.DescribedMachine.{IsMachineFault, IsMachineOf}
 use Rattle.bl_menu.specs.BootCases.{BootCase}
 use Rattle.bl_boot.specs.Ends.{Surroundings}
-use Rattle.bl_boot.specs.Kept.{end_of_desc_fault, IsImageWriteFault, CountsSinkFault, HasAsked}
+use Rattle.bl_boot.specs.Kept.{end_fault_of_desc_fault, IsImageWriteFault, CountsSinkFault}
+use Rattle.bl_boot.specs.Kept.{HasAsked}
 use Rattle.bl_boot.specs.Kept.{FoundBootEnds, BootEnds}
 use Rattle.bl_menu.proofs.AskedLemmas.{none_asked, all_asked}
 
@@ -57,7 +58,7 @@ not_handed description facts files entry earlier handover came old new s t u v N
 -- none is, if there is no machine
 pub asked_without : (description : DescriptionFacts) (names before : List (List ℕ)) (fault : DescFault)
     → IsMachineFault description fault
-    → HasAsked names before before (Err (end_of_desc_fault fault))
+    → HasAsked names before before (Err (end_fault_of_desc_fault fault))
 asked_without description names before desc_fault.BadDescription is = none_asked names before
 asked_without description names before desc_fault.NoMemory is = none_asked names before
 
@@ -65,17 +66,17 @@ asked_without description names before desc_fault.NoMemory is = none_asked names
 pub undescribed : {F : Type 0} (answers : F → List ℕ → File → Type 0) (faults : F → ℕ)
     (desc : List ℕ) (around : Surroundings F) (fault : DescFault)
     → IsReaderFault fault (described desc)
-    → BootEnds answers faults desc around around (Err (end_of_desc_fault fault))
+    → BootEnds answers faults desc around around (Err (end_fault_of_desc_fault fault))
 undescribed answers faults desc around desc_fault.BadDescription none = (inl none, refl)
 undescribed answers faults desc around desc_fault.NoMemory given = (refl, refl)
 
 pub sound_undescribed : (faults : ℕ) (fault : DescFault)
-    → CountsSinkFault faults faults (Err (end_of_desc_fault fault))
+    → CountsSinkFault faults faults (Err (end_fault_of_desc_fault fault))
 sound_undescribed faults desc_fault.BadDescription = refl
 sound_undescribed faults desc_fault.NoMemory = refl
 
 pub asked_undescribed : (names before : List (List ℕ)) (fault : DescFault)
-    → HasAsked names before before (Err (end_of_desc_fault fault))
+    → HasAsked names before before (Err (end_fault_of_desc_fault fault))
 asked_undescribed names before desc_fault.BadDescription = none_asked names before
 asked_undescribed names before desc_fault.NoMemory = none_asked names before
 
@@ -84,13 +85,13 @@ pub without_machine : {A F : Type 0} (desc : List ℕ) (d : Description A)
     → described desc ≡ Some (view d)
     → (answers : F → List ℕ → File → Type 0) (faults : F → ℕ) (around : Surroundings F)
     (fault : DescFault) → IsMachineFault (view d) fault
-    → BootEnds answers faults desc around around (Err (end_of_desc_fault fault))
+    → BootEnds answers faults desc around around (Err (end_fault_of_desc_fault fault))
 without_machine desc d is answers faults around desc_fault.BadDescription bad =
     (inr (view d, is, bad), refl)
 without_machine desc d is answers faults around desc_fault.NoMemory given = (refl, refl)
 
 pub sound_without : (description : DescriptionFacts) (faults : ℕ) (fault : DescFault)
-    → IsMachineFault description fault → CountsSinkFault faults faults (Err (end_of_desc_fault fault))
+    → IsMachineFault description fault → CountsSinkFault faults faults (Err (end_fault_of_desc_fault fault))
 sound_without description faults desc_fault.BadDescription bad = refl
 sound_without description faults desc_fault.NoMemory given = refl
 

@@ -27,9 +27,9 @@ use Rattle.bl_menu.specs.declared.boot_end.End.{End}
 use Rattle.bl_menu.specs.declared.boot_end.End.TheVariants.{Booted, NoEntryLeft}
 
 -- a fault of the description as one of a boot
-abbrev pub end_of_desc_fault : DescFault → EndFault
-end_of_desc_fault desc_fault.BadDescription = BadDescription
-end_of_desc_fault desc_fault.NoMemory = NoMemory
+abbrev pub end_fault_of_desc_fault : DescFault → EndFault
+end_fault_of_desc_fault desc_fault.BadDescription = BadDescription
+end_fault_of_desc_fault desc_fault.NoMemory = NoMemory
 
 -- why an image was not handed over whole to a sink: the sink had a fault and took a beginning, or
 -- memory ran out before

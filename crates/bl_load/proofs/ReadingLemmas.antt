@@ -11,7 +11,8 @@ use Rattle.bl_load.specs.Kept.{lines_by}
 use Rattle.bl_load.specs.PlacingKept.{EndsLow, HasRowLength, ModulesEndLow, capped_rows_of}
 use Rattle.bl_load.specs.KernelReading.{KernelReading, multiboot2, linux, IsKernelReading}
 use Rattle.bl_load.specs.Rows.{rows_of}
-use Rattle.bl_load.specs.KernelReadingKept.{EntersBy, HasFiles, FitsTold, EntryPointFits32Bits}
+use Rattle.bl_load.specs.KernelReadingKept.{EntersBy, HasFiles, ToldFits32Bits}
+use Rattle.bl_load.specs.KernelReadingKept.{EntryPointFits32Bits}
 use Rattle.bl_load.specs.EntryValue.{EntryValue, kernel_file, initrd_file}
 use Rattle.bl_load.proofs.EntryLemmas.{entry_small}
 use Rattle.bl_load.proofs.LinuxKernelLemmas.{setup_is}
@@ -63,7 +64,7 @@ module _ (facts : MachineFacts) (value : EntryValue) where
   pub fits_told : (reading : KernelReading) (places : List Place)
       → ArePlaced facts [] (rows_of facts value reading) places
       → All (HasRowLength facts value reading) places → All EndsLow places
-      → FitsTold value reading places
+      → ToldFits32Bits value reading places
   fits_told (multiboot2 kernel) places placed rowed low =
       modules_end_low facts value kernel places placed rowed low
   fits_told (linux setup) places placed rowed low = (

@@ -39,10 +39,10 @@ TablesFit places =
     × (address_of role.PageTables 0 places + page_tables_size ≤ 2 ^ 32)
 
 -- what is told of the parts fits 32 bits
-abbrev pub FitsTold : EntryValue → KernelReading → List Place → Type 0
-FitsTold value (multiboot2 kernel) places =
+abbrev pub ToldFits32Bits : EntryValue → KernelReading → List Place → Type 0
+ToldFits32Bits value (multiboot2 kernel) places =
     ModulesEndLow value.files places (length value.module_lines)
-FitsTold value (linux setup) places =
+ToldFits32Bits value (linux setup) places =
     (length (initrd_file value.files) < 2 ^ 32) × TablesFit places
 
 -- where the kernel is entered fits 32 bits, and is reckoned without wrapping

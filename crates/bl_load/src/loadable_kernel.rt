@@ -4,7 +4,7 @@ ghost use Rattle.bl_load.specs.Parts.{content_of, registers_of};
 ghost use Rattle.bl_load.specs.PlanContents.{content_by};
 ghost use Rattle.bl_load.specs.Loadable.{lengths_of, content_length, IsInFiles, IsLeanContent};
 ghost use Rattle.bl_load.specs.PlacingKept.{HasRowLength, EndsLow, capped_rows_of};
-ghost use Rattle.bl_load.specs.KernelReadingKept.{EntersBy, EntryPointFits32Bits, FitsTold};
+ghost use Rattle.bl_load.specs.KernelReadingKept.{EntersBy, EntryPointFits32Bits, ToldFits32Bits};
 ghost use Rattle.bl_load.specs.KernelReading.{KernelReading};
 ghost use Rattle.bl_load.specs.CheckedEntryKept.{texts_in, value_of_files, IsReadWithFiles};
 
@@ -40,7 +40,7 @@ pub trait LoadableKernel {
         place: &Place,
     ) -> Result<Content<A>, AllocError>
         requires ready { IsReadWithFiles entry.now (reading self.now) }
-        requires fits { FitsTold (value_of_files entry.now) (reading self.now) places.now }
+        requires fits { ToldFits32Bits (value_of_files entry.now) (reading self.now) places.now }
         requires low { All EndsLow places.now }
         requires rowed { HasRowLength entry.now.machine.now (value_of_files entry.now)
             (reading self.now)

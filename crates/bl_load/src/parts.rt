@@ -5,7 +5,7 @@ ghost use Rattle.bl_load.specs.PlannedPlaceKept.{planned_place};
 ghost use Rattle.bl_load.specs.PlanContents.{part_by};
 ghost use Rattle.bl_load.specs.Loadable.{lengths_of, IsBacked, IsLean};
 ghost use Rattle.bl_load.specs.PlacingKept.{HasRowLength, EndsLow};
-ghost use Rattle.bl_load.specs.KernelReadingKept.{FitsTold};
+ghost use Rattle.bl_load.specs.KernelReadingKept.{ToldFits32Bits};
 ghost use Rattle.bl_load.specs.CheckedEntryKept.{texts_in, value_of_files, IsReadWithFiles};
 
 use crate::checked_entry::CheckedEntry;
@@ -24,7 +24,7 @@ pub fn parts_at<A: Allocator + Copy, V: ByteView, K: LoadableKernel>(
     sorted: &[Place],
 ) -> Result<Vec<PlannedPart<A>, A>, AllocError>
     requires ready { IsReadWithFiles entry.now (K.reading kernel.now) }
-    requires fits { FitsTold (value_of_files entry.now) (K.reading kernel.now) places.now }
+    requires fits { ToldFits32Bits (value_of_files entry.now) (K.reading kernel.now) places.now }
     requires low { All EndsLow places.now }
     requires rowed { All (HasRowLength entry.now.machine.now (value_of_files entry.now)
         (K.reading kernel.now)) sorted.now }

@@ -8,7 +8,7 @@ use Rattle.bl_desc.specs.Described.{DescriptionFacts, described, file_named}
 use Rattle.bl_desc.specs.Views.{view}
 use Rattle.bl_menu.specs.DescribedMenu.{attempted_file_names}
 use Rattle.bl_menu.specs.BootCases.{HasInlineFiles, names_sought, names_fetched}
-use Rattle.bl_menu.specs.FoundFiles.{AsksPrefix, names_asked}
+use Rattle.bl_menu.specs.FoundFiles.{AsksPrefix, names_to_ask}
 
 -- none of them is a beginning of them, and so are all
 pub none_asked : (names before : List (List ℕ)) → AsksPrefix names before before
@@ -38,5 +38,5 @@ module _ {A : Type 0} (desc : List ℕ) (d : Description A) (is : described desc
     pub sought : names_sought (described desc) ≡ attempted_file_names (view d)
     sought = rw is refl
 
-    pub fetched : names_fetched (described desc) ≡ names_asked (view d).files (attempted_file_names (view d))
+    pub fetched : names_fetched (described desc) ≡ names_to_ask (view d).files (attempted_file_names (view d))
     fetched = rw is refl

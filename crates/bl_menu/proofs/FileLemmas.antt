@@ -6,7 +6,7 @@ use Rattle.std.proofs.lemmas.List.{get_or-map, map-append, length-map, take_more
 use Rattle.std.proofs.lemmas.List.Elements.{filter-append}
 use Rattle.bl_desc.specs.Described.{InlineFile, file_named}
 use Rattle.bl_session.specs.MenuFiles.{File}
-use Rattle.bl_menu.specs.FoundFiles.{IsFound, AreFound, AsksPrefix, names_asked}
+use Rattle.bl_menu.specs.FoundFiles.{IsFound, AreFound, AsksPrefix, names_to_ask}
 
 -- ---- found
 
@@ -67,35 +67,35 @@ names_grow names i within = rw (take_more names i no_name within, map-append) re
 -- one name more is asked for, if no file of the description has it
 pub one_more_asked : (inline : List InlineFile) (names : List (Bor (List ℕ))) (i : ℕ)
     (before between after : List (List ℕ)) → i < length names
-    → between ≡ before ++ names_asked inline (map (λ n. n.now) (take i names))
-    → after ≡ between ++ names_asked inline ((get_or names i no_name).now ∷ [])
-    → after ≡ before ++ names_asked inline (map (λ n. n.now) (take (i + 1) names))
+    → between ≡ before ++ names_to_ask inline (map (λ n. n.now) (take i names))
+    → after ≡ between ++ names_to_ask inline ((get_or names i no_name).now ∷ [])
+    → after ≡ before ++ names_to_ask inline (map (λ n. n.now) (take (i + 1) names))
 one_more_asked inline names i before between after within so_far one =
     let first : List (List ℕ) = map (λ (n : Bor (List ℕ)). n.now) (take i names) in
     let next : List (List ℕ) = (get_or names i no_name).now ∷ [] in
-    one ∙ ap (λ (asked : List (List ℕ)). asked ++ names_asked inline next) so_far
-    ∙ append_assoc before (names_asked inline first) (names_asked inline next)
+    one ∙ ap (λ (asked : List (List ℕ)). asked ++ names_to_ask inline next) so_far
+    ∙ append_assoc before (names_to_ask inline first) (names_to_ask inline next)
     ∙ ap (λ (asked : List (List ℕ)). before ++ asked)
     (sym (filter-append (λ (name : List ℕ). is_none (file_named name inline)) first next))
-    ∙ ap (λ (all : List (List ℕ)). before ++ names_asked inline all)
+    ∙ ap (λ (all : List (List ℕ)). before ++ names_to_ask inline all)
     (sym (names_grow names i within))
 
 -- of names the first ones were asked for
 pub asks_first : (inline : List InlineFile) (names : List (Bor (List ℕ))) (i : ℕ)
     (before after : List (List ℕ))
-    → after ≡ before ++ names_asked inline (map (λ n. n.now) (take i names))
-    → AsksPrefix (names_asked inline (map (λ n. n.now) names)) before after
+    → after ≡ before ++ names_to_ask inline (map (λ n. n.now) (take i names))
+    → AsksPrefix (names_to_ask inline (map (λ n. n.now) names)) before after
 asks_first inline names i before after is =
     let text : Bor (List ℕ) → List ℕ = λ n. n.now in
     let first : List (List ℕ) = map text (take i names) in
     let left : List (List ℕ) = map text (drop i names) in
     record {
-      first = names_asked inline first;
-      left = names_asked inline left;
+      first = names_to_ask inline first;
+      left = names_to_ask inline left;
       names_are =
-          ap (λ (all : List (Bor (List ℕ))). names_asked inline (map text all))
+          ap (λ (all : List (Bor (List ℕ))). names_to_ask inline (map text all))
           (sym (take-append-drop i names))
-          ∙ ap (names_asked inline) (map-append text (take i names) (drop i names))
+          ∙ ap (names_to_ask inline) (map-append text (take i names) (drop i names))
           ∙ filter-append (λ (name : List ℕ). is_none (file_named name inline)) first left;
       after_is = is;
     }

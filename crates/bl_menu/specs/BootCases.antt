@@ -10,7 +10,7 @@ use Rattle.bl_session.specs.Outcome.{IsOutcome, EntryHasResult}
 use Rattle.bl_desc.specs.Described.{DescriptionFacts, described, file_named}
 use Rattle.bl_menu.specs.DescribedMenu.{attempted_file_names, boot_of}
 use Rattle.bl_menu.specs.DescribedMachine.{IsMachineOf}
-use Rattle.bl_menu.specs.FoundFiles.{AreFound, names_asked}
+use Rattle.bl_menu.specs.FoundFiles.{AreFound, names_to_ask}
 
 -- with files of a type F: what they may answer for a name, and how many faults they had
 module _ {F : Type 0} (answers : F → List ℕ → File → Type 0) (faults : F → ℕ) where
@@ -48,7 +48,7 @@ names_sought (Some description) = attempted_file_names description
 -- those of them that no file of the description has, which are asked for
 abbrev pub names_fetched : Option DescriptionFacts → List (List ℕ)
 names_fetched None = []
-names_fetched (Some description) = names_asked description.files (attempted_file_names description)
+names_fetched (Some description) = names_to_ask description.files (attempted_file_names description)
 
 -- the value of an entry of a menu, by its index
 abbrev pub entry_value_at : {F : Type 0} {answers : F → List ℕ → File → Type 0} {faults : F → ℕ}

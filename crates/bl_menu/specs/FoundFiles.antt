@@ -34,8 +34,8 @@ module _ {F : Type 0} (answers : F → List ℕ → File → Type 0) (faults : F
 -- ---- what is asked for
 
 -- of these names, those that the files are asked for: all but the description's own
-abbrev pub names_asked : List InlineFile → List (List ℕ) → List (List ℕ)
-names_asked inline names = filter (λ name. is_none (file_named name inline)) names
+abbrev pub names_to_ask : List InlineFile → List (List ℕ) → List (List ℕ)
+names_to_ask inline names = filter (λ name. is_none (file_named name inline)) names
 
 -- of these names the first ones, perhaps none, perhaps all, were asked for after those before
 pub record AsksPrefix (names before after : List (List ℕ)) : Type 0 where

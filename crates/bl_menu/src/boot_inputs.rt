@@ -8,7 +8,7 @@ ghost use Rattle.bl_desc.specs.Described.{file_named};
 ghost use Rattle.bl_desc.specs.Views.{HasMenu, view};
 ghost use Rattle.bl_menu.specs.DescribedMenu as attempted;
 ghost use Rattle.bl_menu.specs.DescribedMenu.{max_names};
-ghost use Rattle.bl_menu.specs.FoundFiles.{AreFound, AsksPrefix, names_asked};
+ghost use Rattle.bl_menu.specs.FoundFiles.{AreFound, AsksPrefix, names_to_ask};
 
 use crate::files::Files;
 use crate::found_files::find_files;
@@ -60,9 +60,9 @@ pub fn ready_boot<'a, A: Allocator + Copy, F: Files>(
 
     // The names that no file of the description has are asked for, each once, in order.
     ensures asked { OnOk result (F.asked files.new ≡ F.asked files.old
-        ++ names_asked (view description.entry.now).files
+        ++ names_to_ask (view description.entry.now).files
         (attempted.attempted_file_names (view description.entry.now))) }
-    ensures asked_first { AsksPrefix (names_asked (view description.entry.now).files
+    ensures asked_first { AsksPrefix (names_to_ask (view description.entry.now).files
         (attempted.attempted_file_names (view description.entry.now)))
         (F.asked files.old) (F.asked files.new) }
     ensures inline { All (λ name. IsSome (file_named name (view description.entry.now).files))

@@ -1,7 +1,7 @@
 //! The files of a menu are found.
 ghost use Rattle.std.specs.Prelude.{◌≡◌, ℕ, List, ◌+◌, ◌-◌, ◌<◌, ◌≤◌, ◌^◌, All, IfOk, IsSome};
 ghost use Rattle.std.specs.Prelude.{length, map, [], ◌∷◌, ◌++◌, OnOk};
-ghost use Rattle.bl_menu.specs.FoundFiles.{AreFound, AsksPrefix, IsFound, names_asked};
+ghost use Rattle.bl_menu.specs.FoundFiles.{AreFound, AsksPrefix, IsFound, names_to_ask};
 ghost use Rattle.bl_desc.specs.Described.{file_named};
 ghost use Rattle.bl_desc.specs.Views.{view};
 ghost use Rattle.bl_session.specs.MenuFiles.{File};
@@ -36,7 +36,7 @@ fn find_file<A: Allocator + Copy, F: Files>(
     ensures found { IfOk result (λ file. IsFound F.answers F.faults (view description.now).files
         name.now files.old files.new (file_of file)) }
     ensures asked { F.asked files.new
-        ≡ F.asked files.old ++ names_asked (view description.now).files (name.now ∷ []) }
+        ≡ F.asked files.old ++ names_to_ask (view description.now).files (name.now ∷ []) }
     ensures inline { IsSome (file_named name.now (view description.now).files) →
         files.new ≡ files.old }
     ensures same { (file : List ℕ) (answer : File) →
@@ -64,8 +64,8 @@ pub fn find_files<A: Allocator + Copy, F: Files>(
 
     // The names that no file of the description has are asked for, in order.
     ensures asked { OnOk result (F.asked files.new ≡ F.asked files.old
-        ++ names_asked (view description.now).files (map (λ n. n.now) names.now)) }
-    ensures asked_first { AsksPrefix (names_asked (view description.now).files
+        ++ names_to_ask (view description.now).files (map (λ n. n.now) names.now)) }
+    ensures asked_first { AsksPrefix (names_to_ask (view description.now).files
         (map (λ n. n.now) names.now)) (F.asked files.old) (F.asked files.new) }
     ensures inline { All (λ name. IsSome (file_named name (view description.now).files))
         (map (λ n. n.now) names.now) → files.new ≡ files.old }

@@ -10,10 +10,10 @@ ghost use Rattle.bl_session.specs.Phases.{end_facts, told_end, not_started, Lies
 ghost use Rattle.bl_session.specs.Requests.{first_request, request_after};
 ghost use Rattle.bl_session.specs.Run.{final_phase};
 
-use crate::ends::{end_of, into_end};
 use crate::menu::Menu;
 use crate::outcome::{BootFault, Outcome, Progress};
 use crate::phase::{Boot, Phase, awaits_pieces};
+use crate::phase_end::{end_of, into_end};
 use crate::steps::{advance, begin_first};
 use crate::ticket::{Event, Request, Ticket};
 use bl_map::Machine;

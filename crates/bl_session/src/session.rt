@@ -11,10 +11,10 @@ ghost use Rattle.bl_session.specs.Phases.{phase_facts, end_facts, told_end, not_
 ghost use Rattle.bl_session.specs.Phases.{LiesWithin};
 ghost use Rattle.bl_session.specs.Run.{final_phase};
 
-use crate::ends::{end_of, into_end};
 use crate::menu::Menu;
 use crate::outcome::{BootFault, Outcome, Progress};
 use crate::phase::{Boot, Phase};
+use crate::phase_end::{end_of, into_end};
 use crate::steps::{advance, begin_first};
 use crate::ticket::Event;
 use bl_map::Machine;

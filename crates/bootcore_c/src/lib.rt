@@ -5,10 +5,10 @@ ghost use Rattle.std.specs.Prelude.{length, Result};
 ghost use Rattle.bl_mem.specs.Memory.{memory_from};
 ghost use Rattle.bl_load.specs.HandoffFacts.{HandoffFacts};
 ghost use Rattle.bl_session.specs.Phases.{PhaseFacts};
-ghost use Rattle.bl_abi.specs.Boot.{IsBootEnd};
+ghost use Rattle.bl_abi.specs.Boot.{IsGivenBootEnd};
 ghost use Rattle.bl_abi.specs.BootTold.{TellsBoot};
-ghost use Rattle.bl_abi.specs.Load.{IsLoadEnd};
-ghost use Rattle.bl_abi.specs.Prepare.{IsPrepareEnd};
+ghost use Rattle.bl_abi.specs.Load.{IsGivenLoadEnd};
+ghost use Rattle.bl_abi.specs.Prepare.{IsGivenPrepareEnd};
 ghost use Rattle.bl_abi.specs.LoadTold.{TellsEnd};
 ghost use Rattle.bl_abi.specs.declared.load_fault.LoadFault.{LoadFault};
 ghost use Rattle.bl_abi.specs.declared.given_fault.GivenFault.{GivenFault};
@@ -40,7 +40,7 @@ pub extern "C" fn bootcore_load_arrays(
     refusal: &mut RefusalRecord,
 ) -> u32
     ensures { (end : Result HandoffFacts LoadFault)
-        × IsLoadEnd machine.now regions.now
+        × IsGivenLoadEnd machine.now regions.now
         (record {
           modules = modules.now;
           text = text.now;
@@ -78,7 +78,7 @@ pub extern "C" fn bootcore_prepare_arrays(
     refusal: &mut RefusalRecord,
 ) -> u32
     ensures { (end : Result HandoffFacts LoadFault)
-        × IsPrepareEnd machine.now regions.now
+        × IsGivenPrepareEnd machine.now regions.now
         (record {
           modules = modules.now;
           text = text.now;
@@ -120,7 +120,7 @@ pub extern "C" fn bootcore_boot_arrays(
     count: &mut u64,
 ) -> u32
     ensures { (end : Result PhaseFacts GivenFault)
-        × IsBootEnd machine.now regions.now
+        × IsGivenBootEnd machine.now regions.now
         (record {
           modules = modules.now;
           text = text.now;

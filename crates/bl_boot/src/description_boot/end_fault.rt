@@ -1,7 +1,7 @@
 //! Why a boot does not come to an end.
 ghost use Rattle.std.specs.Prelude.{◌≡◌};
 ghost use Rattle.bl_boot.specs.declared.description_boot.end_fault.EndFault.TheVariants as ends;
-ghost use Rattle.bl_boot.specs.Kept.{end_of_desc_fault};
+ghost use Rattle.bl_boot.specs.Kept.{end_fault_of_desc_fault};
 
 use bl_desc::DescFault;
 use std::alloc::{AllocError, AllocFailed};
@@ -20,7 +20,7 @@ pub enum EndFault {
 }
 
 impl From<DescFault> for EndFault {
-    ghost from_gives = { λ fault result. result ≡ end_of_desc_fault fault };
+    ghost from_gives = { λ fault result. result ≡ end_fault_of_desc_fault fault };
 
     fn from(fault: DescFault) -> EndFault {
         match fault {

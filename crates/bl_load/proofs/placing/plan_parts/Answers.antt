@@ -15,7 +15,7 @@ use Rattle.bl_load.specs.declared.registers.Registers.{Registers}
 use Rattle.bl_load.specs.declared.plan.PlannedPart.{PlannedPart}
 use Rattle.bl_load.specs.PlacingKept.{HasRowLength, capped_rows_of}
 use Rattle.bl_load.specs.Rows.{rows_of}
-use Rattle.bl_load.specs.KernelReadingKept.{FitsTold, EntryPointFits32Bits}
+use Rattle.bl_load.specs.KernelReadingKept.{ToldFits32Bits, EntryPointFits32Bits}
 use Rattle.bl_load.specs.CheckedEntryKept.{value_of_files}
 use Rattle.bl_load.proofs.PlacingLemmas.{refused_place}
 use Rattle.bl_load.proofs.ReadingLaws.{reading_rows, reading_rowed, reading_kept}
@@ -93,7 +93,7 @@ parts_at-requires-clause-fits g c =
     subst (λ (rs : List Row). ArePlaced facts [] rs c.in-Ok.places.items) rows
     c.in-Ok.ensures.placed in
     let placed = told_placed facts value reading c.in-Ok.places.items told in
-    subst (λ (ps : List Place). FitsTold value reading ps) (sym c.as_slice-4.ensures.value)
+    subst (λ (ps : List Place). ToldFits32Bits value reading ps) (sym c.as_slice-4.ensures.value)
     (fits_told facts value reading c.in-Ok.places.items placed
     (reading_rowed facts value reading c.in-Ok.places.items placed) c.in-Ok.ensures.below)
 

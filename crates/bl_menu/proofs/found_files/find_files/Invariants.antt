@@ -3,7 +3,7 @@ use Rattle.bl_desc.specs.Described.{file_named}
 use Rattle.bl_desc.specs.Views.{view}
 use Rattle.bl_session.specs.MenuFiles.{File}
 use Rattle.bl_session.specs.Stores.{file_of}
-use Rattle.bl_menu.specs.FoundFiles.{AreFound, names_asked}
+use Rattle.bl_menu.specs.FoundFiles.{AreFound, names_to_ask}
 use Rattle.bl_menu.proofs.found_files.find_files.Given as goal
 
 abbrev pub invariant-loop-name : goal.invariant-loop-name
@@ -12,7 +12,7 @@ invariant-loop-name g l = record {
       (map (λ n. n.now) (take l.name-index l.names)) l.initial.files l.files
       (map file_of l.found.items);
   asked : g.F.Files.asked l.files ≡ g.F.Files.asked l.initial.files
-      ++ names_asked (view l.description).files (map (λ n. n.now) (take l.name-index l.names));
+      ++ names_to_ask (view l.description).files (map (λ n. n.now) (take l.name-index l.names));
   inline : All (λ name. IsSome (file_named name (view l.description).files))
       (map (λ n. n.now) l.names) → l.files ≡ l.initial.files;
   same : (file : List ℕ) (answer : File) → g.F.Files.answers l.files file answer

@@ -1,6 +1,6 @@
 use Rattle.std.proofs.Common.{◌≡◌, ◌++◌, map, take, drop}
 use Rattle.bl_abi.specs.LoadTold.{place_told}
-use Rattle.bl_abi.proofs.load_telling.tell_parts.Given as goal
+use Rattle.bl_abi.proofs.handoff_telling.tell_parts.Given as goal
 
 -- the places so far, and then what stood there
 abbrev pub invariant-loop-index : goal.invariant-loop-index

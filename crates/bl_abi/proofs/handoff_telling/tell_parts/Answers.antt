@@ -2,7 +2,7 @@ use Rattle.std.proofs.Common.{arith, ◌∙◌, ◌≡◌, length}
 use Rattle.bl_load.specs.PlannedPlaceKept.{planned_place}
 use Rattle.bl_abi.specs.LoadTold.{place_told}
 use Rattle.bl_abi.proofs.TellLemmas.{tell_one, told_under}
-use Rattle.bl_abi.proofs.load_telling.tell_parts.Goals as goal
+use Rattle.bl_abi.proofs.handoff_telling.tell_parts.Goals as goal
 
 pub loop-index-preserved : goal.loop-index-preserved
 loop-index-preserved g c =
