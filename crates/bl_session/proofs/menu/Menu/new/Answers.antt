@@ -31,7 +31,7 @@ invariant_of-result g c =
       rw c.in_ok-attempts.ensures most,
     )
 
-pub returns-clause-well_formed : goal.returns-clause-offered
+pub returns-clause-well_formed : goal.returns-clause-well_formed
 returns-clause-well_formed g c =
     offered_entries c.args.entries.items
     (subst (λ (es : List (Entry g.row.A.Denot)). All IsWellFormedEntry es)
