@@ -2,7 +2,7 @@
 //! from them.
 //!
 //! `InfoToWrite` is what is written, always with the loader's name `bootcore`: contracts see it as
-//! the record `InformationFacts`. `Info` is what was read, with the name of whatever loader wrote
+//! the record `InfoToWriteFacts`. `Info` is what was read, with the name of whatever loader wrote
 //! it: contracts see it as the record `InfoFacts`, which is a name and the facts.
 #![tactic(auto)]
 
