@@ -1,10 +1,10 @@
 /*
  * bootcore: what a boot loader does with memory, for C.
  *
- * Link libbootcore_c.a. It wants memmove, memset and memcpy, and the allocator's malloc, realloc and
- * free by way of three small functions that the toolchain's heap object has; examples/c/build shows
- * the line. Nothing else is wanted: no file, no clock, no thread, no text. The three align as the C
- * library's, and always return.
+ * Link libbootcore.a, which ./install puts into a prefix, with bootcore.pc for pkg-config. It wants
+ * memmove, memset and memcpy, and malloc, realloc and free, which align as the C library's and always
+ * return. Nothing else is wanted: no file, no clock, no thread, no text. (In a checkout it is two
+ * archives, libbootcore_c.a and the toolchain's heap object; examples/c/build shows the line.)
  *
  * Target. The library is built for x86-64 (x86-64-v2, with SSE enabled) and the System V calling
  * convention, and so its calls are declared.
