@@ -1,0 +1,1 @@
+"""What tools/draw draws: the lines of `bootcore`, an image's head, and the picture that is made of them."""

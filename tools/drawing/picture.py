@@ -1,0 +1,72 @@
+"""The picture: an axis of addresses, and beside it memory before a boot and after it."""
+
+from __future__ import annotations
+
+from typing import List, Tuple
+
+from . import columns, svg, words
+from .columns import AFTER, BEFORE, POINTERS, TOP, Drawn, Layout
+from .handover import pointers_of
+from .rows import rows_of
+
+
+def picture(drawn: Drawn) -> str:
+    rows = rows_of(drawn.memory, drawn.handover.parts if drawn.handover else ())
+    layout = columns.layout_of(rows, drawn.handover is not None)
+    elements = _heads(layout, drawn) + columns.axis(rows, layout) + columns.before(rows, layout, drawn)
+    if drawn.handover:
+        elements += columns.after(rows, layout, drawn.handover, drawn.boot)
+    y = layout.heights[-1] + 12
+    for kind, note in _notes(drawn):
+        y += 20
+        elements.append(svg.text(kind, 16, y, note))
+    return svg.document(y + 16, _title(drawn), _description(drawn), elements)
+
+
+def _title(drawn: Drawn) -> str:
+    return "Memory before and after a boot" if drawn.handover else "Memory, as the loader finds it"
+
+
+def _subtitle(drawn: Drawn) -> str:
+    if drawn.handover:
+        entry = f"entry {drawn.boot.entry}, \u201c{drawn.boot.title}\u201d: " if drawn.boot else ""
+        return f"bootcore loads {entry}a kernel of the protocol {drawn.handover.protocol}"
+    if drawn.refusals:
+        return "No entry is booted: " + drawn.refusals[-1]
+    return f"Usable memory: {drawn.memory.low} KiB from 0 on, {drawn.memory.high} KiB from 1 MiB on"
+
+
+def _heads(layout: Layout, drawn: Drawn) -> List[str]:
+    y = TOP - 18
+    heads = [
+        svg.text("title", 16, 32, _title(drawn)),
+        svg.text("quiet", 16, 54, words.cut(_subtitle(drawn))),
+        svg.text("head end", layout.axis - 8, y, "address"),
+        svg.text("head middle", layout.before + BEFORE // 2, y, "before" if drawn.handover else "memory"),
+    ]
+    if not drawn.handover:
+        return heads + [svg.text("head", layout.labels, y, "what it is for")]
+    return heads + [
+        svg.text("head middle", layout.after + AFTER // 2, y, "after"),
+        svg.text("head middle", layout.after + AFTER + POINTERS // 2, y, "registers"),
+        svg.text("head", layout.labels, y, "where the bytes come from" if drawn.boot else "what it holds"),
+    ]
+
+
+def _notes(drawn: Drawn) -> List[Tuple[str, str]]:
+    scale = ("quiet", "Addresses are not to scale: each row is one range, with its size on the left.")
+    if not drawn.handover:
+        return [scale]
+    return [("promise", "Every byte outside of the parts and the pool is as it was before."), scale]
+
+
+def _description(drawn: Drawn) -> str:
+    """The picture in words, for a reader who can't see it."""
+    sentences = [_subtitle(drawn) + ".", "Before: " + words.described_map(drawn.memory)]
+    if drawn.handover:
+        names = words.part_names(drawn.handover.parts)
+        sentences.append("After:")
+        sentences += [words.described_part(part, names[part], drawn.boot) for part in drawn.handover.parts]
+        for pointer in pointers_of(drawn.handover):
+            sentences.append(f"{pointer.register} is {words.address(pointer.value)}, in {names[pointer.part]}.")
+    return " ".join(sentences + [note for _, note in _notes(drawn)])
