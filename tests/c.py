@@ -1,0 +1,204 @@
+"""the core for C: header, statuses, examples, walks, and the cases by way of it"""
+
+import re
+import unittest
+from pathlib import Path
+from typing import List, Tuple
+
+from tests import examples
+from tests.c_core import CC, HEADER, WARNINGS, CoreChecks, build, libraries, why_left_out
+from tests.changed_images import change, changed_images
+from tests.support import PROGRAM, TOP, Checks, Ran, has_tomllib, is_at_hand, need_built, run
+
+IN_CXX = """\
+#include "bootcore.h"
+int main() {
+    bootcore_session session = {nullptr};
+    bool missing = bootcore_session_missing(&session, nullptr);
+    uint32_t walked = bootcore_walk(nullptr, 0, nullptr, nullptr);
+    bootcore_session_free(&session);
+    return missing || walked != BOOTCORE_NULL;
+}
+"""
+
+DISK = """\
+entry 0 refused 2 1
+entry 1 ip 100010 bx 1000
+part 3 0 at 1000, 4096 bytes
+part 1 0 at 100000, 80 bytes
+part 2 0 at 101000, 16384 bytes
+17 answers
+memory as after bootcore_boot
+"""
+
+# places by the table of docs/BOOT-RULES.md: information lowest, the module from the next frame after the kernel on
+GUEST = """\
+bits 32
+ip 100010 ax 36d76289 bx 1000 si 0
+cr0 11 cr3 0 cr4 0 efer 0
+cs 10 ds 18 gdt 0
+part 3 0 at 1000, 4096 bytes
+part 1 0 at 100000, 80 bytes
+part 2 0 at 101000, 4096 bytes
+"""
+
+SEEN = "a kernel sees: entry 100010, line of 1 bytes, 1 modules, 3 runs\n"
+
+SANITIZERS = ["-fsanitize=address,undefined", "-fno-sanitize-recover=all"]
+CASES_COUNT = re.compile(r"(\d+) boots and (\d+) loads of \d+ cases, (\d+) differ")
+
+
+def setUpModule() -> None:
+    why = why_left_out()
+    if why:
+        raise unittest.SkipTest(why)
+    need_built(PROGRAM, "tools/build")
+
+
+class Built(Checks):
+    def test_build(self) -> None:
+        """the core for C and its examples are built"""
+        ran = build()
+        if ran.status != 0:
+            written = (ran.out + ran.err)[-4000:].decode(errors="backslashreplace")
+            self.fail(f"ran: {ran}\nstatus {ran.status}, wanted 0\n{written}")
+
+
+class Header(CoreChecks):
+    def reads(self, sentence: str, compiler: List[str], standard: str, language: str) -> None:
+        """A check that a compiler accepts the header alone, without a warning."""
+        words = [*compiler, f"-std={standard}", *WARNINGS, "-fsyntax-only", "-x", language, HEADER]
+        self.ends(sentence, run(*words))
+
+    def test_c(self) -> None:
+        self.reads("include/bootcore.h is accepted as C99 without a warning", CC, "c99", "c")
+        self.reads("include/bootcore.h is accepted as C11 without a warning", CC, "c11", "c")
+
+    def test_cxx(self) -> None:
+        if not is_at_hand("c++"):
+            self.leave_out("include/bootcore.h is accepted as C++11 without a warning", "c++ is not at hand")
+            self.leave_out("a program in C++11 is linked with the core and runs", "c++ is not at hand")
+            return
+        self.reads("include/bootcore.h is accepted as C++11 without a warning", ["c++"], "c++11", "c++")
+        source, linked = self.room / "linked.cc", self.room / "linked"
+        source.write_text(IN_CXX, encoding="utf-8")
+        with self.check("a program in C++11 is linked with the core and runs"):
+            words = ["c++", "-std=c++11", *WARNINGS, "-I", HEADER.parent, source, *libraries(), "-o", linked]
+            self.assert_ended(run(*words))
+            self.assert_ended(run(linked))
+
+
+class Statuses(CoreChecks):
+    def test_statuses(self) -> None:
+        for sentence, ran, tried in [
+            ("each misuse of a load or a preparation from C has its status", self.example("statuses"), 56),
+            ("each end of a boot from C has its status", self.example("menu", self.kernel), 14),
+            ("each misuse of a session's calls from C has its status", self.example("sessions"), 104),
+            ("each end of a walk from C has its status", self.example("walks", self.images["first.2"]), 21),
+        ]:
+            self.ends(sentence, ran, 0, f"{tried} tried, 0 wrong\n")
+
+
+class Walks(CoreChecks):
+    def walked_by_both(self, image: Path) -> Tuple[Ran, Ran]:
+        return self.program("walk", image), self.example("walked", image)
+
+    def test_walks(self) -> None:
+        linux = self.booted("linux", "linux.sh", kernel=examples.linux_kernel())
+        linux64 = self.booted("linux64", "linux.sh", "linux64", kernel=examples.linux64_kernel())
+        for name, image in [
+            ("the first example's image of version 1", self.images["first.1"]),
+            ("the first example's image of version 2", self.images["first.2"]),
+            ("the second example's image of version 1", self.images["second.1"]),
+            ("the second example's image of version 2", self.images["second.2"]),
+            ("the image of a user's kernel and modules", self.modules / "modules.image"),
+            ("the image of a Linux kernel by its 32-bit entry", linux / "linux.image"),
+            ("the image of a Linux kernel by its 64-bit entry", linux64 / "linux.image"),
+            ("an image that is absent", self.room / "absent.image"),
+        ]:
+            wanted, came = self.walked_by_both(image)
+            self.ends(f"a walk from C reports of {name} what the program does", came, *wanted[2:])
+
+    def test_changed(self) -> None:
+        image = self.room / "changed.image"
+        bases = {name: path.read_bytes() for name, path in self.images.items()}
+        same, faults = 0, []
+        for changed in changed_images():
+            image.write_bytes(change(bases[changed.base], changed.changes))
+            wanted, came = self.walked_by_both(image)
+            try:
+                self.assert_ended(came, *wanted[2:])
+                same += 1
+            except AssertionError as fault:
+                faults.append(f"{changed}:\n{fault}")
+        sentence = "a walk from C reports of each changed image what the program does"
+        self.assertGreater(same + len(faults), 0, "cases/images has no row")
+        self.tally(sentence, same, len(faults), "\n".join(faults[:8]))
+
+
+class Examples(CoreChecks):
+    def test_disk(self) -> None:
+        """a disk that answers in no order, twice, and with a fault, boots the fallback"""
+        self.assert_ended(self.example("disk", self.kernel), 0, DISK)
+
+    def test_measured(self) -> None:
+        machine, module, changed = (self.room / name for name in ("first.map", "m.bin", "changed.image"))
+        machine.write_bytes(self.program("map", examples.FIRST).out)
+        module.write_bytes(b"hello")
+        changed.write_bytes(change(self.images["first.2"].read_bytes(), ["@116c=ff"]))
+
+        def measured(image: Path) -> Ran:
+            return self.example("measured", "0x400000", machine, image, "multiboot2", "k", self.kernel, module, "m")
+
+        self.ends(
+            "the checker of measured boots computes the image of the first example from its machine and files",
+            measured(self.images["first.2"]),
+            0,
+            "equal\n" + SEEN,
+        )
+        self.ends(
+            "the checker of measured boots finds the byte that was changed in an image",
+            measured(changed),
+            1,
+            "differs: memory at 0x100014\n" + SEEN,
+        )
+
+    def test_guest(self) -> None:
+        entered = self.example("guest", "multiboot2", "kernel.elf", "k", "settings.cfg", cwd=self.modules)
+        self.ends("the guest loader prints how its guest is entered", entered, 0, GUEST)
+        refused = self.example("guest", "multiboot2", "settings.cfg", "k", cwd=self.modules)
+        self.ends("the guest loader prints which refusal a bad kernel meets", refused, 1, "refused 4 0 0\n")
+
+
+class Cases(CoreChecks):
+    def sanitizers(self) -> List[str]:
+        """The sanitizers, if the compiler has them and what it makes with them runs."""
+        source, made = self.room / "none.c", self.room / "none"
+        source.write_text("int main(void) { return 0; }\n", encoding="utf-8")
+        if run(*CC, *SANITIZERS, source, "-o", made).status == 0 and run(made).status == 0:
+            return SANITIZERS
+        self.leave_out("the core for C runs the cases under the sanitizers", "this compiler has none")
+        return []
+
+    def test_cases(self) -> None:
+        driver = self.room / "c_cases"
+        words = [*CC, "-std=c99", "-g", "-O2", *self.sanitizers(), "-I", HEADER.parent, TOP / "tools/c/cases.c"]
+        wrapped = "-Wl,--wrap=malloc,--wrap=realloc"
+        built = run(*words, *libraries(), wrapped, "-o", driver, timeout=600)
+        self.ends("the driver that takes the cases to the core for C is built", built)
+        if built.status != 0:
+            return
+        sentence = "each case ends as wanted by way of C, also with each growth of memory refused in turn"
+        if not has_tomllib():
+            self.leave_out(sentence, "python3 of 3.11 or later is not at hand")
+            return
+        ran = run(TOP / "tools/c/cases", driver, timeout=900, env={"PYTHONDONTWRITEBYTECODE": "1"})
+        lines = ran.out.decode(errors="backslashreplace").splitlines()
+        counts = CASES_COUNT.fullmatch(lines[-1]) if lines else None
+        if counts is None or ran.err or (ran.status == 0) != (counts[3] == "0"):
+            with self.check(sentence):
+                self.assert_ended(ran, 0, None)
+                self.fail(f"ran: {ran}\nits last line is no count of boots and loads: {lines[-1:]}")
+            return
+        boots, loads, differ = map(int, counts.groups())
+        self.tally(sentence, boots + loads - differ, differ, "\n".join(line[:300] for line in lines[-20:]))

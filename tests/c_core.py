@@ -1,0 +1,76 @@
+"""What the checks of the core for C share: the build, why it is left out, and the images that they look at."""
+
+import os
+import shutil
+import unittest
+from functools import lru_cache
+from pathlib import Path
+from typing import Dict, List, Optional, Union
+
+from tests import changed_images, examples
+from tests.support import C_ARCHIVE, PROGRAM, TOP, ProgramChecks, Ran, run
+
+OUT = TOP / "examples/c/out"
+HEADER = TOP / "include/bootcore.h"
+WARNINGS = ["-Wall", "-Wextra", "-Werror"]
+CC = (os.environ.get("CC") or "cc").split()
+HOURS = 3600.0
+
+
+def why_left_out() -> Optional[str]:
+    if shutil.which(CC[0]) is None:
+        return f"the core for C: no compiler of C is at hand, '{' '.join(CC)}' is none"
+    if os.environ.get("CI") and len(os.sched_getaffinity(0)) < 4 and not C_ARCHIVE.exists():
+        return (
+            "the core for C: the gate proves its crates and builds no library,"
+            " and to prove them again takes longer than is left"
+        )
+    return None
+
+
+@lru_cache(maxsize=None)
+def build() -> Ran:
+    """The core and the examples, built once for all checks."""
+    print("c: the static library for C is built: minutes, if its crates were not built before", flush=True)
+    return run(TOP / "examples/c/build", timeout=3 * HOURS)
+
+
+@lru_cache(maxsize=None)
+def libraries() -> List[Path]:
+    """What a program in C links: the core, and the toolchain's object by which it asks malloc, realloc and free."""
+    return [C_ARCHIVE, Path(run("rt", "doc").out.decode().strip()).parent / "c/liblibc_c.a"]
+
+
+class CoreChecks(ProgramChecks):
+    """Checks of the core for C as it is built, with the files of two examples and the images of these."""
+
+    images: Dict[str, Path]
+    modules: Path  # the folder of examples/modules.sh
+    kernel: Path
+
+    @classmethod
+    def setUpClass(cls) -> None:
+        super().setUpClass()
+        if build().status != 0:
+            raise unittest.SkipTest("the core for C is not built, as is reported above")
+        cls.images = changed_images.base_images(cls.room, PROGRAM)
+        cls.modules = cls.booted("modules", "modules.sh")
+        cls.kernel = cls.modules / "kernel.elf"
+
+    @classmethod
+    def booted(cls, name: str, *script: str, kernel: bytes = b"") -> Path:
+        """A new folder with the files of an example's script and the image that it makes of them."""
+        folder = cls.room / name
+        folder.mkdir()
+        if kernel:
+            examples.write_linux(folder, kernel)
+        else:
+            examples.write_modules(folder)
+        ran = run(TOP / "examples" / script[0], *script[1:], cwd=folder, env={"BOOTCORE": str(PROGRAM)})
+        if ran.status != 0:
+            raise AssertionError(f"ran: {ran}\nstatus {ran.status}, wanted 0\n{ran.err.decode(errors='replace')}")
+        return folder
+
+    def example(self, name: str, *words: Union[str, Path], cwd: Path = TOP) -> Ran:
+        """A run of a program that examples/c/build made."""
+        return run(OUT / name, *words, cwd=cwd)

@@ -1,0 +1,203 @@
+"""pages: links, quoted lines, names, lengths, the manual page"""
+
+import re
+from functools import lru_cache
+from pathlib import Path
+from typing import Iterable, List, Set
+
+from tests import repository
+from tests.support import PROGRAM, TOP, Checks, ProgramChecks, is_at_hand, run
+
+LINK = re.compile(r"\]\(([^)#\s]+)")
+LINK_TO_HEADING = re.compile(r"\]\(([^)#\s]*)#([^)\s]+)\)")
+CONFLICT = re.compile(r"(<{7}|>{7}) ")
+MANUAL_PAGE = TOP / "docs/bootcore.1"
+
+TOOLS = [
+    ("each link to a definition or a clause has its line", "tools/anchors", "--check"),
+    ("no name is declared more than once but those of tools/names.txt", "tools/names"),
+    ("each quoted line stands in its source", "tools/quotes"),
+    ("each file of definitions or proofs that a crate's page lists is there", "tools/listed"),
+    ("a reader's hour in docs/THEOREMS.md has the lines that it counts", "tools/hour", "--check"),
+    ("explain has the name and the meaning of each refusal that docs/REFUSALS.md has", "tools/refusals"),
+    ("CONTRIBUTING.md lists each place where a refusal and a key stand", "tools/refusal_places", "--check"),
+]
+
+EXAMPLE_PROGRAMS = ["guest", "by_hand", "disk", "disk_boot", "check", "guest_from_files"]
+
+# a sentence, the words on the line after `bootcore`, and what is offered for the last of them
+COMPLETIONS = [
+    ("bash completes the subcommand walk", "w", "walk"),
+    ("bash completes the option --order of boot", "boot x --or", "--order"),
+    ("bash completes the order reverse of boot", "boot x --order r", "reverse"),
+    ("bash completes the description of map", "map examples/first.t", "examples/first.toml"),
+    ("bash completes only an option of boot that is not on the line yet", "boot x --order forward --o", "--out"),
+    ("bash offers nothing after the description of map", "map x e", ""),
+    ("bash completes the subcommand convert", "c", "convert"),
+    ("bash completes the image that convert reads", "convert examples/first.i", "examples/first.image.hex"),
+    ("bash offers --out after the image that convert reads", "convert x --", "--out"),
+    ("bash completes the image that convert writes", "convert x --out examples/sec", "examples/second.toml"),
+    ("bash offers nothing after both images of convert", "convert x --out y e", ""),
+    ("bash offers the options of boot before its description", "boot --", "--out --order --help"),
+    ("bash completes the description of boot after the image", "boot --out y examples/first.t", "examples/first.toml"),
+    ("bash completes the subcommand explain", "e", "explain"),
+    ("bash offers --order after the description of explain", "explain x --", "--order"),
+    ("bash completes the order forward of explain", "explain x --order f", "forward"),
+    ("bash offers nothing after the description and the order of explain", "explain x --order forward --", ""),
+]
+COMPLETE = """\
+set -u
+source completions/bootcore.bash
+COMP_WORDS=("$@")
+COMP_CWORD=$(($# - 1))
+_bootcore
+echo "${COMPREPLY[*]}"
+"""
+
+
+class Pages(Checks):
+    def finds_none(self, sentence: str, found: Iterable[str]) -> None:
+        """A check that nothing wrong is found; else the places are shown."""
+        with self.check(sentence):
+            places = list(found)
+            if places:
+                self.fail("\n".join([f"{len(places)} found, none wanted:", *places[:40]]))
+
+    def test_links(self) -> None:
+        for page in repository.pages():
+            self.finds_none(f"each link of {page} to a file of the repository leads to one", missing_links(page))
+        missing = (heading for page in repository.pages() for heading in missing_headings(page))
+        self.finds_none("each link of a page to a heading leads to one", missing)
+
+    def test_tools(self) -> None:
+        for sentence, tool, *words in TOOLS:
+            self.passes(sentence, TOP / tool, *words)
+
+    def test_conflicts(self) -> None:
+        found = (
+            f"{name}:{number}: {line}"
+            for name in repository.texts()
+            for number, line in enumerate(repository.lines(name), 1)
+            if CONFLICT.match(line)
+        )
+        self.finds_none("no file has a conflict of a merge", found)
+
+    def test_lengths(self) -> None:
+        for name in EXAMPLE_PROGRAMS:
+            path = f"crates/bl_examples/src/{name}.rt"
+            self.finds_none(f"the example program {name}.rt has at most 60 lines", longer_files([path], 60))
+        sources = [
+            name for name in repository.files() if re.fullmatch(r"crates/[^/]+/(src/.*\.rt|specs/.*\.antt)", name)
+        ]
+        self.finds_none("no line of a source or a definition has more than 100 characters", longer_lines(sources, 100))
+        self.finds_none("no source and no file of definitions has more than 200 lines", longer_files(sources, 200))
+        self.finds_none("README.md has at most 130 lines", longer_files(["README.md"], 130))
+        self.finds_none("no line of README.md has more than 140 characters", longer_lines(["README.md"], 140))
+
+    def test_copies(self) -> None:
+        with self.check("HANDLES is its one line"):
+            self.assertEqual((TOP / "HANDLES").read_bytes(), b"Handles allowed: none.\n", "the bytes of HANDLES")
+        self.are_same_file(
+            "the description of the program's stored run is the first example",
+            TOP / "examples/first.toml",
+            TOP / "crates/bootcore/data/first.toml",
+        )
+
+    def test_version(self) -> None:
+        ran = run(TOP / "tools/version")
+        newest = first_match(r"^## (.+)$", "docs/CHANGES.md")
+        self.ends("tools/version prints the newest version of docs/CHANGES.md", ran, 0, newest + "\n")
+        source = "crates/bootcore/src/program.rt"
+        usage = first_match(r"^bootcore (.+)$", source)
+        self.ends(f"tools/version prints the version of the usage text in {source}", ran, 0, usage + "\n")
+
+    def test_completions(self) -> None:
+        for sentence, words, offered in COMPLETIONS:
+            ran = run("bash", "-c", COMPLETE, "bash", "bootcore", *words.split(" "))
+            self.ends(sentence, ran, 0, offered + "\n")
+
+
+class ManualPage(Checks):
+    def test_mandoc(self) -> None:
+        """mandoc warns of nothing in the manual page"""
+        if not is_at_hand("mandoc"):
+            self.skipTest("mandoc is not at hand")
+        self.assert_ended(run("mandoc", "-T", "lint", MANUAL_PAGE))
+
+    def test_groff(self) -> None:
+        """groff warns of nothing in the manual page"""
+        if not is_at_hand("groff"):
+            self.skipTest("groff is not at hand")
+        self.assert_ended(run("groff", "-man", "-ww", "-z", MANUAL_PAGE))
+
+
+class BesideProgram(ProgramChecks):
+    def test_pictures(self) -> None:
+        sentence = "each picture of docs/pictures is what tools/pictures draws by the program"
+        self.passes(sentence, TOP / "tools/pictures", "--check", env={"BOOTCORE": str(PROGRAM)})
+        for name in ("first", "second"):
+            drawn = self.room / f"{name}.svg"
+            with self.check(f"examples/picture draws docs/pictures/{name}.svg of the {name} example"):
+                words = [TOP / "examples/picture", TOP / f"examples/{name}.toml", drawn]
+                self.assert_ended(run(*words, cwd=self.room, env={"BOOTCORE": str(PROGRAM)}))
+                self.assert_same_file(TOP / f"docs/pictures/{name}.svg", drawn)
+
+    def test_synopsis(self) -> None:
+        """the synopsis of the manual page is the usage text of the program"""
+        if not is_at_hand("groff"):
+            self.skipTest("groff is not at hand")
+        usage = self.program("--help").out.decode().split("\n", 1)[1]
+        ran = run("groff", "-man", "-Tascii", "-P-c", MANUAL_PAGE)
+        page = re.sub(".\b", "", ran.out.decode())  # without what is struck twice
+        synopsis = page[page.index("\nSYNOPSIS") : page.index("\nDESCRIPTION")]
+        calls = [line for line in synopsis.split("\n") if re.match(" +bootcore", line)]
+        wanted = re.sub(" +", " ", usage.replace("usage: ", " ", 1))
+        self.assert_text(ran, wanted, re.sub(" +", " ", "\n".join([*calls, ""])), "synopsis")
+
+
+def missing_links(page: str) -> List[str]:
+    folder = (TOP / page).parent
+    links = (link for line in repository.lines(page) for link in LINK.findall(line))
+    return [f"{page}: there is no {it}" for it in links if not re.match("[a-z]+:", it) and not (folder / it).exists()]
+
+
+@lru_cache(maxsize=None)
+def headings(page: Path) -> Set[str]:
+    """The names by which links lead to a page's headings; of headings that are alike only the first one counts."""
+    without_code = re.sub("^```.*?^```", "", page.read_text(encoding="utf-8"), flags=re.M | re.S)
+    found = re.findall("^#+ +(.+)$", without_code, re.M)
+    return {re.sub(r"[^\w\- ]", "", re.sub(r"\]\([^)]*\)", "", it).strip().lower()).replace(" ", "-") for it in found}
+
+
+def missing_headings(page: str) -> List[str]:
+    """The links of a page to headings that there are not, of its own or of another page."""
+    found = ((path, name) for line in repository.lines(page) for path, name in LINK_TO_HEADING.findall(line))
+    own = [((TOP / page).parent / path if path else TOP / page, name) for path, name in found if "://" not in path]
+    led = [(target, name) for target, name in own if target.suffix == ".md"]
+    return [
+        f"{page}: {target.relative_to(TOP)} has no heading {name}"
+        for target, name in led
+        if not target.is_file() or name not in headings(target)
+    ]
+
+
+def longer_lines(names: Iterable[str], most: int) -> List[str]:
+    return [
+        f"{name}:{number}: {len(line)} characters"
+        for name in names
+        for number, line in enumerate(repository.lines(name), 1)
+        if len(line) > most
+    ]
+
+
+def longer_files(names: Iterable[str], most: int) -> List[str]:
+    lengths = ((name, (TOP / name).read_bytes().count(b"\n")) for name in names)
+    return [f"{name}: {length} lines" for name, length in lengths if length > most]
+
+
+def first_match(pattern: str, name: str) -> str:
+    """The group of the first line of a file that the pattern matches."""
+    found = re.search(pattern, (TOP / name).read_text(encoding="utf-8"), re.M)
+    if found is None:
+        raise AssertionError(f"{name} has no line '{pattern}'")
+    return found[1]

@@ -1,0 +1,90 @@
+"""the toolchain's gate: every proof from nothing, the edits that must be refused, the stored runs"""
+
+import os
+import re
+import statistics
+import subprocess
+import sys
+import threading
+from typing import List, Optional, Tuple
+
+from tests.support import TOP, Checks, is_at_hand
+
+BETWEEN_MEASURES = 25 * 60
+
+
+def seconds_of(words: List[str], stdout=subprocess.DEVNULL) -> Tuple[int, float]:
+    """A command's status and the processor seconds that it and all that it started took."""
+    process = subprocess.Popen(words, cwd=TOP, stdin=subprocess.DEVNULL, stdout=stdout, stderr=subprocess.STDOUT)
+    _, status, usage = os.wait4(process.pid, 0)
+    process.returncode = os.waitstatus_to_exitcode(status) if hasattr(os, "waitstatus_to_exitcode") else status >> 8
+    return process.returncode, usage.ru_utime + usage.ru_stime
+
+
+class MeasuredBeside(threading.Thread):
+    """What `rt selftest` costs while something else runs, every 25 minutes: a machine may be half as fast again an hour later."""
+
+    def __init__(self) -> None:
+        super().__init__(daemon=True)
+        self.ended = threading.Event()
+        self.took: List[float] = []
+
+    def run(self) -> None:
+        while not self.ended.wait(BETWEEN_MEASURES):
+            status, seconds = seconds_of(["rt", "selftest"])
+            if status == 0 and not self.ended.is_set():
+                self.took.append(seconds)
+
+
+class Gate(Checks):
+    def test_gate(self) -> None:
+        """the command rt of the Rattle toolchain is on the PATH"""
+        if not is_at_hand("rt"):
+            self.fail("the command 'rt' is not on the PATH; README says what it is")
+        # the toolchain's example: what it costs on this machine is the unit for what the gate costs
+        status, before = seconds_of(["rt", "selftest"])
+        with self.check("rt selftest proves and runs the toolchain's own example"):
+            self.assertEqual(status, 0, "the status of rt selftest")
+        print("gate: rt ci proves all that it has not kept: from nothing an hour to one and a half on four cores,")
+        print("gate: two to two and a half on two", flush=True)
+        beside = MeasuredBeside()
+        beside.start()
+        status, seconds, last = self.gate()
+        beside.ended.set()
+        counts = re.fullmatch(r"(\d+) passed, (\d+) failed", last)
+        with self.check("rt ci ends in a count, and its status is that of the count"):
+            self.assertIsNotNone(counts, f"the last line of rt ci is {last!r}")
+            self.assertEqual(status == 0, counts[2] == "0", f"rt ci: status {status}, last line {last!r}")
+        if counts:
+            self.tally("rt ci: proofs, edits, tests and runs", int(counts[1]), int(counts[2]), "its own lines above name them")
+        self.tell_cost(before, beside.took, seconds)
+
+    def gate(self) -> Tuple[int, float, str]:
+        """Runs rt ci and shows its lines; its status, its processor seconds, its last line."""
+        gate = subprocess.Popen(
+            ["rt", "ci"], cwd=TOP, stdin=subprocess.DEVNULL, stdout=subprocess.PIPE, stderr=subprocess.STDOUT
+        )
+        times = subprocess.Popen(["tools/gate_times"], cwd=TOP, stdin=subprocess.PIPE, stdout=sys.stdout)
+        last = b""
+        assert gate.stdout is not None and times.stdin is not None
+        for line in gate.stdout:
+            times.stdin.write(line)
+            times.stdin.flush()
+            last = line
+        times.stdin.close()
+        _, status, usage = os.wait4(gate.pid, 0)
+        gate.returncode = status >> 8 if os.WIFEXITED(status) else 128 + os.WTERMSIG(status)
+        times.wait()
+        return gate.returncode, usage.ru_utime + usage.ru_stime, last.decode(errors="replace").strip()
+
+    @staticmethod
+    def tell_cost(before: float, beside: List[float], seconds: float) -> None:
+        """The gate's cost in units of rt selftest; of a run that ends within 25 minutes the unit is the one before it."""
+        unit = statistics.mean(beside) if beside else before
+        which = "beside it" if beside else "before it"
+        measured = " ".join(f"{it:.0f}" for it in beside) or "none"
+        print(
+            f"rt ci took {seconds:.0f} processor seconds, {seconds / unit:.1f} times what rt selftest took {which}:"
+            f" before it {before:.0f}, {measured} beside it",
+            flush=True,
+        )

@@ -1,0 +1,184 @@
+"""installation and release: what stands where, programs that are built on it, the archive in an empty root"""
+
+import os
+import re
+import shutil
+import stat
+import unittest
+from pathlib import Path
+from typing import List, Optional
+
+from tests import examples
+from tests.c import GUEST
+from tests.c_core import CC, why_left_out
+from tests.support import PROGRAM, TOP, ProgramChecks, Ran, is_at_hand, need_built, run
+
+INSTALL = TOP / "install"
+RELEASE = TOP / "tools/release"
+HALF_AN_HOUR = 1800.0  # the library for C is built first, if it is not
+
+
+def setUpModule() -> None:
+    why = why_left_out()
+    if why:
+        raise unittest.SkipTest(why.replace("the core for C", "the library that is installed"))
+    need_built(PROGRAM, "tools/build")
+
+
+def installed(folder: Path) -> List[str]:
+    """The files below a folder, and links; each by its whole path."""
+    return sorted(str(path) for path in folder.rglob("*") if path.is_symlink() or not path.is_dir())
+
+
+class Installed(ProgramChecks):
+    """An installation into a prefix of its own."""
+
+    prefix: Path
+    ran: Ran
+
+    @classmethod
+    def setUpClass(cls) -> None:
+        super().setUpClass()
+        cls.prefix = cls.room / "prefix"
+        words = ["bash", "-c", 'umask 077; exec "$@"', "bash", INSTALL, "--prefix", cls.prefix]
+        cls.ran = run(*words, timeout=HALF_AN_HOUR)
+
+    def test_files(self) -> None:
+        with self.check("install puts nine files into a prefix and reports each"):
+            self.assert_ended(self.ran, 0, None, None)
+            reported = re.findall(rb"^installed (.+)$", self.ran.out, re.M)
+            self.assertEqual(sorted(map(os.fsdecode, reported)), installed(self.prefix), f"ran: {self.ran}")
+            self.assertEqual(len(reported), 9, f"ran: {self.ran}\nfiles that it reports")
+        with self.check("install --list names exactly the files that install puts there"):
+            ran = run(INSTALL, "--list", "--prefix", self.prefix)
+            self.assert_ended(ran, 0, None)
+            listed = sorted(os.fsdecode(line.split(b"\t")[0]) for line in ran.out.splitlines())
+            self.assertEqual(listed, installed(self.prefix), f"ran: {ran}")
+        with self.check("installed files can be read by everybody, also under a umask of 077"):
+            wrong = [f"{path}: {mode_of(path):o}" for path in self.prefix.rglob("*") if mode_of(path) != wanted_mode(path)]
+            self.assertEqual(wrong, [], f"ran: {self.ran}\nmodes")
+        self.are_same_file("the installed program is the proved one", PROGRAM, self.prefix / "bin/bootcore")
+
+    def test_destdir(self) -> None:
+        """install below a destination folder puts the same files there"""
+        ran = run(INSTALL, "--destdir", self.room / "staged", "--prefix", "/usr")
+        self.assert_ended(ran, 0, None)
+        self.assert_ended(run("diff", "-r", self.prefix, self.room / "staged/usr"))
+
+    def test_programs_in_c(self) -> None:
+        if not is_at_hand("pkg-config"):
+            self.leave_out("programs in C are built on what is installed", "pkg-config is not at hand")
+            return
+        for name in ("guest", "statuses"):
+            ran = self.compiled(name, self.prefix)
+            self.ends(f"examples/c/{name}.c is built on what is installed, by pkg-config alone", ran)
+        (self.room / "kernel.elf").write_bytes(examples.multiboot2_kernel())
+        (self.room / "m.bin").write_bytes(b"hello")
+        words = ["multiboot2", "kernel.elf", "k", "m.bin"]
+        ran = run(self.room / "guest", *words, cwd=self.room)
+        self.ends("a guest loader that is built on what is installed loads its guest", ran, 0, GUEST)
+        ran = run(self.room / "statuses")
+        self.ends("each misuse has its status, by way of the installed library", ran, 0, "56 tried, 0 wrong\n")
+        moved = self.room / "moved"
+        shutil.copytree(self.prefix, moved)
+        self.ends("a prefix that was moved is found by its bootcore.pc", self.compiled("guest", moved))
+
+    def compiled(self, name: str, prefix: Path) -> Ran:
+        """Compiles an example in C; the compiler's words are those of pkg-config."""
+        command = 'exec $CC -std=c99 -O2 -Wall -Wextra "$1" $(pkg-config --cflags --libs bootcore) -o "$2"'
+        env = {"CC": " ".join(CC), "PKG_CONFIG_PATH": str(prefix / "lib/pkgconfig")}
+        return run("bash", "-c", command, "bash", TOP / f"examples/c/{name}.c", self.room / name, env=env)
+
+    def test_version(self) -> None:
+        """bootcore.pc and the installed program have the version that tools/version prints"""
+        version = run(TOP / "tools/version").out.decode().strip()
+        stated = re.search(r"^Version: (.+)$", (self.prefix / "lib/pkgconfig/bootcore.pc").read_text(), re.M)
+        self.assertEqual(stated and stated[1], version, "the version of bootcore.pc")
+        ran = run(self.prefix / "bin/bootcore", "--help")
+        self.assert_text(ran, f"bootcore {version}", ran.out.split(b"\n")[0], "first line")
+
+
+class Removed(ProgramChecks):
+    def test_removal(self) -> None:
+        prefix = self.room / "prefix"
+        run(INSTALL, "--prefix", prefix, timeout=HALF_AN_HOUR)
+        ran = run(INSTALL, "--remove", "--prefix", prefix)
+        with self.check("install --remove takes all files and folders away again"):
+            self.assert_ended(ran, 0, None)
+            self.assertEqual(list(prefix.rglob("*")) if prefix.exists() else [], [], f"ran: {ran}\nwhat is left")
+        run(INSTALL, "--prefix", prefix)
+        (prefix / "lib/other").write_text("of somebody else")
+        ran = run(INSTALL, "--remove", "--prefix", prefix)
+        with self.check("install --remove leaves a file of somebody else, with its folder"):
+            self.assert_ended(ran, 0, None)
+            self.assertEqual(installed(prefix), [str(prefix / "lib/other")], f"ran: {ran}\nwhat is left")
+
+    def test_faults(self) -> None:
+        for words in (["foo"], ["--prefix"], ["--list", "--remove"], ["--destdir", "x", "--prefix", "y"]):
+            ran = run(INSTALL, *words, cwd=self.room)
+            self.ends(f"install refuses the words '{' '.join(words)}'", ran, 64, "", None)
+        header = self.room / "taken/include/bootcore.h"
+        (header / "x").mkdir(parents=True)
+        ran = run(INSTALL, "--prefix", self.room / "taken", timeout=HALF_AN_HOUR)
+        with self.check("install reports which file can't be written"):
+            self.assert_ended(ran, 1, None, None)
+            self.assertIn(f"{header} can't be written", ran.err.decode(), f"ran: {ran}\nstandard error")
+
+
+class Released(ProgramChecks):
+    """The archive for those without the toolchain."""
+
+    name: str
+    ran: List[Ran]
+
+    @classmethod
+    def setUpClass(cls) -> None:
+        super().setUpClass()
+        version = run(TOP / "tools/version").out.decode().strip()
+        cls.name = f"bootcore-{version}-x86_64-linux"
+        cls.ran = [run(RELEASE, cls.room / folder, timeout=HALF_AN_HOUR) for folder in ("once", "again")]
+
+    def test_archive(self) -> None:
+        for ran in self.ran:
+            self.ends(f"tools/release makes the archive in {Path(ran.words[-1]).name}", ran, 0, None, None)
+        archives = [self.room / folder / f"{self.name}.tar.gz" for folder in ("once", "again")]
+        self.are_same_file("a release that is made twice has the same bytes", *archives)
+        ran = run("sha256sum", "-c", f"{self.name}.tar.gz.sha256", cwd=self.room / "once")
+        self.ends("the SHA-256 beside the archive is the archive's", ran, 0, f"{self.name}.tar.gz: OK\n")
+
+    def test_empty_root(self) -> None:
+        """the released program boots the first example in a root that has only libc and a shell"""
+        enter = enter_root()
+        if enter is None:
+            self.skipTest("neither chroot nor unshare may be called here")
+        root = self.room / "root"
+        for file in needed_by("/bin/sh"):
+            (root / file.lstrip("/")).parent.mkdir(parents=True, exist_ok=True)
+            shutil.copy(os.path.realpath(file), root / file.lstrip("/"))
+        (root / "tmp").mkdir()
+        self.assert_ended(run("tar", "-xzf", self.room / "once" / f"{self.name}.tar.gz", "-C", root))
+        boot = f"cd /{self.name} && bin/bootcore boot examples/first.toml --out /tmp/first.image"
+        self.assert_ended(run(*enter, root, "/bin/sh", "-c", boot), 0, "booted 0 row one\n")
+        self.assert_digest(examples.FIRST_IMAGE[1], root / "tmp/first.image")
+
+
+def mode_of(path: Path) -> int:
+    return stat.S_IMODE(path.stat().st_mode)
+
+
+def wanted_mode(path: Path) -> int:
+    return 0o755 if path.is_dir() or path.parent.name == "bin" else 0o644
+
+
+def needed_by(program: str) -> List[str]:
+    """A program, its loader and the libraries that it is linked with, by the paths under which they are looked for."""
+    linked = run("ldd", program).out.decode()
+    return [program, *re.findall(r"(/\S+) \(0x", linked)]
+
+
+def enter_root() -> Optional[List[str]]:
+    """How a command is run in another root here."""
+    for words in (["chroot"], ["unshare", "-r", "chroot"]):
+        if run(*words, "/", "true").status == 0:
+            return words
+    return None

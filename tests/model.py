@@ -1,0 +1,55 @@
+"""The model, which computes each row and each case anew from the rules, and compares what it draws at random"""
+
+import sys
+import unittest
+
+from tests.support import PROBE, PROGRAM, TOP, Checks, has_tomllib, need_built
+
+
+class ModelChecks(Checks):
+    """The model runs on the Python that runs the test."""
+
+    @classmethod
+    def setUpClass(cls) -> None:
+        super().setUpClass()
+        if not has_tomllib():
+            raise unittest.SkipTest("the model wants Python 3.11 or later, whose own library reads TOML")
+
+    def model(self, sentence: str, command: str, *words: str) -> None:
+        self.reports(sentence, sys.executable, TOP / "model" / command, *words, timeout=900)
+
+
+class Alone(ModelChecks):
+    """What needs the tables alone, and no program."""
+
+    def test_rows(self) -> None:
+        self.model("the model computes the same answer for each row of rows/", "rows")
+        self.model("the model computes the same answer for each worked row", "rows", "crates/bl_probe/stdin")
+
+    def test_cases(self) -> None:
+        self.model("the model computes the same outcome for each case", "cases")
+
+
+class WithProgram(ModelChecks):
+    """What compares the proved programs with the model."""
+
+    @classmethod
+    def setUpClass(cls) -> None:
+        super().setUpClass()
+        need_built(PROGRAM, "tools/build")
+
+    def test_program(self) -> None:
+        self.model("the program does as the model with what is drawn at random", "fuzz", "300", "1")
+        self.model("the program does as the model with descriptions changed in a key", "fuzz_keys", "900")
+
+
+class WithProbe(ModelChecks):
+    """What compares the proved probe with the model."""
+
+    @classmethod
+    def setUpClass(cls) -> None:
+        super().setUpClass()
+        need_built(PROBE, "rt run in crates/bl_probe")
+
+    def test_probe(self) -> None:
+        self.model("the probe answers as the model in rows drawn at random", "fuzz", "300", "1", "--rows")

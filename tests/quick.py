@@ -1,0 +1,31 @@
+"""what can be checked in five minutes, of the proved programs if they stand; it proves nothing"""
+
+import os
+import time
+
+from tests import quick_look, quick_rows, runner, support
+
+REMARK = (
+    "quick: this run proved nothing. ./test is the whole: it proves each crate, tries the edits that the prover must refuse,",
+    "quick: and runs all parts; ./test --list has them.",
+)
+
+
+def are_built() -> bool:
+    return all(os.access(program, os.X_OK) for program in (support.PROGRAM, support.PROBE))
+
+
+def run() -> int:
+    """Runs the parts that need no proof; what the toolchain compiles without one is begun first, and looked at last."""
+    support.may_lack_programs = True
+    began = time.monotonic()
+    if are_built():
+        parts = ["docs", "scripts", "rows", "cases", "program", "images", "model"]
+        of_what = "quick: rows, cases, images and the program's runs are those of the proved programs in crates/*/out"
+    else:
+        quick_look.begin()
+        quick_rows.begin()
+        parts = ["docs", "scripts", "model", "quick_look", "quick_rows"]
+        of_what = "quick: no proved program stands: one example and some rows ran without a proof, cases and images did not"
+    took = lambda: f"quick: {time.monotonic() - began:.0f} seconds"
+    return runner.run_parts(parts, lambda: (took(), of_what, *REMARK))

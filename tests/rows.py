@@ -1,0 +1,41 @@
+"""The libraries row by row: each line of rows/ is a call, and the proved probe's answer must be the line's own"""
+
+import os
+from concurrent.futures import ThreadPoolExecutor
+from pathlib import Path
+
+from tests import tables
+from tests.support import PROBE, Checks, Ran, need_built, run
+
+
+def answered(table: Path) -> Ran:
+    return run(PROBE, stdin=table.read_bytes(), timeout=600)
+
+
+class Rows(Checks):
+    @classmethod
+    def setUpClass(cls) -> None:
+        super().setUpClass()
+        need_built(PROBE, "rt run in crates/bl_probe")
+
+    def test_rows(self) -> None:
+        found = tables.all_tables()
+        with ThreadPoolExecutor(os.cpu_count() or 1) as pool:
+            for table, ran in zip(found, pool.map(answered, found)):
+                self.compare(table, ran)
+
+    def compare(self, table: Path, ran: Ran) -> None:
+        name = tables.name_of(table)
+        if ran.status != 0:
+            with self.check(f"the probe answers each line of {name} and ends with status 0"):
+                self.fail(self.how_it_ended(name, table.read_bytes(), ran))
+            return
+        it = tables.compared(name, table.read_bytes(), ran.out)
+        self.tally(f"each row of {name} has the answer that the rules give", it.passed, it.failed, it.why)
+
+    def how_it_ended(self, name: str, wanted: bytes, ran: Ran) -> str:
+        """Of a run that ended badly. The probe buffers what it writes: it may have been some rows further."""
+        lines, count = tables.lines_of(wanted), ran.out.count(b"\n")
+        told = [f"ran: {ran} <{name}", f"status {ran.status}, wanted 0"]
+        told.append(f"{count} of {len(lines)} lines came; what ended it stands after {name}:{count}")
+        return "\n".join(told + ran.err.decode(errors="backslashreplace").splitlines()[:5])
