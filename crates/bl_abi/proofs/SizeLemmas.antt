@@ -4,7 +4,7 @@ use Rattle.std.proofs.Common.{map}
 use Rattle.std.proofs.Common.{None, Some, if◌then◌else◌, slice_range, refl, ap, sym, subst}
 use Rattle.std.proofs.Common.{◌∙◌, arith, leb-true}
 use Rattle.std.proofs.lemmas.List.{length-take, length-drop}
-use Rattle.bl_session.specs.MenuFiles.{missing, whole, size_of}
+use Rattle.bl_stage.specs.Files.{missing, whole, size_of}
 use Rattle.bl_abi.specs.declared.given_records.ByteRange.{ByteRange}
 use Rattle.bl_abi.specs.Given.{GivenFacts, are_among, range_bytes}
 use Rattle.bl_abi.specs.GivenChecks.{is_in_contents}

@@ -8,10 +8,10 @@ use Rattle.bl_map.specs.MachineFacts.{MachineFacts}
 use Rattle.bl_load.specs.HandoffFacts.{max_parts}
 use Rattle.bl_load.specs.EntryValue.{HasLimits}
 use Rattle.bl_plan.specs.MenuLimits.{max_entries}
+use Rattle.bl_stage.specs.Files.{File, missing, whole, size_of}
 use Rattle.bl_session.specs.Attempts.{attempt_order, AreEntryIndices}
 use Rattle.bl_session.specs.Memory.{IsMemoryAt}
 use Rattle.bl_session.specs.Menu.{EntryFacts, MenuFacts}
-use Rattle.bl_session.specs.MenuFiles.{File, missing, whole, size_of}
 use Rattle.bl_session.specs.Outcome.{IsOutcome, HasEnded}
 use Rattle.bl_session.specs.Phases.{PhaseFacts, boot_facts, state_at}
 use Rattle.bl_session.specs.Run.{final_phase}

@@ -1,7 +1,7 @@
 -- What C is told of the end of a boot. Own.
 use Rattle.std.specs.Prelude.{◌≡◌, ℕ, List, ◌++◌, length, map, take, drop, Result, Ok, Err}
 use Rattle.bl_load.specs.HandoffFacts.{HandoffFacts}
-use Rattle.bl_session.specs.declared.outcome.RefusedEntry.{RefusedEntry}
+use Rattle.bl_load.specs.declared.refused_entry.RefusedEntry.{RefusedEntry}
 use Rattle.bl_session.specs.Phases.{PhaseFacts, not_started, waits, hands_over, has_none}
 use Rattle.bl_session.specs.Phases.{lacks_memory}
 use Rattle.bl_abi.specs.declared.end_records.PlaceRecord.{PlaceRecord}

@@ -1,6 +1,6 @@
 //! What a session and a boot of the same arrays have in common.
 ghost use Rattle.std.specs.Prelude.{◌≡◌, true, map};
-ghost use Rattle.bl_session.specs.MenuFiles.{size_of};
+ghost use Rattle.bl_stage.specs.Files.{size_of};
 ghost use Rattle.bl_abi.specs.Boot.{are_missing_or_within, given_files};
 ghost use Rattle.bl_abi.specs.Given.{GivenFacts};
 ghost use Rattle.bl_abi.specs.Sessions.{sizes_given};

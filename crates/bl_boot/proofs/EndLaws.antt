@@ -8,11 +8,11 @@ use Rattle.bl_map.specs.declared.region.Region.{Region}
 use Rattle.bl_map.proofs.MapLaws.{one_normal_map}
 use Rattle.bl_load.specs.Handover.{Handover}
 use Rattle.bl_load.specs.EntryValue.{EntryValue}
+use Rattle.bl_stage.specs.Files.{File}
 use Rattle.bl_image.specs.Image.{spelling}
 use Rattle.bl_image.specs.Versions.{written_version}
 use Rattle.bl_session.specs.BootSteps.{fresh}
 use Rattle.bl_session.specs.AttemptResult.{AttemptResult, AttemptHasResult}
-use Rattle.bl_session.specs.MenuFiles.{File}
 use Rattle.bl_session.specs.Schedules.{no_fault}
 use Rattle.bl_session.specs.Outcome.{faulty_file}
 use Rattle.bl_session.specs.Pieces.{are_whole}

@@ -3,6 +3,7 @@ use Rattle.std.proofs.Common.{ℕ, List}
 use Rattle.bl_map.specs.MachineFacts.{IsWellFormedMachine}
 use Rattle.bl_load.specs.Handover.{Handover}
 use Rattle.bl_load.specs.Parts.{IsHandover}
+use Rattle.bl_stage.specs.Files.{File}
 use Rattle.bl_image.specs.Image.{spelling}
 use Rattle.bl_image.specs.ImageHandover.{IsImage}
 use Rattle.bl_image.specs.Versions.{written_version}
@@ -13,7 +14,6 @@ use Rattle.bl_walk.specs.SeenFacts.{SeenFacts}
 use Rattle.bl_walk.specs.EntryShown.{ShowsEntry}
 use Rattle.bl_walk.specs.State.{IsEntered}
 use Rattle.bl_walk.proofs.LegalLaws.{images_show, images_are_entered, images_are_sound}
-use Rattle.bl_session.specs.MenuFiles.{File}
 use Rattle.bl_session.specs.Schedules.{no_fault}
 use Rattle.bl_session.proofs.OutcomeLaws.{is_handover}
 use Rattle.bl_menu.specs.DescribedMenu.{boot_of}

@@ -2,13 +2,14 @@
 use Rattle.std.specs.Prelude.{◌≡◌, ℕ, List, ◌++◌}
 use Rattle.bl_load.specs.WellFormedEntry.{IsWellFormedValue}
 use Rattle.bl_load.specs.Handover.{Handover}
+use Rattle.bl_load.specs.declared.refused_entry.RefusedEntry.{RefusedEntry}
+use Rattle.bl_stage.specs.Files.{File}
 use Rattle.bl_image.specs.SinkFacts.{TookBeginning}
 use Rattle.bl_image.specs.Image.{spelling}
 use Rattle.bl_image.specs.ImageHandover.{IsKeptByImages}
 use Rattle.bl_image.specs.Versions.{written_version}
-use Rattle.bl_session.specs.declared.outcome.RefusedEntry.{RefusedEntry}
 use Rattle.bl_session.specs.BootSteps.{handed_over, none_left}
-use Rattle.bl_session.specs.MenuFiles.{File, entry_value_in}
+use Rattle.bl_session.specs.MenuFiles.{entry_value_in}
 use Rattle.bl_menu.specs.DescribedMenu.{described_entry, boot_of}
 use Rattle.bl_menu.specs.BootCases.{BootCase, HasOutcome}
 use Rattle.bl_say.specs.BootAndMapLines.{booted_line, refused_lines, no_entry_line}

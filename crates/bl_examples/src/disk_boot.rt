@@ -1,9 +1,9 @@
 //! A boot from that disk.
 ghost use Rattle.std.specs.Prelude.{◌≡◌, ◌+◌, ◌≤◌, length, map, None, option_copied};
 ghost use Rattle.std.specs.Prelude.{All, IfOk};
+ghost use Rattle.bl_stage.specs.Files as menu_files;
 ghost use Rattle.bl_session.specs.Ledger.{sliced_file};
 ghost use Rattle.bl_session.specs.Outcome.{IsOutcome, HasEnded};
-ghost use Rattle.bl_session.specs.MenuFiles as menu_files;
 ghost use Rattle.bl_session.specs.Phases.{boot_facts, state_at};
 ghost use Rattle.bl_session.specs.Run.{final_phase};
 

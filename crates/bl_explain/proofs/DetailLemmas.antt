@@ -16,8 +16,8 @@ use Rattle.bl_load.specs.declared.entry.Module.{Module}
 use Rattle.bl_load.specs.declared.entry.Entry.TheVariants.{Multiboot2, Linux}
 use Rattle.bl_load.specs.declared.plan.Plan.{Plan}
 use Rattle.bl_load.specs.declared.refusal.Refusal.{Refusal}
+use Rattle.bl_load.specs.declared.refused_entry.RefusedEntry.{RefusedEntry}
 use Rattle.bl_session.specs.Menu.{EntryFacts, facts_of, files_of, value_with}
-use Rattle.bl_session.specs.declared.outcome.RefusedEntry.{RefusedEntry}
 use Rattle.bl_session.proofs.AfterLemmas.{ranges_are}
 use Rattle.bl_session.proofs.AttemptLemmas.{value_is}
 use Rattle.bl_desc.specs.declared.entry_row.EntryRow.{EntryRow}

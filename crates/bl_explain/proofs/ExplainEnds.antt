@@ -2,7 +2,7 @@
 use Rattle.std.proofs.Common.{◌≡◌, ◌++◌, ℕ, List, Some, None, Result, Ok, Err, map, refl}
 use Rattle.std.proofs.Common.{inl, inr}
 use Rattle.bl_map.specs.MachineFacts.{MachineFacts}
-use Rattle.bl_session.specs.MenuFiles.{File, size_of}
+use Rattle.bl_stage.specs.Files.{File, size_of}
 use Rattle.bl_session.specs.Phases.{boot_facts}
 use Rattle.bl_desc.specs.declared.desc.Description.{Description}
 use Rattle.bl_desc.specs.Described.{described}

@@ -7,9 +7,9 @@ use Rattle.std.specs.Str.{is_utf8}
 use Rattle.std.specs.List.{flat_map}
 use Rattle.std.proofs.lemmas.Bool.{cases_Bool}
 use Rattle.std.proofs.lemmas.Str.{IsUtf8-from_is_utf8}
+use Rattle.bl_load.specs.declared.refused_entry.RefusedEntry.{RefusedEntry}
 use Rattle.toml.specs.Data.{Members}
 use Rattle.toml.specs.Parse.{parse_document}
-use Rattle.bl_session.specs.declared.outcome.RefusedEntry.{RefusedEntry}
 use Rattle.bl_desc.specs.declared.entry_row.EntryRow.{EntryRow}
 use Rattle.bl_desc.specs.Described.{described, described_in}
 use Rattle.bl_desc.specs.Views.{entry_view}

@@ -10,8 +10,8 @@ use Rattle.bl_plan.specs.declared.part.Place.{Place}
 use Rattle.bl_plan.specs.Placed.{place_range}
 use Rattle.bl_load.specs.HandoffFacts.{HandoffFacts}
 use Rattle.bl_load.specs.PlanContents.{part_in}
+use Rattle.bl_load.specs.declared.refused_entry.RefusedEntry.{RefusedEntry}
 use Rattle.bl_image.proofs.Spelled.{EndsIn, length-place_bytes}
-use Rattle.bl_session.specs.declared.outcome.RefusedEntry.{RefusedEntry}
 use Rattle.bl_session.specs.AttemptResult.{part_range}
 use Rattle.bl_session.specs.BootSteps.{handed_over}
 use Rattle.bl_session.specs.Phases.{handover_held}

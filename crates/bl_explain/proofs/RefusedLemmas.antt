@@ -12,19 +12,19 @@ use Rattle.bl_load.specs.Parts.{IsRefusal}
 use Rattle.bl_load.specs.EntryValue.{EntryValue}
 use Rattle.bl_load.specs.declared.refusal.Refusal.{Refusal}
 use Rattle.bl_load.specs.declared.refusal.Refusal.TheVariants.{NoFile, FileTooLong, NoPool}
+use Rattle.bl_load.specs.declared.refused_entry.RefusedEntry.{RefusedEntry}
+use Rattle.bl_stage.specs.Files.{file_limit, File, file_bytes, missing, size_of}
 use Rattle.bl_session.specs.AttemptResult.{AttemptResult, HasWholeFilesResult, UnlessRefused}
 use Rattle.bl_session.specs.AttemptResult.{handed, refused}
-use Rattle.bl_session.specs.AttemptResult.{file_limit, file_refusal, known_lengths, pool_refusal}
+use Rattle.bl_session.specs.AttemptResult.{file_refusal, known_lengths, pool_refusal}
 use Rattle.bl_session.specs.AttemptResult.{size_refusal}
 use Rattle.bl_session.specs.BootSteps.{BootFacts, State, fresh, sizes_of}
 use Rattle.bl_session.specs.Menu.{EntryFacts, MenuFacts, entry_at, no_entry, value_with}
-use Rattle.bl_session.specs.MenuFiles.{File}
 use Rattle.bl_session.specs.Outcome.{EntryHasResult, IsFirst, IsOutcome, faulty_file}
-use Rattle.bl_session.specs.MenuFiles.{file_bytes, missing, size_of, entry_value_in}
+use Rattle.bl_session.specs.MenuFiles.{entry_value_in}
 use Rattle.bl_session.specs.Schedules.{no_fault}
 use Rattle.bl_session.specs.Phases.{boot_facts}
 use Rattle.bl_session.specs.Pieces.{are_whole}
-use Rattle.bl_session.specs.declared.outcome.RefusedEntry.{RefusedEntry}
 use Rattle.bl_desc.specs.Described.{DescriptionFacts}
 use Rattle.bl_desc.specs.Entries.{Entry}
 use Rattle.bl_menu.specs.DescribedMenu.{boot_of, entry_facts, menu_of, attempted_file_names}

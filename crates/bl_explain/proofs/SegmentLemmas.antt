@@ -21,13 +21,13 @@ use Rattle.bl_load.specs.Parts.{IsHandover}
 use Rattle.bl_load.specs.Protocols.{has_params}
 use Rattle.bl_load.specs.KernelReading.{KernelReading, multiboot2, linux, IsKernelReading}
 use Rattle.bl_load.specs.EntryValue.{EntryValue, kernel_file}
+use Rattle.bl_load.specs.declared.refused_entry.RefusedEntry.{RefusedEntry}
+use Rattle.bl_stage.specs.Files.{File, size_of}
 use Rattle.bl_session.specs.BootSteps.{handed_over}
 use Rattle.bl_session.specs.Menu.{MenuFacts}
-use Rattle.bl_session.specs.MenuFiles.{File, size_of}
 use Rattle.bl_session.specs.Schedules.{no_fault}
 use Rattle.bl_session.specs.Outcome.{IsOutcome}
 use Rattle.bl_session.specs.Phases.{boot_facts}
-use Rattle.bl_session.specs.declared.outcome.RefusedEntry.{RefusedEntry}
 use Rattle.bl_session.proofs.OutcomeLaws.{is_handover}
 use Rattle.bl_desc.specs.declared.entry_row.EntryRow.{EntryRow}
 use Rattle.bl_desc.specs.Described.{DescriptionFacts}

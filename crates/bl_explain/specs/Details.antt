@@ -13,8 +13,8 @@ use Rattle.bl_load.specs.Unplaced.{IsUnplaced}
 use Rattle.bl_load.specs.EntryValue.{EntryValue}
 use Rattle.bl_load.specs.declared.refusal.Refusal.{Refusal}
 use Rattle.bl_load.specs.declared.refusal.Refusal.TheVariants.{NotUsable, NoRoom, NoPool}
+use Rattle.bl_load.specs.declared.refused_entry.RefusedEntry.{RefusedEntry}
 use Rattle.bl_session.specs.AttemptResult.{part_range}
-use Rattle.bl_session.specs.declared.outcome.RefusedEntry.{RefusedEntry}
 use Rattle.bl_desc.specs.Entries.{Entry}
 use Rattle.bl_menu.specs.DescribedMenu.{entry_value}
 use Rattle.bl_desc.specs.EntryNames.{file_names}

@@ -12,9 +12,9 @@ use Rattle.bl_load.specs.Parts.{IsRefusal}
 use Rattle.bl_load.specs.EntryValue.{EntryValue}
 use Rattle.bl_load.specs.declared.refusal.Refusal.{Refusal}
 use Rattle.bl_load.specs.declared.refusal.Refusal.TheVariants.{NotUsable, NoRoom}
-use Rattle.bl_session.specs.declared.outcome.RefusedEntry.{RefusedEntry}
+use Rattle.bl_load.specs.declared.refused_entry.RefusedEntry.{RefusedEntry}
+use Rattle.bl_stage.specs.Files.{File}
 use Rattle.bl_session.specs.BootSteps.{BootFacts, handed_over, none_left}
-use Rattle.bl_session.specs.MenuFiles.{File}
 use Rattle.bl_session.specs.Schedules.{no_fault}
 use Rattle.bl_session.specs.Outcome.{IsOutcome}
 use Rattle.bl_desc.specs.Described.{DescriptionFacts}

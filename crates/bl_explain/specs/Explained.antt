@@ -1,9 +1,9 @@
 -- How the explanation of a boot ends. Own.
 use Rattle.std.specs.Prelude.{◌≡◌, ℕ, List, ◌++◌}
 use Rattle.bl_load.specs.Handover.{Handover}
-use Rattle.bl_session.specs.declared.outcome.RefusedEntry.{RefusedEntry}
+use Rattle.bl_load.specs.declared.refused_entry.RefusedEntry.{RefusedEntry}
+use Rattle.bl_stage.specs.Files.{File}
 use Rattle.bl_session.specs.BootSteps.{State, handed_over, none_left}
-use Rattle.bl_session.specs.MenuFiles.{File}
 use Rattle.bl_desc.specs.Described.{described}
 use Rattle.bl_blame.specs.declared.line_subjects.blame.Blame.{Blame}
 use Rattle.bl_explain.specs.BlameConditions.{HasBlame}

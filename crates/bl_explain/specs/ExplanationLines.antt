@@ -6,11 +6,11 @@ use Rattle.bl_map.specs.MachineFacts.{MachineFacts}
 use Rattle.bl_plan.specs.Placed.{place_range}
 use Rattle.bl_load.specs.HandoffFacts.{HandoffFacts}
 use Rattle.bl_load.specs.Handover.{Handover}
-use Rattle.bl_session.specs.declared.outcome.RefusedEntry.{RefusedEntry}
+use Rattle.bl_load.specs.declared.refused_entry.RefusedEntry.{RefusedEntry}
+use Rattle.bl_stage.specs.Files.{File}
 use Rattle.bl_session.specs.AttemptResult.{part_range}
 use Rattle.bl_session.specs.BootSteps.{State, unstarted, running, handed_over, none_left}
 use Rattle.bl_session.specs.BootSteps.{out_of_memory}
-use Rattle.bl_session.specs.MenuFiles.{File}
 use Rattle.bl_desc.specs.Described.{DescriptionFacts}
 use Rattle.bl_desc.specs.Entries.{Entry}
 use Rattle.bl_menu.specs.DescribedMenu.{described_entry, attempted_file_names}

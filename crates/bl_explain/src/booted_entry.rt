@@ -29,7 +29,7 @@ fn say_handed<A: Allocator + Copy>(
 {
     let entry = outcome.entry;
     say_handoff(out, entries, sought, kernel, entry, &outcome.handoff)?;
-    say_handoff_frames(out, entries, sought, machine, outcome)
+    say_handoff_frames(out, entries, sought, machine, entry, &outcome.handoff)
 }
 
 /// The same of what is booted.

@@ -1,7 +1,7 @@
 //! The boot of what was found for a description, explained.
 ghost use Rattle.std.specs.Prelude.{◌≡◌, [], ◌≤◌, ◌++◌, All, IfOk, OnOk, OnErr, length, map};
 ghost use Rattle.std.specs.List.{flat_map};
-ghost use Rattle.bl_session.specs.MenuFiles.{size_of};
+ghost use Rattle.bl_stage.specs.Files.{size_of};
 ghost use Rattle.bl_session.specs.Phases.{boot_facts};
 ghost use Rattle.bl_menu.specs.DescribedMenu.{menu_of, attempted_file_names};
 ghost use Rattle.bl_explain.specs.Details.{AreToldRefusals};

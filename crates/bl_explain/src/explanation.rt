@@ -1,11 +1,11 @@
 //! One explanation.
 ghost use Rattle.std.specs.Prelude.{◌≡◌, ◌≢◌, ◌⊎◌, ℕ, List, ◌+◌, ◌<◌, ◌≤◌, ◌^◌, ◌++◌, length};
+ghost use Rattle.bl_stage.specs.Files.{File};
 ghost use Rattle.bl_menu.specs.DescribedMenu.{max_names};
 ghost use Rattle.bl_menu.specs.BootCases.{HasInlineFiles, names_sought, names_fetched};
 ghost use Rattle.bl_explain.specs.ExplainKept.{ExplainAsks, ExplainEnds};
 ghost use Rattle.bl_explain.specs.Explained.{ExplainsBlame, ExplainsBoot, ExplainsRefusals};
 ghost use Rattle.bl_menu.specs.FoundFiles.{AsksPrefix};
-ghost use Rattle.bl_session.specs.MenuFiles.{File};
 ghost use Rattle.bl_desc.specs.Described.{described};
 
 use crate::description_blame::{machine_or_blame, read_or_blame};

@@ -4,8 +4,8 @@ use Rattle.std.proofs.Common.{drop, length, map, refl, sym, ap, subst, arith, ap
 use Rattle.std.specs.Prelude.{is_none}
 use Rattle.std.proofs.lemmas.List.{get_or-map, map-append, length-map, take_more, take-append-drop}
 use Rattle.std.proofs.lemmas.List.Elements.{filter-append}
+use Rattle.bl_stage.specs.Files.{File}
 use Rattle.bl_desc.specs.Described.{InlineFile, file_named}
-use Rattle.bl_session.specs.MenuFiles.{File}
 use Rattle.bl_menu.specs.FoundFiles.{IsFound, AreFound, AsksPrefix, names_to_ask}
 
 -- ---- found

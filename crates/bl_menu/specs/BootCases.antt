@@ -2,9 +2,10 @@
 use Rattle.std.specs.Prelude.{◌≡◌, ℕ, List, [], Option, Some, None, IsSome, All}
 use Rattle.bl_map.specs.MachineFacts.{MachineFacts}
 use Rattle.bl_load.specs.EntryValue.{EntryValue}
+use Rattle.bl_stage.specs.Files.{File}
 use Rattle.bl_session.specs.AttemptResult.{AttemptResult}
 use Rattle.bl_session.specs.BootSteps.{State, sizes_of}
-use Rattle.bl_session.specs.MenuFiles.{File, entry_value_in}
+use Rattle.bl_session.specs.MenuFiles.{entry_value_in}
 use Rattle.bl_session.specs.Schedules.{no_fault}
 use Rattle.bl_session.specs.Outcome.{IsOutcome, EntryHasResult}
 use Rattle.bl_desc.specs.Described.{DescriptionFacts, described, file_named}

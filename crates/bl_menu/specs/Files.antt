@@ -1,10 +1,9 @@
 -- What may be found for the name of a file. Own.
 use Rattle.std.specs.Prelude.{◌≡◌, ℕ, ◌+◌, ◌-◌, ◌<◌, ◌≤◌, if◌then◌else◌, nat_lt, List, length}
 use Rattle.std.specs.Prelude.{Option, Some, None}
-use Rattle.bl_session.specs.declared.fetched.Fetched.{Fetched}
-use Rattle.bl_session.specs.declared.fetched.Fetched.TheVariants as fetched
-use Rattle.bl_session.specs.AttemptResult.{file_limit}
-use Rattle.bl_session.specs.MenuFiles.{File, missing, too_long, whole}
+use Rattle.bl_stage.specs.declared.fetched.Fetched.{Fetched}
+use Rattle.bl_stage.specs.declared.fetched.Fetched.TheVariants as fetched
+use Rattle.bl_stage.specs.Files.{file_limit, File, missing, too_long, whole}
 use Rattle.bl_desc.specs.Described.{InlineFile, file_named}
 
 -- a file of these bytes: if they are too many, only how many is found

@@ -1,8 +1,8 @@
 -- What is found for the names of files. Own.
 use Rattle.std.specs.Prelude.{◌≡◌, ℕ, ◌++◌, List, [], ◌∷◌, is_none, MatchOption}
 use Rattle.std.specs.List.{filter}
+use Rattle.bl_stage.specs.Files.{File}
 use Rattle.bl_desc.specs.Described.{InlineFile, file_named}
-use Rattle.bl_session.specs.MenuFiles.{File}
 use Rattle.bl_menu.specs.Files.{answer_for, KeepsLimit, CountsFault}
 
 -- with files of a type F: what they may answer for a name, and how many faults they had

@@ -3,7 +3,7 @@ ghost use Rattle.std.specs.Prelude.{◌≡◌, ℕ, List, ◌+◌, ◌<◌, ◌�
 ghost use Rattle.std.specs.Prelude.{IsSome, length, map, replicate};
 ghost use Rattle.bl_mem.specs.Sparse.{bytes_of};
 ghost use Rattle.bl_load.specs.WellFormedEntry.{IsWellFormedValue};
-ghost use Rattle.bl_session.specs.MenuFiles.{File};
+ghost use Rattle.bl_stage.specs.Files.{File};
 ghost use Rattle.bl_desc.specs.Described.{file_named};
 ghost use Rattle.bl_desc.specs.Views.{HasMenu, view};
 ghost use Rattle.bl_menu.specs.DescribedMenu as attempted;

@@ -1,7 +1,6 @@
 //! Where the files of a menu come from.
 ghost use Rattle.std.specs.Prelude.{◌≡◌, ℕ, ◌-◌, ◌<◌, ◌^◌, List, [], ◌∷◌, ◌++◌, IfOk, OnErr};
-ghost use Rattle.bl_session.specs.MenuFiles.{File};
-ghost use Rattle.bl_session.specs.Stores.{file_of};
+ghost use Rattle.bl_stage.specs.Files.{File, file_of};
 ghost use Rattle.bl_menu.specs.Files.{KeepsLimit, TellsLength, CountsFault};
 
 use bl_session::Fetched;

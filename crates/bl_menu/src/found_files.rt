@@ -1,11 +1,10 @@
 //! The files of a menu are found.
 ghost use Rattle.std.specs.Prelude.{◌≡◌, ℕ, List, ◌+◌, ◌-◌, ◌<◌, ◌≤◌, ◌^◌, All, IfOk, IsSome};
 ghost use Rattle.std.specs.Prelude.{length, map, [], ◌∷◌, ◌++◌, OnOk};
+ghost use Rattle.bl_stage.specs.Files.{File, file_of};
 ghost use Rattle.bl_menu.specs.FoundFiles.{AreFound, AsksPrefix, IsFound, names_to_ask};
 ghost use Rattle.bl_desc.specs.Described.{file_named};
 ghost use Rattle.bl_desc.specs.Views.{view};
-ghost use Rattle.bl_session.specs.MenuFiles.{File};
-ghost use Rattle.bl_session.specs.Stores.{file_of};
 ghost use Rattle.bl_menu.specs.Files.{answer_for};
 
 use crate::files::Files;

@@ -1,5 +1,5 @@
 //! Files that are all too long.
-ghost use Rattle.bl_session.specs.MenuFiles.{too_long};
+ghost use Rattle.bl_stage.specs.Files.{too_long};
 
 use bl_boot::{AskedNames, FILE_LIMIT, Fetched, Files};
 use std::alloc::{AllocError, Allocator};

@@ -1,7 +1,7 @@
 -- What is said of an entry at an index.
 use Rattle.std.proofs.Common.{◌≡◌, ◌<◌, ◌≤◌, ℕ, List, [], length, map, get_or, ap}
 use Rattle.bl_plan.specs.declared.part.Role.{Role}
-use Rattle.bl_session.specs.declared.outcome.RefusedEntry.{RefusedEntry}
+use Rattle.bl_load.specs.declared.refused_entry.RefusedEntry.{RefusedEntry}
 use Rattle.bl_desc.specs.declared.entry_row.EntryRow.{EntryRow}
 use Rattle.bl_desc.specs.Views.{entry_view}
 use Rattle.bl_say.specs.Hints.{kernel_hint, kernel_hint_if, kernel_hint_of}

@@ -5,7 +5,7 @@ use Rattle.std.specs.List.{flat_map}
 use Rattle.std.specs.declared.ops.Range.{Range}
 use Rattle.bl_map.specs.declared.region.Region.{Region}
 use Rattle.bl_load.specs.RefusalNumbers.{refusal_number}
-use Rattle.bl_session.specs.declared.outcome.RefusedEntry.{RefusedEntry}
+use Rattle.bl_load.specs.declared.refused_entry.RefusedEntry.{RefusedEntry}
 use Rattle.bl_map.specs.Kinds.{kind_name}
 
 -- ---- boot: one line for each refused entry, and one for the end

@@ -5,7 +5,7 @@ use Rattle.std.specs.List.{flat_map, list_any, range_with_len}
 use Rattle.bl_mem.specs.LittleEndian.{u16_at, u32_at}
 use Rattle.bl_load.specs.declared.refusal.Refusal.{Refusal}
 use Rattle.bl_load.specs.declared.refusal.Refusal.TheVariants.{NoHeader, NotBzImage}
-use Rattle.bl_session.specs.declared.outcome.RefusedEntry.{RefusedEntry}
+use Rattle.bl_load.specs.declared.refused_entry.RefusedEntry.{RefusedEntry}
 use Rattle.bl_desc.specs.Described.{DescriptionFacts}
 use Rattle.bl_desc.specs.Entries.{Entry}
 use Rattle.bl_blame.specs.RegionHints.{region_hints}

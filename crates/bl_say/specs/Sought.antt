@@ -2,7 +2,7 @@
 use Rattle.std.specs.Prelude.{ℕ, ◌+◌, List, [], ◌∷◌, ◌++◌, codes, decimal, slice_index_or}
 use Rattle.std.specs.Prelude.{Option, Some, None}
 use Rattle.bl_map.specs.PoolFrames.{frames_of}
-use Rattle.bl_session.specs.MenuFiles.{File, missing, size_of, file_bytes}
+use Rattle.bl_stage.specs.Files.{File, missing, size_of, file_bytes}
 use Rattle.bl_blame.specs.ShownNames.{shown_name}
 use Rattle.bl_desc.specs.EntryNames.{file_index}
 

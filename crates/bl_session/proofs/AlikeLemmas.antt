@@ -5,8 +5,8 @@ use Rattle.std.proofs.Common.{inr}
 use Rattle.bl_map.specs.MachineFacts.{MachineFacts}
 use Rattle.bl_load.specs.declared.refusal.Refusal.{Refusal}
 use Rattle.bl_load.specs.declared.refusal.Refusal.TheVariants.{FileFault}
+use Rattle.bl_load.specs.declared.refused_entry.RefusedEntry.{RefusedEntry}
 use Rattle.bl_stage.specs.PieceStates.{PieceState, came_bytes}
-use Rattle.bl_session.specs.declared.outcome.RefusedEntry.{RefusedEntry}
 use Rattle.bl_session.specs.AttemptResult.{AttemptResult, handed, refused, HasWholeFilesResult}
 use Rattle.bl_session.specs.AttemptResult.{size_refusal}
 use Rattle.bl_session.specs.AttemptResult.{known_lengths}

@@ -4,10 +4,10 @@ use Rattle.std.proofs.Common.{refl, sym, ap, subst, ◌∙◌, arith, zero, suc}
 use Rattle.std.specs.List.{range_with_len}
 use Rattle.std.proofs.lemmas.List.FromFn.{get_or-map-range_with_len}
 use Rattle.bl_map.specs.MachineFacts.{MachineFacts}
+use Rattle.bl_stage.specs.Files.{File, missing, size_of}
 use Rattle.bl_session.specs.Menu.{EntryFacts, MenuFacts, entry_at, no_entry}
 use Rattle.bl_session.specs.Attempts.{index_bound, named_file_count}
 use Rattle.bl_session.specs.BootSteps.{BootFacts, State, unstarted}
-use Rattle.bl_session.specs.MenuFiles.{File, missing, size_of}
 use Rattle.bl_session.specs.History.{HistoryItem}
 use Rattle.bl_session.specs.Run.{RunState, run_state_of, Delivers, ItemsLeadTo, IsRun}
 use Rattle.bl_session.specs.Phases.{boot_facts}

@@ -4,13 +4,13 @@ use Rattle.std.proofs.Common.{subst, ◌∙◌}
 use Rattle.std.specs.declared.ops.Range.{Range}
 use Rattle.bl_stage.specs.Ranges.{IsSameOutside}
 use Rattle.bl_stage.specs.PieceStates.{piece_states}
+use Rattle.bl_stage.specs.Files.{File}
 use Rattle.bl_session.specs.declared.ticket.Ticket.{Ticket}
 use Rattle.bl_session.specs.declared.outcome.Progress.{Progress}
 use Rattle.bl_session.specs.declared.outcome.Progress.TheVariants.{Waiting}
 use Rattle.bl_session.specs.BootSteps.{BootFacts, piece, fault, State, StepsToOrFails}
 use Rattle.bl_session.specs.BootSteps.{attempt_number}
 use Rattle.bl_session.specs.BootSteps.{is_running, progress}
-use Rattle.bl_session.specs.MenuFiles.{File}
 use Rattle.bl_session.specs.History.{HistoryItem, came, failed, nothing, file_under, IsPieceOf}
 use Rattle.bl_session.specs.Submissions.{attempt_submissions, new_submissions}
 use Rattle.bl_session.specs.Memory.{IsMemoryAt}

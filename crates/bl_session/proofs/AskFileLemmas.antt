@@ -4,10 +4,10 @@ use Rattle.std.proofs.Common.{get_or, Result, Ok, Err, OnErr, refl, sym, ap, sub
 use Rattle.std.specs.List.{range_with_len}
 use Rattle.std.proofs.lemmas.List.{drop_more, drop_all}
 use Rattle.bl_map.specs.PoolFrames.{frames_of}
+use Rattle.bl_load.specs.declared.refused_entry.RefusedEntry.{RefusedEntry}
 use Rattle.bl_stage.specs.Staged.{Staging}
 use Rattle.bl_stage.specs.PieceStates.{PieceState, piece_states, piece_states_of}
 use Rattle.bl_session.specs.History.{HistoryItem}
-use Rattle.bl_session.specs.declared.outcome.RefusedEntry.{RefusedEntry}
 use Rattle.bl_session.specs.BootSteps.{BootFacts}
 use Rattle.bl_session.specs.Menu.{entry_at}
 use Rattle.bl_session.specs.Submissions.{piece_submissions, submissions_for_files}

@@ -2,16 +2,16 @@
 use Rattle.std.proofs.Common.{◌≡◌, ℕ, ◌-◌, ◌*◌, ◌<◌, ◌==◌, Bool, true, false, min, List, length}
 use Rattle.std.proofs.Common.{map, Option, Some, None, refl, sym, ap, subst, ◌∙◌, arith}
 use Rattle.std.proofs.lemmas.Bool.Decides.{nat_tests}
+use Rattle.bl_load.specs.declared.refused_entry.RefusedEntry.{RefusedEntry}
 use Rattle.bl_stage.specs.PieceStates.{PieceState, lacks, piece_of}
 use Rattle.bl_stage.proofs.PieceStateLemmas.{piece_long}
+use Rattle.bl_stage.specs.Files.{File, size_of}
 use Rattle.bl_session.specs.declared.ticket.Ticket.{Ticket}
-use Rattle.bl_session.specs.declared.outcome.RefusedEntry.{RefusedEntry}
 use Rattle.bl_session.specs.Pieces.{is_awaited, awaits, piece_state_of}
 use Rattle.bl_session.specs.BootSteps.{BootFacts, EventFacts, piece, fault, running, is_wanted}
 use Rattle.bl_session.specs.History.{HistoryItem, submitted, came, failed, nothing, is_same}
 use Rattle.bl_session.specs.History.{file_under}
 use Rattle.bl_session.specs.History.{IsPieceOf}
-use Rattle.bl_session.specs.MenuFiles.{File, size_of}
 use Rattle.bl_session.specs.Schedules.{EventAgreesWithFaults}
 use Rattle.bl_session.specs.Submissions.{first_ticket}
 use Rattle.bl_session.specs.Run.{IsAnswer, IsMarked}

@@ -9,13 +9,13 @@ use Rattle.bl_load.specs.declared.refusal.Refusal.{Refusal}
 use Rattle.bl_load.specs.declared.refusal.Refusal.TheVariants.{FileFault, FileTooLong}
 use Rattle.bl_load.specs.EntryValue.{EntryValue}
 use Rattle.bl_stage.specs.PieceStates.{waiting_pieces}
+use Rattle.bl_stage.specs.Files.{file_limit, File, missing, too_long, whole, size_of, file_bytes}
 use Rattle.bl_session.specs.AttemptResult.{AttemptResult, refused, HasWholeFilesResult}
 use Rattle.bl_session.specs.AttemptResult.{AttemptHasResult}
 use Rattle.bl_session.specs.AttemptResult.{UnlessRefused, size_refusal, file_refusal, pool_refusal}
-use Rattle.bl_session.specs.AttemptResult.{known_lengths, file_limit}
+use Rattle.bl_session.specs.AttemptResult.{known_lengths}
 use Rattle.bl_session.specs.Menu.{entry_at}
 use Rattle.bl_session.specs.BootSteps.{BootFacts, sizes_of, fresh}
-use Rattle.bl_session.specs.MenuFiles.{File, missing, too_long, whole, size_of, file_bytes}
 use Rattle.bl_session.specs.MenuFiles.{texts_of}
 use Rattle.bl_session.proofs.GatherLemmas.{FitAll, fits_first}
 

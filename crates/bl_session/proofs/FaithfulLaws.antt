@@ -2,11 +2,11 @@
 use Rattle.std.proofs.Common.{◌≡◌, List, [], ◌∷◌, ◌++◌, map, None, refl, sym, ap, subst, ◌∙◌, inl}
 use Rattle.std.proofs.Common.{inr, length, append_assoc}
 use Rattle.std.proofs.lemmas.List.{append-nil}
+use Rattle.bl_stage.specs.Files.{File, size_of}
 use Rattle.bl_session.specs.BootSteps.{BootFacts, EventFacts, State, unstarted, running}
 use Rattle.bl_session.specs.BootSteps.{handed_over}
 use Rattle.bl_session.specs.BootSteps.{none_left, out_of_memory, StepsToOrFails, StartsOrFails}
 use Rattle.bl_session.specs.History.{HistoryItem}
-use Rattle.bl_session.specs.MenuFiles.{File, size_of}
 use Rattle.bl_session.specs.Submissions.{attempt_submissions, new_submissions}
 use Rattle.bl_session.specs.Run.{RunState, IsEventOf, IsGenuineItem, IsGenuineRun, EachAnswerIs}
 use Rattle.bl_session.specs.Faithful.{IsFaithfulItem, IsFaithfulAfter, IsFaithful}

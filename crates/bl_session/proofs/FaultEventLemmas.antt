@@ -1,12 +1,12 @@
 -- An answer whose wanted pieces are marked is a genuine event, with the fault that came of it.
 use Rattle.std.proofs.Common.{◌≡◌, ℕ, ◌+◌, ◌≤◌, Bool, true, false, MatchBool, List, [], ◌∷◌, ◌++◌}
 use Rattle.std.proofs.Common.{length, refl, sym, ap, subst, ◌∙◌, inl, inr, arith}
+use Rattle.bl_load.specs.declared.refused_entry.RefusedEntry.{RefusedEntry}
 use Rattle.bl_stage.specs.PieceStates.{PieceState}
-use Rattle.bl_session.specs.declared.outcome.RefusedEntry.{RefusedEntry}
+use Rattle.bl_stage.specs.Files.{File}
 use Rattle.bl_session.specs.BootSteps.{BootFacts, EventFacts, State, unstarted, running}
 use Rattle.bl_session.specs.BootSteps.{handed_over}
 use Rattle.bl_session.specs.BootSteps.{none_left, out_of_memory, is_wanted, TakesEvent, StepsTo}
-use Rattle.bl_session.specs.MenuFiles.{File}
 use Rattle.bl_session.specs.Schedules.{Faults, EventAgreesWithFaults}
 use Rattle.bl_session.specs.History.{HistoryItem}
 use Rattle.bl_session.specs.Submissions.{new_submissions}

@@ -1,9 +1,9 @@
 -- A history whose wanted pieces are marked is genuine, with the faults that came of it.
 use Rattle.std.proofs.Common.{◌≡◌, List, [], ◌∷◌, ◌++◌, None, refl, sym, ap, subst, ◌∙◌, inl, inr}
+use Rattle.bl_stage.specs.Files.{File}
 use Rattle.bl_session.specs.BootSteps.{BootFacts, EventFacts, State, unstarted, running}
 use Rattle.bl_session.specs.BootSteps.{handed_over}
 use Rattle.bl_session.specs.BootSteps.{none_left, out_of_memory, StartsOrFails}
-use Rattle.bl_session.specs.MenuFiles.{File}
 use Rattle.bl_session.specs.Schedules.{Faults}
 use Rattle.bl_session.specs.History.{HistoryItem}
 use Rattle.bl_session.specs.Submissions.{attempt_submissions}

@@ -3,8 +3,9 @@ use Rattle.std.proofs.Common.{◌≡◌, ℕ, Bool, true, false, MatchBool, List
 use Rattle.std.proofs.Common.{Option, Some, None, sym, ap, subst, ◌∙◌, refl, map, if◌then◌else◌}
 use Rattle.bl_load.specs.declared.refusal.Refusal.{Refusal}
 use Rattle.bl_load.specs.declared.refusal.Refusal.TheVariants.{FileFault}
+use Rattle.bl_load.specs.declared.refused_entry.RefusedEntry.{RefusedEntry}
 use Rattle.bl_stage.specs.PieceStates.{PieceState, came_bytes}
-use Rattle.bl_session.specs.declared.outcome.RefusedEntry.{RefusedEntry}
+use Rattle.bl_stage.specs.Files.{File, size_of}
 use Rattle.bl_session.specs.AttemptResult.{AttemptResult, handed, refused, HasWholeFilesResult}
 use Rattle.bl_session.specs.AttemptResult.{size_refusal}
 use Rattle.bl_session.specs.Pieces.{are_whole, with_piece}
@@ -14,7 +15,7 @@ use Rattle.bl_session.specs.BootSteps.{handed_over, none_left, out_of_memory, si
 use Rattle.bl_session.specs.BootSteps.{TextsHaveResult, AfterAttempt, BeginsUnless, Begins}
 use Rattle.bl_session.specs.BootSteps.{is_wanted}
 use Rattle.bl_session.specs.BootSteps.{TakesEvent, StepsTo, LeadsTo}
-use Rattle.bl_session.specs.MenuFiles.{File, size_of, texts_of, entry_value_in}
+use Rattle.bl_session.specs.MenuFiles.{texts_of, entry_value_in}
 use Rattle.bl_session.specs.Schedules.{IsGenuineEvent}
 use Rattle.bl_session.specs.Outcome.{faulty_file}
 use Rattle.bl_session.specs.Schedules.{IsGenuineAt, IsGenuine}

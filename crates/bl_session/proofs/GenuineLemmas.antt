@@ -4,13 +4,14 @@ use Rattle.std.proofs.Common.{Option, None, Some, sym, ap, subst, ◌∙◌, inl
 use Rattle.std.proofs.lemmas.Bool.{cases_lt}
 use Rattle.std.proofs.lemmas.Bool.Decides.{nat_tests}
 use Rattle.std.proofs.lemmas.List.{get_or_past, get_or-map}
+use Rattle.bl_load.specs.declared.refused_entry.RefusedEntry.{RefusedEntry}
 use Rattle.bl_stage.specs.PieceStates.{PieceState, has, piece_of}
-use Rattle.bl_session.specs.declared.outcome.RefusedEntry.{RefusedEntry}
+use Rattle.bl_stage.specs.Files.{File, missing, file_bytes}
 use Rattle.bl_session.specs.declared.ticket.Ticket.{Ticket}
 use Rattle.bl_session.specs.Menu.{entry_at}
 use Rattle.bl_session.specs.Pieces.{awaits, piece_state_of}
 use Rattle.bl_session.specs.BootSteps.{BootFacts, EventFacts, piece, running, is_wanted}
-use Rattle.bl_session.specs.MenuFiles.{File, missing, file_bytes, texts_of}
+use Rattle.bl_session.specs.MenuFiles.{texts_of}
 use Rattle.bl_session.specs.Schedules.{IsGenuineEvent, EventAgreesWithFaults}
 use Rattle.bl_session.specs.History.{HistoryItem, submitted, came, failed, nothing, file_under}
 use Rattle.bl_session.specs.History.{IsPieceOf}

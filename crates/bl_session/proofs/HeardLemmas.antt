@@ -3,9 +3,10 @@ use Rattle.std.proofs.Common.{◌≡◌, ℕ, ◌+◌, ◌<◌, ◌==◌, Bool, 
 use Rattle.std.proofs.Common.{length, map, refl, sym, ap, subst, ◌∙◌, inl, inr, arith}
 use Rattle.std.proofs.lemmas.Bool.Decides.{nat_tests}
 use Rattle.std.proofs.lemmas.List.{append-nil}
+use Rattle.bl_load.specs.declared.refused_entry.RefusedEntry.{RefusedEntry}
 use Rattle.bl_stage.specs.PieceStates.{PieceState}
+use Rattle.bl_stage.specs.Files.{File, size_of}
 use Rattle.bl_session.specs.declared.ticket.Ticket.{Ticket}
-use Rattle.bl_session.specs.declared.outcome.RefusedEntry.{RefusedEntry}
 use Rattle.bl_session.specs.Pieces.{is_awaited, piece_state_of, with_piece}
 use Rattle.bl_session.specs.BootSteps.{BootFacts, EventFacts, piece, fault, State, unstarted}
 use Rattle.bl_session.specs.BootSteps.{running}
@@ -13,7 +14,6 @@ use Rattle.bl_session.specs.BootSteps.{handed_over, none_left, out_of_memory, St
 use Rattle.bl_session.specs.BootSteps.{StepsToOrFails}
 use Rattle.bl_session.specs.History.{HistoryItem, submitted, came, failed, nothing, file_under}
 use Rattle.bl_session.specs.History.{IsPieceOf}
-use Rattle.bl_session.specs.MenuFiles.{File, size_of}
 use Rattle.bl_session.specs.Submissions.{attempt_submissions, new_submissions}
 use Rattle.bl_session.specs.Run.{IsAnswer}
 use Rattle.bl_session.specs.Faithful.{IsFaithfulItem}

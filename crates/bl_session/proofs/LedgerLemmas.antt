@@ -8,10 +8,10 @@ use Rattle.std.proofs.lemmas.Option.{slice_get-get_or}
 use Rattle.std.proofs.Math.Seq.{split_at, take-nil, drop-nil}
 use Rattle.std.proofs.Math.Numerals.{add-one}
 use Rattle.std.specs.Prelude.{slice_get, option_map}
+use Rattle.bl_stage.specs.Files.{File}
 use Rattle.bl_session.specs.declared.store.Completion.{Completion}
 use Rattle.bl_session.specs.declared.submission.Submission.{Submission}
 use Rattle.bl_session.specs.BootSteps.{EventFacts}
-use Rattle.bl_session.specs.MenuFiles.{File}
 use Rattle.bl_session.specs.History.{HistoryItem}
 use Rattle.bl_session.specs.Stores.{event_of, answer_to, item_of_event, item_of_answer}
 use Rattle.bl_session.specs.Stores.{without_index}

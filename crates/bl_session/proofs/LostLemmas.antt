@@ -1,8 +1,8 @@
 -- After want of memory a boot asks for nothing and hears nothing.
 use Rattle.std.proofs.Common.{◌≡◌, ◌==◌, Bool, true, false, if◌then◌else◌, List, [], ◌∷◌, refl, ap}
 use Rattle.std.proofs.Common.{subst, ◌∙◌}
+use Rattle.bl_stage.specs.Files.{File}
 use Rattle.bl_session.specs.BootSteps.{BootFacts, State, out_of_memory, attempt_number}
-use Rattle.bl_session.specs.MenuFiles.{File}
 use Rattle.bl_session.specs.History.{HistoryItem}
 use Rattle.bl_session.specs.Submissions.{attempt_submissions, new_submissions}
 use Rattle.bl_session.specs.Run.{RunState, Delivers, ItemsLeadTo}

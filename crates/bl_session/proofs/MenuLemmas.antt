@@ -9,9 +9,10 @@ use Rattle.bl_load.specs.WellFormedEntry.{IsWellFormedEntry, IsWellFormedValue}
 use Rattle.bl_load.specs.declared.entry.Entry.TheVariants.{Multiboot2, Linux}
 use Rattle.bl_load.specs.declared.entry.Module.{Module}
 use Rattle.bl_load.specs.EntryValue.{IsWithinLimits, file_count, lines_of}
+use Rattle.bl_stage.specs.Files.{File}
 use Rattle.bl_session.specs.Menu.{EntryFacts, value_with, files_of, facts_of, entry_at, no_entry}
 use Rattle.bl_session.specs.BootSteps.{BootFacts}
-use Rattle.bl_session.specs.MenuFiles.{File, entry_value_in}
+use Rattle.bl_session.specs.MenuFiles.{entry_value_in}
 
 -- ---- entries as contracts see them
 

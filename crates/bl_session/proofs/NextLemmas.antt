@@ -5,10 +5,10 @@ use Rattle.std.proofs.Common.{inr, arith}
 use Rattle.std.proofs.lemmas.Bool.Decides.{nat_tests}
 use Rattle.std.specs.declared.ops.Range.{Range}
 use Rattle.bl_load.specs.declared.refusal.Refusal.TheVariants.{FileFault}
+use Rattle.bl_load.specs.declared.refused_entry.RefusedEntry.{RefusedEntry}
 use Rattle.bl_stage.specs.Ranges.{IsSameOutside}
 use Rattle.bl_stage.specs.PieceStates.{PieceState}
 use Rattle.bl_session.specs.declared.ticket.Ticket.{Ticket}
-use Rattle.bl_session.specs.declared.outcome.RefusedEntry.{RefusedEntry}
 use Rattle.bl_session.specs.declared.outcome.Progress.TheVariants.{Waiting, Next}
 use Rattle.bl_session.specs.AttemptResult.{refused}
 use Rattle.bl_session.specs.Pieces.{with_piece}

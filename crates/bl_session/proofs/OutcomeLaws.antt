@@ -8,11 +8,12 @@ use Rattle.bl_load.specs.EntryValue.{EntryValue}
 use Rattle.bl_load.specs.Handover.{Handover}
 use Rattle.bl_load.specs.Parts.{IsHandover}
 use Rattle.bl_load.proofs.HandoverLaws.{one_handover}
-use Rattle.bl_session.specs.declared.outcome.RefusedEntry.{RefusedEntry}
+use Rattle.bl_load.specs.declared.refused_entry.RefusedEntry.{RefusedEntry}
+use Rattle.bl_stage.specs.Files.{File}
 use Rattle.bl_session.specs.AttemptResult.{AttemptResult, handed, refused, HasWholeFilesResult}
 use Rattle.bl_session.specs.AttemptResult.{AttemptHasResult, UnlessRefused, size_refusal}
 use Rattle.bl_session.specs.BootSteps.{BootFacts, State, handed_over, sizes_of}
-use Rattle.bl_session.specs.MenuFiles.{File, entry_value_in}
+use Rattle.bl_session.specs.MenuFiles.{entry_value_in}
 use Rattle.bl_session.specs.Outcome.{faulty_file, IsFirst, IsOutcome}
 use Rattle.bl_session.proofs.EndLaws.{one_end}
 use Rattle.bl_session.proofs.BootLaws.{one_goes}

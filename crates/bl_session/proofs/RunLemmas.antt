@@ -6,9 +6,9 @@ use Rattle.std.specs.List.{range_with_len}
 use Rattle.std.specs.declared.ops.Range.{Range}
 use Rattle.bl_map.specs.MachineFacts.{MachineFacts}
 use Rattle.bl_mem.specs.Memory.{HasRoom, KeepsRoom}
+use Rattle.bl_stage.specs.Files.{File, missing, size_of}
 use Rattle.bl_session.specs.BootSteps.{BootFacts, State, unstarted, out_of_memory, is_running}
 use Rattle.bl_session.specs.BootSteps.{StartsOrFails}
-use Rattle.bl_session.specs.MenuFiles.{File, missing, size_of}
 use Rattle.bl_session.specs.Attempts.{named_file_count}
 use Rattle.bl_session.specs.Menu.{MenuFacts}
 use Rattle.bl_session.specs.History.{HistoryItem}

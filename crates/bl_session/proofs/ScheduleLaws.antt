@@ -2,11 +2,11 @@
 use Rattle.std.proofs.Common.{◌≡◌, ℕ, List, [], ◌∷◌, ◌++◌, length, map, Option, refl, sym, ap}
 use Rattle.std.proofs.Common.{subst, ◌∙◌, ◌⊎◌, inl, inr, append_assoc}
 use Rattle.std.proofs.lemmas.List.{append-nil}
+use Rattle.bl_stage.specs.Files.{File, size_of}
 use Rattle.bl_session.specs.BootSteps.{BootFacts, EventFacts, State, unstarted, running}
 use Rattle.bl_session.specs.BootSteps.{handed_over}
 use Rattle.bl_session.specs.BootSteps.{none_left, out_of_memory, Begins, StepsTo, StartsOrFails}
 use Rattle.bl_session.specs.BootSteps.{LeadsTo}
-use Rattle.bl_session.specs.MenuFiles.{File, size_of}
 use Rattle.bl_session.specs.Schedules.{IsGenuineAt, IsGenuine}
 use Rattle.bl_session.specs.Outcome.{IsOutcome, HasEnded}
 use Rattle.bl_session.specs.History.{HistoryItem}

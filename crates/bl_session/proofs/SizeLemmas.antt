@@ -6,7 +6,8 @@ use Rattle.std.proofs.lemmas.Bool.Decides.{nat_tests}
 use Rattle.std.proofs.lemmas.List.{get_or_default}
 use Rattle.bl_load.specs.declared.refusal.Refusal.TheVariants.{FileTooLong}
 use Rattle.bl_stage.specs.Staged.{Staging}
-use Rattle.bl_session.specs.AttemptResult.{file_limit, file_refusal, known_lengths}
+use Rattle.bl_stage.specs.Files.{file_limit}
+use Rattle.bl_session.specs.AttemptResult.{file_refusal, known_lengths}
 use Rattle.bl_session.specs.PhasesKept.{HasSmallFiles}
 
 -- the first is small, and none after it is refused

@@ -3,6 +3,7 @@ use Rattle.std.proofs.Common.{◌≡◌, ℕ, ◌-◌, ◌*◌, ◌<◌, ◌≤�
 use Rattle.std.proofs.Common.{get_or, None, refl, ap, ◌∙◌, arith}
 use Rattle.std.proofs.lemmas.List.{get_or-map}
 use Rattle.bl_stage.specs.PieceStates.{lacks}
+use Rattle.bl_stage.specs.Files.{File, missing, size_of, file_bytes}
 use Rattle.bl_session.specs.declared.ticket.Ticket.{Ticket}
 use Rattle.bl_session.specs.AttemptResult.{size_refusal, known_lengths}
 use Rattle.bl_session.specs.Menu.{entry_at}
@@ -10,7 +11,7 @@ use Rattle.bl_session.specs.Pieces.{is_awaited, piece_state_of}
 use Rattle.bl_session.specs.BootSteps.{BootFacts, State, unstarted, running, handed_over, none_left}
 use Rattle.bl_session.specs.BootSteps.{out_of_memory, sizes_of, fresh}
 use Rattle.bl_session.specs.History.{HistoryItem}
-use Rattle.bl_session.specs.MenuFiles.{File, missing, size_of, file_bytes, texts_of}
+use Rattle.bl_session.specs.MenuFiles.{texts_of}
 use Rattle.bl_session.specs.Submissions.{attempt_submissions, submissions_for_files}
 use Rattle.bl_session.proofs.EntryEndLemmas.{are_read, length_read}
 use Rattle.bl_session.proofs.TicketLemmas.{IsUntouched, IsAskedOnce, untouched_both, once_last}

@@ -3,9 +3,9 @@ use Rattle.std.proofs.Common.{◌≡◌, ℕ, ◌&&◌, Bool, true, false, Match
 use Rattle.std.proofs.Common.{Result, Ok, Err, IfOk, OnErr, refl}
 use Rattle.std.specs.declared.ops.Range.{Range}
 use Rattle.bl_load.specs.declared.refusal.Refusal.TheVariants.{FileFault}
+use Rattle.bl_load.specs.declared.refused_entry.RefusedEntry.{RefusedEntry}
 use Rattle.bl_stage.specs.Ranges.{IsSameOutside}
 use Rattle.bl_stage.specs.PieceStates.{PieceState}
-use Rattle.bl_session.specs.declared.outcome.RefusedEntry.{RefusedEntry}
 use Rattle.bl_session.specs.declared.ticket.Ticket.{Ticket}
 use Rattle.bl_session.specs.Pieces.{with_piece, are_whole}
 use Rattle.bl_session.specs.BootSteps.{BootFacts, EventFacts, piece, fault, State, unstarted}

@@ -7,11 +7,11 @@ use Rattle.std.specs.Bool.{Decides}
 use Rattle.std.proofs.lemmas.Bool.Decides.{Decides-like, Decides-and, Decides-eqb}
 use Rattle.std.specs.Prelude.{slice_index_or}
 use Rattle.bl_stage.specs.PieceStates.{piece_of}
+use Rattle.bl_stage.specs.Files.{File, missing, file_bytes}
 use Rattle.bl_session.specs.declared.ticket.Ticket.{Ticket}
 use Rattle.bl_session.specs.declared.store.Completion.{Completion}
 use Rattle.bl_session.specs.declared.store.Completion.TheVariants.{Piece, Fault}
 use Rattle.bl_session.specs.declared.submission.Submission.{Submission}
-use Rattle.bl_session.specs.MenuFiles.{File, missing, file_bytes}
 use Rattle.bl_session.specs.History.{HistoryItem, submitted, is_same, file_under, IsPieceOf}
 use Rattle.bl_session.specs.History.{IsItemOfAnswer}
 use Rattle.bl_session.specs.Faithful.{times_asked, IsFaithfulItem, IsFaithfulAfter}

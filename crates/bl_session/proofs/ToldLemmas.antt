@@ -4,11 +4,11 @@ use Rattle.std.proofs.Common.{Some, Result, Ok, Err, IfOk, OnErr, IfSome, IsNone
 use Rattle.std.proofs.Common.{length-append, length-take, length-drop, refl, ap, ◌∙◌, arith}
 use Rattle.std.specs.Prelude.{slice_get, option_map}
 use Rattle.std.proofs.lemmas.Option.{slice_get-get_or}
+use Rattle.bl_stage.specs.Files.{File}
 use Rattle.bl_session.specs.declared.store.Completion.{Completion}
 use Rattle.bl_session.specs.declared.submission.Submission.{Submission}
 use Rattle.bl_session.specs.declared.order.Order.{Order}
 use Rattle.bl_session.specs.BootSteps.{EventFacts}
-use Rattle.bl_session.specs.MenuFiles.{File}
 use Rattle.bl_session.specs.History.{HistoryItem, IsItemOfAnswer}
 use Rattle.bl_session.specs.Stores.{FileStoreFacts, event_of, answer_to, next_event}
 use Rattle.bl_session.specs.Stores.{next_place, without_index, after_answer}

@@ -11,6 +11,7 @@ use Rattle.bl_load.specs.declared.refusal.Refusal.TheVariants.{NoPool}
 use Rattle.bl_load.specs.EntryValue.{EntryValue}
 use Rattle.bl_load.specs.Handover.{Part, Handover, end_of}
 use Rattle.bl_load.specs.Parts.{IsHandover, IsRefusal}
+use Rattle.bl_stage.specs.Files.{file_limit}
 
 pub data AttemptResult : Type 0 where
   handed : Handover → AttemptResult
@@ -18,10 +19,6 @@ pub data AttemptResult : Type 0 where
 
 -- ---- before any piece comes: by the sizes of the entry's files, in order, the kernel's first;
 -- None is a missing file
-
--- the greatest length of a file, in bytes
-abbrev pub file_limit : ℕ
-file_limit = 0x40000000
 
 -- the first file that is missing or has too many bytes, from this place on
 abbrev pub file_refusal : ℕ → List (Option ℕ) → Option Refusal

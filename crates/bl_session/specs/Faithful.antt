@@ -1,8 +1,8 @@
 -- A store that answers each ticket once, with the piece that was asked for. Own.
 use Rattle.std.specs.Prelude.{◌≡◌, ℕ, ◌+◌, ◌*◌, ◌<◌, true, List, [], ◌∷◌, ◌++◌, length}
 use Rattle.std.specs.Prelude.{slice_index_or, Option, None, Some, if◌then◌else◌}
+use Rattle.bl_stage.specs.Files.{File, missing, file_bytes}
 use Rattle.bl_session.specs.declared.ticket.Ticket.{Ticket}
-use Rattle.bl_session.specs.MenuFiles.{File, missing, file_bytes}
 use Rattle.bl_session.specs.History.{HistoryItem, submitted, came, failed, nothing, is_same}
 use Rattle.bl_session.specs.History.{file_under}
 

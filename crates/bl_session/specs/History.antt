@@ -2,10 +2,10 @@
 use Rattle.std.specs.Prelude.{◌≡◌, ◌↔◌, ℕ, ◌==◌, ◌&&◌, Bool, true, if◌then◌else◌, List, [], ◌∷◌}
 use Rattle.std.specs.Prelude.{length, slice_index_or, Option, None, Some}
 use Rattle.bl_stage.specs.PieceStates.{piece_of}
+use Rattle.bl_stage.specs.Files.{File, missing, file_bytes}
 use Rattle.bl_session.specs.declared.ticket.Ticket.{Ticket}
 use Rattle.bl_session.specs.declared.store.Completion.{Completion}
 use Rattle.bl_session.specs.declared.store.Completion.TheVariants.{Piece, Fault}
-use Rattle.bl_session.specs.MenuFiles.{File, missing, file_bytes}
 
 -- a file was asked for under a ticket; or an answer: so many bytes came, with a mark whether they
 -- are those of the file at the place of the piece; a fault; nothing more to come

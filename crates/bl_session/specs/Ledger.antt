@@ -1,8 +1,8 @@
 -- What a ledger keeps of a store, what it answers, and what an answer leaves. Own.
 use Rattle.std.specs.Prelude.{ℕ, List, [], ◌∷◌, ◌++◌, slice_get, Option, None, Some, option_map}
+use Rattle.bl_stage.specs.Files.{File, missing, whole}
 use Rattle.bl_session.specs.declared.submission.Submission.{Submission}
 use Rattle.bl_session.specs.BootSteps.{EventFacts}
-use Rattle.bl_session.specs.MenuFiles.{File, missing, whole}
 use Rattle.bl_session.specs.History.{HistoryItem, submitted}
 use Rattle.bl_session.specs.Stores.{answer_to, item_of_answer, without_index}
 

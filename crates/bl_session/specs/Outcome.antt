@@ -1,11 +1,12 @@
 -- What a boot comes to: the first entry that is not refused, for every genuine schedule. Own.
 use Rattle.std.specs.Prelude.{◌≡◌, ℕ, List, [], ◌∷◌, length, Option, None, if◌then◌else◌}
-use Rattle.bl_session.specs.declared.outcome.RefusedEntry.{RefusedEntry}
+use Rattle.bl_load.specs.declared.refused_entry.RefusedEntry.{RefusedEntry}
+use Rattle.bl_stage.specs.Files.{File}
 use Rattle.bl_session.specs.AttemptResult.{AttemptResult, AttemptHasResult}
 use Rattle.bl_session.specs.Pieces.{are_whole}
 use Rattle.bl_session.specs.BootSteps.{BootFacts, State, unstarted, running, handed_over, none_left}
 use Rattle.bl_session.specs.BootSteps.{out_of_memory, sizes_of, fresh, AfterAttempt}
-use Rattle.bl_session.specs.MenuFiles.{File, entry_value_in}
+use Rattle.bl_session.specs.MenuFiles.{entry_value_in}
 use Rattle.bl_session.specs.Schedules.{Faults}
 
 -- the file of which a fault comes. If the files have no byte there is no piece, so that no fault

@@ -6,9 +6,9 @@ use Rattle.bl_map.specs.MachineFacts.{MachineFacts}
 use Rattle.bl_load.specs.HandoffFacts.{HandoffFacts}
 use Rattle.bl_load.specs.Handover.{Handover}
 use Rattle.bl_load.specs.PlanContents.{handover_in}
+use Rattle.bl_load.specs.declared.refused_entry.RefusedEntry.{RefusedEntry}
 use Rattle.bl_stage.specs.Staged.{Staging}
 use Rattle.bl_stage.specs.PieceStates.{piece_states}
-use Rattle.bl_session.specs.declared.outcome.RefusedEntry.{RefusedEntry}
 use Rattle.bl_session.specs.declared.outcome.BootFault.{BootFault}
 use Rattle.bl_session.specs.declared.outcome.BootFault.TheVariants.{NoEntryLeft, NoMemory}
 use Rattle.bl_session.specs.declared.outcome.Outcome.{Outcome}

@@ -4,11 +4,12 @@ use Rattle.bl_map.specs.MachineFacts.{MachineFacts}
 use Rattle.bl_load.specs.declared.refusal.PrepFault.{PrepFault}
 use Rattle.bl_load.specs.declared.refusal.PrepFault.TheVariants as prep_fault
 use Rattle.bl_stage.specs.Staged.{Staging, AllCame, empty_stage}
+use Rattle.bl_stage.specs.Files.{file_limit}
 use Rattle.bl_session.specs.declared.phase.Boot.{Boot}
 use Rattle.bl_session.specs.declared.phase.Running.{Running}
 use Rattle.bl_session.specs.declared.phase.Phase.{Phase}
 use Rattle.bl_session.specs.declared.phase.Phase.TheVariants.{Unstarted, Waits, HandedOver, Failed}
-use Rattle.bl_session.specs.AttemptResult.{file_limit, file_refusal, size_refusal, known_lengths}
+use Rattle.bl_session.specs.AttemptResult.{file_refusal, size_refusal, known_lengths}
 use Rattle.bl_session.specs.Menu.{MenuFacts, entry_at}
 use Rattle.bl_session.specs.BootSteps.{BootFacts, State}
 use Rattle.bl_session.specs.Phases.{state_at, running_facts, phase_facts, boot_facts, LiesWithin}

@@ -1,8 +1,8 @@
 -- Parts of a run: what a history gained leads from one state of a run to another. Own.
 use Rattle.std.specs.Prelude.{◌≡◌, ℕ, ◌+◌, List, [], ◌∷◌, ◌++◌, length, Option, None}
+use Rattle.bl_stage.specs.Files.{File}
 use Rattle.bl_session.specs.declared.ticket.Ticket.{Ticket}
 use Rattle.bl_session.specs.BootSteps.{BootFacts, State, on_running}
-use Rattle.bl_session.specs.MenuFiles.{File}
 use Rattle.bl_session.specs.History.{HistoryItem}
 use Rattle.bl_session.specs.Submissions.{first_ticket}
 use Rattle.bl_session.specs.Run.{RunState, Delivers}

@@ -1,13 +1,14 @@
 -- Genuine schedules: each wanted piece holds its file's bytes, and the faults are given. Own.
 use Rattle.std.specs.Prelude.{◌≡◌, ℕ, true, List, [], ◌∷◌, length, slice_index_or, Option, None}
 use Rattle.std.specs.Prelude.{Some}
+use Rattle.bl_load.specs.declared.refused_entry.RefusedEntry.{RefusedEntry}
 use Rattle.bl_stage.specs.PieceStates.{PieceState, piece_of}
-use Rattle.bl_session.specs.declared.outcome.RefusedEntry.{RefusedEntry}
+use Rattle.bl_stage.specs.Files.{File}
 use Rattle.bl_session.specs.Pieces.{are_whole, with_piece}
 use Rattle.bl_session.specs.BootSteps.{BootFacts, EventFacts, piece, fault, State, is_wanted}
 use Rattle.bl_session.specs.BootSteps.{StepsTo}
 use Rattle.bl_session.specs.BootSteps.{on_running}
-use Rattle.bl_session.specs.MenuFiles.{File, texts_of}
+use Rattle.bl_session.specs.MenuFiles.{texts_of}
 
 -- for each attempt, by its number, the place of the file of which a fault comes, or None
 abbrev pub Faults : Type 0

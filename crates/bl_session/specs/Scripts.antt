@@ -3,12 +3,12 @@ use Rattle.std.specs.Prelude.{ℕ, ◌%◌, Bool, if◌then◌else◌, List, [],
 use Rattle.std.specs.Prelude.{slice_get, slice_index_or, Option, option_map}
 use Rattle.std.specs.List.{list_any}
 use Rattle.std.specs.Int.Bits.{bit_xor}
+use Rattle.bl_stage.specs.Files.{File}
 use Rattle.bl_session.specs.declared.ticket.Ticket.{Ticket}
 use Rattle.bl_session.specs.declared.submission.Submission.{Submission}
 use Rattle.bl_session.specs.declared.script_reply.ScriptReply.{ScriptReply}
 use Rattle.bl_session.specs.declared.script_reply.ScriptReply.TheVariants.{Answer, Altered, Fault}
 use Rattle.bl_session.specs.BootSteps.{EventFacts, piece, fault}
-use Rattle.bl_session.specs.MenuFiles.{File}
 use Rattle.bl_session.specs.History.{HistoryItem, submitted, is_same}
 use Rattle.bl_session.specs.Stores.{answer_to, item_of_answer, without_index}
 

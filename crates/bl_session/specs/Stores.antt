@@ -1,30 +1,17 @@
 -- What the stores here keep, and what they answer. Own.
 use Rattle.std.specs.Prelude.{ℕ, ◌+◌, ◌-◌, ◌*◌, ◌==◌, ◌&&◌, nat_lt, Bool, true, false}
-use Rattle.std.specs.Prelude.{if◌then◌else◌, List, [], ◌∷◌, ◌++◌, length, map, take, drop}
+use Rattle.std.specs.Prelude.{if◌then◌else◌, List, [], ◌∷◌, ◌++◌, length, take, drop}
 use Rattle.std.specs.Prelude.{slice_get, slice_index_or, Option, None, Some, option_map}
 use Rattle.bl_stage.specs.PieceStates.{piece_of}
+use Rattle.bl_stage.specs.Files.{File, missing, file_bytes}
 use Rattle.bl_session.specs.declared.ticket.Ticket.{Ticket}
 use Rattle.bl_session.specs.declared.store.Completion.{Completion}
 use Rattle.bl_session.specs.declared.store.Completion.TheVariants.{Piece, Fault}
-use Rattle.bl_session.specs.declared.fetched.Fetched.{Fetched}
-use Rattle.bl_session.specs.declared.fetched.Fetched.TheVariants.{Missing, TooLong, Bytes}
 use Rattle.bl_session.specs.declared.submission.Submission.{Submission}
 use Rattle.bl_session.specs.declared.order.Order.{Order}
 use Rattle.bl_session.specs.declared.order.Order.TheVariants.{Forward, Reverse}
-use Rattle.bl_session.specs.AttemptResult.{file_limit}
 use Rattle.bl_session.specs.BootSteps.{EventFacts, piece, fault}
-use Rattle.bl_session.specs.MenuFiles.{File, missing, too_long, whole, file_bytes}
 use Rattle.bl_session.specs.History.{HistoryItem, submitted, came, failed, nothing, file_under}
-
--- ---- files
-
-abbrev pub file_of : {A : Type 0} → Fetched A → File
-file_of Missing = missing
-file_of (TooLong size) = too_long (size - (file_limit + 1))
-file_of (Bytes bytes) = whole bytes
-
-abbrev pub stored_files : {A : Type 0} → List (Fetched A) → List File
-stored_files files = map file_of files
 
 -- ---- answers
 

@@ -10,9 +10,9 @@ ghost use Rattle.bl_session.specs.PhasesKept.{facts_of_boot, state_in, phase_by}
 ghost use Rattle.bl_session.specs.PhasesKept.{IsPhaseKept, IsWaiting};
 
 use crate::attempt::{Attempt, AttemptEnd, begin_attempt, end_attempt};
-use crate::outcome::{BootFault, Outcome, RefusedEntry};
+use crate::outcome::{BootFault, Outcome};
 use crate::phase::{Boot, Phase, Running};
-use bl_load::Refusal;
+use bl_load::{Refusal, RefusedEntry};
 use bl_mem::PhysMem;
 use bl_stage::scrub;
 use std::alloc::{AllocError, Allocator};

@@ -1,9 +1,9 @@
 //! A store over files that were fetched before the boot.
-use crate::fetched::Fetched;
 use crate::ledger::Ledger;
 use crate::order::{Order, place_in};
 use crate::store::{Completion, Store};
 use crate::ticket::Ticket;
+use bl_stage::Fetched;
 use std::alloc::{AllocError, Allocator};
 use std::marker::Model;
 
@@ -30,8 +30,8 @@ impl<A: Allocator + Copy> Model for FileStore<A> {
 
 impl<A: Allocator + Copy> FileStore<A> {
     ghost use Rattle.std.specs.Prelude.{◌≡◌, []};
+    ghost use Rattle.bl_stage.specs.Files.{stored_files};
     ghost use Rattle.bl_session.specs.Faithful.{IsFaithful};
-    ghost use Rattle.bl_session.specs.Stores.{stored_files};
 
     /// A store of these files, by their index in the menu. Nothing was asked for yet.
     pub fn new(alloc: A, files: Vec<Fetched<A>, A>, order: Order) -> FileStore<A>
@@ -66,7 +66,7 @@ impl<A: Allocator + Copy> FileStore<A> {
 impl<A: Allocator + Copy> Store for FileStore<A> {
     ghost use Rattle.std.specs.Prelude.{◌≡◌, length, Ok, IfOk, OnOk, OnErr, option_map};
     ghost use Rattle.std.specs.Prelude.{slice_index_or};
-    ghost use Rattle.bl_session.specs.MenuFiles.{missing, size_of};
+    ghost use Rattle.bl_stage.specs.Files.{missing, size_of};
     ghost use Rattle.bl_session.specs.Stores.{event_of, next_event, after_submission, after_answer};
 
     type Alloc = A;

@@ -3,17 +3,18 @@ ghost use Rattle.std.specs.Prelude.{◌≡◌, ℕ, List, [], Option, map, All};
 ghost use Rattle.bl_map.specs.MachineFacts.{MachineFacts};
 ghost use Rattle.bl_load.specs.WellFormedEntry.{IsWellFormedValue};
 ghost use Rattle.bl_load.specs.EntryValue.{EntryValue};
+ghost use Rattle.bl_stage.specs.Files.{File, size_of};
 ghost use Rattle.bl_session.specs.AttemptResult.{AttemptResult, AttemptHasResult};
 ghost use Rattle.bl_session.specs.AttemptResult.{HasWholeFilesResult};
 ghost use Rattle.bl_session.specs.BootSteps.{BootFacts, EventFacts, State, Starts, StepsTo};
 ghost use Rattle.bl_session.specs.BootSteps.{Begins, LeadsTo, handed_over};
-ghost use Rattle.bl_session.specs.MenuFiles.{File, size_of, entry_value_in};
+ghost use Rattle.bl_session.specs.MenuFiles.{entry_value_in};
 ghost use Rattle.bl_session.specs.Schedules.{IsGenuine};
 ghost use Rattle.bl_session.specs.Outcome.{IsOutcome};
 ghost use Rattle.bl_session.specs.Outcome.{HasEnded};
-ghost use Rattle.bl_session.specs.declared.outcome.RefusedEntry.{RefusedEntry};
 ghost use Rattle.bl_load.specs.Handover.{Handover};
 ghost use Rattle.bl_load.specs.Parts.{IsHandover};
+ghost use Rattle.bl_load.specs.declared.refused_entry.RefusedEntry.{RefusedEntry};
 
 /// An attempt has at most one result: it is handed over, or refused, by the machine's facts, the
 /// files' sizes, a fault that came or none, and the entry's value. Nothing else decides.

@@ -71,7 +71,7 @@ impl<F: StoredFiles, A: Allocator + Copy> Ledger<F, A> {
     ghost use Rattle.std.specs.Prelude.{◌≡◌, ◌↔◌, ◌+◌, ◌<◌, ◌≤◌, [], ◌∷◌, ◌++◌, length};
     ghost use Rattle.std.specs.Prelude.{slice_get, slice_index_or, option_map};
     ghost use Rattle.std.specs.Prelude.{IfOk, OnOk, OnErr, IfSome, IsNone};
-    ghost use Rattle.bl_session.specs.MenuFiles.{missing, size_of};
+    ghost use Rattle.bl_stage.specs.Files.{missing, size_of};
     ghost use Rattle.bl_session.specs.History.{HistoryItem, submitted, IsItemOfAnswer};
     ghost use Rattle.bl_session.specs.Faithful.{IsFaithful};
     ghost use Rattle.bl_session.specs.Stores.{event_of};

@@ -6,7 +6,7 @@ mod attempt;
 mod attempts;
 mod boot_requests;
 mod events;
-mod fetched;
+mod fetched_files;
 mod file_store;
 mod frame_counts;
 mod handing_over;
@@ -38,8 +38,9 @@ mod submission;
 mod submission_run;
 mod ticket;
 
+pub use bl_load::RefusedEntry;
 pub use bl_plan::{MAX_ENTRIES, MAX_MODULES};
-pub use fetched::Fetched;
+pub use bl_stage::{FILE_LIMIT, Fetched};
 pub use file_store::FileStore;
 pub use frame_counts::frames_for;
 pub use handing_over::finish_attempt;
@@ -51,7 +52,7 @@ pub use laws::{
 pub use ledger::Ledger;
 pub use menu::{Menu, MenuFault, order_attempts};
 pub use order::Order;
-pub use outcome::{BootFault, Outcome, Progress, RefusedEntry};
+pub use outcome::{BootFault, Outcome, Progress};
 pub use owned_session::OwnedSession;
 pub use run_laws::{
     faithful_stores_boot_by_their_files, marked_histories_are_genuine,
@@ -61,7 +62,6 @@ pub use runs::run;
 pub use script_store::ScriptStore;
 pub use session::Session;
 pub use slice_store::SliceStore;
-pub use stage_beginning::FILE_LIMIT;
 pub use store::{Completion, Store};
 pub use stored_files::{SliceFiles, StoredFiles};
 pub use submission::Submission;

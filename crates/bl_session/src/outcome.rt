@@ -1,7 +1,7 @@
 //! Where a session stands, and what it comes to.
 ghost use Rattle.std.specs.Prelude.{◌≡◌};
 
-use bl_load::{Handoff, Refusal};
+use bl_load::{Handoff, RefusedEntry};
 use std::alloc::Allocator;
 use std::error::Error;
 use std::fmt;
@@ -17,21 +17,6 @@ pub enum Progress {
     Done,
     /// No entry is left, or memory ran out.
     Failed,
-}
-
-/// An entry of the menu, by its index, and why it was refused.
-#[derive(Clone, Copy, Debug, PartialEq, Eq)]
-pub struct RefusedEntry {
-    pub entry: u32,
-    pub refusal: Refusal,
-}
-
-/// As `entry 0: not an ELF file`.
-impl fmt::Display for RefusedEntry {
-    fn fmt<W: fmt::Write>(&self, f: &mut fmt::Formatter<W>) -> fmt::Result {
-        let RefusedEntry { entry, refusal } = *self;
-        write!(f, "entry {entry}: {refusal}")
-    }
 }
 
 /// The entry that is handed over, by its index in the menu, with the refusals before it, in order.

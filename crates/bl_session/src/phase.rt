@@ -6,7 +6,8 @@ ghost use Rattle.bl_session.specs.Phases.{phase_facts, is_waiting};
 ghost use Rattle.bl_session.specs.PhasesKept.{state_of, IsPhaseKept};
 
 use crate::menu::Menu;
-use crate::outcome::{BootFault, Outcome, Progress, RefusedEntry};
+use crate::outcome::{BootFault, Outcome, Progress};
+use bl_load::RefusedEntry;
 use bl_map::Machine;
 use bl_stage::Stage;
 use std::alloc::Allocator;

@@ -1,7 +1,7 @@
 //! Laws of a boot over a store.
 ghost use Rattle.std.specs.Prelude.{◌≡◌, List, [], map, None};
+ghost use Rattle.bl_stage.specs.Files.{File, size_of};
 ghost use Rattle.bl_session.specs.BootSteps.{BootFacts, EventFacts, State, Begins, LeadsTo};
-ghost use Rattle.bl_session.specs.MenuFiles.{File, size_of};
 ghost use Rattle.bl_session.specs.Schedules.{Faults, IsGenuine};
 ghost use Rattle.bl_session.specs.Outcome.{IsOutcome, HasEnded};
 ghost use Rattle.bl_session.specs.History.{HistoryItem};

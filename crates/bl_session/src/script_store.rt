@@ -1,11 +1,12 @@
 //! A store for tests, whose answers are told beforehand.
-use crate::fetched::{Fetched, size_in};
+use crate::fetched_files::size_in;
 use crate::history::History;
 use crate::script::Script;
 use crate::script_reply::{ScriptReply, completion_of, push_replies};
 use crate::store::{Completion, Store};
 use crate::submission::Submission;
 use crate::ticket::Ticket;
+use bl_stage::Fetched;
 use std::alloc::{AllocError, Allocator};
 use std::marker::Model;
 
@@ -23,7 +24,7 @@ pub struct ScriptStore<A: Allocator + Copy> {
 }
 
 impl<A: Allocator + Copy> Model for ScriptStore<A> {
-    ghost use Rattle.bl_session.specs.Stores.{stored_files};
+    ghost use Rattle.bl_stage.specs.Files.{stored_files};
     ghost use Rattle.bl_session.specs.Scripts.{ScriptStoreFacts};
 
     ghost Value = { ScriptStoreFacts };
@@ -40,7 +41,8 @@ impl<A: Allocator + Copy> Model for ScriptStore<A> {
 
 impl<A: Allocator + Copy> ScriptStore<A> {
     ghost use Rattle.std.specs.Prelude.{◌≡◌, [], slice_get, IfOk, option_map};
-    ghost use Rattle.bl_session.specs.Stores.{stored_files, event_of};
+    ghost use Rattle.bl_stage.specs.Files.{stored_files};
+    ghost use Rattle.bl_session.specs.Stores.{event_of};
     ghost use Rattle.bl_session.specs.Scripts.{next_script_event, picked_place};
 
     /// A store of these files, by their index in the menu. A ticket of `fail` comes as a fault, and
@@ -101,7 +103,7 @@ impl<A: Allocator + Copy> ScriptStore<A> {
 impl<A: Allocator + Copy> Store for ScriptStore<A> {
     ghost use Rattle.std.specs.Prelude.{◌≡◌, length, Ok, IfOk, OnOk, OnErr, option_map};
     ghost use Rattle.std.specs.Prelude.{slice_index_or};
-    ghost use Rattle.bl_session.specs.MenuFiles.{missing, size_of};
+    ghost use Rattle.bl_stage.specs.Files.{missing, size_of};
     ghost use Rattle.bl_session.specs.Stores.{event_of};
     ghost use Rattle.bl_session.specs.Scripts.{next_script_event, after_script_submission};
     ghost use Rattle.bl_session.specs.Scripts.{after_script_answer};

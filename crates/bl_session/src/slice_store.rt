@@ -49,8 +49,8 @@ impl<'a, A: Allocator + Copy> SliceStore<'a, A> {
 impl<'a, A: Allocator + Copy> Store for SliceStore<'a, A> {
     ghost use Rattle.std.specs.Prelude.{◌≡◌, ◌↔◌, ◌+◌, ◌≤◌, [], ◌∷◌, ◌++◌, length, option_map};
     ghost use Rattle.std.specs.Prelude.{IsOk, IfOk, OnOk, OnErr, IfSome, IsNone, slice_index_or};
+    ghost use Rattle.bl_stage.specs.Files.{missing, size_of};
     ghost use Rattle.bl_session.specs.History.{HistoryItem, submitted, IsItemOfAnswer};
-    ghost use Rattle.bl_session.specs.MenuFiles.{missing, size_of};
     ghost use Rattle.bl_session.specs.Stores.{event_of, next_place};
     ghost use Rattle.bl_session.specs.Ledger.{pending_answer, ledger_asked, ledger_answered};
 

@@ -12,11 +12,8 @@ ghost use Rattle.bl_session.specs.PhasesKept.{HasSmallFiles};
 
 use bl_load::{Entry, Module, PrepFault, Refusal};
 use bl_map::Machine;
-use bl_stage::{Stage, StageFault};
+use bl_stage::{FILE_LIMIT, Stage, StageFault};
 use std::alloc::{AllocError, Allocator};
-
-/// The greatest length of a file, in bytes. A longer one is not read.
-pub const FILE_LIMIT: u64 = 0x4000_0000;
 
 /// Appends the indices of modules' files.
 fn push_modules<A: Allocator>(

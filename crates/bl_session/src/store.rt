@@ -1,8 +1,8 @@
 //! Where pieces come from, and what is answered.
 ghost use Rattle.std.specs.Prelude.{◌≡◌, ◌↔◌, ℕ, ◌+◌, ◌≤◌, List, [], ◌∷◌, ◌++◌, IfOk, OnOk, OnErr};
 ghost use Rattle.std.specs.Prelude.{IfSome, IsNone, slice_index_or};
+ghost use Rattle.bl_stage.specs.Files.{File, missing, size_of};
 ghost use Rattle.bl_session.specs.History.{HistoryItem, submitted, IsItemOfAnswer};
-ghost use Rattle.bl_session.specs.MenuFiles.{File, missing, size_of};
 
 use crate::ticket::{Event, Ticket};
 use std::alloc::{AllocError, Allocator};

@@ -2,9 +2,9 @@
 ghost use Rattle.std.specs.Prelude.{◌≡◌, ◌↔◌, ◌*◌, ◌<◌, List, length};
 ghost use Rattle.std.specs.Prelude.{IfSome, IsSome, slice_index_or};
 ghost use Rattle.bl_stage.specs.PieceStates.{piece_of};
-ghost use Rattle.bl_session.specs.MenuFiles.{File, missing, size_of, file_bytes};
+ghost use Rattle.bl_stage.specs.Files.{File, missing, size_of, file_bytes};
 
-use crate::fetched::piece_at;
+use bl_stage::piece_at;
 
 /// The files of a menu, by their index, as a store reads them. An index that names none is a
 /// missing file.

@@ -6,3 +6,4 @@ pub mod Cells
 pub mod PackedCells
 pub mod Kept
 pub mod StagedFileLaws
+pub mod Files

@@ -4,6 +4,7 @@
 mod cell;
 mod cells;
 mod fault;
+mod fetched;
 mod files;
 mod moves;
 mod scrubbing;
@@ -13,6 +14,7 @@ mod tables;
 mod view;
 
 pub use fault::StageFault;
+pub use fetched::{FILE_LIMIT, Fetched, piece_at};
 pub use scrubbing::scrub;
 pub use stage::{Put, Stage};
 pub use view::FrameView;

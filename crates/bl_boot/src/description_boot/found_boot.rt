@@ -1,6 +1,6 @@
 //! The boot of what was found for a description.
 ghost use Rattle.std.specs.Prelude.{◌≡◌, [], ◌<◌, ◌^◌, length, map};
-ghost use Rattle.bl_session.specs.MenuFiles.{size_of};
+ghost use Rattle.bl_stage.specs.Files.{size_of};
 ghost use Rattle.bl_session.specs.Phases.{boot_facts};
 ghost use Rattle.bl_boot.specs.Kept.{FoundBootEnds, CountsSinkFault};
 ghost use Rattle.bl_desc.specs.Views.{view};

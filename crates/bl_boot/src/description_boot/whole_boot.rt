@@ -1,12 +1,12 @@
 //! One boot.
 ghost use Rattle.std.specs.Prelude.{◌≡◌, ◌≢◌, ℕ, List, ◌+◌, ◌<◌, ◌≤◌, ◌^◌, ◌++◌, length};
+ghost use Rattle.bl_stage.specs.Files.{File};
 ghost use Rattle.bl_menu.specs.BootCases.{HasInlineFiles, names_sought, names_fetched};
 ghost use Rattle.bl_boot.specs.Ends.{IsBooted, IsCutShort, IsRefused};
 ghost use Rattle.bl_menu.specs.DescribedMachine.{IsBadDescription};
 ghost use Rattle.bl_menu.specs.FoundFiles.{AsksPrefix};
 ghost use Rattle.bl_boot.specs.Kept.{BootEnds, CountsSinkFault, HasAsked};
 ghost use Rattle.bl_menu.specs.DescribedMenu.{max_names};
-ghost use Rattle.bl_session.specs.MenuFiles.{File};
 ghost use Rattle.bl_desc.specs.Described.{described};
 
 use crate::description_boot::end_fault::EndFault;

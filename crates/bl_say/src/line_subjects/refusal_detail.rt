@@ -1,6 +1,5 @@
 //! What is told of a refusal beside its number and its name.
-use bl_load::Row;
-use bl_session::RefusedEntry;
+use bl_load::{RefusedEntry, Row};
 
 /// What is told of a refusal beside its number and its name.
 #[derive(Clone, Copy, Debug, PartialEq, Eq)]

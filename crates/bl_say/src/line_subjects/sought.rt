@@ -1,7 +1,7 @@
 //! What was found for the names that are looked for.
 
 use bl_desc::file_index;
-use bl_session::Fetched;
+use bl_stage::Fetched;
 use std::alloc::Allocator;
 use std::marker::Model;
 
@@ -15,7 +15,7 @@ pub struct Sought<'a, A: Allocator> {
 
 impl<'a, A: Allocator> Model for Sought<'a, A> {
     ghost use Rattle.std.specs.Prelude.{map};
-    ghost use Rattle.bl_session.specs.Stores.{stored_files};
+    ghost use Rattle.bl_stage.specs.Files.{stored_files};
     ghost use Rattle.bl_say.specs.Sought.{SoughtFacts};
 
     ghost Value = { SoughtFacts };
@@ -28,7 +28,7 @@ impl<'a, A: Allocator> Model for Sought<'a, A> {
 
 impl<'a, A: Allocator> Sought<'a, A> {
     ghost use Rattle.std.specs.Prelude.{◌≡◌, map};
-    ghost use Rattle.bl_session.specs.Stores.{stored_files};
+    ghost use Rattle.bl_stage.specs.Files.{stored_files};
     ghost use Rattle.bl_say.specs.Frames.{length_found};
     ghost use Rattle.bl_say.specs.Sought.{bytes_found, size_found};
 

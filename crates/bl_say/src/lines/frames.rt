@@ -9,8 +9,8 @@ ghost use Rattle.bl_desc.specs.Views.{entry_view, form_view, module_view};
 
 use crate::line_subjects::Sought;
 use bl_desc::{EntryForm, EntryRow, ModuleRow};
+use bl_load::Handoff;
 use bl_map::{Machine, frames_in, frames_of, open_frames};
-use bl_session::Outcome;
 use std::alloc::{AllocError, Allocator};
 
 /// How many frames the file of this name takes.
@@ -117,15 +117,16 @@ pub fn say_handoff_frames<A: Allocator + Copy, B: Allocator>(
     entries: &[EntryRow<B>],
     sought: &Sought<'_, A>,
     machine: &Machine<B>,
-    outcome: &Outcome<B>,
+    entry: u32,
+    handoff: &Handoff<B>,
 ) -> Result<(), AllocError>
     ensures { OnOk result (out.new.items ≡ out.old.items
-        ++ sought_frames_line sought.now (names_at (map entry_view entries.now) outcome.now.entry)
-        machine.now.pool (map place_range outcome.now.handoff.places)) }
+        ++ sought_frames_line sought.now (names_at (map entry_view entries.now) entry)
+        machine.now.pool (map place_range handoff.now.places)) }
 {
-    let wanted = frames_at(entries, sought, outcome.entry);
+    let wanted = frames_at(entries, sought, entry);
     let pool = machine.pool();
-    outcome.handoff.len();
-    let beside = open_frames(&pool, outcome.handoff.ranges());
+    handoff.len();
+    let beside = open_frames(&pool, handoff.ranges());
     say_frames(out, wanted, beside, frames_in(&pool))
 }

@@ -8,7 +8,7 @@ use crate::line_subjects::Sought;
 use crate::lines::kernel_hints::say_kernel_hints;
 use bl_blame::say_region_hints;
 use bl_desc::Description;
-use bl_session::RefusedEntry;
+use bl_load::RefusedEntry;
 use std::alloc::{AllocError, Allocator};
 
 /// Whether an entry is one of these.

@@ -8,9 +8,8 @@ ghost use Rattle.bl_desc.specs.Views.{entry_view};
 
 use crate::line_subjects::Sought;
 use bl_desc::EntryRow;
-use bl_load::Refusal;
+use bl_load::{Refusal, RefusedEntry};
 use bl_mem::{SliceView, u16_at, u32_at};
-use bl_session::RefusedEntry;
 use std::alloc::{AllocError, Allocator};
 
 /// Whether a file has the magic numbers of a bzImage.

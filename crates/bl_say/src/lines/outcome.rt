@@ -2,7 +2,7 @@
 ghost use Rattle.std.specs.Prelude.{◌≡◌, ◌++◌, OnOk, OnErr};
 ghost use Rattle.bl_say.specs.BootAndMapLines as says;
 
-use bl_session::RefusedEntry;
+use bl_load::RefusedEntry;
 use std::alloc::{AllocError, Allocator};
 
 /// Appends the line of an entry that was refused: its index in the menu, and the refusal's number.

@@ -1,8 +1,8 @@
 use Rattle.std.proofs.Common.{◌∙◌, ◌+◌, arith, map, get_or, take, IsSome}
 use Rattle.std.proofs.lemmas.List.{map-append, take_all}
+use Rattle.bl_stage.specs.Files.{file_of}
 use Rattle.bl_desc.specs.Described.{file_named}
 use Rattle.bl_desc.specs.Views.{view}
-use Rattle.bl_session.specs.Stores.{file_of}
 use Rattle.bl_menu.proofs.FileLemmas.{no_name, one_more_found, one_more_asked, asks_first}
 use Rattle.bl_menu.proofs.FileLemmas.{stands_at, names_grow}
 use Rattle.bl_menu.proofs.found_files.find_files.Goals as goal

@@ -1,8 +1,7 @@
 use Rattle.std.proofs.Common.{◌≡◌, ◌+◌, ◌≤◌, ◌++◌, ℕ, List, IsSome, All, take, map}
+use Rattle.bl_stage.specs.Files.{File, file_of}
 use Rattle.bl_desc.specs.Described.{file_named}
 use Rattle.bl_desc.specs.Views.{view}
-use Rattle.bl_session.specs.MenuFiles.{File}
-use Rattle.bl_session.specs.Stores.{file_of}
 use Rattle.bl_menu.specs.FoundFiles.{AreFound, names_to_ask}
 use Rattle.bl_menu.proofs.found_files.find_files.Given as goal
 

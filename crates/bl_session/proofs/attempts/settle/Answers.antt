@@ -1,4 +1,5 @@
 use Rattle.std.proofs.Common.{◌≡◌, List, Some, drop, ap, refl, rules, subst}
+use Rattle.bl_load.specs.declared.refused_entry.RefusedEntry.{RefusedEntry}
 use Rattle.bl_session.specs.Menu.{facts_of}
 use Rattle.bl_session.specs.BootSteps.{unstarted, handed_over, Begins, Continues}
 use Rattle.bl_session.specs.AttemptKept.{attempt_with}
@@ -7,7 +8,6 @@ use Rattle.bl_session.specs.PhasesKept.{facts_of_boot, state_of, phase_by}
 use Rattle.bl_session.specs.declared.attempt.Attempt.TheVariants.{Waits, Ended}
 use Rattle.bl_session.specs.declared.attempt.AttemptEnd.TheVariants.{HandedOver, Refused}
 use Rattle.bl_session.specs.Phases.{handover_held}
-use Rattle.bl_session.specs.declared.outcome.RefusedEntry.{RefusedEntry}
 use Rattle.bl_session.proofs.AdvanceLemmas.{continues, continues_later, attempt_of_entry}
 use Rattle.bl_session.proofs.KeptMemoryLemmas.{memory_later}
 use Rattle.bl_session.proofs.attempts.settle.Goals as goal

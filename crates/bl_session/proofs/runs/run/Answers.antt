@@ -1,6 +1,6 @@
 use Rattle.std.proofs.Common.{List, [], None, map, refl, sym, subst}
+use Rattle.bl_stage.specs.Files.{size_of}
 use Rattle.bl_session.specs.History.{HistoryItem}
-use Rattle.bl_session.specs.MenuFiles.{size_of}
 use Rattle.bl_session.specs.Phases.{PhaseFacts, boot_facts, state_at}
 use Rattle.bl_session.specs.Run.{IsRun, final_phase}
 use Rattle.bl_session.proofs.ScheduleLaws.{run_ended}

@@ -3,9 +3,9 @@ use Rattle.std.specs.List.{range_with_len}
 use Rattle.bl_mem.specs.Memory.{HasRoom}
 use Rattle.std.proofs.lemmas.Result.{err_from_is_err_and}
 use Rattle.bl_stage.specs.Ranges.{IsSameOutside}
+use Rattle.bl_stage.specs.Files.{missing, size_of}
 use Rattle.bl_session.specs.BootSteps.{BootFacts, out_of_memory}
 use Rattle.bl_session.specs.Memory.{IsMemoryAt}
-use Rattle.bl_session.specs.MenuFiles.{missing, size_of}
 use Rattle.bl_session.specs.Phases.{SessionFacts, boot_facts, state_at}
 use Rattle.bl_session.specs.Run.{run_state_of}
 use Rattle.bl_session.proofs.RunLemmas.{unbegun, has_started, run_started}

@@ -1,6 +1,6 @@
 use Rattle.std.proofs.Common.{ℕ, slice_index_or, arith, refl}
 use Rattle.std.proofs.lemmas.List.FromFn.{map-range_with_len_more}
-use Rattle.bl_session.specs.MenuFiles.{missing, size_of}
+use Rattle.bl_stage.specs.Files.{missing, size_of}
 use Rattle.bl_session.proofs.runs.sizes_of.Goals as goal
 
 pub loop-file-preserved : goal.loop-file-preserved

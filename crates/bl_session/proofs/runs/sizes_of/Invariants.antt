@@ -1,6 +1,6 @@
 use Rattle.std.proofs.Common.{◌≡◌, map, slice_index_or}
 use Rattle.std.specs.List.{range_with_len}
-use Rattle.bl_session.specs.MenuFiles.{missing, size_of}
+use Rattle.bl_stage.specs.Files.{missing, size_of}
 use Rattle.bl_session.proofs.runs.sizes_of.Given as goal
 
 -- the sizes of the files so far

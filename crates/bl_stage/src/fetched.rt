@@ -1,14 +1,13 @@
 //! A file that was fetched, and one of its pieces.
-ghost use Rattle.std.specs.Prelude.{◌≡◌, ◌↔◌, ◌*◌, ◌<◌, ◌^◌, length};
-ghost use Rattle.std.specs.Prelude.{IfSome, IsSome, slice_index_or};
+ghost use Rattle.std.specs.Prelude.{◌≡◌, ◌↔◌, ◌*◌, ◌<◌, ◌^◌, length, IfSome, IsSome};
+ghost use Rattle.bl_stage.specs.Files.{size_of, file_bytes, file_of};
 ghost use Rattle.bl_stage.specs.PieceStates.{piece_of};
-ghost use Rattle.bl_session.specs.MenuFiles.{missing, size_of, file_bytes};
-ghost use Rattle.bl_session.specs.Stores.{file_of, stored_files};
 
-use crate::stage_beginning::FILE_LIMIT;
-use crate::stored_files::StoredFiles;
 use bl_mem::Bytes;
 use std::alloc::Allocator;
+
+/// The greatest length of a file, in bytes. A longer one is not read.
+pub const FILE_LIMIT: u64 = 0x4000_0000;
 
 /// The bytes of a piece; a file's last piece has what is left.
 const PIECE: usize = 4096;
@@ -50,43 +49,8 @@ impl<A: Allocator> Fetched<A> {
     }
 }
 
-/// The length of a file of these.
-pub(crate) fn size_in<A: Allocator>(files: &[Fetched<A>], file: u32) -> Option<u64>
-    ensures { result ≡ size_of (slice_index_or (stored_files files.now) file missing) }
-{
-    match files.get(file as usize) {
-        Some(file) => file.size(),
-        None => None,
-    }
-}
-
-/// The bytes of a piece of a file of these, if there is one.
-pub(crate) fn piece_in<A: Allocator>(files: &[Fetched<A>], file: u32, index: u32) -> Option<&[u8]>
-    ensures some { IsSome result ↔ (4096 * index
-        < length (file_bytes (slice_index_or (stored_files files.now) file missing))) }
-    ensures piece { IfSome result (λ piece. piece.now
-        ≡ piece_of (file_bytes (slice_index_or (stored_files files.now) file missing)) index) }
-{
-    match files.get(file as usize) {
-        Some(file) => file.piece(index),
-        None => None,
-    }
-}
-
-impl<A: Allocator> StoredFiles for Vec<Fetched<A>, A> {
-    ghost files = { λ fetched. stored_files fetched.items };
-
-    fn size(&self, file: u32) -> Option<u64> {
-        size_in(self, file)
-    }
-
-    fn piece(&self, file: u32, index: u32) -> Option<&[u8]> {
-        piece_in(self, file, index)
-    }
-}
-
 /// The bytes of a piece, if there is one.
-pub(crate) fn piece_at(bytes: &[u8], index: usize) -> Option<&[u8]>
+pub fn piece_at(bytes: &[u8], index: usize) -> Option<&[u8]>
     requires { index < 2 ^ 32 }
     ensures some { IsSome result ↔ (4096 * index < length bytes.now) }
     ensures piece { IfSome result (λ piece. piece.now ≡ piece_of bytes.now index) }

@@ -1,6 +1,6 @@
 use Rattle.std.proofs.Common.{◌≡◌, ◌*◌, ◌-◌, ◌∙◌, ℕ, length, take, drop, min, ap, arith}
 use Rattle.std.proofs.lemmas.List.{take_min, length-drop}
-use Rattle.bl_session.proofs.fetched.piece_at.Goals as goal
+use Rattle.bl_stage.proofs.fetched.piece_at.Goals as goal
 
 pub returns-clause-piece : goal.returns-clause-piece
 returns-clause-piece c =

@@ -1,6 +1,6 @@
 use Rattle.std.proofs.Common.{arith}
 use Rattle.std.proofs.lemmas.Grind.{common_steps}
-use Rattle.bl_session.proofs.fetched.piece_in.Goals as goal
+use Rattle.bl_session.proofs.fetched_files.piece_in.Goals as goal
 
 pub returns-in-Some-clause-some : goal.returns-in-Some-clause-some
 returns-in-Some-clause-some g c = grind (arith, common_steps)

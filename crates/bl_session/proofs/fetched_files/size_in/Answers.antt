@@ -1,6 +1,6 @@
 use Rattle.std.proofs.Common.{arith}
 use Rattle.std.proofs.lemmas.Grind.{common_steps}
-use Rattle.bl_session.proofs.fetched.size_in.Goals as goal
+use Rattle.bl_session.proofs.fetched_files.size_in.Goals as goal
 
 pub returns-in-Some : goal.returns-in-Some
 returns-in-Some g c = grind (arith, common_steps)
