@@ -6,6 +6,7 @@ from pathlib import Path
 from typing import Iterable, List, Set
 
 from tests import repository
+from tests.examples import FIRST, SECOND
 from tests.support import PROGRAM, TOP, Checks, ProgramChecks, is_at_hand, run
 
 LINK = re.compile(r"\]\(([^)#\s]+)")
@@ -141,6 +142,18 @@ class BesideProgram(ProgramChecks):
                 words = [TOP / "examples/picture", TOP / f"examples/{name}.toml", drawn]
                 self.assert_ended(run(*words, cwd=self.room, env={"BOOTCORE": str(PROGRAM)}))
                 self.assert_same_file(TOP / f"docs/pictures/{name}.svg", drawn)
+
+    def test_picture_of_another_image(self) -> None:
+        """tools/draw refuses the image of another boot than the explained one"""
+        (self.room / "map").write_bytes(self.program("map", FIRST).out)
+        (self.room / "explained").write_bytes(self.program("explain", FIRST).out)
+        self.program("boot", SECOND, "--out", self.room / "image")
+        words = ["--map", "map", "--explain", "explained", "--image", "image", "--out", "none.svg"]
+        ran = run(TOP / "tools/draw", *words, cwd=self.room)
+        self.assert_ended(ran, 1, "", None)
+        said = ran.err.decode()
+        self.assertRegex(said, "^draw: the image is not of the explained boot:", f"ran: {ran}\nstandard error")
+        self.assertFalse((self.room / "none.svg").exists(), f"ran: {ran}\nit wrote a picture")
 
     def test_synopsis(self) -> None:
         """the synopsis of the manual page is the usage text of the program"""

@@ -1,6 +1,7 @@
 """Runs parts of the test: a line for each check as it ends, then what was left out and what failed, then the count."""
 
 import importlib
+import re
 import sys
 import textwrap
 import time
@@ -26,6 +27,10 @@ class Result(unittest.TestResult):
         message = getattr(test, "_message", None)
         if isinstance(message, str):
             return message
+        prepared = re.fullmatch(r"setUp(?:Class|Module) \((?:tests\.)?(\w+)(?:\.(\w+))?\)", str(test))
+        if prepared:  # what its checks share could not be made
+            part, group = prepared.groups()
+            return f"the checks of {part}" + (f", {group}" if group else "")
         return test.shortDescription() or str(test)
 
     def good(self, name: str, count: int = 1) -> None:

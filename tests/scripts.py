@@ -12,13 +12,9 @@ from tests.support import TOP, Checks, Ran, has_tomllib, is_at_hand, run
 
 # what has no --help of the form of the others, and why
 WITHOUT_USAGE = {
-    "bootcore": "its words are the program's, which its first call proves and builds",
+    "bootcore": "the first line of its help is the program's name and version",
     "bench/*.sh": "--help shows the comment at its top",
     "tests/*": "the test alone calls it",
-    "model/cases": "every word but --write shows its docstring, with the status 64",
-    "tools/c/cases": "its one word is a driver",
-    "tools/hour": "--help shows its docstring",
-    "tools/refusals": "it has no words",
 }
 # what imports the model, which needs Python 3.11
 OVER_MODEL = ["model/*", "tools/c/*"]
