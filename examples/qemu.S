@@ -1,7 +1,8 @@
 # The stub by which examples/qemu.sh enters a kernel: the last 512 bytes of a ROM of 64 KiB, which lies
 # below 4 GiB. The processor starts at the reset vector, in real mode. The stub brings it into the
 # state of the image's head, which the ROM begins with, and jumps to the kernel. It writes to no
-# memory: what the kernel finds there is the image's parts, and zeros.
+# memory: what the kernel finds there is the image's parts, and zeros. But fetching the first
+# instruction by the 64-bit entry makes the processor set accessed bits in the page tables.
 #
 # Assembled at 0xfffffe00. examples/qemu.hex has its bytes, so nothing need be assembled to run it;
 # tools/qemu_bytes compares them where an assembler is at hand.

@@ -1,4 +1,4 @@
-"""The cases: descriptions by their difference from a base, booted in both orders, with the outcome the rules give"""
+"""the cases: descriptions by their difference from a base, booted in both orders, with the outcome the rules give"""
 
 import os
 from concurrent.futures import ThreadPoolExecutor

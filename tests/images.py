@@ -1,4 +1,4 @@
-"""What a walk prints of an image, and conversions, also of changed images"""
+"""what a walk prints of an image, and conversions, also of changed images"""
 
 import os
 from concurrent.futures import ThreadPoolExecutor

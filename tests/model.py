@@ -1,4 +1,4 @@
-"""The model, which computes each row and each case anew from the rules, and compares what it draws at random"""
+"""the model, which computes each row and each case anew from the rules, and compares what it draws at random"""
 
 import sys
 import unittest

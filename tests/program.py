@@ -1,4 +1,4 @@
-"""The program on real files, devices and command lines, and the examples with their scripts"""
+"""the program on real files, devices and command lines, and the examples with their scripts"""
 
 import gzip
 import os

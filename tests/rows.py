@@ -1,4 +1,4 @@
-"""The libraries row by row: each line of rows/ is a call, and the proved probe's answer must be the line's own"""
+"""the libraries row by row: each line of rows/ is a call, and the proved probe's answer must be the line's own"""
 
 import os
 from concurrent.futures import ThreadPoolExecutor
