@@ -4,7 +4,7 @@ from __future__ import annotations
 
 import html
 import textwrap
-from typing import List, Tuple
+from typing import List, NamedTuple, Tuple
 
 WIDTH = 860
 SANS = "-apple-system, 'Segoe UI', Helvetica, Arial, sans-serif"
@@ -12,7 +12,7 @@ MONO = "ui-monospace, Menlo, Consolas, 'DejaVu Sans Mono', monospace"
 
 # The panel is light on a dark page too, so there is one set of colours. Those of the parts stay apart for each kind of colour
 # blindness (orange, blue and yellow are of Okabe and Ito's palette) and are light enough for dark text; each has its name in it.
-STYLE = f"""\
+PANEL_STYLE = f"""\
 text {{ font: 12px {SANS}; fill: #1b1f24 }}
 .title {{ font-size: 17px; font-weight: 600 }}
 .head, .name, .promise {{ font-size: 13px; font-weight: 600 }}
@@ -21,21 +21,24 @@ text {{ font: 12px {SANS}; fill: #1b1f24 }}
 .end {{ text-anchor: end }}
 .middle {{ text-anchor: middle }}
 .panel {{ fill: #fff; stroke: #d0d7de }}
-.guide {{ stroke: #d0d7de; stroke-dasharray: 2 3 }}
-.axis, .arrow, .way {{ stroke: #1b1f24; fill: none }}
-.arrow, .way {{ stroke-width: 1.5 }}
-rect {{ stroke: #57606a }}
-.usable {{ fill: #fff }}
-.reserved, .acpi, .nvs, .bad {{ fill: url(#hatch) }}
-.none {{ fill: #fff; stroke-dasharray: 3 3 }}
-.pool {{ fill: #e6e0f5 }}
-.part {{ stroke: #1b1f24; stroke-width: 1.5 }}
-.kernel {{ fill: #e69f00 }}
-.module, .initrd {{ fill: #56b4e9 }}
-.information, .boot-params {{ fill: #88d898 }}
-.command-line {{ fill: #f0e442 }}
-.gdt {{ fill: #c898a8 }}
-.page-tables {{ fill: #98a848 }}
+"""
+
+STYLE = PANEL_STYLE + """\
+.guide { stroke: #d0d7de; stroke-dasharray: 2 3 }
+.axis, .arrow, .way { stroke: #1b1f24; fill: none }
+.arrow, .way { stroke-width: 1.5 }
+rect { stroke: #57606a }
+.usable { fill: #fff }
+.reserved, .acpi, .nvs, .bad { fill: url(#hatch) }
+.none { fill: #fff; stroke-dasharray: 3 3 }
+.pool { fill: #e6e0f5 }
+.part { stroke: #1b1f24; stroke-width: 1.5 }
+.kernel { fill: #e69f00 }
+.module, .initrd { fill: #56b4e9 }
+.information, .boot-params { fill: #88d898 }
+.command-line { fill: #f0e442 }
+.gdt { fill: #c898a8 }
+.page-tables { fill: #98a848 }
 """
 
 DEFINITIONS = """\
@@ -75,14 +78,25 @@ def path(kind: str, steps: str, tip: bool = False) -> str:
     return f'<path class="{kind}" d="{steps}"{marker}/>'
 
 
-def document(height: int, title: str, description: str, elements: List[str]) -> str:
+class Sheet(NamedTuple):
+    """What elements need around them."""
+
+    width: int
+    style: str
+    definitions: Tuple[str, ...] = ()
+
+
+MEMORY = Sheet(WIDTH, STYLE, (DEFINITIONS,))
+
+
+def document(height: int, title: str, description: str, elements: List[str], sheet: Sheet = MEMORY) -> str:
     head = [
-        f'<svg xmlns="http://www.w3.org/2000/svg" width="{WIDTH}" height="{height}" viewBox="0 0 {WIDTH} {height}"',
+        f'<svg xmlns="http://www.w3.org/2000/svg" width="{sheet.width}" height="{height}" viewBox="0 0 {sheet.width} {height}"',
         ' role="img" aria-labelledby="title description">',
         f'<title id="title">{escaped(title)}</title>',
         f'<desc id="description">{wrapped(description)}</desc>',
-        f"<style>\n{STYLE}</style>",
-        DEFINITIONS,
-        f'<rect class="panel" x="0.5" y="0.5" width="{WIDTH - 1}" height="{height - 1}" rx="6"/>',
+        f"<style>\n{sheet.style}</style>",
+        *sheet.definitions,
+        f'<rect class="panel" x="0.5" y="0.5" width="{sheet.width - 1}" height="{height - 1}" rx="6"/>',
     ]
     return "\n".join([*head, *elements, "</svg>", ""])
