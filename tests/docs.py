@@ -19,6 +19,7 @@ TOOLS = [
     ("no name is declared more than once but those of tools/names.txt", "tools/names"),
     ("each quoted line stands in its source", "tools/quotes"),
     ("each file of definitions or proofs that a crate's page lists is there", "tools/listed"),
+    ("each name that a page uses exists", "tools/mentioned"),
     ("a reader's hour in docs/THEOREMS.md has the lines that it counts", "tools/hour", "--check"),
     ("explain has the name and the meaning of each refusal that docs/REFUSALS.md has", "tools/refusals"),
     ("CONTRIBUTING.md lists each place where a refusal and a key stand", "tools/refusal_places", "--check"),
