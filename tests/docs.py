@@ -20,6 +20,7 @@ TOOLS = [
     ("each quoted line stands in its source", "tools/quotes"),
     ("each file of definitions or proofs that a crate's page lists is there", "tools/listed"),
     ("each name that a page uses exists", "tools/mentioned"),
+    ("no definition that a reader must believe, and no exported clause, uses one of specs/internal", "tools/believed", "--check"),
     ("a reader's hour in docs/THEOREMS.md has the lines that it counts", "tools/hour", "--check"),
     ("explain has the name and the meaning of each refusal that docs/REFUSALS.md has", "tools/refusals"),
     ("CONTRIBUTING.md lists each place where a refusal and a key stand", "tools/refusal_places", "--check"),
@@ -86,7 +87,7 @@ class Pages(Checks):
 
     def test_lengths(self) -> None:
         for name in EXAMPLE_PROGRAMS:
-            path = f"crates/bl_examples/src/{name}.rt"
+            path = f"crates/example_callers/src/{name}.rt"
             self.finds_none(f"the example program {name}.rt has at most 60 lines", longer_files([path], 60))
         sources = [
             name for name in repository.files() if re.fullmatch(r"crates/[^/]+/(src/.*\.rt|specs/.*\.antt)", name)

@@ -24,7 +24,7 @@ class Alone(ModelChecks):
 
     def test_rows(self) -> None:
         self.model("the model computes the same answer for each row of rows/", "rows")
-        self.model("the model computes the same answer for each worked row", "rows", "crates/bl_probe/stdin")
+        self.model("the model computes the same answer for each worked row", "rows", "crates/test_probe/stdin")
 
     def test_cases(self) -> None:
         self.model("the model computes the same outcome for each case", "cases")
@@ -49,7 +49,7 @@ class WithProbe(ModelChecks):
     @classmethod
     def setUpClass(cls) -> None:
         super().setUpClass()
-        need_built(PROBE, "rt run in crates/bl_probe")
+        need_built(PROBE, "rt run in crates/test_probe")
 
     def test_probe(self) -> None:
         self.model("the probe answers as the model in rows drawn at random", "fuzz", "300", "1", "--rows")

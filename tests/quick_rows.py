@@ -149,12 +149,12 @@ class QuickRows(Checks):
                 self.compare(case, tried.wrote.get(name, b""))
             elif line and "run=no-answer " not in line:
                 with self.check(f"the rows' program without proof answers {names(case.tables)} to its end"):
-                    self.fail(f"ran: rt try in crates/bl_probe, of these tables\n{before}\n{line}")
+                    self.fail(f"ran: rt try in crates/test_probe, of these tables\n{before}\n{line}")
             else:
                 left += case.tables
         if len(tried.ended) < len(cases) and not tried.was_stopped:
             with self.check("rt try builds the rows' program without proof, and runs it for each case"):
-                self.fail(f"ran: rt try in crates/bl_probe\n{tried.last}")
+                self.fail(f"ran: rt try in crates/test_probe\n{tried.last}")
         if left:
             count = sum(map(tables.rows_of, left))
             why = f"{SECONDS} seconds without proof did not carry to them; ./test rows runs all on the proved program"

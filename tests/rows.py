@@ -16,7 +16,7 @@ class Rows(Checks):
     @classmethod
     def setUpClass(cls) -> None:
         super().setUpClass()
-        need_built(PROBE, "rt run in crates/bl_probe")
+        need_built(PROBE, "rt run in crates/test_probe")
 
     def test_rows(self) -> None:
         found = tables.all_tables()

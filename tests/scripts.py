@@ -21,7 +21,7 @@ OVER_MODEL = ["model/*", "tools/c/*"]
 # what shellcheck may find: in sed's words quotes stand beside backslashes, and a key of a description has no blank
 SHELLCHECK_EXCLUDES = {"cases/expand": "SC1003,SC2013"}
 # rows whose last cell is empty, and an edit's context
-WITH_TRAILING_BLANKS = ["rows/*.rows", "crates/bl_probe/std*", "crates/*/must-fail/*.edit"]
+WITH_TRAILING_BLANKS = ["rows/*.rows", "crates/test_probe/std*", "crates/*/must-fail/*.edit"]
 
 TRAILING_BLANK = re.compile(r"[ \t\r]$")
 

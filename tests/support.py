@@ -15,7 +15,7 @@ from typing import Iterator, NamedTuple, Optional, Sequence, Union
 
 TOP = Path(__file__).resolve().parent.parent
 PROGRAM = TOP / "crates/bootcore/out/bootcore"
-PROBE = TOP / "crates/bl_probe/out/bl_probe"
+PROBE = TOP / "crates/test_probe/out/test_probe"
 C_ARCHIVE = TOP / "crates/bootcore_c/out/libbootcore_c.a"
 
 Text = Union[str, bytes]

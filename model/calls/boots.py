@@ -1,4 +1,4 @@
-"""boot, boots, map, explain, fetch: the calls of bl_boot and bl_explain on a description."""
+"""boot, boots, map, explain, fetch: the calls of program_boot and program_explain on a description."""
 
 from typing import List, Optional, Set, Union
 

@@ -1,4 +1,4 @@
-"""convert, converts: the calls of bl_boot that write an image anew."""
+"""convert, converts: the calls of program_boot that write an image anew."""
 
 from typing import Optional
 

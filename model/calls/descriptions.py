@@ -1,4 +1,4 @@
-"""describe, named: the calls of bl_desc."""
+"""describe, named: the calls of program_desc."""
 
 from language import demand, quoted, spell
 from rules import description as rules

@@ -4,7 +4,7 @@ use Rattle.std.proofs.lemmas.Bool.Decides.{nat_tests}
 use Rattle.bl_elf.specs.declared.header.Header.{Header}
 use Rattle.bl_elf.specs.Header.{header_of, has_table, field_fault, header_fault}
 use Rattle.bl_elf.specs.Header.{program_header_size}
-use Rattle.bl_elf.specs.Kept.{IsSoundHeaderOf}
+use Rattle.bl_elf.specs.internal.SoundHeader.{IsSoundHeaderOf}
 use Rattle.bl_elf.specs.ProgramHeaders.{program_header_place}
 
 -- the table of a file of this size has at most 128 entries, and ends within it

@@ -1,4 +1,4 @@
 pub mod Header
 pub mod ProgramHeaders
 pub mod Elf
-pub mod Kept
+pub mod internal

@@ -1,7 +1,7 @@
 //! Where a file is entered.
 ghost use Rattle.std.specs.Prelude.{◌≡◌, ◌≤◌, ◌<◌, ◌+◌, ◌-◌, ◌^◌, ℕ, None, IfSome, find};
 ghost use Rattle.std.specs.List.{list_any};
-ghost use Rattle.bl_elf.specs.Kept.{IsSoundHeaderOf};
+ghost use Rattle.bl_elf.specs.internal.SoundHeader.{IsSoundHeaderOf};
 ghost use Rattle.bl_elf.specs.ProgramHeaders.{program_headers, segments_of, program_fault_at};
 ghost use Rattle.bl_elf.specs.ProgramHeaders.{is_entered};
 ghost use Rattle.bl_mem.specs.SegmentContents.{is_in_segment};

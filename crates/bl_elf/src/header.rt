@@ -1,7 +1,7 @@
 //! The ELF header.
 ghost use Rattle.std.specs.Prelude.{◌≡◌, ◌≤◌, Some, None, length, MatchResult, IfOk};
 ghost use Rattle.bl_elf.specs.Header as spec;
-ghost use Rattle.bl_elf.specs.Kept.{IsSoundHeaderOf};
+ghost use Rattle.bl_elf.specs.internal.SoundHeader.{IsSoundHeaderOf};
 
 use crate::bounds_checks::ends_within;
 use crate::class::Class;

@@ -1,6 +1,6 @@
 //! Segments that share a physical byte.
 ghost use Rattle.std.specs.Prelude.{◌≡◌, ◌<◌, ℕ, true, false, None, MatchOption, MatchResult};
-ghost use Rattle.bl_elf.specs.Kept.{IsSoundHeaderOf};
+ghost use Rattle.bl_elf.specs.internal.SoundHeader.{IsSoundHeaderOf};
 ghost use Rattle.bl_elf.specs.ProgramHeaders.{program_fault_at, segments_overlap_at};
 ghost use Rattle.bl_elf.specs.Elf.{IsProgramHeaderIndex, OverlapsNoLater, HasFirstElfFault};
 

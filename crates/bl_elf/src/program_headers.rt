@@ -1,6 +1,6 @@
 //! Program headers.
 ghost use Rattle.std.specs.Prelude.{◌≡◌, ◌≤◌, ◌<◌, ◌+◌, ◌^◌, Some, None, length, MatchResult};
-ghost use Rattle.bl_elf.specs.Kept.{IsSoundHeaderOf};
+ghost use Rattle.bl_elf.specs.internal.SoundHeader.{IsSoundHeaderOf};
 ghost use Rattle.bl_elf.specs.ProgramHeaders as spec;
 
 use crate::bounds_checks::{ends_within, is_before_end};

@@ -1,6 +1,6 @@
 //! The loadable segments.
 ghost use Rattle.std.specs.Prelude.{◌≡◌, ℕ, None, IfOk, OnOk, IfErr};
-ghost use Rattle.bl_elf.specs.Kept.{IsSoundHeaderOf};
+ghost use Rattle.bl_elf.specs.internal.SoundHeader.{IsSoundHeaderOf};
 ghost use Rattle.bl_elf.specs.ProgramHeaders.{program_headers, segments_of, program_fault_at};
 ghost use Rattle.bl_elf.specs.Elf.{IsProgramHeaderIndex, HasFirstElfFault};
 

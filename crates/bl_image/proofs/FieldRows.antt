@@ -5,7 +5,7 @@ use Rattle.std.specs.Prelude.{replicate}
 use Rattle.bl_image.specs.declared.fault.ImageFault.{ImageFault}
 use Rattle.bl_image.specs.Fields.{Field, fields_fault}
 use Rattle.bl_image.specs.Source.{SourceFacts, IsInputFault}
-use Rattle.bl_image.specs.SourceKept.{Passes, PassAll}
+use Rattle.bl_image.specs.internal.SourceReading.{Passes, PassAll}
 use Rattle.bl_image.proofs.FieldLemmas.{field_passes, passed_refuses}
 use Rattle.bl_image.proofs.Inputs.{comes_nothing, comes_more}
 

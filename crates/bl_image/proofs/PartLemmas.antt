@@ -19,11 +19,12 @@ use Rattle.bl_image.specs.declared.fault.ImageFault.{ImageFault}
 use Rattle.bl_image.specs.declared.fault.ImageFault.TheVariants.{WrongLength}
 use Rattle.bl_image.specs.declared.version.Version.{Version}
 use Rattle.bl_image.specs.Image.{head, part_record, spelling}
-use Rattle.bl_image.specs.RecordsKept.{place_record, total_length, PlaceFits, AreSpellable}
+use Rattle.bl_image.specs.internal.PlaceRecords.{place_record, total_length, PlaceFits}
+use Rattle.bl_image.specs.internal.PlaceRecords.{AreSpellable}
 use Rattle.bl_image.specs.ImageFaults.{end_fault}
 use Rattle.bl_image.specs.ImageHandover.{part_place, handoff_of, PartAscends, IsKeptByImages}
 use Rattle.bl_image.specs.Source.{SourceFacts, Comes}
-use Rattle.bl_image.specs.SourceKept.{IsCut}
+use Rattle.bl_image.specs.internal.SourceReading.{IsCut}
 use Rattle.bl_image.specs.Spellable.{FitsRecord, AreFit}
 use Rattle.bl_image.proofs.FieldLemmas.{cut_behind}
 use Rattle.bl_image.proofs.Spelled.{EndsIn, length-place_bytes}

@@ -22,7 +22,7 @@ use Rattle.bl_image.specs.Fields.{Field, fields_fault, register_field, wide_regi
 use Rattle.bl_image.specs.Image.{narrow_values, wide_values, spelled_registers}
 use Rattle.bl_image.specs.Layouts.{layout, registers_1, registers_2_wide}
 use Rattle.bl_image.specs.Source.{SourceFacts}
-use Rattle.bl_image.specs.SourceKept.{PassAll}
+use Rattle.bl_image.specs.internal.SourceReading.{PassAll}
 use Rattle.bl_image.specs.Spellable.{AreRegistersOf}
 use Rattle.bl_image.specs.Versions.{version_number, HasProtocol}
 use Rattle.bl_image.proofs.FieldLemmas.{field_passes, field_short, Passed, passed_more}

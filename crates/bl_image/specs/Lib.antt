@@ -6,9 +6,8 @@ pub mod ImageFaults
 pub mod ImageHandover
 pub mod Layouts
 pub mod Lengths
-pub mod RecordsKept
+pub mod internal
 pub mod Source
-pub mod SourceKept
 pub mod Sources
 pub mod Spellable
 pub mod Versions

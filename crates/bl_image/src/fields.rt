@@ -3,7 +3,7 @@ ghost use Rattle.std.specs.Prelude.{◌≡◌, ◌+◌, ◌*◌, ◌<◌, ◌^�
 ghost use Rattle.std.specs.List.{flat_map};
 ghost use Rattle.bl_mem.specs.LittleEndian.{u32_bytes, u64_bytes};
 ghost use Rattle.bl_image.specs.Source.{Comes, faults_met};
-ghost use Rattle.bl_image.specs.SourceKept.{IsCut};
+ghost use Rattle.bl_image.specs.internal.SourceReading.{IsCut};
 
 use crate::fault::ImageFault;
 use crate::source::{Source, fill};

@@ -5,7 +5,7 @@ ghost use Rattle.std.specs.List.{flat_map};
 ghost use Rattle.bl_load.specs.HandoffFacts.{IsWellFormedHandoff};
 ghost use Rattle.bl_image.specs.SinkFacts.{TookBeginning};
 ghost use Rattle.bl_image.specs.Image.{head};
-ghost use Rattle.bl_image.specs.RecordsKept.{place_record, AreSpellable};
+ghost use Rattle.bl_image.specs.internal.PlaceRecords.{place_record, AreSpellable};
 ghost use Rattle.bl_image.specs.Spellable.{AreFit};
 ghost use Rattle.bl_image.specs.Versions.{written_version};
 

@@ -7,7 +7,7 @@ ghost use Rattle.bl_image.specs.Fields as fields;
 ghost use Rattle.bl_image.specs.Image.{magic, head};
 ghost use Rattle.bl_image.specs.ImageFaults.{head_fault};
 ghost use Rattle.bl_image.specs.Source.{Comes, IsInputFault, faults_met};
-ghost use Rattle.bl_image.specs.SourceKept.{ReadsField};
+ghost use Rattle.bl_image.specs.internal.SourceReading.{ReadsField};
 ghost use Rattle.bl_image.specs.Spellable.{AreRegistersOf};
 ghost use Rattle.bl_image.specs.Versions.{version_number, max_protocol, HasProtocol};
 

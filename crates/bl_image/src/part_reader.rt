@@ -3,9 +3,9 @@ ghost use Rattle.std.specs.Prelude.{◌≡◌, ◌+◌, ◌≤◌, ◌<◌, ◌^
 ghost use Rattle.std.specs.Prelude.{OnOk, IfErr};
 ghost use Rattle.std.specs.List.{flat_map};
 ghost use Rattle.bl_image.specs.ImageHandover.{part_place};
-ghost use Rattle.bl_image.specs.RecordsKept.{total_length};
+ghost use Rattle.bl_image.specs.internal.PlaceRecords.{total_length};
 ghost use Rattle.bl_image.specs.Source.{Comes, faults_met};
-ghost use Rattle.bl_image.specs.SourceKept.{IsCut, IsReadBehind};
+ghost use Rattle.bl_image.specs.internal.SourceReading.{IsCut, IsReadBehind};
 
 use crate::fault::ImageFault;
 use crate::fields::read_exact;

@@ -7,10 +7,11 @@ ghost use Rattle.bl_plan.specs.RoleNumbers as roles;
 ghost use Rattle.bl_load.specs.HandoffFacts.{max_parts, IsRoleAllowed};
 ghost use Rattle.bl_image.specs.Fields as fields;
 ghost use Rattle.bl_image.specs.Layouts.{max_role};
-ghost use Rattle.bl_image.specs.RecordsKept.{place_record, IsNext, AreSound, total_length};
+ghost use Rattle.bl_image.specs.internal.PlaceRecords.{place_record, IsNext, AreSound};
+ghost use Rattle.bl_image.specs.internal.PlaceRecords.{total_length};
 ghost use Rattle.bl_image.specs.ImageFaults.{record_fault, parts_fault, end_fault, no_records};
 ghost use Rattle.bl_image.specs.Source.{Comes, IsInputFault, faults_met};
-ghost use Rattle.bl_image.specs.SourceKept.{ReadsField};
+ghost use Rattle.bl_image.specs.internal.SourceReading.{ReadsField};
 
 use crate::fault::ImageFault;
 use crate::fields::{read_u32, read_u64};

@@ -9,7 +9,7 @@ ghost use Rattle.bl_image.specs.Image.{narrow_values, spelled_registers, wide_va
 ghost use Rattle.bl_image.specs.Fields as fields;
 ghost use Rattle.bl_image.specs.Layouts.{layout, layout_1, layout_2_narrow, layout_2_wide};
 ghost use Rattle.bl_image.specs.Source.{faults_met};
-ghost use Rattle.bl_image.specs.SourceKept.{ReadsField, ReadsFields};
+ghost use Rattle.bl_image.specs.internal.SourceReading.{ReadsField, ReadsFields};
 ghost use Rattle.bl_image.specs.Spellable.{AreRegistersOf};
 ghost use Rattle.bl_image.specs.Versions.{version_number, HasProtocol};
 ghost use Rattle.bl_image.specs.declared.version.Version.TheVariants as version;

@@ -4,11 +4,11 @@ use Rattle.std.proofs.Common.{sym, ap, subst, ◌∙◌, All, AllPairs}
 use Rattle.bl_mem.specs.declared.segment.Segment.{Segment}
 use Rattle.bl_mb2head.specs.declared.relocation.Relocation.{Relocation}
 use Rattle.bl_load.specs.KernelBlock.{low_of, high_of, span_of, block_of}
-use Rattle.bl_load.specs.Multiboot2KernelKept.{AreLoadable}
+use Rattle.bl_load.specs.internal.ReadMultiboot2Kernels.{AreLoadable}
 use Rattle.bl_plan.specs.AddressOrder.{segment_key, segments_in_order}
 use Rattle.bl_load.specs.Parts.{kernel_content}
 use Rattle.bl_load.specs.Loadable.{IsCopyable, SegmentsAscend}
-use Rattle.bl_load.specs.PlacingKept.{HasKernelLength}
+use Rattle.bl_load.specs.internal.Placing.{HasKernelLength}
 use Rattle.bl_plan.proofs.OrderLemmas.{in_order_all}
 use Rattle.bl_plan.proofs.OrderCountLemmas.{length-in_order}
 use Rattle.bl_load.proofs.SpanLemmas.{same_span}

@@ -21,7 +21,7 @@ use Rattle.bl_load.specs.EntryValue.{EntryValue}
 use Rattle.bl_load.specs.KernelReading.{multiboot2}
 use Rattle.bl_load.specs.Multiboot2Kernel.{Multiboot2KernelFacts, IsMultiboot2Kernel}
 use Rattle.bl_load.specs.Multiboot2Kernel.{entry_point_fault, effective_entry_point}
-use Rattle.bl_load.specs.Multiboot2KernelKept.{AreLoadable}
+use Rattle.bl_load.specs.internal.ReadMultiboot2Kernels.{AreLoadable}
 use Rattle.bl_load.specs.KernelBlock.{low_of, high_of, span_of}
 use Rattle.bl_load.specs.Rows.{segment_rows, block_choice, kernel_rows, information_row, rows_of}
 use Rattle.bl_load.specs.Rows.{module_rows}

@@ -22,7 +22,7 @@ use Rattle.bl_mb2head.specs.declared.tag.Tag.{Tag}
 use Rattle.bl_load.specs.Multiboot2Kernel.{Multiboot2KernelFacts, IsMultiboot2Kernel, IsLoadedBy}
 use Rattle.bl_load.specs.Multiboot2Kernel.{entry_point_fault}
 use Rattle.bl_load.specs.Multiboot2Kernel.{effective_entry_point}
-use Rattle.bl_load.specs.PlacingKept.{HasKernelLength}
+use Rattle.bl_load.specs.internal.Placing.{HasKernelLength}
 use Rattle.bl_load.specs.Parts.{kernel_content, no_segment}
 use Rattle.bl_load.proofs.KernelLaws.{some_segment, one_filled}
 use Rattle.bl_load.proofs.BlockLemmas.{length-block_of}

@@ -16,7 +16,7 @@ use Rattle.bl_load.specs.Addresses.{address_of}
 use Rattle.bl_load.specs.EntryValue.{EntryValue, IsRsdpCopy}
 use Rattle.bl_map.specs.PoolFrames.{round_up_to_frames}
 use Rattle.bl_load.specs.Rows.{told_modules, information_of}
-use Rattle.bl_load.specs.PlacingKept.{module_tags_size}
+use Rattle.bl_load.specs.internal.Placing.{module_tags_size}
 
 most_load_base : (b : Bool) → load_base_size b ≤ 16
 most_load_base true = omega arith

@@ -19,7 +19,8 @@ use Rattle.bl_load.specs.KernelBlock.{high_of}
 use Rattle.bl_load.specs.declared.refusal.PrepFault.{PrepFault}
 use Rattle.bl_load.specs.declared.refusal.PrepFault.TheVariants as prep
 use Rattle.bl_load.specs.Multiboot2Kernel.{IsLoadedBy, entry_point_fault}
-use Rattle.bl_load.specs.Multiboot2KernelKept.{IsElfRefusal, IsMultiboot2Fault, AreLoadable}
+use Rattle.bl_load.specs.internal.ReadMultiboot2Kernels.{IsElfRefusal, IsMultiboot2Fault}
+use Rattle.bl_load.specs.internal.ReadMultiboot2Kernels.{AreLoadable}
 
 none_when : {X : Type 0} (b : Bool) (x : X) → cond b None (Some x) ≡ None → b ≡ true
 none_when true x h = refl

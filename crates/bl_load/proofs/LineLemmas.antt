@@ -12,7 +12,7 @@ use Rattle.bl_load.specs.declared.refusal.Refusal.TheVariants.{LineHasNul, LineT
 use Rattle.std.specs.Option.{option_or}
 use Rattle.std.proofs.lemmas.List.Elements.{All-nil, All-cons}
 use Rattle.bl_load.specs.declared.entry.Module.{Module}
-use Rattle.bl_load.specs.Kept.{lines_by}
+use Rattle.bl_load.specs.internal.Loading.{lines_by}
 use Rattle.bl_load.specs.EntryValue.{line_fault, lines_fault}
 
 sound_parts : (a b : Bool) (x y : Refusal) → cond a (Some x) (cond b (Some y) None) ≡ None

@@ -27,7 +27,7 @@ use Rattle.bl_plan.proofs.PlaceLaws.{as_many}
 use Rattle.bl_load.specs.LinuxRows.{relocatable_kernel_row, fixed_kernel_row, linux_kernel_row}
 use Rattle.bl_load.specs.LinuxRows.{frame_row}
 use Rattle.bl_load.specs.LinuxRows.{line_end_limit, paging_row, front_rows, initrd_rows, linux_rows}
-use Rattle.bl_load.specs.PlacingKept.{HasLength, HasRowLength}
+use Rattle.bl_load.specs.internal.Placing.{HasLength, HasRowLength}
 use Rattle.bl_load.specs.Protocols.{is_wide}
 use Rattle.bl_load.specs.KernelReading.{linux}
 use Rattle.bl_load.specs.Rows.{rows_of}

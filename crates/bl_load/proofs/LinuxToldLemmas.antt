@@ -22,7 +22,8 @@ use Rattle.bl_plan.specs.declared.part.Role.TheVariants.{Initrd}
 use Rattle.bl_plan.specs.declared.part.Row.{Row}
 use Rattle.bl_plan.specs.declared.protocol.Protocol.{Protocol}
 use Rattle.bl_load.specs.LinuxRows.{front_rows, initrd_rows, linux_rows}
-use Rattle.bl_load.specs.PlacingKept.{EndsLow, capped_length, capped_initrd_rows, capped_linux_rows}
+use Rattle.bl_load.specs.internal.Placing.{EndsLow, capped_length, capped_initrd_rows}
+use Rattle.bl_load.specs.internal.Placing.{capped_linux_rows}
 use Rattle.bl_load.proofs.NoRoomLemmas.{Alike, alike_lengths, behind_placed, behind_fault}
 use Rattle.bl_load.proofs.RowLemmas.{some_frames}
 

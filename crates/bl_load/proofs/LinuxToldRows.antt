@@ -7,7 +7,7 @@ use Rattle.bl_bzimage.specs.Setup.{IsSetup}
 use Rattle.bl_plan.specs.Placed.{IsWellFormedRow}
 use Rattle.bl_plan.specs.declared.protocol.Protocol.{Protocol}
 use Rattle.bl_load.specs.LinuxRows.{front_rows}
-use Rattle.bl_load.specs.PlacingKept.{capped_initrd_row, capped_initrd_rows, capped_linux_rows}
+use Rattle.bl_load.specs.internal.Placing.{capped_initrd_row, capped_initrd_rows, capped_linux_rows}
 use Rattle.bl_load.proofs.LinuxLemmas.{front_rows_are_rows}
 use Rattle.bl_load.proofs.RowLemmas.{some_frames}
 

@@ -24,7 +24,7 @@ use Rattle.bl_load.specs.EntryValue.{EntryValue, module_file}
 use Rattle.bl_load.specs.Multiboot2Kernel.{Multiboot2KernelFacts}
 use Rattle.bl_load.specs.KernelReading.{multiboot2}
 use Rattle.bl_load.specs.Rows.{module_rows, kernel_rows, information_row, rows_of, told_modules}
-use Rattle.bl_load.specs.PlacingKept.{EndsLow, HasRowLength, ModulesEndLow, HasLength}
+use Rattle.bl_load.specs.internal.Placing.{EndsLow, HasRowLength, ModulesEndLow, HasLength}
 
 -- ---- each module has a place, which is as long as its file
 

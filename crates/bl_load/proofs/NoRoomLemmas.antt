@@ -21,8 +21,8 @@ use Rattle.bl_load.specs.EntryValue.{EntryValue, module_file}
 use Rattle.bl_load.specs.Multiboot2Kernel.{Multiboot2KernelFacts}
 use Rattle.bl_load.specs.KernelReading.{multiboot2}
 use Rattle.bl_load.specs.Rows.{module_rows, kernel_rows, information_row, rows_of}
-use Rattle.bl_load.specs.PlacingKept.{length_cap, capped_length, capped_module_rows}
-use Rattle.bl_load.specs.PlacingKept.{capped_multiboot2_rows}
+use Rattle.bl_load.specs.internal.Placing.{length_cap, capped_length, capped_module_rows}
+use Rattle.bl_load.specs.internal.Placing.{capped_multiboot2_rows}
 
 -- ---- rows that no machine has room for
 

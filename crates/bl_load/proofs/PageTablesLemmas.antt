@@ -20,7 +20,7 @@ use Rattle.bl_plan.specs.declared.protocol.Protocol.TheVariants as protocols
 use Rattle.bl_load.specs.Addresses.{address_of}
 use Rattle.bl_load.specs.LinuxRows.{linux_kernel_row, paging_row}
 use Rattle.bl_load.specs.LinuxRows.{front_rows, initrd_rows, linux_rows}
-use Rattle.bl_load.specs.KernelReadingKept.{TablesFit}
+use Rattle.bl_load.specs.internal.ReadKernels.{TablesFit}
 use Rattle.bl_load.proofs.LinuxLemmas.{each_front, kernel_role}
 
 -- page tables may stand here

@@ -14,7 +14,7 @@ use Rattle.bl_plan.specs.declared.part.Row.{Row}
 use Rattle.bl_plan.proofs.PlaceLaws as places_laws
 use Rattle.bl_load.specs.EntryValue.{EntryValue}
 use Rattle.bl_load.specs.Rows.{rows_of}
-use Rattle.bl_load.specs.PlacingKept.{HasRowLength}
+use Rattle.bl_load.specs.internal.Placing.{HasRowLength}
 use Rattle.bl_plan.specs.AddressOrder.{place_key, places_in_order}
 use Rattle.bl_load.specs.Handover.{Part, Handover, zero_padded, end_of}
 use Rattle.bl_load.specs.Parts.{IsHandover, part_from}

@@ -7,7 +7,7 @@ use Rattle.bl_plan.specs.declared.fault.PlanFault.TheVariants as plan_fault
 use Rattle.bl_plan.specs.Placed.{IsPlacingFault}
 use Rattle.bl_load.specs.declared.refusal.PrepFault.{PrepFault}
 use Rattle.bl_plan.specs.declared.part.Row.{Row}
-use Rattle.bl_load.specs.PlacingKept.{as_prep_fault, IsPlaceFault}
+use Rattle.bl_load.specs.internal.Placing.{as_prep_fault, IsPlaceFault}
 
 pub refused_place : (facts : MachineFacts) (rows : List Row) (fault : PlanFault)
     (result : PrepFault) → IsPlacingFault facts rows fault → as_prep_fault fault ≡ Some result

@@ -8,15 +8,15 @@ use Rattle.bl_load.specs.declared.refusal.PrepFault.{PrepFault}
 use Rattle.bl_load.specs.declared.refusal.PrepFault.TheVariants as prep
 use Rattle.bl_plan.specs.declared.protocol.Protocol.{Protocol}
 use Rattle.bl_load.specs.Handover.{Handover}
-use Rattle.bl_load.specs.Multiboot2KernelKept.{IsMultiboot2Fault}
-use Rattle.bl_load.specs.KernelReadingKept.{IsLinuxFault}
+use Rattle.bl_load.specs.internal.ReadMultiboot2Kernels.{IsMultiboot2Fault}
+use Rattle.bl_load.specs.internal.ReadKernels.{IsLinuxFault}
 use Rattle.bl_load.specs.EntryValue.{EntryValue, multiboot2_value, linux_value, lines_fault}
 use Rattle.bl_load.specs.EntryValue.{lines_of}
 use Rattle.bl_load.specs.Protocols.{has_params}
 use Rattle.bl_load.specs.KernelReading.{KernelReading, IsKernelReading}
 use Rattle.bl_load.specs.Rows.{rows_of}
 use Rattle.bl_load.specs.Parts.{IsHandover, IsPrepFault}
-use Rattle.bl_load.specs.PlacingKept.{IsPlaceFault, IsPlacedHandover}
+use Rattle.bl_load.specs.internal.Placing.{IsPlaceFault, IsPlacedHandover}
 use Rattle.bl_mem.specs.Files.{nth_file}
 
 -- the kernel's file is the first

@@ -26,7 +26,7 @@ use Rattle.bl_load.specs.Multiboot2Kernel.{Multiboot2KernelFacts}
 use Rattle.bl_load.specs.LinuxRows.{fixed_kernel_row, relocatable_kernel_row, linux_kernel_row}
 use Rattle.bl_load.specs.LinuxRows.{boot_params_facts}
 use Rattle.bl_load.specs.Parts.{content_of, payload_of, registers_of}
-use Rattle.bl_load.specs.PlacingKept.{HasLength, HasRowLength}
+use Rattle.bl_load.specs.internal.Placing.{HasLength, HasRowLength}
 use Rattle.bl_load.specs.Protocols.{descriptors_of, is_wide}
 use Rattle.bl_load.specs.KernelReading.{KernelReading, multiboot2, linux, IsKernelReading}
 use Rattle.bl_load.specs.Registers.{are_wide}

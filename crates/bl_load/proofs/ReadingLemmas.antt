@@ -7,12 +7,12 @@ use Rattle.bl_plan.specs.declared.fault.PlanFault.{PlanFault}
 use Rattle.bl_plan.specs.declared.fault.PlanFault.TheVariants.{NotUsable, Overlap, NoRoom, NoMemory}
 use Rattle.bl_plan.specs.declared.part.Place.{Place}
 use Rattle.bl_load.specs.declared.entry.Module.{Module}
-use Rattle.bl_load.specs.Kept.{lines_by}
-use Rattle.bl_load.specs.PlacingKept.{EndsLow, HasRowLength, ModulesEndLow, capped_rows_of}
+use Rattle.bl_load.specs.internal.Loading.{lines_by}
+use Rattle.bl_load.specs.internal.Placing.{EndsLow, HasRowLength, ModulesEndLow, capped_rows_of}
 use Rattle.bl_load.specs.KernelReading.{KernelReading, multiboot2, linux, IsKernelReading}
 use Rattle.bl_load.specs.Rows.{rows_of}
-use Rattle.bl_load.specs.KernelReadingKept.{EntersBy, HasFiles, ToldFits32Bits}
-use Rattle.bl_load.specs.KernelReadingKept.{EntryPointFits32Bits}
+use Rattle.bl_load.specs.internal.ReadKernels.{EntersBy, HasFiles, ToldFits32Bits}
+use Rattle.bl_load.specs.internal.ReadKernels.{EntryPointFits32Bits}
 use Rattle.bl_load.specs.EntryValue.{EntryValue, kernel_file, initrd_file}
 use Rattle.bl_load.proofs.EntryLemmas.{entry_small}
 use Rattle.bl_load.proofs.LinuxKernelLemmas.{setup_is}

@@ -17,10 +17,10 @@ use Rattle.bl_plan.proofs.PlaceLaws.{as_many}
 use Rattle.std.specs.Prelude.{min, max}
 use Rattle.bl_plan.specs.declared.part.Row.{Row}
 use Rattle.bl_load.specs.EntryValue.{EntryValue, module_file}
-use Rattle.bl_load.specs.PlacingKept.{length_cap, capped_module_rows, capped_multiboot2_rows}
+use Rattle.bl_load.specs.internal.Placing.{length_cap, capped_module_rows, capped_multiboot2_rows}
 use Rattle.bl_load.specs.KernelReading.{multiboot2}
 use Rattle.bl_load.specs.Multiboot2Kernel.{Multiboot2KernelFacts}
-use Rattle.bl_load.specs.Multiboot2KernelKept.{AreLoadable}
+use Rattle.bl_load.specs.internal.ReadMultiboot2Kernels.{AreLoadable}
 use Rattle.bl_load.specs.KernelBlock.{low_of, high_of, span_of}
 use Rattle.bl_map.specs.PoolFrames.{round_up_to_frames}
 use Rattle.bl_load.specs.Rows.{segment_rows, align_of, block_choice, kernel_rows, information_of}

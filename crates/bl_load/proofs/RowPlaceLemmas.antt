@@ -20,7 +20,7 @@ use Rattle.bl_load.specs.KernelBlock.{low_of, span_of}
 use Rattle.bl_load.specs.Rows.{segment_rows, block_choice, kernel_rows, information_row, rows_of}
 use Rattle.bl_load.specs.Rows.{module_rows}
 use Rattle.bl_load.specs.Parts.{no_segment}
-use Rattle.bl_load.specs.PlacingKept.{HasKernelLength, HasRowLength}
+use Rattle.bl_load.specs.internal.Placing.{HasKernelLength, HasRowLength}
 
 -- ---- each place has what its row has
 

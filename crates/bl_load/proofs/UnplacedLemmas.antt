@@ -20,8 +20,8 @@ use Rattle.bl_plan.specs.declared.part.Role.TheVariants.{Module, Initrd}
 use Rattle.bl_plan.specs.declared.part.Row.{Row}
 use Rattle.bl_plan.specs.declared.protocol.Protocol.{Protocol}
 use Rattle.bl_load.specs.LinuxRows.{front_rows, initrd_rows}
-use Rattle.bl_load.specs.PlacingKept.{capped_length, capped_module_rows, capped_initrd_rows}
-use Rattle.bl_load.specs.PlacingKept.{capped_rows_of}
+use Rattle.bl_load.specs.internal.Placing.{capped_length, capped_module_rows, capped_initrd_rows}
+use Rattle.bl_load.specs.internal.Placing.{capped_rows_of}
 use Rattle.bl_load.specs.KernelReading.{KernelReading, multiboot2, linux, IsKernelReading}
 use Rattle.bl_load.specs.Rows.{module_rows, kernel_rows, information_row, rows_of}
 use Rattle.bl_load.specs.Unplaced.{IsToldAs, IsFirstUnplaced, IsUnplacedOf, IsUnplaced}
@@ -29,8 +29,8 @@ use Rattle.bl_load.specs.Unplaced.{IsFaultBeforePlacing}
 use Rattle.bl_load.specs.EntryValue.{EntryValue, module_file, initrd_file, multiboot2_value}
 use Rattle.bl_load.specs.EntryValue.{linux_value}
 use Rattle.bl_load.specs.EntryValue.{lines_fault, lines_of}
-use Rattle.bl_load.specs.Multiboot2KernelKept.{IsMultiboot2Fault}
-use Rattle.bl_load.specs.KernelReadingKept.{IsLinuxFault}
+use Rattle.bl_load.specs.internal.ReadMultiboot2Kernels.{IsMultiboot2Fault}
+use Rattle.bl_load.specs.internal.ReadKernels.{IsLinuxFault}
 use Rattle.bl_load.specs.Protocols.{has_params}
 use Rattle.bl_load.specs.declared.refusal.PrepFault.{PrepFault}
 use Rattle.bl_load.specs.declared.refusal.PrepFault.TheVariants as prep

@@ -1,15 +1,14 @@
-pub mod PlannedPlaceKept
+pub mod PlannedPlaces
+pub mod internal
 pub mod Handover
 pub mod KernelBlock
 pub mod PlanContents
 pub mod Loadable
-pub mod Kept
 pub mod HandoffFacts
 pub mod EntryValue
 pub mod WellFormedEntry
 pub mod RefusalNumbers
 pub mod Multiboot2Kernel
-pub mod Multiboot2KernelKept
 pub mod LinuxKernel
 pub mod Addresses
 pub mod KernelReading
@@ -20,9 +19,6 @@ pub mod NamedRegisters
 pub mod SegmentRegisters
 pub mod Protocols
 pub mod Parts
-pub mod PlacingKept
-pub mod KernelReadingKept
-pub mod CheckedEntryKept
 pub mod Unplaced
 pub mod Legal
 pub mod MemoryAfter

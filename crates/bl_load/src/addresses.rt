@@ -1,7 +1,7 @@
 //! Where the parts of an entry stand.
 ghost use Rattle.std.specs.Prelude.{◌≡◌, All};
 ghost use Rattle.bl_load.specs.Addresses as addresses;
-ghost use Rattle.bl_load.specs.PlacingKept.{EndsLow};
+ghost use Rattle.bl_load.specs.internal.Placing.{EndsLow};
 
 use bl_plan::{Place, Role};
 

@@ -1,6 +1,6 @@
 //! How long parts are that hold a file.
 ghost use Rattle.std.specs.Prelude.{◌≡◌};
-ghost use Rattle.bl_load.specs.PlacingKept as kept;
+ghost use Rattle.bl_load.specs.internal.Placing as kept;
 
 use bl_map::round_up_to_frames;
 

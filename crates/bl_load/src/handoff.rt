@@ -20,7 +20,7 @@ pub struct Handoff<A: Allocator> {
 impl<A: Allocator> Model for Handoff<A> {
     ghost use Rattle.std.specs.Prelude.{◌≡◌, map};
     ghost use Rattle.bl_plan.specs.Placed.{place_range};
-    ghost use Rattle.bl_load.specs.PlannedPlaceKept.{planned_place};
+    ghost use Rattle.bl_load.specs.PlannedPlaces.{planned_place};
     ghost use Rattle.bl_load.specs.HandoffFacts.{HandoffFacts, IsWellFormedHandoff};
 
     ghost Value = { HandoffFacts };
@@ -42,7 +42,7 @@ impl<A: Allocator> Handoff<A> {
     ghost use Rattle.std.specs.Prelude.{◌≡◌, ◌<◌, length, map, slice_index_or};
     ghost use Rattle.bl_plan.specs.Placed.{place_range};
     ghost use Rattle.bl_load.specs.HandoffFacts.{IsWellFormedHandoff};
-    ghost use Rattle.bl_load.specs.PlannedPlaceKept.{planned_place};
+    ghost use Rattle.bl_load.specs.PlannedPlaces.{planned_place};
 
     /// How the kernel is entered.
     pub fn protocol(&self) -> Protocol

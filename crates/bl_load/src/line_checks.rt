@@ -2,7 +2,7 @@
 ghost use Rattle.std.specs.Prelude.{◌≡◌, ◌==◌, ◌∷◌, Some, None, MatchResult};
 ghost use Rattle.std.specs.List.{list_any};
 ghost use Rattle.bl_load.specs.EntryValue.{line_fault, lines_fault};
-ghost use Rattle.bl_load.specs.Kept.{lines_by};
+ghost use Rattle.bl_load.specs.internal.Loading.{lines_by};
 
 use crate::entry::Module;
 use crate::refusal::Refusal;

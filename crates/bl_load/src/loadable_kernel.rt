@@ -3,10 +3,11 @@ ghost use Rattle.std.specs.Prelude.{◌≡◌, ◌≤◌, ◌^◌, All, IfOk};
 ghost use Rattle.bl_load.specs.Parts.{content_of, registers_of};
 ghost use Rattle.bl_load.specs.PlanContents.{content_by};
 ghost use Rattle.bl_load.specs.Loadable.{lengths_of, content_length, IsInFiles, IsLeanContent};
-ghost use Rattle.bl_load.specs.PlacingKept.{HasRowLength, EndsLow, capped_rows_of};
-ghost use Rattle.bl_load.specs.KernelReadingKept.{EntersBy, EntryPointFits32Bits, ToldFits32Bits};
+ghost use Rattle.bl_load.specs.internal.Placing.{HasRowLength, EndsLow, capped_rows_of};
+ghost use Rattle.bl_load.specs.internal.ReadKernels.{EntersBy, EntryPointFits32Bits};
+ghost use Rattle.bl_load.specs.internal.ReadKernels.{ToldFits32Bits};
 ghost use Rattle.bl_load.specs.KernelReading.{KernelReading};
-ghost use Rattle.bl_load.specs.CheckedEntryKept.{texts_in, value_of_files, IsReadWithFiles};
+ghost use Rattle.bl_load.specs.internal.CheckedEntries.{texts_in, value_of_files, IsReadWithFiles};
 
 use crate::checked_entry::CheckedEntry;
 use crate::plan::Content;

@@ -6,7 +6,7 @@ ghost use Rattle.bl_plan.specs.Placed.{Covers, place_range};
 ghost use Rattle.bl_load.specs.Handover.{overwrite_parts};
 ghost use Rattle.bl_load.specs.PlanContents.{content_by, bytes_by, part_by, handover_by};
 ghost use Rattle.bl_load.specs.PlanContents.{handover_in, places_of};
-ghost use Rattle.bl_load.specs.Kept.{CanLoad};
+ghost use Rattle.bl_load.specs.internal.Loading.{CanLoad};
 ghost use Rattle.bl_load.specs.Loadable.{lengths_of, content_length, IsInFiles, IsLoadable};
 
 use crate::copying::copy;

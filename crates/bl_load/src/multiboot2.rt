@@ -1,13 +1,13 @@
 //! A Multiboot2 entry.
 ghost use Rattle.std.specs.Prelude.{◌≡◌, ◌≤◌, ◌<◌, ◌+◌, ◌^◌, IfOk, IfErr, IfSome, length, map};
 ghost use Rattle.bl_load.specs.KernelBlock as blocks;
-ghost use Rattle.bl_load.specs.Multiboot2KernelKept.{kernel_by};
+ghost use Rattle.bl_load.specs.internal.ReadMultiboot2Kernels.{kernel_by};
 ghost use Rattle.bl_load.specs.KernelReading.{multiboot2};
 ghost use Rattle.bl_load.specs.EntryValue.{multiboot2_value, IsRsdpCopy};
 ghost use Rattle.bl_load.specs.Parts as parts;
 ghost use Rattle.bl_load.specs.Parts.{IsHandover, IsPrepFault};
 ghost use Rattle.bl_load.specs.PlanContents.{handover_by};
-ghost use Rattle.bl_load.specs.Kept.{lines_by};
+ghost use Rattle.bl_load.specs.internal.Loading.{lines_by};
 ghost use Rattle.bl_load.specs.Loadable.{lengths_of, IsLoadable, IsLean};
 ghost use Rattle.bl_load.specs.Unplaced.{IsUnplaced, IsFaultBeforePlacing};
 ghost use Rattle.bl_plan.specs.MenuLimits.{max_modules};

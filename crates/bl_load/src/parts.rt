@@ -1,12 +1,12 @@
 //! The parts of an entry, at their places.
 ghost use Rattle.std.specs.Prelude.{◌≡◌, ◌≤◌, ◌^◌, All, IfOk, map};
 ghost use Rattle.bl_load.specs.Parts.{part_from};
-ghost use Rattle.bl_load.specs.PlannedPlaceKept.{planned_place};
+ghost use Rattle.bl_load.specs.PlannedPlaces.{planned_place};
 ghost use Rattle.bl_load.specs.PlanContents.{part_by};
 ghost use Rattle.bl_load.specs.Loadable.{lengths_of, IsBacked, IsLean};
-ghost use Rattle.bl_load.specs.PlacingKept.{HasRowLength, EndsLow};
-ghost use Rattle.bl_load.specs.KernelReadingKept.{ToldFits32Bits};
-ghost use Rattle.bl_load.specs.CheckedEntryKept.{texts_in, value_of_files, IsReadWithFiles};
+ghost use Rattle.bl_load.specs.internal.Placing.{HasRowLength, EndsLow};
+ghost use Rattle.bl_load.specs.internal.ReadKernels.{ToldFits32Bits};
+ghost use Rattle.bl_load.specs.internal.CheckedEntries.{texts_in, value_of_files, IsReadWithFiles};
 
 use crate::checked_entry::CheckedEntry;
 use crate::loadable_kernel::LoadableKernel;

@@ -3,12 +3,12 @@ ghost use Rattle.std.specs.Prelude.{◌≡◌, ◌≢◌, ◌<◌, ◌+◌, ◌^
 ghost use Rattle.bl_load.specs.Rows as table;
 ghost use Rattle.bl_plan.specs.Placed.{place_range};
 ghost use Rattle.bl_plan.specs.declared.fault.PlanFault.TheVariants.{Overlap};
-ghost use Rattle.bl_load.specs.PlacingKept as kept;
-ghost use Rattle.bl_load.specs.PlacingKept.{IsPlacedHandover, IsPlaceFault};
-ghost use Rattle.bl_load.specs.PlannedPlaceKept.{planned_place};
+ghost use Rattle.bl_load.specs.internal.Placing as kept;
+ghost use Rattle.bl_load.specs.internal.Placing.{IsPlacedHandover, IsPlaceFault};
+ghost use Rattle.bl_load.specs.PlannedPlaces.{planned_place};
 ghost use Rattle.bl_load.specs.PlanContents.{handover_by};
 ghost use Rattle.bl_load.specs.Loadable.{lengths_of, IsLoadable, IsLean};
-ghost use Rattle.bl_load.specs.CheckedEntryKept.{texts_in, value_of_files, IsReadWithFiles};
+ghost use Rattle.bl_load.specs.internal.CheckedEntries.{texts_in, value_of_files, IsReadWithFiles};
 
 use crate::checked_entry::CheckedEntry;
 use crate::loadable_kernel::LoadableKernel;

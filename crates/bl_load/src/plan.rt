@@ -1,7 +1,7 @@
 //! What is going to be loaded.
 ghost use Rattle.std.specs.Prelude.{◌≡◌, map};
 ghost use Rattle.bl_plan.specs.Placed.{place_range};
-ghost use Rattle.bl_load.specs.PlannedPlaceKept.{planned_place};
+ghost use Rattle.bl_load.specs.PlannedPlaces.{planned_place};
 
 use crate::registers::Registers;
 use bl_mem::{Bytes, Segment};

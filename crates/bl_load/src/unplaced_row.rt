@@ -3,7 +3,7 @@ ghost use Rattle.std.specs.Prelude.{◌≡◌, ◌+◌, All, [], IfOk, IfErr, le
 ghost use Rattle.bl_plan.specs.Permitted.{OrNoMemory};
 ghost use Rattle.bl_plan.specs.Placed.{IsWellFormedRow, IsChosen, HasChoiceFault};
 ghost use Rattle.bl_plan.specs.PlannerFacts.{with_taken};
-ghost use Rattle.bl_load.specs.CheckedEntryKept.{value_of_files, IsReadWithFiles};
+ghost use Rattle.bl_load.specs.internal.CheckedEntries.{value_of_files, IsReadWithFiles};
 ghost use Rattle.bl_load.specs.Rows as table;
 ghost use Rattle.bl_load.specs.Unplaced.{IsUnplacedOf, IsUnplaced, IsFaultBeforePlacing};
 ghost use Rattle.bl_load.specs.EntryValue.{value_of, file_count, IsWithinLimits};

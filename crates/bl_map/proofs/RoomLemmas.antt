@@ -7,7 +7,7 @@ use Rattle.std.proofs.lemmas.List.Folds.{list_all_at}
 use Rattle.std.proofs.lemmas.List.Sums.{list_all-from_AllPass}
 use Rattle.std.specs.declared.ops.Range.{Range}
 use Rattle.std.specs.Prelude.{max}
-use Rattle.bl_map.specs.Kept.{AreFramesMet}
+use Rattle.bl_map.specs.internal.MetFrames.{AreFramesMet}
 use Rattle.bl_map.specs.PoolFrames.{frames_in, misses_frame, is_open, open_among, AreAscending}
 
 -- frames of which each is open are counted

@@ -4,4 +4,4 @@ pub mod NormalMap
 pub mod MachineFacts
 pub mod Faults
 pub mod PoolFrames
-pub mod Kept
+pub mod internal

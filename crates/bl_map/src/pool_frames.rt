@@ -1,6 +1,6 @@
 //! Whether the pool has frames enough beside the parts.
 ghost use Rattle.std.specs.Prelude.{◌≡◌, ◌≤◌, ◌<◌, ◌+◌, ◌*◌, ◌^◌, length};
-ghost use Rattle.bl_map.specs.Kept.{AreFramesMet};
+ghost use Rattle.bl_map.specs.internal.MetFrames.{AreFramesMet};
 ghost use Rattle.bl_map.specs.PoolFrames as spec;
 
 use crate::limits::FRAME_SIZE;

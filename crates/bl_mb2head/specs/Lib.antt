@@ -1,5 +1,5 @@
 pub mod Address
 pub mod Header
-pub mod LastTagsKept
+pub mod internal
 pub mod HeaderPlace
 pub mod Tags

@@ -3,8 +3,8 @@
 ghost use Rattle.std.specs.Prelude.{◌≡◌, ◌≤◌, ◌+◌, ◌++◌, ◌∷◌, [], ℕ, List, length, IfOk, IfErr};
 ghost use Rattle.bl_mb2head.specs.Tags as tags;
 ghost use Rattle.bl_mb2head.specs.Tags.{AreAllTags, IsFirstTagFault};
-ghost use Rattle.bl_mb2head.specs.LastTagsKept as kept;
-ghost use Rattle.bl_mb2head.specs.LastTagsKept.{LieBefore};
+ghost use Rattle.bl_mb2head.specs.internal.LastTags as kept;
+ghost use Rattle.bl_mb2head.specs.internal.LastTags.{LieBefore};
 ghost use Rattle.bl_mb2head.specs.declared.tag.Tag.{Tag};
 
 use crate::fault::HeadFault;

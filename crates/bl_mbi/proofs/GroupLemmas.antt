@@ -6,7 +6,7 @@ use Rattle.std.specs.List.{flat_map}
 use Rattle.std.proofs.lemmas.List.Sums.{sum_by-cons}
 use Rattle.bl_mbi.specs.Size.{tag_size}
 use Rattle.bl_mbi.specs.InfoToWriteFacts.{InfoToWriteFacts, HasSpelling, ModuleInfo, info_size}
-use Rattle.bl_mbi.specs.GroupSizesKept.{texts_size, map_tags_size, closing_tags_size}
+use Rattle.bl_mbi.specs.internal.GroupSizes.{texts_size, map_tags_size, closing_tags_size}
 use Rattle.bl_mem.specs.LittleEndian.{u32_bytes}
 use Rattle.bl_mbi.specs.Tags.{tag, text_body, module_tag, memory_body, map_body, copy_tag}
 use Rattle.bl_mbi.specs.Tags.{load_base_tag}

@@ -7,7 +7,7 @@ use Rattle.bl_mbi.specs.InfoFacts.{InfoFacts}
 use Rattle.bl_mbi.specs.ReadingSteps.{◌>>=◌, RestFacts}
 use Rattle.bl_mbi.specs.Reading.{text_tag_at, modules_at, memory_at, map_at, copy_at, load_base_at}
 use Rattle.bl_mbi.specs.Reading.{end_at, info_of_tags}
-use Rattle.bl_mbi.specs.GroupsKept.{text_and_module_tags_at, map_tags_at, closing_tags_at}
+use Rattle.bl_mbi.specs.internal.TagGroups.{text_and_module_tags_at, map_tags_at, closing_tags_at}
 
 abbrev Texts : Type 0
 Texts = List ℕ × List ℕ × List ModuleInfo

@@ -1,12 +1,10 @@
 pub mod Bodies
 pub mod Faults
 pub mod ReadingSteps
-pub mod GroupSizesKept
+pub mod internal
 pub mod InfoToWriteFacts
-pub mod GroupsKept
 pub mod Reading
 pub mod Size
 pub mod Spelling
 pub mod Tags
 pub mod InfoFacts
-pub mod RestKept

@@ -4,7 +4,7 @@ ghost use Rattle.std.specs.Prelude.{MatchResult};
 ghost use Rattle.bl_mbi.specs.InfoFacts.{InfoFacts, IsSpelling};
 ghost use Rattle.bl_mbi.specs.declared.fault.InfoFault.TheVariants.{NoMemory};
 ghost use Rattle.bl_mbi.specs.ReadingSteps.{MatchesReading};
-ghost use Rattle.bl_mbi.specs.RestKept.{rest_facts};
+ghost use Rattle.bl_mbi.specs.internal.BytesLeft.{rest_facts};
 ghost use Rattle.bl_mbi.specs.Reading as spec;
 
 use crate::body_reader::word;

@@ -1,7 +1,7 @@
 //! The groups of tags, each read where it stands.
 ghost use Rattle.bl_mbi.specs.ReadingSteps.{MatchesReading};
-ghost use Rattle.bl_mbi.specs.RestKept.{rest_facts};
-ghost use Rattle.bl_mbi.specs.GroupsKept as spec;
+ghost use Rattle.bl_mbi.specs.internal.BytesLeft.{rest_facts};
+ghost use Rattle.bl_mbi.specs.internal.TagGroups as spec;
 
 use crate::fault::InfoFault;
 use crate::fields::{TAG_ACPI_NEW, TAG_ACPI_OLD, TAG_BOOT_LOADER_NAME, TAG_COMMAND_LINE};

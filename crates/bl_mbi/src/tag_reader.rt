@@ -1,7 +1,7 @@
 //! Each tag of boot information, read where it stands.
 ghost use Rattle.std.specs.Prelude.{◌≡◌, ◌≤◌, ◌+◌, length, IfOk};
 ghost use Rattle.bl_mbi.specs.ReadingSteps.{MatchesReading};
-ghost use Rattle.bl_mbi.specs.RestKept.{rest_facts};
+ghost use Rattle.bl_mbi.specs.internal.BytesLeft.{rest_facts};
 ghost use Rattle.bl_mbi.specs.ReadingSteps as fields;
 ghost use Rattle.bl_mbi.specs.Reading as spec;
 

@@ -8,7 +8,7 @@ ghost use Rattle.bl_mbi.specs.InfoToWriteFacts.{info_size as size_of_info};
 ghost use Rattle.bl_mbi.specs.Spelling.{info_spelling};
 ghost use Rattle.bl_mbi.specs.Tags.{tag, text_body, module_tag, memory_body, map_body, copy_tag};
 ghost use Rattle.bl_mbi.specs.Tags.{load_base_tag};
-ghost use Rattle.bl_mbi.specs.GroupSizesKept.{texts_size, map_tags_size, closing_tags_size};
+ghost use Rattle.bl_mbi.specs.internal.GroupSizes.{texts_size, map_tags_size, closing_tags_size};
 
 use crate::fields::{
     ENTRY_SIZE, TAG_ACPI_NEW, TAG_ACPI_OLD, TAG_BOOT_LOADER_NAME, TAG_COMMAND_LINE,

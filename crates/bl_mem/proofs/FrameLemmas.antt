@@ -14,7 +14,8 @@ use Rattle.bl_mem.specs.SparseFrames.{SparseFramesFacts, frame_numbered, frame_b
 use Rattle.bl_mem.specs.SparseFrames.{IsStored}
 use Rattle.bl_mem.specs.SparseFrames.{AreLentBytes}
 use Rattle.bl_mem.specs.SparseFrames.{AreBytesAt}
-use Rattle.bl_mem.specs.Kept.{slot_of, owed_slots, partner, IsKeptIn, IsPutAt, AreTogether}
+use Rattle.bl_mem.specs.internal.FrameSlots.{slot_of, owed_slots, partner, IsKeptIn, IsPutAt}
+use Rattle.bl_mem.specs.internal.FrameSlots.{AreTogether}
 use Rattle.bl_mem.proofs.Overwrites.{get_or-overwrite_below, get_or-overwrite_above}
 use Rattle.bl_mem.proofs.Overwrites.{get_or-overwrite_in}
 

@@ -10,8 +10,9 @@ use Rattle.bl_mem.specs.declared.frame_state.FrameState.TheVariants.{Bare, Plain
 use Rattle.bl_mem.specs.declared.frame_state.FrameState.TheVariants.{Borrowed}
 use Rattle.bl_mem.specs.FrameState.{has_room, slot_read}
 use Rattle.bl_mem.specs.SparseFrames.{SparseFramesFacts, IsShared}
-use Rattle.bl_mem.specs.Kept.{slot_of, owed_slots, partner, ArePair, ArePaired, AreSoundSlots}
-use Rattle.bl_mem.specs.Kept.{IsUnshared}
+use Rattle.bl_mem.specs.internal.FrameSlots.{slot_of, owed_slots, partner, ArePair, ArePaired}
+use Rattle.bl_mem.specs.internal.FrameSlots.{AreSoundSlots}
+use Rattle.bl_mem.specs.internal.FrameSlots.{IsUnshared}
 use Rattle.bl_mem.proofs.FrameLemmas.{in_table, set_room, byte_read}
 
 never : (j : ℕ) → None ≡ Some j → ⊥

@@ -10,7 +10,8 @@ use Rattle.bl_mem.specs.declared.frame_state.FrameState.{FrameState}
 use Rattle.bl_mem.specs.declared.frame_state.FrameState.TheVariants.{Bare, Plain, Kept, Wiped, Lent}
 use Rattle.bl_mem.specs.declared.frame_state.FrameState.TheVariants.{Borrowed}
 use Rattle.bl_mem.specs.FrameState.{has_room}
-use Rattle.bl_mem.specs.Kept.{slot_of, owed_slots, partner, AreSoundSlots, AreGivenRoom}
+use Rattle.bl_mem.specs.internal.FrameSlots.{slot_of, owed_slots, partner, AreSoundSlots}
+use Rattle.bl_mem.specs.internal.FrameSlots.{AreGivenRoom}
 use Rattle.bl_mem.proofs.PairLemmas.{pairs_set}
 use Rattle.bl_mem.proofs.FrameLemmas.{set_room}
 

@@ -4,6 +4,6 @@ pub mod Least
 pub mod SegmentContents
 pub mod FrameState
 pub mod SparseFrames
-pub mod Kept
+pub mod internal
 pub mod Sparse
 pub mod Files

@@ -1,7 +1,7 @@
 //! Room for frames.
 ghost use Rattle.std.specs.Prelude.{◌≡◌, ◌≤◌, ◌<◌, ◌+◌, length, vec_len};
 ghost use Rattle.bl_mem.specs.Memory.{overwrite};
-ghost use Rattle.bl_mem.specs.Kept.{AreGivenRoom};
+ghost use Rattle.bl_mem.specs.internal.FrameSlots.{AreGivenRoom};
 
 use crate::frame_state::FrameState;
 use std::alloc::Allocator;

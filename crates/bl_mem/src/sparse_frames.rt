@@ -4,7 +4,7 @@ ghost use Rattle.std.specs.Prelude.{IfSome};
 ghost use Rattle.std.specs.Prelude.{Some};
 ghost use Rattle.bl_mem.specs.FrameState.{slot_read};
 ghost use Rattle.bl_mem.specs.SparseFrames.{frame_numbered, frame_byte, AreBytesAt, AreLentBytes};
-ghost use Rattle.bl_mem.specs.Kept.{AreTogether};
+ghost use Rattle.bl_mem.specs.internal.FrameSlots.{AreTogether};
 
 use crate::frame_state::{FRAME_SIZE, FrameState};
 use std::alloc::Allocator;
@@ -35,7 +35,7 @@ pub struct SparseFrames<A: Allocator> {
 impl<A: Allocator> Model for SparseFrames<A> {
     ghost use Rattle.std.specs.Prelude.{vec_len, vec_capacity};
     ghost use Rattle.bl_mem.specs.SparseFrames.{SparseFramesFacts};
-    ghost use Rattle.bl_mem.specs.Kept.{AreSoundSlots};
+    ghost use Rattle.bl_mem.specs.internal.FrameSlots.{AreSoundSlots};
 
     ghost Value = { SparseFramesFacts };
 

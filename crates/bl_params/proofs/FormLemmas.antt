@@ -10,7 +10,7 @@ use Rattle.bl_params.specs.BootParamsForm.{breaks_at, breaks_header, breaks_e820
 use Rattle.bl_params.specs.BootParamsForm.{is_nonzero_at}
 use Rattle.bl_params.specs.BootParamsForm.{e820_entry_count}
 use Rattle.bl_params.specs.BootParamsForm.{e820_entry_offset}
-use Rattle.bl_params.specs.Kept.{HasFormBelow, HasFormBetween}
+use Rattle.bl_params.specs.internal.CheckedForm.{HasFormBelow, HasFormBetween}
 
 pub lt_yes : (k n : ℕ) → k < n → nat_lt k n ≡ true
 lt_yes k n below = grind (arith, nat_tests)

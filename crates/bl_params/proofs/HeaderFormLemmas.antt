@@ -7,7 +7,7 @@ use Rattle.std.proofs.lemmas.Bool.Decides.{nat_tests}
 use Rattle.bl_mem.specs.LittleEndian.{u16_at, u32_at, u64_at}
 use Rattle.bl_bzimage.specs.Setup.{header_end}
 use Rattle.bl_params.specs.BootParamsForm.{breaks_at, breaks_header}
-use Rattle.bl_params.specs.Kept.{HasFormBetween}
+use Rattle.bl_params.specs.internal.CheckedForm.{HasFormBetween}
 use Rattle.bl_params.proofs.FormLemmas.{eq_no, or_false, header_is}
 
 -- ---- the fields of the header

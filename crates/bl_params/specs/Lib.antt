@@ -8,6 +8,6 @@ pub mod Paging
 pub mod Translation
 pub mod BootParamsForm
 pub mod Reading
-pub mod Kept
+pub mod internal
 pub mod SizesAndOffsets
 pub mod WrittenParams

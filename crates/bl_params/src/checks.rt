@@ -5,7 +5,7 @@ ghost use Rattle.bl_bzimage.specs.Setup.{header_end};
 ghost use Rattle.bl_params.specs.BootParamsForm.{breaks_at, is_nonzero_at, e820_entry_count};
 ghost use Rattle.bl_params.specs.Reading.{HasFirstParamFault};
 ghost use Rattle.bl_params.specs.ParamsToWriteFacts.{max_e820_entries};
-ghost use Rattle.bl_params.specs.Kept.{HasFormBelow, HasFormBetween};
+ghost use Rattle.bl_params.specs.internal.CheckedForm.{HasFormBelow, HasFormBetween};
 ghost use Rattle.bl_params.specs.SizesAndOffsets.{params_size};
 
 use crate::fault::ParamFault;

@@ -5,7 +5,7 @@ ghost use Rattle.bl_map.specs.Kinds.{kind_number};
 ghost use Rattle.bl_params.specs.BootParamsForm.{e820_entry_count, e820_entry_offset};
 ghost use Rattle.bl_params.specs.Reading.{HasFirstParamFault, AreE820Entries, IsE820Entry};
 ghost use Rattle.bl_params.specs.ParamsToWriteFacts.{max_e820_entries};
-ghost use Rattle.bl_params.specs.Kept.{HasFormBelow};
+ghost use Rattle.bl_params.specs.internal.CheckedForm.{HasFormBelow};
 ghost use Rattle.bl_params.specs.SizesAndOffsets.{e820_table_at, params_size};
 
 use crate::checks::check_field;

@@ -5,7 +5,7 @@ use Rattle.std.specs.List.Sorted.{IsNonDecreasingBy}
 use Rattle.std.specs.List.{AllWithin}
 use Rattle.std.specs.declared.ops.Range.{Range}
 use Rattle.bl_mem.specs.Memory.{IsIn}
-use Rattle.bl_plan.specs.Kept.{IsBlockedBy}
+use Rattle.bl_plan.specs.internal.FreeBytes.{IsBlockedBy}
 use Rattle.bl_plan.specs.Permitted.{AreUntaken}
 use Rattle.bl_plan.specs.PlannerFacts.{AreApartRanges}
 

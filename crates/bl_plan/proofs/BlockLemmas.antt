@@ -3,7 +3,7 @@ use Rattle.std.proofs.Common.{◌<◌, ◌≤◌, ◌+◌, ℕ, List, arith, inl
 use Rattle.std.proofs.lemmas.Bool.{cases_lt}
 use Rattle.std.specs.declared.ops.Range.{Range}
 use Rattle.bl_map.specs.MachineFacts.{MachineFacts}
-use Rattle.bl_plan.specs.Kept.{IsBlockedBy, IsFree}
+use Rattle.bl_plan.specs.internal.FreeBytes.{IsBlockedBy, IsFree}
 use Rattle.bl_plan.specs.Permitted.{IsPermitted}
 
 -- a blocked stretch is blocked for what asks more

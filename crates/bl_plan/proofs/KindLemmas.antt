@@ -11,7 +11,7 @@ use Rattle.bl_map.specs.Kinds.{kind_number}
 use Rattle.bl_map.specs.NormalMap.{kind_at, region_holds, region_end, AreRuns}
 use Rattle.bl_map.proofs.KindLemmas.{kind_not_held, not_held_behind}
 use Rattle.bl_map.proofs.MapLaws.{fewer_runs, kind_in, same_kind}
-use Rattle.bl_plan.specs.Kept.{IsBlockedBy}
+use Rattle.bl_plan.specs.internal.FreeBytes.{IsBlockedBy}
 
 -- a run of kind usable that holds an address
 abbrev pub IsUsableRun : ℕ → Region → Type 0

@@ -5,5 +5,5 @@ pub mod AddressOrder
 pub mod Permitted
 pub mod PlannerFacts
 pub mod Placed
-pub mod Kept
+pub mod internal
 pub mod Unusable

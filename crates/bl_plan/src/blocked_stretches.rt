@@ -4,7 +4,7 @@ ghost use Rattle.std.specs.List.{AllWithin};
 ghost use Rattle.bl_mem.specs.Memory.{IsIn};
 ghost use Rattle.bl_map.specs.NormalMap.{kind_at, AreRuns};
 ghost use Rattle.bl_map.specs.MachineFacts.{AllUsable};
-ghost use Rattle.bl_plan.specs.Kept.{IsBlockedBy, IsFree};
+ghost use Rattle.bl_plan.specs.internal.FreeBytes.{IsBlockedBy, IsFree};
 ghost use Rattle.bl_plan.specs.Permitted.{AreUntaken};
 ghost use Rattle.bl_plan.specs.PlannerFacts.{AreApartRanges};
 

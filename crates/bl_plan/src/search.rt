@@ -3,7 +3,7 @@
 ghost use Rattle.std.specs.Prelude.{ℕ, ◌+◌, ◌≤◌, MatchOption, MatchBool};
 ghost use Rattle.bl_mem.specs.Least.{IsLeast, IsGreatest};
 ghost use Rattle.bl_plan.specs.Permitted.{IsAtSide};
-ghost use Rattle.bl_plan.specs.Kept.{IsPermittedIn};
+ghost use Rattle.bl_plan.specs.internal.FreeBytes.{IsPermittedIn};
 ghost use Rattle.bl_plan.specs.PlannerFacts.{AreApartRanges};
 
 use crate::blocked_stretches::{blocked_stretch, taken_stretch};

@@ -15,7 +15,7 @@ use Rattle.bl_session.specs.Menu.{EntryFacts, MenuFacts, entry_at}
 use Rattle.bl_session.specs.Pieces.{are_whole}
 use Rattle.bl_session.specs.BootSteps.{BootFacts, State, running, handed_over, none_left, sizes_of}
 use Rattle.bl_session.specs.BootSteps.{fresh, Continues, BeginsUnless, Begins}
-use Rattle.bl_session.specs.AttemptKept.{IsAttempt, IsAttemptBegun, IsRefusedFor}
+use Rattle.bl_session.specs.internal.AttemptStates.{IsAttempt, IsAttemptBegun, IsRefusedFor}
 use Rattle.bl_session.specs.Phases.{handover_held}
 
 -- ---- one attempt

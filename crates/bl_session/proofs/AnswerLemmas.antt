@@ -17,7 +17,7 @@ use Rattle.bl_session.specs.Memory.{IsMemoryAt}
 use Rattle.bl_session.specs.Phases.{PhaseFacts, not_started, waits, hands_over, has_none}
 use Rattle.bl_session.specs.Phases.{lacks_memory, state_at, is_waiting}
 use Rattle.bl_session.specs.Run.{RunState, run_state_of, IsAnswer, IsEventOf}
-use Rattle.bl_session.specs.RunKept.{HistoryLeadsOn, first_awaited_ticket}
+use Rattle.bl_session.specs.internal.RunParts.{HistoryLeadsOn, first_awaited_ticket}
 use Rattle.bl_session.proofs.NextLemmas.{lost_ends}
 use Rattle.bl_session.proofs.TurnLemmas.{heard_on, owed_same, owed_next}
 

@@ -13,7 +13,7 @@ use Rattle.bl_session.specs.Menu.{entry_at}
 use Rattle.bl_session.specs.Submissions.{piece_submissions, submissions_for_files}
 use Rattle.bl_session.specs.Submissions.{attempt_submissions}
 use Rattle.bl_session.specs.Phases.{PhaseFacts, waits, state_at}
-use Rattle.bl_session.specs.RunKept.{AreAskedButRest}
+use Rattle.bl_session.specs.internal.RunParts.{AreAskedButRest}
 use Rattle.bl_session.proofs.PieceStateLemmas.{length-piece_states_of}
 use Rattle.bl_session.proofs.AskLemmas.{asked_on, asked_part, asked_all}
 

@@ -5,7 +5,7 @@ use Rattle.std.proofs.lemmas.List.{append-nil, drop_more, drop_all}
 use Rattle.std.proofs.lemmas.List.FromFn.{length-map-range_with_len, get_or-map-range_with_len}
 use Rattle.bl_session.specs.History.{HistoryItem, submitted, nothing}
 use Rattle.bl_session.specs.Submissions.{ticket_of, piece_submissions, attempt_submissions}
-use Rattle.bl_session.specs.RunKept.{AreAskedButRest}
+use Rattle.bl_session.specs.internal.RunParts.{AreAskedButRest}
 
 -- ---- one part of the orders after the other
 

@@ -13,8 +13,8 @@ use Rattle.bl_session.specs.AttemptResult.{AttemptResult, HasWholeFilesResult, s
 use Rattle.bl_session.specs.AttemptResult.{known_lengths}
 use Rattle.bl_session.specs.Menu.{EntryFacts, facts_of, value_with}
 use Rattle.bl_session.specs.Pieces.{are_whole, waiting_files}
-use Rattle.bl_session.specs.PhasesKept.{IsFreshStage}
-use Rattle.bl_session.specs.AttemptKept.{IsAttempt, IsAttemptBegun, IsRefusedFor}
+use Rattle.bl_session.specs.internal.SessionPhases.{IsFreshStage}
+use Rattle.bl_session.specs.internal.AttemptStates.{IsAttempt, IsAttemptBegun, IsRefusedFor}
 use Rattle.bl_session.specs.declared.attempt.Attempt.{Attempt}
 use Rattle.bl_session.proofs.WholeLemmas.{first_awaited, whole_came, whole_texts}
 

@@ -12,7 +12,7 @@ use Rattle.bl_session.specs.BootSteps.{attempt_number, progress}
 use Rattle.bl_session.specs.Memory.{IsMemoryAt}
 use Rattle.bl_session.specs.Phases.{PhaseFacts, not_started, waits, hands_over, has_none}
 use Rattle.bl_session.specs.Phases.{lacks_memory, state_at, is_waiting}
-use Rattle.bl_session.specs.RunKept.{attempts_left}
+use Rattle.bl_session.specs.internal.RunParts.{attempts_left}
 use Rattle.bl_session.proofs.NextLemmas.{IsNext, next_step, still_runs, has_ended, fewer_left}
 use Rattle.bl_session.proofs.NextLemmas.{memory_step}
 

@@ -15,7 +15,8 @@ use Rattle.bl_session.specs.BootSteps.{EventFacts}
 use Rattle.bl_session.specs.History.{HistoryItem}
 use Rattle.bl_session.specs.Stores.{event_of, answer_to, item_of_event, item_of_answer}
 use Rattle.bl_session.specs.Stores.{without_index}
-use Rattle.bl_session.specs.StoresKept.{item_of_completion, IsLedgerKept}
+use Rattle.bl_session.specs.internal.LedgerCounts.{IsLedgerKept}
+use Rattle.bl_session.specs.Stores.{item_of_completion}
 use Rattle.bl_session.specs.Ledger.{LedgerFacts, pending_answer, ledger_answered}
 use Rattle.bl_session.proofs.StoreLemmas.{kept_answer, kept_nothing}
 use Rattle.bl_session.proofs.ToldLemmas.{Tells, tells_taken}

@@ -18,7 +18,7 @@ use Rattle.bl_session.specs.BootSteps.{TakesEvent}
 use Rattle.bl_session.specs.BootSteps.{StepsToOrFails, progress}
 use Rattle.bl_session.specs.Submissions.{first_ticket}
 use Rattle.bl_session.specs.Memory.{IsMemoryAt}
-use Rattle.bl_session.specs.RunKept.{attempts_left}
+use Rattle.bl_session.specs.internal.RunParts.{attempts_left}
 use Rattle.bl_session.proofs.MissingLemmas.{first_wanted}
 use Rattle.bl_session.proofs.StepFaultLemmas.{ends_taken}
 use Rattle.bl_session.proofs.WentLemmas.{IsNewFrom, new_goes, new_begins, step_went}

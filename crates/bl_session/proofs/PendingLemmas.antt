@@ -8,7 +8,7 @@ use Rattle.std.specs.List.{insert}
 use Rattle.std.specs.Prelude.{slice_get}
 use Rattle.bl_session.specs.declared.submission.Submission.{Submission}
 use Rattle.bl_session.specs.Stores.{without_index}
-use Rattle.bl_session.specs.PendingKept.{runs_listed, listed_without, IsPlaceInRun}
+use Rattle.bl_session.specs.internal.SubmissionRuns.{runs_listed, listed_without, IsPlaceInRun}
 use Rattle.bl_session.proofs.ListedLemmas.{listed_at, listed_length, listed_set, listed_two}
 use Rattle.bl_session.proofs.ListedLemmas.{place_without, listed_get, length_without}
 

@@ -16,7 +16,7 @@ use Rattle.bl_session.specs.Memory.{IsMemoryAt}
 use Rattle.bl_session.specs.Submissions.{attempt_submissions}
 use Rattle.bl_session.specs.Phases.{PhaseFacts, not_started, state_at, is_waiting, boot_facts}
 use Rattle.bl_session.specs.Run.{RunState, run_state_of, IsRun}
-use Rattle.bl_session.specs.RunKept.{AreAskedButRest, HistoryLeadsOn}
+use Rattle.bl_session.specs.internal.RunParts.{AreAskedButRest, HistoryLeadsOn}
 use Rattle.bl_session.proofs.AlikeRuns.{run_alike, alike_listed}
 use Rattle.bl_session.proofs.KeptMemoryLemmas.{memory_on}
 use Rattle.bl_session.proofs.WentLemmas.{new_begins}

@@ -14,7 +14,7 @@ use Rattle.bl_session.specs.BootSteps.{EventFacts, piece, fault}
 use Rattle.bl_session.specs.History.{HistoryItem, failed, nothing, is_same, file_under, IsPieceOf}
 use Rattle.bl_session.specs.Faithful.{times_asked, times_answered, HasPiece, IsFaithfulItem}
 use Rattle.bl_session.specs.Stores.{item_of_event, answer_to, next_place}
-use Rattle.bl_session.specs.StoresKept.{count_of, WasAsked, AreAskedFor, IsLedgerKept}
+use Rattle.bl_session.specs.internal.LedgerCounts.{count_of, WasAsked, AreAskedFor, IsLedgerKept}
 use Rattle.bl_session.proofs.TicketLemmas.{is_same_self, asked_both, answered_both, file_both}
 use Rattle.bl_session.proofs.SubmissionLemmas.{marks, faithful_more, count_append, asked_append}
 use Rattle.bl_session.proofs.SubmissionLemmas.{asked_apart}

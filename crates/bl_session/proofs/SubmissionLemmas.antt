@@ -16,8 +16,10 @@ use Rattle.bl_session.specs.History.{HistoryItem, submitted, is_same, file_under
 use Rattle.bl_session.specs.History.{IsItemOfAnswer}
 use Rattle.bl_session.specs.Faithful.{times_asked, IsFaithfulItem, IsFaithfulAfter}
 use Rattle.bl_session.specs.Stores.{are_equal, is_piece_of}
-use Rattle.bl_session.specs.StoresKept.{item_of_completion, count_of, WasAsked, AreAskedFor}
-use Rattle.bl_session.specs.StoresKept.{IsLedgerKept}
+use Rattle.bl_session.specs.internal.LedgerCounts.{count_of, WasAsked}
+use Rattle.bl_session.specs.Stores.{item_of_completion}
+use Rattle.bl_session.specs.internal.LedgerCounts.{AreAskedFor}
+use Rattle.bl_session.specs.internal.LedgerCounts.{IsLedgerKept}
 use Rattle.bl_session.proofs.TicketLemmas.{is_same_self, asked_both, answered_both, file_both}
 
 -- ---- the mark of an answer

@@ -7,7 +7,7 @@ use Rattle.std.proofs.lemmas.List.FromFn.{length-map-range_with_len, take-map-ra
 use Rattle.std.proofs.lemmas.List.FromFn.{get_or-map-range_with_len, map-range_with_len_more}
 use Rattle.std.proofs.lemmas.Option.{slice_get-get_or, slice_get_past}
 use Rattle.bl_session.specs.declared.submission.Submission.{Submission}
-use Rattle.bl_session.specs.PendingKept.{submission_for_piece, submissions_from, GoesOn}
+use Rattle.bl_session.specs.internal.SubmissionRuns.{submission_for_piece, submissions_from, GoesOn}
 
 pub run_length : (first : Submission) (count : ℕ) → length (submissions_from first count) ≡ count
 run_length first count = length-map-range_with_len (submission_for_piece first) first.ticket.piece count

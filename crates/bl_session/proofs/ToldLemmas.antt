@@ -12,7 +12,7 @@ use Rattle.bl_session.specs.BootSteps.{EventFacts}
 use Rattle.bl_session.specs.History.{HistoryItem, IsItemOfAnswer}
 use Rattle.bl_session.specs.Stores.{FileStoreFacts, event_of, answer_to, next_event}
 use Rattle.bl_session.specs.Stores.{next_place, without_index, after_answer}
-use Rattle.bl_session.specs.StoresKept.{item_of_completion}
+use Rattle.bl_session.specs.Stores.{item_of_completion}
 use Rattle.bl_session.specs.Scripts as scripts
 use Rattle.bl_session.specs.Scripts.{ScriptStoreFacts, event_of_reply, picked_place}
 use Rattle.bl_session.proofs.SubmissionLemmas.{item_is}

@@ -12,7 +12,7 @@ use Rattle.bl_session.specs.BootSteps.{StepsToOrFails}
 use Rattle.bl_session.specs.History.{HistoryItem}
 use Rattle.bl_session.specs.Submissions.{attempt_submissions, new_submissions}
 use Rattle.bl_session.specs.Run.{RunState, run_state_of, ItemsLeadTo, IsEventOf}
-use Rattle.bl_session.specs.RunKept.{AreAskedButRest, LeadsOn, HistoryLeadsOn}
+use Rattle.bl_session.specs.internal.RunParts.{AreAskedButRest, LeadsOn, HistoryLeadsOn}
 
 pub leads_on : (facts : BootFacts) (files : List File) (given : List HistoryItem) (a b c : RunState)
     (xs ys : List HistoryItem)

@@ -97,3 +97,8 @@ after_answer store told = record {
   pending = without_index store.pending (next_place store.order store.pending);
   given = store.given ++ item_of_answer store.files store.given told ∷ [];
 }
+
+-- what a completion adds to the history so far
+abbrev pub item_of_completion : {A : Type 0} → List File → List HistoryItem → Option (Completion A)
+    → HistoryItem
+item_of_completion files given answer = item_of_answer files given (option_map event_of answer)

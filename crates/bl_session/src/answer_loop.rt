@@ -9,7 +9,7 @@ ghost use Rattle.bl_session.specs.Memory.{IsMemoryAt};
 ghost use Rattle.bl_session.specs.Submissions.{new_submissions};
 ghost use Rattle.bl_session.specs.Phases.{event_facts, state_at, is_waiting, not_started};
 ghost use Rattle.bl_session.specs.Run.{RunState, run_state_of};
-ghost use Rattle.bl_session.specs.RunKept.{HistoryLeadsOn, attempts_left};
+ghost use Rattle.bl_session.specs.internal.RunParts.{HistoryLeadsOn, attempts_left};
 
 use crate::outcome::Progress;
 use crate::session::Session;

@@ -4,11 +4,12 @@ ghost use Rattle.bl_mem.specs.Memory.{HasRoom, KeepsSizeAndRoom};
 ghost use Rattle.bl_load.specs.EntryValue.{IsWithinLimits};
 ghost use Rattle.bl_stage.specs.Ranges.{IsSameOutside};
 ghost use Rattle.bl_stage.specs.PieceStates.{piece_states};
-ghost use Rattle.bl_session.specs.AttemptKept.{IsAttempt, IsAttemptBegun, IsMemoryAfterAttempt};
-ghost use Rattle.bl_session.specs.AttemptKept.{KeepsAttempt};
-ghost use Rattle.bl_session.specs.AttemptKept.{attempt_with};
+ghost use Rattle.bl_session.specs.internal.AttemptStates.{IsAttempt, IsAttemptBegun};
+ghost use Rattle.bl_session.specs.internal.AttemptStates.{IsMemoryAfterAttempt};
+ghost use Rattle.bl_session.specs.internal.AttemptStates.{KeepsAttempt};
+ghost use Rattle.bl_session.specs.internal.AttemptStates.{attempt_with};
 ghost use Rattle.bl_session.specs.Menu.{facts_of, files_of};
-ghost use Rattle.bl_session.specs.PhasesKept.{HasSmallFiles};
+ghost use Rattle.bl_session.specs.internal.SessionPhases.{HasSmallFiles};
 ghost use Rattle.bl_session.specs.Pieces.{are_whole};
 
 use crate::handing_over::finish_attempt;

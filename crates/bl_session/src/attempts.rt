@@ -6,8 +6,8 @@ ghost use Rattle.bl_stage.specs.PieceStates.{piece_states};
 ghost use Rattle.bl_session.specs.BootSteps.{Begins, Continues};
 ghost use Rattle.bl_session.specs.Pieces.{are_whole};
 ghost use Rattle.bl_session.specs.Memory.{IsMemoryAt};
-ghost use Rattle.bl_session.specs.PhasesKept.{facts_of_boot, state_in, phase_by};
-ghost use Rattle.bl_session.specs.PhasesKept.{IsPhaseKept, IsWaiting};
+ghost use Rattle.bl_session.specs.internal.SessionPhases.{facts_of_boot, state_in, phase_by};
+ghost use Rattle.bl_session.specs.internal.SessionPhases.{IsPhaseKept, IsWaiting};
 
 use crate::attempt::{Attempt, AttemptEnd, begin_attempt, end_attempt};
 use crate::outcome::{BootFault, Outcome};

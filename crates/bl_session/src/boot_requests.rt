@@ -3,9 +3,9 @@ ghost use Rattle.std.specs.Prelude.{◌≡◌, ◌++◌, ℕ, List, Some, true, 
 ghost use Rattle.bl_session.specs.History.{HistoryItem};
 ghost use Rattle.bl_session.specs.Submissions.{attempt_submissions};
 ghost use Rattle.bl_session.specs.Phases.{phase_facts, is_waiting};
-ghost use Rattle.bl_session.specs.PhasesKept.{IsPhaseKept, facts_of_boot, state_in};
+ghost use Rattle.bl_session.specs.internal.SessionPhases.{IsPhaseKept, facts_of_boot, state_in};
 ghost use Rattle.bl_session.specs.Requests.{first_request, request_after};
-ghost use Rattle.bl_session.specs.RunKept.{AreAskedButRest, first_awaited_ticket};
+ghost use Rattle.bl_session.specs.internal.RunParts.{AreAskedButRest, first_awaited_ticket};
 
 use crate::phase::{Boot, Phase};
 use crate::pieces::{first_missing, missing_piece, next_missing, request_of};

@@ -8,8 +8,9 @@ ghost use Rattle.bl_session.specs.BootSteps.{StepsTo, piece, fault, is_wanted, i
 ghost use Rattle.bl_session.specs.BootSteps.{ends_attempt};
 ghost use Rattle.bl_session.specs.Memory.{IsMemoryAt};
 ghost use Rattle.bl_session.specs.Phases.{event_facts};
-ghost use Rattle.bl_session.specs.PhasesKept.{facts_of_boot, running_in, state_in, phase_by};
-ghost use Rattle.bl_session.specs.PhasesKept.{IsPhaseKept, IsWaiting, LacksPiece};
+ghost use Rattle.bl_session.specs.internal.SessionPhases.{facts_of_boot, running_in, state_in};
+ghost use Rattle.bl_session.specs.internal.SessionPhases.{phase_by};
+ghost use Rattle.bl_session.specs.internal.SessionPhases.{IsPhaseKept, IsWaiting, LacksPiece};
 
 use crate::attempts::{refuse, settle};
 use crate::phase::{Boot, Phase, Running};

@@ -29,7 +29,7 @@ impl Model for History {
 
 impl History {
     ghost use Rattle.bl_session.specs.History.{submitted};
-    ghost use Rattle.bl_session.specs.StoresKept.{item_of_completion};
+    ghost use Rattle.bl_session.specs.Stores.{item_of_completion};
 
     /// Nothing was asked or answered.
     pub fn new() -> History

@@ -34,7 +34,7 @@ pub struct OwnedSession<A: Allocator + Copy> {
 
 impl<A: Allocator + Copy> Model for OwnedSession<A> {
     ghost use Rattle.bl_session.specs.Phases.{SessionFacts, boot_facts, phase_facts};
-    ghost use Rattle.bl_session.specs.PhasesKept.{IsPhaseKept};
+    ghost use Rattle.bl_session.specs.internal.SessionPhases.{IsPhaseKept};
 
     ghost Value = { SessionFacts };
 

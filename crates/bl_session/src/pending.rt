@@ -2,7 +2,8 @@
 ghost use Rattle.std.specs.Prelude.{◌≡◌, ◌+◌, ◌<◌, ◌≤◌, [], ◌∷◌, ◌++◌, length, slice_get};
 ghost use Rattle.std.specs.Prelude.{slice_index_or, vec_len, OnOk, OnErr, IsOk, IfSome, IfNone};
 ghost use Rattle.bl_session.specs.Stores.{without_index};
-ghost use Rattle.bl_session.specs.PendingKept.{runs_listed, listed_without, IsPlaceInRun};
+ghost use Rattle.bl_session.specs.internal.SubmissionRuns.{runs_listed, listed_without};
+ghost use Rattle.bl_session.specs.internal.SubmissionRuns.{IsPlaceInRun};
 
 use crate::submission::Submission;
 use crate::submission_run::SubmissionRun;
@@ -25,7 +26,7 @@ pub(crate) struct Pending<A: Allocator> {
 impl<A: Allocator> Model for Pending<A> {
     ghost use Rattle.std.specs.Prelude.{◌≡◌, List, length};
     ghost use Rattle.bl_session.specs.declared.submission.Submission.{Submission};
-    ghost use Rattle.bl_session.specs.PendingKept.{runs_listed};
+    ghost use Rattle.bl_session.specs.internal.SubmissionRuns.{runs_listed};
 
     ghost Value = { List Submission };
 

@@ -3,7 +3,7 @@ ghost use Rattle.std.specs.Prelude.{◌≡◌, ℕ, List};
 ghost use Rattle.bl_session.specs.BootSteps.{attempt_number};
 ghost use Rattle.bl_session.specs.BootSteps as boot;
 ghost use Rattle.bl_session.specs.Phases.{phase_facts, is_waiting};
-ghost use Rattle.bl_session.specs.PhasesKept.{state_of, IsPhaseKept};
+ghost use Rattle.bl_session.specs.internal.SessionPhases.{state_of, IsPhaseKept};
 
 use crate::menu::Menu;
 use crate::outcome::{BootFault, Outcome, Progress};

@@ -3,7 +3,7 @@ ghost use Rattle.std.specs.Prelude.{◌≡◌, ℕ, List, IfOk, IfSome, option_m
 ghost use Rattle.bl_map.specs.MachineFacts.{MachineFacts};
 ghost use Rattle.bl_session.specs.Menu.{MenuFacts};
 ghost use Rattle.bl_session.specs.Phases.{phase_facts, end_facts, told_end, LiesWithin};
-ghost use Rattle.bl_session.specs.PhasesKept.{IsPhaseKept};
+ghost use Rattle.bl_session.specs.internal.SessionPhases.{IsPhaseKept};
 ghost use Rattle.bl_session.specs.Run.{final_phase};
 
 use crate::outcome::{BootFault, Outcome};

@@ -5,7 +5,7 @@ ghost use Rattle.bl_stage.specs.Pieces.{is_missing};
 ghost use Rattle.bl_stage.specs.PieceStates.{piece_states};
 ghost use Rattle.bl_session.specs.Menu.{files_of};
 ghost use Rattle.bl_session.specs.Submissions.{first_awaited_piece, first_ticket};
-ghost use Rattle.bl_session.specs.PhasesKept.{HasSmallFiles, LacksPiece};
+ghost use Rattle.bl_session.specs.internal.SessionPhases.{HasSmallFiles, LacksPiece};
 ghost use Rattle.bl_session.specs.Pieces.{piece_state_of};
 ghost use Rattle.bl_session.specs.Requests.{length_awaited, request_for, ticket_after};
 

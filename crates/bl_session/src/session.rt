@@ -35,7 +35,7 @@ pub struct Session<'a, A: Allocator + Copy> {
 
 impl<'a, A: Allocator + Copy> Model for Session<'a, A> {
     ghost use Rattle.bl_session.specs.Phases.{SessionFacts, boot_facts, phase_facts};
-    ghost use Rattle.bl_session.specs.PhasesKept.{IsPhaseKept};
+    ghost use Rattle.bl_session.specs.internal.SessionPhases.{IsPhaseKept};
 
     ghost Value = { SessionFacts };
 

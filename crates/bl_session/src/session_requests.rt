@@ -4,7 +4,7 @@ ghost use Rattle.bl_session.specs.History.{HistoryItem};
 ghost use Rattle.bl_session.specs.Submissions.{attempt_submissions};
 ghost use Rattle.bl_session.specs.Phases.{state_at, is_waiting};
 ghost use Rattle.bl_session.specs.Requests.{first_request, request_after};
-ghost use Rattle.bl_session.specs.RunKept.{AreAskedButRest, first_awaited_ticket};
+ghost use Rattle.bl_session.specs.internal.RunParts.{AreAskedButRest, first_awaited_ticket};
 
 use crate::phase::{Boot, awaits_pieces};
 use crate::session::Session;

@@ -7,8 +7,8 @@ ghost use Rattle.bl_stage.specs.Staged.{AreStaged};
 ghost use Rattle.bl_session.specs.AttemptResult.{file_refusal, size_refusal};
 ghost use Rattle.bl_session.specs.AttemptResult as attempt;
 ghost use Rattle.bl_session.specs.Menu as menu;
-ghost use Rattle.bl_session.specs.PhasesKept.{IsFreshStage, IsSizeFault, IsFileRefusal};
-ghost use Rattle.bl_session.specs.PhasesKept.{HasSmallFiles};
+ghost use Rattle.bl_session.specs.internal.SessionPhases.{IsFreshStage, IsSizeFault, IsFileRefusal};
+ghost use Rattle.bl_session.specs.internal.SessionPhases.{HasSmallFiles};
 
 use bl_load::{Entry, Module, PrepFault, Refusal};
 use bl_map::Machine;

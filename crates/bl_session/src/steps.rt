@@ -9,7 +9,7 @@ ghost use Rattle.bl_session.specs.BootSteps as boot_specs;
 ghost use Rattle.bl_session.specs.Memory.{IsMemoryAt};
 ghost use Rattle.bl_session.specs.Phases.{event_facts, phase_facts};
 ghost use Rattle.bl_session.specs.Phases.{is_waiting, not_started};
-ghost use Rattle.bl_session.specs.PhasesKept.{facts_of_boot, state_in, IsPhaseKept};
+ghost use Rattle.bl_session.specs.internal.SessionPhases.{facts_of_boot, state_in, IsPhaseKept};
 
 use crate::attempts::begin;
 use crate::events::take;

@@ -6,8 +6,8 @@ ghost use Rattle.bl_stage.specs.PieceStates.{piece_states};
 ghost use Rattle.bl_session.specs.History.{HistoryItem};
 ghost use Rattle.bl_session.specs.Menu.{files_of};
 ghost use Rattle.bl_session.specs.Submissions.{piece_submissions, submissions_for_files};
-ghost use Rattle.bl_session.specs.PhasesKept.{HasSmallFiles};
-ghost use Rattle.bl_session.specs.RunKept.{AreAskedButRest};
+ghost use Rattle.bl_session.specs.internal.SessionPhases.{HasSmallFiles};
+ghost use Rattle.bl_session.specs.internal.RunParts.{AreAskedButRest};
 
 use crate::store::Store;
 use crate::ticket::Ticket;

@@ -1,7 +1,7 @@
 //! Submissions of neighbouring pieces, kept as one.
 ghost use Rattle.std.specs.Prelude.{◌≡◌, ◌↔◌, ◌+◌, ◌^◌, ◌<◌, ◌≤◌, [], ◌∷◌, ◌++◌, length};
 ghost use Rattle.std.specs.Prelude.{take, drop, slice_get, if◌then◌else◌, IsTrue};
-ghost use Rattle.bl_session.specs.PendingKept.{submission_for_piece, GoesOn};
+ghost use Rattle.bl_session.specs.internal.SubmissionRuns.{submission_for_piece, GoesOn};
 
 use crate::submission::Submission;
 use crate::ticket::Ticket;
@@ -18,7 +18,7 @@ pub(crate) struct SubmissionRun {
 impl Model for SubmissionRun {
     ghost use Rattle.std.specs.Prelude.{◌+◌, ◌^◌, ◌<◌, ◌≤◌, List};
     ghost use Rattle.bl_session.specs.declared.submission.Submission.{Submission};
-    ghost use Rattle.bl_session.specs.PendingKept.{submissions_from};
+    ghost use Rattle.bl_session.specs.internal.SubmissionRuns.{submissions_from};
 
     ghost Value = { List Submission };
 

@@ -9,8 +9,8 @@ use Rattle.std.proofs.lemmas.List.{get_or-replicate, length-replicate}
 use Rattle.std.proofs.lemmas.List.FromFn.{length-map-range_with_len, get_or-map-range_with_len}
 use Rattle.bl_stage.specs.declared.cell.Cell.{Cell}
 use Rattle.bl_stage.specs.declared.cells.CellGroup.{CellGroup}
-use Rattle.bl_stage.specs.Cells.{no_cell, cell_at}
-use Rattle.bl_stage.specs.PackedCells.{no_group, no_holder, holder_of, cell_in, cells_of}
+use Rattle.bl_stage.specs.internal.Cells.{no_cell, cell_at}
+use Rattle.bl_stage.specs.internal.PackedCells.{no_group, no_holder, holder_of, cell_in, cells_of}
 
 abbrev in_groups : List CellGroup → ℕ → Cell
 in_groups groups at = cell_in (get_or groups (at / 4) no_group) (at % 4)

@@ -7,7 +7,8 @@ use Rattle.std.proofs.lemmas.Bool.{cases_lt}
 use Rattle.std.proofs.lemmas.List.{drop-set-lt, drop-set-add, get_or-drop, length-drop, drop_all}
 use Rattle.std.proofs.lemmas.List.Sums.{sum_by-set, sum_by-cons, sum_by-drop_more}
 use Rattle.bl_stage.specs.declared.cell.Cell.{Cell}
-use Rattle.bl_stage.specs.Cells.{is_open_cell, is_held_cell, is_spare_cell, is_stranded_cell}
+use Rattle.bl_stage.specs.internal.Cells.{is_open_cell, is_held_cell, is_spare_cell}
+use Rattle.bl_stage.specs.internal.Cells.{is_stranded_cell}
 
 -- one cell in each count
 split_parts : (shut : Bool) (holder : Option ℕ)

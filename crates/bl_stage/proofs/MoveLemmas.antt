@@ -9,7 +9,7 @@ use Rattle.bl_mem.proofs.Overwrites.{length-overwrite, get_or-overwrite_in, get_
 use Rattle.bl_mem.proofs.Overwrites.{get_or-overwrite_above}
 use Rattle.bl_stage.specs.declared.cell.Cell.{Cell}
 use Rattle.bl_stage.specs.Ranges.{IsSameOutside}
-use Rattle.bl_stage.specs.Cells.{cell_at, frames_range, AreHeld, ReadAlike, Moved}
+use Rattle.bl_stage.specs.internal.Cells.{cell_at, frames_range, AreHeld, ReadAlike, Moved}
 use Rattle.bl_stage.proofs.MovedCells.{moved_cells, at_slot, now, now_slot, now_other, now_length}
 use Rattle.bl_stage.proofs.MovedCells.{after_length, not_to, still_held, shut_after, left_after}
 

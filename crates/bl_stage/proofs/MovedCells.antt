@@ -6,7 +6,7 @@ use Rattle.std.proofs.lemmas.Bool.{cases_eq}
 use Rattle.std.proofs.lemmas.List.{get_or-set_same, get_or-set_other, length-set}
 use Rattle.std.proofs.lemmas.List.Sums.{sum_by-set}
 use Rattle.bl_stage.specs.declared.cell.Cell.{Cell}
-use Rattle.bl_stage.specs.Cells.{is_held_cell, cell_at, AreHeld}
+use Rattle.bl_stage.specs.internal.Cells.{is_held_cell, cell_at, AreHeld}
 
 abbrev pub left_cell : Cell
 left_cell = record { holder = None; shut = true }

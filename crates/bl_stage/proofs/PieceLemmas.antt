@@ -9,13 +9,13 @@ use Rattle.std.proofs.lemmas.Bool.Decides.{nat_tests}
 use Rattle.std.proofs.lemmas.List.Sums.{get_or-le-sum_by, sum_by-cons}
 use Rattle.bl_mem.specs.Memory.{overwrite}
 use Rattle.bl_map.specs.PoolFrames.{frames_of}
-use Rattle.bl_stage.specs.Cells.{cell_at, ReadAlike}
+use Rattle.bl_stage.specs.internal.Cells.{cell_at, ReadAlike}
 use Rattle.bl_stage.specs.Staged.{AreInside, place_of, staged, frames_before, Staging, AreStaged}
 use Rattle.bl_stage.specs.Staged.{staged_file, HasPool, with_frames}
 use Rattle.bl_stage.specs.Pieces.{is_piece, slot_in}
 use Rattle.std.specs.declared.ops.Range.{Range}
 use Rattle.bl_stage.specs.declared.cell.Cell.{Cell}
-use Rattle.bl_stage.specs.Kept.{KeepsTables}
+use Rattle.bl_stage.specs.internal.StageTables.{KeepsTables}
 use Rattle.bl_stage.proofs.FrameLemmas.{same_below}
 use Rattle.bl_stage.proofs.FileLemmas.{file_within, file_before, read_part, file_kept, file_put}
 

@@ -10,7 +10,7 @@ use Rattle.std.proofs.lemmas.List.{take_all, append_assoc, append-nil, get_or-re
 use Rattle.std.proofs.lemmas.List.{length-replicate, get_or_past}
 use Rattle.std.proofs.lemmas.List.FromFn.{map-range_with_len_more}
 use Rattle.bl_map.specs.PoolFrames.{frames_of}
-use Rattle.bl_stage.specs.Cells.{ReadAlike}
+use Rattle.bl_stage.specs.internal.Cells.{ReadAlike}
 use Rattle.bl_stage.specs.Staged.{Staging, AreStaged, AllCame, staged_file, empty_stage}
 use Rattle.bl_stage.specs.Staged.{frames_of_file}
 use Rattle.bl_stage.specs.Pieces.{slot_in}
@@ -20,7 +20,7 @@ use Rattle.bl_stage.specs.PieceStates.{waiting_pieces, came_bytes}
 use Rattle.bl_stage.proofs.FrameLemmas.{staged_length}
 use Rattle.bl_stage.proofs.FileLemmas.{file_within}
 use Rattle.bl_stage.proofs.PieceLemmas.{file_evacuated}
-use Rattle.bl_stage.specs.StagedFileLaws.{same_firsts}
+use Rattle.bl_stage.specs.internal.StagedFileLaws.{same_firsts}
 use Rattle.bl_stage.proofs.PieceStateLemmas.{piece_long}
 
 -- a stage to which no piece came waits for each

@@ -9,7 +9,7 @@ use Rattle.bl_mem.specs.Memory.{overwrite}
 use Rattle.bl_mem.proofs.Overwrites.{get_or-overwrite_below, get_or-overwrite_above}
 use Rattle.bl_stage.specs.declared.cell.Cell.{Cell}
 use Rattle.bl_stage.specs.declared.stage.putting.Put.TheVariants.{Stored, Repeated, Strange}
-use Rattle.bl_stage.specs.Kept.{KeepsTables}
+use Rattle.bl_stage.specs.internal.StageTables.{KeepsTables}
 use Rattle.bl_stage.specs.Ranges.{IsSameOutside}
 use Rattle.bl_stage.specs.Staged.{HasPool}
 

@@ -5,7 +5,8 @@ use Rattle.std.proofs.Common.{◌∙◌}
 use Rattle.std.specs.List.{count_by}
 use Rattle.std.proofs.lemmas.List.{get_or-set_other, length-set, drop-set-lt}
 use Rattle.bl_stage.specs.declared.cell.Cell.{Cell}
-use Rattle.bl_stage.specs.Cells.{is_open_cell, is_spare_cell, is_stranded_cell, cell_at, AreHeld}
+use Rattle.bl_stage.specs.internal.Cells.{is_open_cell, is_spare_cell, is_stranded_cell, cell_at}
+use Rattle.bl_stage.specs.internal.Cells.{AreHeld}
 use Rattle.bl_stage.proofs.CountLemmas.{count-drop-set, count-drop_more, split_count}
 use Rattle.bl_stage.proofs.MovedCells.{left_cell, taken_cell, apart, after}
 

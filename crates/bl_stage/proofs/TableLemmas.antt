@@ -9,7 +9,7 @@ use Rattle.std.proofs.lemmas.List.{get_or-take, get_or-map, get_or_push, length-
 use Rattle.std.proofs.Math.ListN.{get_or-append}
 use Rattle.std.proofs.lemmas.List.Sums.{sum_by-set, sum_by-cons, count_by-le-length}
 use Rattle.bl_stage.specs.declared.cell.Cell.{Cell}
-use Rattle.bl_stage.specs.Cells.{is_held_cell, cell_at, AreHeld}
+use Rattle.bl_stage.specs.internal.Cells.{is_held_cell, cell_at, AreHeld}
 use Rattle.bl_stage.specs.Staged.{AreApart}
 
 -- cells that hold nothing are not counted

@@ -8,8 +8,9 @@ use Rattle.std.proofs.lemmas.List.Sums.{sum_by-cons, sum_by_more}
 use Rattle.bl_stage.specs.declared.cell.Cell.{Cell}
 use Rattle.bl_map.specs.PoolFrames.{misses_frame, is_open, open_among, frames_in}
 use Rattle.bl_stage.specs.Ranges.{meets, IsSameOutside}
-use Rattle.bl_stage.specs.Cells.{is_open_cell, is_held_cell, no_cell, cell_at, frames_range}
-use Rattle.bl_stage.specs.Cells.{AreHeld}
+use Rattle.bl_stage.specs.internal.Cells.{is_open_cell, is_held_cell, no_cell, cell_at}
+use Rattle.bl_stage.specs.internal.Cells.{frames_range}
+use Rattle.bl_stage.specs.internal.Cells.{AreHeld}
 
 -- cells with the same holders count alike
 same_held : (cells marked : List Cell) → length marked ≡ length cells

@@ -2,8 +2,5 @@ pub mod Staged
 pub mod Pieces
 pub mod PieceStates
 pub mod Ranges
-pub mod Cells
-pub mod PackedCells
-pub mod Kept
-pub mod StagedFileLaws
+pub mod internal
 pub mod Files

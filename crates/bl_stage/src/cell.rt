@@ -1,6 +1,6 @@
 //! One frame of the pool, as a stage keeps it.
 ghost use Rattle.std.specs.Prelude.{◌≡◌};
-ghost use Rattle.bl_stage.specs.Cells.{is_spare_cell};
+ghost use Rattle.bl_stage.specs.internal.Cells.{is_spare_cell};
 
 /// One frame of the pool: which place of the list of all files' frames it has, and whether it is
 /// to be left.

@@ -1,9 +1,9 @@
 //! The cells of all frames of the pool, kept so that they take little memory.
 ghost use Rattle.std.specs.Prelude.{◌≡◌, ℕ, ◌<◌, ◌≤◌, IfOk, IfSome, length, replicate, slice_set};
 ghost use Rattle.std.specs.Prelude.{slice_index_or, vec_capacity};
-ghost use Rattle.bl_stage.specs.Cells.{no_cell, cell_at};
-ghost use Rattle.bl_stage.specs.PackedCells.{no_holder, no_group};
-ghost use Rattle.bl_stage.specs.PackedCells as packed;
+ghost use Rattle.bl_stage.specs.internal.Cells.{no_cell, cell_at};
+ghost use Rattle.bl_stage.specs.internal.PackedCells.{no_holder, no_group};
+ghost use Rattle.bl_stage.specs.internal.PackedCells as packed;
 
 use crate::cell::Cell;
 use std::alloc::{AllocError, Allocator};
@@ -74,7 +74,7 @@ impl<A: Allocator> Model for Cells<A> {
 
     ghost Value = { List Cell };
 
-    ghost use Rattle.bl_stage.specs.PackedCells.{cells_of};
+    ghost use Rattle.bl_stage.specs.internal.PackedCells.{cells_of};
 
     ghost view = { λ cells. cells_of cells.groups.items cells.count };
 

@@ -5,9 +5,10 @@ ghost use Rattle.std.specs.List.{count_by};
 ghost use Rattle.std.specs.Bool.{OnTrue, OnFalse};
 ghost use Rattle.bl_map.specs.PoolFrames.{open_among};
 ghost use Rattle.bl_mem.specs.Memory.{overwrite, HasRoom, KeepsSizeAndRoom};
-ghost use Rattle.bl_stage.specs.Cells.{is_open_cell, is_spare_cell, cell_at, AreHeld, Moved};
-ghost use Rattle.bl_stage.specs.Cells.{MadeWay, AreFramesInMemory};
-ghost use Rattle.bl_stage.specs.PackedCells.{no_holder};
+ghost use Rattle.bl_stage.specs.internal.Cells.{is_open_cell, is_spare_cell, cell_at, AreHeld};
+ghost use Rattle.bl_stage.specs.internal.Cells.{Moved};
+ghost use Rattle.bl_stage.specs.internal.Cells.{MadeWay, AreFramesInMemory};
+ghost use Rattle.bl_stage.specs.internal.PackedCells.{no_holder};
 
 use crate::cell::Cell;
 use crate::cells::Cells;

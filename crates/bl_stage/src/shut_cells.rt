@@ -2,7 +2,7 @@
 ghost use Rattle.std.specs.Prelude.{◌≡◌, ℕ, ◌+◌, ◌*◌, ◌<◌, ◌^◌, ◌||◌, length, false, not};
 ghost use Rattle.std.specs.List.{count_by};
 ghost use Rattle.bl_map.specs.PoolFrames.{misses_frame};
-ghost use Rattle.bl_stage.specs.Cells.{is_open_cell, cell_at};
+ghost use Rattle.bl_stage.specs.internal.Cells.{is_open_cell, cell_at};
 ghost use Rattle.bl_stage.specs.Ranges.{meets};
 
 use crate::cells::Cells;

@@ -31,7 +31,7 @@ pub struct Stage<A: Allocator> {
 
 impl<A: Allocator> Model for Stage<A> {
     ghost use Rattle.bl_stage.specs.Staged.{Staging};
-    ghost use Rattle.bl_stage.specs.Kept.{KeepsTables};
+    ghost use Rattle.bl_stage.specs.internal.StageTables.{KeepsTables};
 
     ghost Value = { Staging };
 

@@ -1,7 +1,7 @@
 //! The tables that a stage keeps.
 ghost use Rattle.std.specs.Prelude.{◌≡◌, ℕ, ◌+◌, ◌/◌, ◌<◌, ◌≤◌, ◌^◌, ◌↔◌, IfOk, IfSome, IsNone};
 ghost use Rattle.std.specs.Prelude.{length, slice_index, None, map};
-ghost use Rattle.bl_stage.specs.Cells.{cell_at, AreHeld};
+ghost use Rattle.bl_stage.specs.internal.Cells.{cell_at, AreHeld};
 ghost use Rattle.bl_stage.specs.Staged.{frames_before, AreApart};
 ghost use Rattle.bl_map.specs.PoolFrames.{frames_for};
 

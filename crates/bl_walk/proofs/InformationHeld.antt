@@ -18,7 +18,7 @@ use Rattle.bl_load.specs.Handover.{Part, Handover, end_of}
 use Rattle.bl_load.specs.Multiboot2Kernel.{Multiboot2KernelFacts, IsMultiboot2Kernel}
 use Rattle.bl_load.specs.WellFormedEntry.{IsWellFormedValue}
 use Rattle.bl_load.specs.Parts.{content_of, handover_of}
-use Rattle.bl_load.specs.PlacingKept.{module_tags_size}
+use Rattle.bl_load.specs.internal.Placing.{module_tags_size}
 use Rattle.bl_load.specs.KernelReading.{multiboot2}
 use Rattle.bl_load.specs.Rows.{rows_of, kernel_rows, module_rows, information_row, information_of}
 use Rattle.bl_load.specs.EntryValue.{EntryValue, kernel_file, module_file, line_fault, lines_fault}

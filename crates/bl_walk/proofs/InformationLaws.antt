@@ -21,7 +21,7 @@ use Rattle.bl_load.specs.Rows.{rows_of, kernel_rows, module_rows}
 use Rattle.bl_load.specs.EntryValue.{EntryValue, kernel_file, module_file, lines_fault, lines_of}
 use Rattle.bl_walk.specs.Seen.{HasTotalSize, IsInformation, HasInformation, InformationShows}
 use Rattle.bl_walk.specs.Seen.{IsSeen}
-use Rattle.bl_walk.specs.Kept.{seen_without_files}
+use Rattle.bl_walk.specs.internal.Walking.{seen_without_files}
 use Rattle.bl_walk.specs.SeenFacts.{SeenFacts}
 use Rattle.bl_walk.specs.EntryShown.{ShowsSegments, ShowsKernel, ShowsModules, ShowsFiles}
 use Rattle.bl_walk.specs.EntryShown.{ShowsEntry}

@@ -13,7 +13,7 @@ use Rattle.bl_plan.specs.declared.part.Role.TheVariants.{Kernel}
 use Rattle.bl_load.specs.Handover.{Part, end_of}
 use Rattle.bl_image.specs.ImageHandover.{PartAscends}
 use Rattle.bl_walk.specs.PartBytes.{lies_in, part_with}
-use Rattle.bl_walk.specs.Kept.{begins_upto}
+use Rattle.bl_walk.specs.internal.Walking.{begins_upto}
 
 -- a part of no byte
 no_part : Part

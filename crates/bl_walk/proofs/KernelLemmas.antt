@@ -19,7 +19,7 @@ use Rattle.bl_plan.specs.declared.part.Row.{Row}
 use Rattle.bl_plan.proofs.OrderLemmas.{in_order_all}
 use Rattle.bl_load.specs.Handover.{zero_padded}
 use Rattle.bl_load.specs.Parts.{content_of, handover_of}
-use Rattle.bl_load.specs.PlacingKept.{HasRowLength}
+use Rattle.bl_load.specs.internal.Placing.{HasRowLength}
 use Rattle.bl_load.specs.KernelReading.{KernelReading, IsKernelReading}
 use Rattle.bl_load.specs.Rows.{rows_of}
 use Rattle.bl_load.specs.EntryValue.{EntryValue, lines_fault, lines_of}

@@ -25,7 +25,7 @@ use Rattle.bl_load.specs.LinuxKernel.{IsLinuxKernel}
 use Rattle.bl_load.specs.LinuxRows.{linux_kernel_row, boot_params_facts}
 use Rattle.bl_load.specs.WellFormedEntry.{IsWellFormedValue}
 use Rattle.bl_load.specs.Parts.{content_of, handover_of}
-use Rattle.bl_load.specs.PlacingKept.{HasLength}
+use Rattle.bl_load.specs.internal.Placing.{HasLength}
 use Rattle.bl_load.specs.Protocols.{has_params}
 use Rattle.bl_load.specs.KernelReading.{linux}
 use Rattle.bl_load.specs.Registers.{params_in}

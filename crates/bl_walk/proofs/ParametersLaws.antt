@@ -26,7 +26,7 @@ use Rattle.bl_load.specs.EntryValue.{EntryValue, kernel_file, lines_fault, lines
 use Rattle.bl_load.proofs.LinuxKernelLemmas.{setup_is}
 use Rattle.bl_load.proofs.PageTablesLemmas.{tables_fit}
 use Rattle.bl_walk.specs.declared.seen.SeenPart.{SeenPart}
-use Rattle.bl_walk.specs.Kept.{seen_without_files}
+use Rattle.bl_walk.specs.internal.Walking.{seen_without_files}
 use Rattle.bl_walk.specs.Seen.{ParametersShow, IsSeen}
 use Rattle.bl_walk.specs.SeenFacts.{SeenFacts}
 use Rattle.bl_walk.specs.EntryShown.{ShowsEntry, ShowsKernel, ShowsFiles, ShowsPayload}

@@ -11,7 +11,7 @@ use Rattle.bl_params.specs.Reading.{HasFirstParamFault}
 use Rattle.bl_load.specs.Handover.{Handover}
 use Rattle.bl_walk.specs.declared.fault.WalkFault.{WalkFault}
 use Rattle.bl_walk.specs.Faults.{HasWalkFault, other_information, other_parameters}
-use Rattle.bl_walk.specs.Kept.{information_refusal, parameters_refusal}
+use Rattle.bl_walk.specs.internal.Walking.{information_refusal, parameters_refusal}
 use Rattle.bl_walk.specs.Seen.{IsInformation, AreParameters}
 
 pub refused_information : (h : Handover) (bytes : List ℕ) (fault : InfoFault)

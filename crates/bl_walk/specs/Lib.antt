@@ -3,5 +3,5 @@ pub mod State
 pub mod SeenFacts
 pub mod Seen
 pub mod Faults
-pub mod Kept
+pub mod internal
 pub mod EntryShown

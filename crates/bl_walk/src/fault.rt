@@ -62,7 +62,7 @@ impl<T: Drop> From<AllocFailed<T>> for WalkFault {
 }
 
 impl From<InfoFault> for WalkFault {
-    ghost use Rattle.bl_walk.specs.Kept.{information_refusal};
+    ghost use Rattle.bl_walk.specs.internal.Walking.{information_refusal};
 
     ghost from_gives = { λ fault walk. walk ≡ information_refusal fault };
 
@@ -78,7 +78,7 @@ impl From<InfoFault> for WalkFault {
 }
 
 impl From<ParamFault> for WalkFault {
-    ghost use Rattle.bl_walk.specs.Kept.{parameters_refusal};
+    ghost use Rattle.bl_walk.specs.internal.Walking.{parameters_refusal};
 
     ghost from_gives = { λ fault walk. walk ≡ parameters_refusal fault };
 

@@ -6,7 +6,7 @@ ghost use Rattle.bl_image.specs.ImageHandover.{PartAscends};
 ghost use Rattle.bl_load.specs.Handover.{end_of};
 ghost use Rattle.bl_walk.specs.PartBytes as inside;
 ghost use Rattle.bl_walk.specs.PartBytes.{lies_in};
-ghost use Rattle.bl_walk.specs.Kept.{begins_upto};
+ghost use Rattle.bl_walk.specs.internal.Walking.{begins_upto};
 
 use bl_image::{Image, ImagePart};
 use std::alloc::Allocator;

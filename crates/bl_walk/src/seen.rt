@@ -92,7 +92,7 @@ impl<'a, A: Allocator> Model for Seen<'a, A> {
 
 impl<'a, A: Allocator + Copy> Seen<'a, A> {
     ghost use Rattle.std.specs.Prelude.{◌≡◌, IfOk};
-    ghost use Rattle.bl_walk.specs.Kept.{seen_without_files};
+    ghost use Rattle.bl_walk.specs.internal.Walking.{seen_without_files};
 
     /// What a kernel sees in an image that is told this line and these runs, and of no file and no
     /// copy of an RSDP beside them: what else it is told of is put in its place.

@@ -3,8 +3,8 @@ ghost use Rattle.std.specs.Prelude.{◌≡◌, ◌⊎◌, ◌≤◌, IfErr};
 
 use crate::image_file::ImageFile;
 use crate::program::{tell, tell_status};
-use bl_boot::{convert, walk_to};
 use bl_image::IoSource;
+use program_boot::{convert, walk_to};
 use std::io::Write;
 use std::{fs, io, rt};
 

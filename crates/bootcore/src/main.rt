@@ -9,12 +9,12 @@ mod image_jobs;
 mod path_files;
 mod program;
 
-pub use bl_boot::{AskedNames, FILE_LIMIT, Fetched, Files, MemFiles, boot, map_to, walk_to};
-pub use bl_explain::explain_to;
-pub use bl_line::{Job, LineFault, Order, read_line};
 pub use image_file::ImageFile;
 pub use path_files::{PathFiles, read_file};
 use program::{run_line, tell_status};
+pub use program_boot::{AskedNames, FILE_LIMIT, Fetched, Files, MemFiles, boot, map_to, walk_to};
+pub use program_explain::explain_to;
+pub use program_line::{Job, LineFault, Order, read_line};
 use std::process::ExitCode;
 use std::{env, io};
 

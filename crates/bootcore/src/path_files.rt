@@ -1,9 +1,9 @@
 //! Files of the operating system.
 ghost use Rattle.std.specs.Prelude.{IfOk};
-ghost use Rattle.bl_menu.specs.Files.{IsReadWhole};
+ghost use Rattle.program_menu.specs.internal.WholeReads.{IsReadWhole};
 
-use bl_boot::{AskedNames, FILE_LIMIT, Fetched, Files};
 use bl_mem::Bytes;
+use program_boot::{AskedNames, FILE_LIMIT, Fetched, Files};
 use std::alloc::{AllocError, Allocator};
 use std::io::{Eprint, Read};
 use std::marker::Model;

@@ -5,18 +5,18 @@ ghost use Rattle.std.specs.Prelude.{length, Result};
 ghost use Rattle.bl_mem.specs.Memory.{memory_from};
 ghost use Rattle.bl_load.specs.HandoffFacts.{HandoffFacts};
 ghost use Rattle.bl_session.specs.Phases.{PhaseFacts};
-ghost use Rattle.bl_abi.specs.Boot.{IsGivenBootEnd};
-ghost use Rattle.bl_abi.specs.BootTold.{TellsBoot};
-ghost use Rattle.bl_abi.specs.Load.{IsGivenLoadEnd};
-ghost use Rattle.bl_abi.specs.Prepare.{IsGivenPrepareEnd};
-ghost use Rattle.bl_abi.specs.LoadTold.{TellsEnd};
-ghost use Rattle.bl_abi.specs.declared.load_fault.LoadFault.{LoadFault};
-ghost use Rattle.bl_abi.specs.declared.given_fault.GivenFault.{GivenFault};
+ghost use Rattle.c_abi.specs.Boot.{IsGivenBootEnd};
+ghost use Rattle.c_abi.specs.BootTold.{TellsBoot};
+ghost use Rattle.c_abi.specs.Load.{IsGivenLoadEnd};
+ghost use Rattle.c_abi.specs.Prepare.{IsGivenPrepareEnd};
+ghost use Rattle.c_abi.specs.LoadTold.{TellsEnd};
+ghost use Rattle.c_abi.specs.declared.load_fault.LoadFault.{LoadFault};
+ghost use Rattle.c_abi.specs.declared.given_fault.GivenFault.{GivenFault};
 
 mod sessions;
 mod walks;
 
-use bl_abi::{
+use c_abi::{
     ByteRange, EntryRecord, Given, HandoffRecord, MachineRecord, ModuleRecord, PlaceRecord,
     RefusalRecord, RegionRecord, boot_told, load_told, prepare_told,
 };

@@ -5,19 +5,19 @@ ghost use Rattle.bl_session.specs.declared.outcome.Progress.{Progress};
 ghost use Rattle.bl_session.specs.BootSteps.{piece, fault};
 ghost use Rattle.bl_session.specs.Phases.{SessionFacts, state_at};
 ghost use Rattle.bl_session.specs.Requests.{first_request, request_after};
-ghost use Rattle.bl_abi.specs.BootTold.{Telling};
-ghost use Rattle.bl_abi.specs.Sessions.{IsSessionMade, TellsSession, TellsOutcome};
-ghost use Rattle.bl_abi.specs.declared.given_fault.GivenFault.{GivenFault};
-ghost use Rattle.bl_handle.specs.declared.handle_fault.HandleFault.{HandleFault};
-ghost use Rattle.bl_handle.specs.declared.handle_fault.HandleFault.TheVariants.{NoSession};
-ghost use Rattle.bl_handle.specs.HandleTold.{TellsRequest, progress_status, record_ticket};
-ghost use Rattle.bl_handle.specs.SessionSteps.{IsStarted, IsStepped};
+ghost use Rattle.c_abi.specs.BootTold.{Telling};
+ghost use Rattle.c_abi.specs.Sessions.{IsSessionMade, TellsSession, TellsOutcome};
+ghost use Rattle.c_abi.specs.declared.given_fault.GivenFault.{GivenFault};
+ghost use Rattle.c_handle.specs.declared.handle_fault.HandleFault.{HandleFault};
+ghost use Rattle.c_handle.specs.declared.handle_fault.HandleFault.TheVariants.{NoSession};
+ghost use Rattle.c_handle.specs.HandleTold.{TellsRequest, progress_status, record_ticket};
+ghost use Rattle.c_handle.specs.SessionSteps.{IsStarted, IsStepped};
 
-use bl_abi::{
+use c_abi::{
     ByteRange, EntryRecord, Given, GivenFault, HandoffRecord, MachineRecord, ModuleRecord,
     PlaceRecord, RefusalRecord, RegionRecord, given_status, outcome_told, session_given,
 };
-use bl_handle::{Handle, HandleFault, RequestRecord, status_of};
+use c_handle::{Handle, HandleFault, RequestRecord, status_of};
 use std::alloc::Global;
 
 /// A session is made, and kept; one that was kept before is freed then.

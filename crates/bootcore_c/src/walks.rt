@@ -1,11 +1,11 @@
 //! An image for C: what a kernel sees in it.
 ghost use Rattle.std.specs.Prelude.{Result};
-ghost use Rattle.bl_abi.specs.SeenTold.{WalkRecordsFacts};
-ghost use Rattle.bl_abi.specs.Walk.{IsWalkEnd};
-ghost use Rattle.bl_abi.specs.WalkTold.{TellsWalk, TellsWalkAll};
-ghost use Rattle.bl_abi.specs.declared.seen_records.WalkStop.{WalkStop};
+ghost use Rattle.c_abi.specs.SeenTold.{WalkRecordsFacts};
+ghost use Rattle.c_abi.specs.Walk.{IsWalkEnd};
+ghost use Rattle.c_abi.specs.WalkTold.{TellsWalk, TellsWalkAll};
+ghost use Rattle.c_abi.specs.declared.seen_records.WalkStop.{WalkStop};
 
-use bl_abi::{
+use c_abi::{
     RefusalRecord, RegionRecord, SeenModuleRecord, SeenPartRecord, SeenRecord, walk_all_told,
     walk_told,
 };

@@ -13,9 +13,9 @@ ghost use Rattle.bl_bzimage.specs.Setup.{IsSetup};
 ghost use Rattle.bl_load.specs.PlanContents.{content_by};
 ghost use Rattle.bl_mem.specs.Files.{nth_file};
 ghost use Rattle.bl_load.specs.Loadable.{lengths_of, content_length, IsInFiles, IsLeanContent};
-ghost use Rattle.bl_load.specs.PlacingKept.{HasRowLength, EndsLow};
-ghost use Rattle.bl_load.specs.KernelReadingKept.{TablesFit};
-ghost use Rattle.bl_load.specs.CheckedEntryKept.{texts_in, value_of_files};
+ghost use Rattle.bl_load.specs.internal.Placing.{HasRowLength, EndsLow};
+ghost use Rattle.bl_load.specs.internal.ReadKernels.{TablesFit};
+ghost use Rattle.bl_load.specs.internal.CheckedEntries.{texts_in, value_of_files};
 ghost use Rattle.bl_params.specs.ParamsToWriteFacts.{max_e820_entries};
 
 use crate::addresses::address_of;

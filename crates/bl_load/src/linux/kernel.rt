@@ -2,7 +2,7 @@
 ghost use Rattle.std.specs.Prelude.{◌≡◌, Some, None, IfOk, IfErr, MatchResult};
 ghost use Rattle.bl_load.specs.LinuxKernel as linux;
 ghost use Rattle.bl_load.specs.LinuxKernel.{IsLinuxKernel, entering_fault, telling_fault};
-ghost use Rattle.bl_load.specs.KernelReadingKept.{IsLinuxFault};
+ghost use Rattle.bl_load.specs.internal.ReadKernels.{IsLinuxFault};
 ghost use Rattle.bl_load.specs.declared.refusal.PrepFault.TheVariants.{Refused};
 
 use crate::refusal::{PrepFault, Refusal};

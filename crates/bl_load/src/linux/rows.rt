@@ -2,7 +2,7 @@
 ghost use Rattle.std.specs.Prelude.{◌≡◌, ◌≤◌, ◌<◌, ◌+◌, ◌^◌, ◌++◌, ℕ, List, length, map, IfOk};
 ghost use Rattle.bl_plan.specs.declared.part.Role.TheVariants as role;
 ghost use Rattle.bl_load.specs.LinuxRows as table;
-ghost use Rattle.bl_load.specs.PlacingKept as kept;
+ghost use Rattle.bl_load.specs.internal.Placing as kept;
 ghost use Rattle.bl_load.specs.EntryValue.{initrd_file};
 ghost use Rattle.bl_map.specs.Limits.{high_start};
 

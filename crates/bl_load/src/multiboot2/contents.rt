@@ -2,7 +2,7 @@
 ghost use Rattle.std.specs.Prelude.{◌≡◌, ◌≤◌, ◌<◌, ◌^◌, ◌+◌, All, IfOk, length, map};
 ghost use Rattle.bl_load.specs.EntryValue.{module_file};
 ghost use Rattle.bl_load.specs.KernelReading.{multiboot2};
-ghost use Rattle.bl_load.specs.Multiboot2KernelKept.{AreLoadable, kernel_by};
+ghost use Rattle.bl_load.specs.internal.ReadMultiboot2Kernels.{AreLoadable, kernel_by};
 ghost use Rattle.bl_plan.specs.declared.part.Role.TheVariants as role;
 ghost use Rattle.bl_load.specs.Rows.{module_length};
 ghost use Rattle.bl_load.specs.Parts as parts;
@@ -10,8 +10,9 @@ ghost use Rattle.bl_load.specs.Parts.{content_of};
 ghost use Rattle.bl_load.specs.PlanContents.{content_by};
 ghost use Rattle.bl_mem.specs.Files.{nth_file};
 ghost use Rattle.bl_load.specs.Loadable.{lengths_of, content_length, IsInFiles, IsLeanContent};
-ghost use Rattle.bl_load.specs.CheckedEntryKept.{texts_in, value_of_files};
-ghost use Rattle.bl_load.specs.PlacingKept.{HasKernelLength, HasRowLength, EndsLow, ModulesEndLow};
+ghost use Rattle.bl_load.specs.internal.CheckedEntries.{texts_in, value_of_files};
+ghost use Rattle.bl_load.specs.internal.Placing.{HasKernelLength, HasRowLength, EndsLow};
+ghost use Rattle.bl_load.specs.internal.Placing.{ModulesEndLow};
 
 use crate::checked_entry::CheckedEntry;
 use crate::multiboot2::information::information;

@@ -9,9 +9,9 @@ ghost use Rattle.bl_plan.specs.declared.part.Role.TheVariants as role;
 ghost use Rattle.bl_load.specs.Addresses.{address_of};
 ghost use Rattle.bl_load.specs.EntryValue.{line_fault};
 ghost use Rattle.bl_load.specs.Rows.{told_modules, information_of};
-ghost use Rattle.bl_load.specs.Kept.{lines_by};
-ghost use Rattle.bl_load.specs.PlacingKept.{EndsLow, ModulesEndLow};
-ghost use Rattle.bl_load.specs.CheckedEntryKept.{texts_in, value_of_files};
+ghost use Rattle.bl_load.specs.internal.Loading.{lines_by};
+ghost use Rattle.bl_load.specs.internal.Placing.{EndsLow, ModulesEndLow};
+ghost use Rattle.bl_load.specs.internal.CheckedEntries.{texts_in, value_of_files};
 ghost use Rattle.bl_plan.specs.MenuLimits.{max_modules};
 ghost use Rattle.bl_map.specs.Limits.{usable_limit};
 

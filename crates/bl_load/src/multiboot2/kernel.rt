@@ -5,9 +5,10 @@ ghost use Rattle.std.specs.List.{list_any};
 ghost use Rattle.bl_load.specs.Multiboot2Kernel as kernel;
 ghost use Rattle.bl_mem.specs.SegmentContents.{is_in_segment};
 ghost use Rattle.bl_load.specs.Multiboot2Kernel.{IsMultiboot2Kernel, IsLoadedBy, entry_point_fault};
-ghost use Rattle.bl_load.specs.Multiboot2KernelKept.{IsElfFault, IsElfRefusal, IsMultiboot2Fault};
-ghost use Rattle.bl_load.specs.Multiboot2KernelKept.{AreLoadable};
-ghost use Rattle.bl_load.specs.Multiboot2KernelKept.{executable_facts, kernel_by};
+ghost use Rattle.bl_load.specs.internal.ReadMultiboot2Kernels.{IsElfFault, IsElfRefusal};
+ghost use Rattle.bl_load.specs.internal.ReadMultiboot2Kernels.{IsMultiboot2Fault};
+ghost use Rattle.bl_load.specs.internal.ReadMultiboot2Kernels.{AreLoadable};
+ghost use Rattle.bl_load.specs.internal.ReadMultiboot2Kernels.{executable_facts, kernel_by};
 ghost use Rattle.bl_load.specs.declared.refusal.PrepFault.TheVariants.{Refused};
 
 use crate::refusal::{PrepFault, Refusal};

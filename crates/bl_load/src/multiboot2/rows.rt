@@ -3,10 +3,10 @@ ghost use Rattle.std.specs.Prelude.{◌≡◌, ◌≤◌, ◌<◌, ◌+◌, ◌^
 ghost use Rattle.std.specs.Prelude.{option_map, IfOk};
 ghost use Rattle.bl_load.specs.KernelBlock as blocks;
 ghost use Rattle.bl_load.specs.Rows as table;
-ghost use Rattle.bl_load.specs.Kept.{lines_by};
-ghost use Rattle.bl_load.specs.PlacingKept as kept;
-ghost use Rattle.bl_load.specs.Multiboot2KernelKept.{kernel_by, max_segments};
-ghost use Rattle.bl_load.specs.CheckedEntryKept.{value_of_files};
+ghost use Rattle.bl_load.specs.internal.Loading.{lines_by};
+ghost use Rattle.bl_load.specs.internal.Placing as kept;
+ghost use Rattle.bl_load.specs.internal.ReadMultiboot2Kernels.{kernel_by, max_segments};
+ghost use Rattle.bl_load.specs.internal.CheckedEntries.{value_of_files};
 ghost use Rattle.bl_plan.specs.MenuLimits.{max_line, max_modules};
 
 use crate::capped_lengths::capped_length;

@@ -1,7 +1,7 @@
 //! Frames that share a slot.
 ghost use Rattle.std.specs.Prelude.{◌≡◌, true, false};
 ghost use Rattle.bl_mem.specs.SparseFrames.{IsShared};
-ghost use Rattle.bl_mem.specs.Kept.{ArePair, IsUnshared};
+ghost use Rattle.bl_mem.specs.internal.FrameSlots.{ArePair, IsUnshared};
 
 use super::SparseFrames;
 use crate::frame_state::FrameState;

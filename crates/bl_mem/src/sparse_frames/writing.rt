@@ -5,7 +5,7 @@ ghost use Rattle.bl_mem.specs.Memory.{overwrite};
 ghost use Rattle.bl_mem.specs.FrameState.{has_room};
 ghost use Rattle.bl_mem.specs.SparseFrames.{frame_numbered, HasRoomAt, IsWritten};
 ghost use Rattle.bl_mem.specs.SparseFrames.{IsStored};
-ghost use Rattle.bl_mem.specs.Kept.{slot_of, owed_slots, partner, IsKeptIn, IsPutAt};
+ghost use Rattle.bl_mem.specs.internal.FrameSlots.{slot_of, owed_slots, partner, IsKeptIn, IsPutAt};
 
 use super::{SparseFrames, WIDTH};
 use crate::byte_writer::{put_at, put_bytes};

@@ -1,5 +1,5 @@
 use Rattle.std.proofs.Common.{◌∙◌, arith}
-use Rattle.bl_image.specs.RecordsKept.{place_bytes}
+use Rattle.bl_image.specs.internal.PlaceRecords.{place_bytes}
 use Rattle.bl_image.proofs.Ways.{way_as, way_goes_on, way_stops, on_err}
 use Rattle.bl_image.proofs.Spelled.{flat_map-drop}
 use Rattle.bl_image.proofs.part_writer.write_parts.Goals as goal

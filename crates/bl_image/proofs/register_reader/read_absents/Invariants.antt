@@ -3,7 +3,7 @@ use Rattle.std.specs.Prelude.{replicate}
 use Rattle.std.specs.List.{flat_map}
 use Rattle.bl_mem.specs.LittleEndian.{u64_bytes}
 use Rattle.bl_image.specs.Fields.{absent_field}
-use Rattle.bl_image.specs.SourceKept.{PassAll}
+use Rattle.bl_image.specs.internal.SourceReading.{PassAll}
 use Rattle.bl_image.proofs.register_reader.read_absents.Given as goal
 
 -- the first zeros came

@@ -1,5 +1,5 @@
 use Rattle.std.proofs.Common.{◌≡◌, drop}
-use Rattle.bl_load.specs.Kept.{lines_by}
+use Rattle.bl_load.specs.internal.Loading.{lines_by}
 use Rattle.bl_load.specs.EntryValue.{lines_fault}
 use Rattle.bl_load.proofs.line_checks.check_module_lines.Given as goal
 

@@ -3,7 +3,7 @@ use Rattle.std.proofs.lemmas.List.{length-map}
 use Rattle.std.proofs.lemmas.Result.{IfOk-weaker, IfErr-weaker, err_from_is_err_and}
 use Rattle.bl_load.specs.LinuxKernel.{IsLinuxKernel}
 use Rattle.bl_load.specs.PlanContents.{handover_by}
-use Rattle.bl_load.specs.KernelReadingKept.{IsLinuxFault}
+use Rattle.bl_load.specs.internal.ReadKernels.{IsLinuxFault}
 use Rattle.bl_load.specs.KernelReading.{linux}
 use Rattle.bl_load.specs.EntryValue.{linux_value}
 use Rattle.bl_load.proofs.LineLemmas.{sound_short, one_sound}

@@ -1,9 +1,9 @@
 use Rattle.std.proofs.Common.{◌≤◌, ℕ, List, length, map, arith, inl, refl, subst}
 use Rattle.std.proofs.lemmas.List.{length-map}
 use Rattle.std.proofs.lemmas.Result.{IfOk-weaker, IfErr-weaker, err_from_is_err_and}
-use Rattle.bl_load.specs.Multiboot2KernelKept.{kernel_by, AreLoadable, IsMultiboot2Fault}
+use Rattle.bl_load.specs.internal.ReadMultiboot2Kernels.{kernel_by, AreLoadable, IsMultiboot2Fault}
 use Rattle.bl_load.specs.Multiboot2Kernel.{IsMultiboot2Kernel}
-use Rattle.bl_load.specs.Kept.{lines_by}
+use Rattle.bl_load.specs.internal.Loading.{lines_by}
 use Rattle.bl_load.specs.PlanContents.{handover_by}
 use Rattle.bl_load.specs.KernelReading.{multiboot2}
 use Rattle.bl_load.specs.EntryValue.{multiboot2_value, line_fault, lines_fault}

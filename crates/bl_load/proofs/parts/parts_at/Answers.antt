@@ -7,10 +7,10 @@ use Rattle.bl_plan.specs.declared.part.Role.TheVariants.{Kernel}
 use Rattle.bl_load.specs.declared.plan.PlannedPart.{PlannedPart}
 use Rattle.bl_load.specs.Handover.{Part, placed_part, zero_padded}
 use Rattle.bl_load.specs.Parts.{part_from}
-use Rattle.bl_load.specs.PlannedPlaceKept.{planned_place}
+use Rattle.bl_load.specs.PlannedPlaces.{planned_place}
 use Rattle.bl_load.specs.PlanContents.{part_by}
 use Rattle.bl_load.specs.Loadable.{lengths_of, IsBacked, IsLeanContent}
-use Rattle.bl_load.specs.CheckedEntryKept.{texts_in, value_of_files}
+use Rattle.bl_load.specs.internal.CheckedEntries.{texts_in, value_of_files}
 use Rattle.bl_load.proofs.parts.parts_at.Goals as goal
 
 pub content-requires-clause-rowed : goal.content-requires-clause-rowed

@@ -1,9 +1,9 @@
 use Rattle.std.proofs.Common.{◌≡◌, take, map, All}
 use Rattle.bl_load.specs.Parts.{part_from}
-use Rattle.bl_load.specs.PlannedPlaceKept.{planned_place}
+use Rattle.bl_load.specs.PlannedPlaces.{planned_place}
 use Rattle.bl_load.specs.PlanContents.{part_by}
 use Rattle.bl_load.specs.Loadable.{lengths_of, IsBacked, IsLean}
-use Rattle.bl_load.specs.CheckedEntryKept.{texts_in, value_of_files}
+use Rattle.bl_load.specs.internal.CheckedEntries.{texts_in, value_of_files}
 use Rattle.bl_load.proofs.parts.parts_at.Given as goal
 
 -- the parts so far are those at the places so far

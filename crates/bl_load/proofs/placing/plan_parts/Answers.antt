@@ -8,15 +8,15 @@ use Rattle.bl_plan.specs.declared.part.Row.{Row}
 use Rattle.bl_plan.specs.Placed.{ArePlaced, IsWellFormedRow, IsPlacingFault, place_range}
 use Rattle.bl_plan.specs.AddressOrder.{places_in_order, place_key}
 use Rattle.bl_plan.proofs.OrderLemmas.{in_order_all}
-use Rattle.bl_load.specs.PlannedPlaceKept.{planned_place}
+use Rattle.bl_load.specs.PlannedPlaces.{planned_place}
 use Rattle.bl_load.specs.HandoffFacts.{IsWellFormedHandoff}
 use Rattle.bl_load.specs.Parts.{registers_of}
 use Rattle.bl_load.specs.declared.registers.Registers.{Registers}
 use Rattle.bl_load.specs.declared.plan.PlannedPart.{PlannedPart}
-use Rattle.bl_load.specs.PlacingKept.{HasRowLength, capped_rows_of}
+use Rattle.bl_load.specs.internal.Placing.{HasRowLength, capped_rows_of}
 use Rattle.bl_load.specs.Rows.{rows_of}
-use Rattle.bl_load.specs.KernelReadingKept.{ToldFits32Bits, EntryPointFits32Bits}
-use Rattle.bl_load.specs.CheckedEntryKept.{value_of_files}
+use Rattle.bl_load.specs.internal.ReadKernels.{ToldFits32Bits, EntryPointFits32Bits}
+use Rattle.bl_load.specs.internal.CheckedEntries.{value_of_files}
 use Rattle.bl_load.proofs.PlacingLemmas.{refused_place}
 use Rattle.bl_load.proofs.ReadingLaws.{reading_rows, reading_rowed, reading_kept}
 use Rattle.bl_load.proofs.ReadingLaws.{reading_not_overlap}

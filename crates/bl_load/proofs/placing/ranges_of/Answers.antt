@@ -6,7 +6,7 @@ use Rattle.bl_plan.specs.Placed.{place_range}
 use Rattle.std.proofs.lemmas.Result.{err_from_is_err_and}
 use Rattle.bl_plan.specs.declared.part.Place.{Place}
 use Rattle.bl_load.specs.declared.plan.PlannedPart.{PlannedPart}
-use Rattle.bl_load.specs.PlannedPlaceKept.{planned_place}
+use Rattle.bl_load.specs.PlannedPlaces.{planned_place}
 use Rattle.bl_load.proofs.HeldLemmas.{all_under}
 use Rattle.bl_load.proofs.placing.ranges_of.Goals as goal
 

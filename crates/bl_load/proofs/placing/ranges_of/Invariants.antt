@@ -1,6 +1,6 @@
 use Rattle.std.proofs.Common.{◌≡◌, take, map}
 use Rattle.bl_plan.specs.Placed.{place_range}
-use Rattle.bl_load.specs.PlannedPlaceKept.{planned_place}
+use Rattle.bl_load.specs.PlannedPlaces.{planned_place}
 use Rattle.bl_load.proofs.placing.ranges_of.Given as goal
 
 -- the ranges so far

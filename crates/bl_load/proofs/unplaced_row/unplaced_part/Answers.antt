@@ -2,8 +2,8 @@ use Rattle.std.proofs.Common.{◌≡◌, [], All, List, subst, sym, ◌∙◌}
 use Rattle.std.proofs.lemmas.Result.{IfOk-weaker}
 use Rattle.bl_plan.specs.declared.part.Row.{Row}
 use Rattle.bl_plan.specs.Placed.{IsWellFormedRow}
-use Rattle.bl_load.specs.PlacingKept.{capped_rows_of}
-use Rattle.bl_load.specs.CheckedEntryKept.{value_of_files}
+use Rattle.bl_load.specs.internal.Placing.{capped_rows_of}
+use Rattle.bl_load.specs.internal.CheckedEntries.{value_of_files}
 use Rattle.bl_load.specs.Unplaced.{IsUnplacedOf}
 use Rattle.bl_load.proofs.ReadingLemmas.{told_are_rows}
 use Rattle.bl_load.proofs.UnplacedLemmas.{as_unplaced_of}

@@ -2,7 +2,7 @@
 ghost use Rattle.std.specs.Prelude.{◌≡◌, ◌≤◌, ◌<◌, ◌+◌, ◌^◌, ◌++◌, length, IfOk};
 ghost use Rattle.bl_load.specs.KernelBlock as blocks;
 ghost use Rattle.bl_load.specs.Rows as table;
-ghost use Rattle.bl_load.specs.Multiboot2KernelKept.{kernel_by, max_segments};
+ghost use Rattle.bl_load.specs.internal.ReadMultiboot2Kernels.{kernel_by, max_segments};
 
 use crate::multiboot2::kernel::Kernel;
 use bl_mb2head::Relocation;

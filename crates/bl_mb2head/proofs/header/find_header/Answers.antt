@@ -6,7 +6,7 @@ use Rattle.bl_mb2head.specs.declared.last_of_type.LastTags.{LastTags}
 use Rattle.bl_mb2head.specs.declared.tag.Tag.{Tag}
 use Rattle.bl_mb2head.specs.Address.{address_fault}
 use Rattle.bl_mb2head.specs.Header.{BeginsAt, HasFirstHeadFault}
-use Rattle.bl_mb2head.specs.LastTagsKept.{last_tags}
+use Rattle.bl_mb2head.specs.internal.LastTags.{last_tags}
 use Rattle.bl_mb2head.specs.Tags.{AreAllTags, IsFirstTagFault}
 use Rattle.bl_mb2head.proofs.FaultLemmas.{tag_fault_first, address_fault_first}
 use Rattle.bl_mb2head.proofs.HeaderLemmas.{ends_after_tag, ends_in_file, ends_in_front}

@@ -1,5 +1,5 @@
 use Rattle.std.proofs.Common.{length}
-use Rattle.bl_mbi.specs.RestKept.{rest_facts}
+use Rattle.bl_mbi.specs.internal.BytesLeft.{rest_facts}
 use Rattle.bl_mbi.proofs.ModuleLemmas.{IsOnWay}
 use Rattle.bl_mbi.proofs.tag_reader.modules_at.Given as goal
 

@@ -1,5 +1,5 @@
 use Rattle.std.proofs.Common.{◌-◌, ◌≤◌}
-use Rattle.bl_mem.specs.Kept.{AreGivenRoom}
+use Rattle.bl_mem.specs.internal.FrameSlots.{AreGivenRoom}
 use Rattle.bl_mem.proofs.frame_room.give_room.Given as goal
 
 -- those so far have room

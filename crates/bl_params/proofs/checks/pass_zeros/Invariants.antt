@@ -1,4 +1,4 @@
-use Rattle.bl_params.specs.Kept.{HasFormBelow}
+use Rattle.bl_params.specs.internal.CheckedForm.{HasFormBelow}
 use Rattle.bl_params.proofs.checks.pass_zeros.Given as goal
 
 -- nothing so far breaks the form

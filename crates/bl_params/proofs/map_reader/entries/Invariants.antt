@@ -1,7 +1,7 @@
 use Rattle.std.proofs.Common.{◌≡◌, length}
 use Rattle.bl_params.specs.BootParamsForm.{e820_entry_offset}
 use Rattle.bl_params.specs.Reading.{AreE820Entries}
-use Rattle.bl_params.specs.Kept.{HasFormBelow}
+use Rattle.bl_params.specs.internal.CheckedForm.{HasFormBelow}
 use Rattle.bl_params.proofs.map_reader.entries.Given as goal
 
 -- the entries so far are read

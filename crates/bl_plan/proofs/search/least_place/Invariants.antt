@@ -1,5 +1,5 @@
 use Rattle.std.proofs.Common.{ℕ, ◌≡◌, ◌≤◌, ◌-◌, ◌%◌}
-use Rattle.bl_plan.specs.Kept.{IsPermittedIn}
+use Rattle.bl_plan.specs.internal.FreeBytes.{IsPermittedIn}
 use Rattle.bl_plan.proofs.search.least_place.Given as goal
 
 -- no address below this one is permitted

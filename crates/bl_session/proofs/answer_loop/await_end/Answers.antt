@@ -2,7 +2,7 @@ use Rattle.std.proofs.Common.{◌<◌, ◌∙◌, subst}
 use Rattle.bl_session.specs.BootSteps.{BootFacts}
 use Rattle.bl_session.specs.Memory.{IsMemoryAt}
 use Rattle.bl_session.specs.Phases.{state_at}
-use Rattle.bl_session.specs.RunKept.{attempts_left}
+use Rattle.bl_session.specs.internal.RunParts.{attempts_left}
 use Rattle.bl_session.proofs.KeptMemoryLemmas.{memory_on, same_on, keeps_on}
 use Rattle.bl_session.proofs.AnswerLemmas.{at, heard_more, heard_waiting, heard_ended}
 use Rattle.bl_session.proofs.AnswerLemmas.{waiting_memory}

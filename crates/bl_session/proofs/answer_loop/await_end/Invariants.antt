@@ -2,7 +2,7 @@ use Rattle.std.proofs.Common.{◌≡◌, true}
 use Rattle.bl_mem.specs.Memory.{KeepsSizeAndRoom}
 use Rattle.bl_stage.specs.Ranges.{IsSameOutside}
 use Rattle.bl_session.specs.Phases.{state_at, is_waiting}
-use Rattle.bl_session.specs.RunKept.{HistoryLeadsOn, attempts_left}
+use Rattle.bl_session.specs.internal.RunParts.{HistoryLeadsOn, attempts_left}
 use Rattle.bl_session.proofs.AnswerLemmas.{at}
 use Rattle.bl_session.proofs.answer_loop.await_end.Given as goal
 

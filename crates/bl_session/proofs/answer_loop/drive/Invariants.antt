@@ -3,7 +3,7 @@ use Rattle.bl_mem.specs.Memory.{HasRoom, KeepsSizeAndRoom}
 use Rattle.bl_session.specs.Memory.{IsMemoryAt}
 use Rattle.bl_session.specs.Phases.{state_at, is_waiting, not_started}
 use Rattle.bl_session.specs.Run.{run_state_of}
-use Rattle.bl_session.specs.RunKept.{HistoryLeadsOn, attempts_left}
+use Rattle.bl_session.specs.internal.RunParts.{HistoryLeadsOn, attempts_left}
 use Rattle.bl_session.proofs.answer_loop.drive.Given as goal
 
 -- what was asked and heard so far led from where the boot stood

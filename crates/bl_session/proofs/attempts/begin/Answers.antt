@@ -1,10 +1,10 @@
 use Rattle.std.proofs.Common.{◌≡◌, ◌<◌, ◌≤◌, ◌∙◌, [], length, ap, rules, refl, arith}
 use Rattle.std.proofs.Common.{subst}
-use Rattle.bl_session.specs.AttemptKept.{IsMemoryAfterAttempt, KeepsAttempt}
+use Rattle.bl_session.specs.internal.AttemptStates.{IsMemoryAfterAttempt, KeepsAttempt}
 use Rattle.bl_session.specs.Menu.{EntryFacts, facts_of}
 use Rattle.bl_session.specs.BootSteps.{unstarted, handed_over}
 use Rattle.bl_session.specs.Phases.{handover_held}
-use Rattle.bl_session.specs.PhasesKept.{facts_of_boot}
+use Rattle.bl_session.specs.internal.SessionPhases.{facts_of_boot}
 use Rattle.bl_session.specs.declared.attempt.Attempt.{Attempt}
 use Rattle.bl_session.specs.declared.attempt.Attempt.TheVariants.{Waits, Ended}
 use Rattle.bl_session.specs.declared.attempt.AttemptEnd.TheVariants.{HandedOver, Refused}

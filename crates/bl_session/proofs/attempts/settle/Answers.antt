@@ -2,9 +2,9 @@ use Rattle.std.proofs.Common.{◌≡◌, List, Some, drop, ap, refl, rules, subs
 use Rattle.bl_load.specs.declared.refused_entry.RefusedEntry.{RefusedEntry}
 use Rattle.bl_session.specs.Menu.{facts_of}
 use Rattle.bl_session.specs.BootSteps.{unstarted, handed_over, Begins, Continues}
-use Rattle.bl_session.specs.AttemptKept.{attempt_with}
+use Rattle.bl_session.specs.internal.AttemptStates.{attempt_with}
 use Rattle.bl_stage.specs.PieceStates.{piece_states}
-use Rattle.bl_session.specs.PhasesKept.{facts_of_boot, state_of, phase_by}
+use Rattle.bl_session.specs.internal.SessionPhases.{facts_of_boot, state_of, phase_by}
 use Rattle.bl_session.specs.declared.attempt.Attempt.TheVariants.{Waits, Ended}
 use Rattle.bl_session.specs.declared.attempt.AttemptEnd.TheVariants.{HandedOver, Refused}
 use Rattle.bl_session.specs.Phases.{handover_held}

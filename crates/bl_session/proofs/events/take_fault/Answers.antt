@@ -2,7 +2,7 @@ use Rattle.std.proofs.Common.{drop, sym, ◌∙◌}
 use Rattle.bl_stage.specs.PieceStates.{piece_states}
 use Rattle.bl_session.specs.BootSteps.{fault, is_wanted}
 use Rattle.bl_session.specs.Phases.{boot_facts}
-use Rattle.bl_session.specs.PhasesKept.{state_of, phase_by}
+use Rattle.bl_session.specs.internal.SessionPhases.{state_of, phase_by}
 use Rattle.bl_session.proofs.StepLemmas.{memory_taken}
 use Rattle.bl_session.proofs.StepFaultLemmas.{steps_fault, lacks_fault, same_itself}
 use Rattle.bl_session.proofs.events.take_fault.Goals as goal

@@ -4,7 +4,7 @@ use Rattle.bl_stage.specs.PieceStates.{piece_states}
 use Rattle.bl_stage.specs.Staged.{Staging}
 use Rattle.bl_session.specs.BootSteps.{piece, is_wanted}
 use Rattle.bl_session.specs.Phases.{boot_facts}
-use Rattle.bl_session.specs.PhasesKept.{state_of, phase_by, IsPhaseKept}
+use Rattle.bl_session.specs.internal.SessionPhases.{state_of, phase_by, IsPhaseKept}
 use Rattle.bl_session.specs.declared.phase.Phase.TheVariants.{Waits}
 use Rattle.bl_session.proofs.StepLemmas.{wanted_not, steps_unchanged, wanted_stored}
 use Rattle.bl_session.proofs.StepLemmas.{piece_states_after}

@@ -2,7 +2,7 @@ use Rattle.std.proofs.Common.{◌∙◌, drop, refl, subst, sym, List, arith}
 use Rattle.std.proofs.lemmas.Result.{err_from_is_err_and}
 use Rattle.bl_session.specs.History.{HistoryItem}
 use Rattle.bl_session.specs.Submissions.{piece_submissions}
-use Rattle.bl_session.specs.RunKept.{AreAskedButRest}
+use Rattle.bl_session.specs.internal.RunParts.{AreAskedButRest}
 use Rattle.bl_session.proofs.AskLemmas.{asked_none, asked_piece, asked_pieces}
 use Rattle.bl_session.proofs.store_submissions.submit_file.Goals as goal
 

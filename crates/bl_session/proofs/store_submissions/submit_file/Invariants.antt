@@ -1,6 +1,6 @@
 use Rattle.std.proofs.Common.{◌≡◌, drop}
 use Rattle.bl_session.specs.Submissions.{piece_submissions}
-use Rattle.bl_session.specs.RunKept.{AreAskedButRest}
+use Rattle.bl_session.specs.internal.RunParts.{AreAskedButRest}
 use Rattle.bl_session.proofs.store_submissions.submit_file.Given as goal
 
 -- all but the pieces from this one on were asked for

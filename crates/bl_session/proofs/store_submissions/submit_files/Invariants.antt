@@ -1,6 +1,6 @@
 use Rattle.std.proofs.Common.{◌≡◌, drop}
 use Rattle.bl_session.specs.Menu.{files_of}
-use Rattle.bl_session.specs.RunKept.{AreAskedButRest}
+use Rattle.bl_session.specs.internal.RunParts.{AreAskedButRest}
 use Rattle.bl_session.proofs.AskFileLemmas.{sized_orders}
 use Rattle.bl_session.proofs.store_submissions.submit_files.Given as goal
 

@@ -1,6 +1,6 @@
 use Rattle.std.proofs.Common.{◌≡◌, ◌-◌, ◌≤◌, ℕ, get_or}
 use Rattle.std.specs.Prelude.{vec_capacity, vec_len}
-use Rattle.bl_stage.specs.PackedCells.{no_group}
+use Rattle.bl_stage.specs.internal.PackedCells.{no_group}
 use Rattle.bl_stage.proofs.cells.reach.Given as goal
 
 -- so many stand there, and each reads as before

@@ -2,7 +2,7 @@ use Rattle.std.proofs.Common.{◌≡◌, ◌*◌, length, arith, rules, ap, ◌�
 use Rattle.std.specs.List.{count_by}
 use Rattle.std.proofs.lemmas.List.{take_all}
 use Rattle.bl_map.specs.PoolFrames.{open_among}
-use Rattle.bl_stage.specs.Cells.{is_open_cell}
+use Rattle.bl_stage.specs.internal.Cells.{is_open_cell}
 use Rattle.bl_stage.proofs.WayLemmas.{held_marked, open_count}
 use Rattle.bl_stage.proofs.moves.make_way.Goals as goal
 

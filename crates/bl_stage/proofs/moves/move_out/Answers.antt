@@ -2,7 +2,7 @@ use Rattle.std.proofs.Common.{◌≡◌, ◌+◌, ◌*◌, ◌<◌, ◌≤◌, l
 use Rattle.std.proofs.Common.{arith, rules, refl, sym, ap, ◌∙◌}
 use Rattle.std.specs.List.{count_by}
 use Rattle.bl_mem.specs.Memory.{overwrite}
-use Rattle.bl_stage.specs.Cells.{cell_at, is_spare_cell, is_stranded_cell}
+use Rattle.bl_stage.specs.internal.Cells.{cell_at, is_spare_cell, is_stranded_cell}
 use Rattle.bl_stage.proofs.SpareLemmas.{enough_first, enough_rest, spare_is, enough_after}
 use Rattle.bl_stage.proofs.SpareLemmas.{spare_before}
 use Rattle.bl_stage.proofs.MoveLemmas.{none_moved, none_more, one_more}

@@ -1,6 +1,6 @@
 use Rattle.std.proofs.Common.{◌≡◌, ◌≤◌, ◌-◌, length, drop}
 use Rattle.std.specs.List.{count_by}
-use Rattle.bl_stage.specs.Cells.{is_spare_cell}
+use Rattle.bl_stage.specs.internal.Cells.{is_spare_cell}
 use Rattle.bl_stage.proofs.moves.next_spare.Given as goal
 
 -- no cell so far is spare

@@ -1,5 +1,5 @@
 use Rattle.std.proofs.Common.{◌≡◌, ℕ, ◌+◌, ◌<◌, length, take}
-use Rattle.bl_stage.specs.Cells.{cell_at}
+use Rattle.bl_stage.specs.internal.Cells.{cell_at}
 use Rattle.bl_stage.specs.Ranges.{meets}
 use Rattle.bl_stage.proofs.shut_cells.mark.Given as goal
 

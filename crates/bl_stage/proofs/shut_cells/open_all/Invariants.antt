@@ -1,5 +1,5 @@
 use Rattle.std.proofs.Common.{◌≡◌, ℕ, ◌<◌, length, false}
-use Rattle.bl_stage.specs.Cells.{cell_at}
+use Rattle.bl_stage.specs.internal.Cells.{cell_at}
 use Rattle.bl_stage.proofs.shut_cells.open_all.Given as goal
 
 abbrev pub invariant-loop-at : goal.invariant-loop-at

@@ -1,5 +1,5 @@
 use Rattle.std.proofs.Common.{◌≡◌, take, length}
-use Rattle.bl_stage.specs.Cells.{AreHeld}
+use Rattle.bl_stage.specs.internal.Cells.{AreHeld}
 use Rattle.bl_stage.proofs.tables.hold_all.Given as goal
 
 abbrev pub invariant-loop-slot : goal.invariant-loop-slot

@@ -1,5 +1,5 @@
 use Rattle.bl_walk.specs.Faults.{information}
-use Rattle.bl_walk.specs.Kept.{information_refusal}
+use Rattle.bl_walk.specs.internal.Walking.{information_refusal}
 use Rattle.bl_walk.specs.Seen.{IsInformation}
 use Rattle.bl_walk.proofs.RefusalLemmas.{refused_information, answered}
 use Rattle.bl_walk.proofs.information.information.Goals as goal

@@ -1,5 +1,5 @@
 use Rattle.bl_walk.specs.Faults.{boot_params}
-use Rattle.bl_walk.specs.Kept.{parameters_refusal}
+use Rattle.bl_walk.specs.internal.Walking.{parameters_refusal}
 use Rattle.bl_walk.specs.Seen.{AreParameters}
 use Rattle.bl_walk.proofs.RefusalLemmas.{refused_parameters, answered}
 use Rattle.bl_walk.proofs.parameters.parameters.Goals as goal

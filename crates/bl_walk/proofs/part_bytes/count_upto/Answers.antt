@@ -1,6 +1,6 @@
 use Rattle.std.proofs.Common.{rules}
 use Rattle.std.proofs.lemmas.List.Sorted.{IsPartitionPoint-from_clause}
-use Rattle.bl_walk.specs.Kept.{begins_upto}
+use Rattle.bl_walk.specs.internal.Walking.{begins_upto}
 use Rattle.bl_walk.proofs.InsideLemmas.{partitioned}
 use Rattle.bl_walk.proofs.part_bytes.count_upto.Goals as goal
 

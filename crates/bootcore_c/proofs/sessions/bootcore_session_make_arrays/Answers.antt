@@ -1,6 +1,6 @@
 use Rattle.std.proofs.Common.{Err, inl, inr, refl}
-use Rattle.bl_abi.specs.declared.given_fault.GivenFault.TheVariants.{NoMemory}
-use Rattle.bl_abi.specs.Sessions.{of_machine}
+use Rattle.c_abi.specs.declared.given_fault.GivenFault.TheVariants.{NoMemory}
+use Rattle.c_abi.specs.Sessions.{of_machine}
 use Rattle.bootcore_c.proofs.sessions.bootcore_session_make_arrays.Goals as goal
 
 -- there was a session, and no memory to keep it in: memory ran out

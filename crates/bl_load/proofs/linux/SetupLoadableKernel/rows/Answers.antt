@@ -1,4 +1,4 @@
-use Rattle.bl_load.specs.CheckedEntryKept.{value_of_files}
+use Rattle.bl_load.specs.internal.CheckedEntries.{value_of_files}
 use Rattle.bl_load.specs.EntryValue.{kernel_file}
 use Rattle.bl_bzimage.proofs.CheckLaws.{fixed_preferred}
 use Rattle.bl_load.proofs.LinuxKernelLemmas.{setup_is}

@@ -7,8 +7,8 @@ use Rattle.bl_load.specs.Addresses.{address_of}
 use Rattle.bl_load.specs.Protocols.{is_wide}
 use Rattle.bl_load.specs.LinuxRows.{boot_params_facts}
 use Rattle.bl_load.specs.KernelReading.{linux}
-use Rattle.bl_load.specs.PlacingKept.{HasLength}
-use Rattle.bl_load.specs.CheckedEntryKept.{value_of_files}
+use Rattle.bl_load.specs.internal.Placing.{HasLength}
+use Rattle.bl_load.specs.internal.CheckedEntries.{value_of_files}
 use Rattle.bl_load.proofs.linux.contents.linux_content.Goals as goal
 
 pub returns-in_ok-boot_params-in-BootParams-clause-short : goal.returns-in_ok-boot_params-in-BootParams-clause-short

@@ -1,4 +1,4 @@
-use Rattle.bl_load.specs.CheckedEntryKept.{texts_in}
+use Rattle.bl_load.specs.internal.CheckedEntries.{texts_in}
 use Rattle.bl_load.proofs.ReadingLemmas.{modules_fit}
 use Rattle.bl_load.proofs.multiboot2.KernelLoadableKernel.content.Goals as goal
 

@@ -1,7 +1,7 @@
 use Rattle.std.proofs.Common.{ℕ, List, length, map, arith, ap, ◌∙◌}
 use Rattle.std.proofs.lemmas.List.{length-map}
 use Rattle.bl_plan.specs.AddressOrder.{segments_in_order}
-use Rattle.bl_load.specs.Multiboot2KernelKept.{executable_facts}
+use Rattle.bl_load.specs.internal.ReadMultiboot2Kernels.{executable_facts}
 use Rattle.bl_load.proofs.ContentLemmas.{block_content, block_copied, block_ascends, block_some}
 use Rattle.bl_load.proofs.ContentLemmas.{block_short}
 use Rattle.bl_load.proofs.HeldLemmas.{length_at}

@@ -2,11 +2,11 @@ use Rattle.std.proofs.Common.{◌≡◌, ℕ, List, [], length, arith, ap, subst
 use Rattle.bl_mbi.specs.InfoToWriteFacts.{info_size}
 use Rattle.bl_plan.specs.declared.part.Role.{Role}
 use Rattle.bl_load.specs.KernelReading.{multiboot2}
-use Rattle.bl_load.specs.Multiboot2KernelKept.{kernel_by}
+use Rattle.bl_load.specs.internal.ReadMultiboot2Kernels.{kernel_by}
 use Rattle.bl_map.specs.PoolFrames.{round_up_to_frames}
 use Rattle.bl_load.specs.Rows.{information_of}
-use Rattle.bl_load.specs.PlacingKept.{HasLength}
-use Rattle.bl_load.specs.CheckedEntryKept.{value_of_files}
+use Rattle.bl_load.specs.internal.Placing.{HasLength}
+use Rattle.bl_load.specs.internal.CheckedEntries.{value_of_files}
 use Rattle.bl_load.proofs.InformationLemmas.{information_short}
 use Rattle.bl_load.proofs.multiboot2.contents.multiboot2_content.Goals as goal
 

@@ -1,8 +1,8 @@
 use Rattle.std.proofs.Common.{◌≤◌, ℕ, List, length, arith}
 use Rattle.std.proofs.lemmas.List.{length-map}
 use Rattle.std.proofs.lemmas.List.Elements.{All-map}
-use Rattle.bl_load.specs.Kept.{lines_by}
-use Rattle.bl_load.specs.CheckedEntryKept.{texts_in}
+use Rattle.bl_load.specs.internal.Loading.{lines_by}
+use Rattle.bl_load.specs.internal.CheckedEntries.{texts_in}
 use Rattle.bl_load.proofs.LineLemmas.{all_short}
 use Rattle.bl_load.proofs.InformationLemmas.{tags_size_is, tags_small}
 use Rattle.bl_load.proofs.multiboot2.information.information.Goals as goal

@@ -5,7 +5,7 @@ use Rattle.bl_plan.specs.declared.part.Role.TheVariants as role
 use Rattle.bl_load.specs.declared.entry.Module.{Module}
 use Rattle.bl_load.specs.Addresses.{address_of}
 use Rattle.bl_mbi.specs.InfoToWriteFacts.{IsModule}
-use Rattle.bl_load.specs.Kept.{lines_by}
+use Rattle.bl_load.specs.internal.Loading.{lines_by}
 use Rattle.bl_load.specs.Rows.{told_modules}
 use Rattle.bl_load.proofs.ModuleLemmas.{told_by, told_module, told_more, view_length_at}
 use Rattle.bl_load.proofs.multiboot2.information.modules_at.Goals as goal

@@ -1,6 +1,6 @@
 use Rattle.std.proofs.Common.{◌≡◌, ◌++◌, drop, map, All}
 use Rattle.bl_mbi.specs.InfoToWriteFacts.{IsModule}
-use Rattle.bl_load.specs.Kept.{lines_by}
+use Rattle.bl_load.specs.internal.Loading.{lines_by}
 use Rattle.bl_load.specs.Rows.{told_modules}
 use Rattle.bl_load.proofs.multiboot2.information.modules_at.Given as goal
 

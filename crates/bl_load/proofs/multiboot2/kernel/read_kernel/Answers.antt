@@ -3,7 +3,7 @@ use Rattle.std.specs.Option.{option_or}
 use Rattle.std.proofs.lemmas.Result.{err_from_is_err_and}
 use Rattle.bl_mem.specs.declared.segment.Segment.{Segment}
 use Rattle.bl_load.specs.Multiboot2Kernel.{entry_point_fault}
-use Rattle.bl_load.specs.Multiboot2KernelKept.{executable_facts}
+use Rattle.bl_load.specs.internal.ReadMultiboot2Kernels.{executable_facts}
 use Rattle.bl_load.proofs.KernelLaws.{kernel_loadable, load_refused}
 use Rattle.bl_load.proofs.multiboot2.kernel.read_kernel.Goals as goal
 

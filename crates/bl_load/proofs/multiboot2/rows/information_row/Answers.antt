@@ -5,7 +5,7 @@ use Rattle.bl_plan.specs.declared.part.Choice.TheVariants.{Lowest}
 use Rattle.bl_plan.specs.declared.part.Role.TheVariants.{Information}
 use Rattle.bl_plan.specs.declared.part.Row.{Row}
 use Rattle.bl_load.specs.Rows.{information_of}
-use Rattle.bl_load.specs.CheckedEntryKept.{value_of_files}
+use Rattle.bl_load.specs.internal.CheckedEntries.{value_of_files}
 use Rattle.bl_load.proofs.LineLemmas.{all_short}
 use Rattle.bl_load.proofs.InformationLemmas.{info_size_is, told_below, copy_short}
 use Rattle.bl_load.proofs.multiboot2.rows.information_row.Goals as goal

@@ -1,6 +1,6 @@
 use Rattle.std.proofs.Common.{◌≡◌, ◌+◌, ◌*◌, ◌≤◌, drop}
-use Rattle.bl_load.specs.Kept.{lines_by}
-use Rattle.bl_load.specs.PlacingKept.{module_tags_size}
+use Rattle.bl_load.specs.internal.Loading.{lines_by}
+use Rattle.bl_load.specs.internal.Placing.{module_tags_size}
 use Rattle.bl_load.proofs.multiboot2.rows.module_tags_size.Given as goal
 
 -- the tags so far, and those that are left, are all

@@ -1,6 +1,6 @@
 use Rattle.std.proofs.Common.{◌≡◌, ◌++◌, drop, map}
-use Rattle.bl_load.specs.Kept.{lines_by}
-use Rattle.bl_load.specs.PlacingKept.{capped_module_rows}
+use Rattle.bl_load.specs.internal.Loading.{lines_by}
+use Rattle.bl_load.specs.internal.Placing.{capped_module_rows}
 use Rattle.bl_load.proofs.multiboot2.rows.push_module_rows.Given as goal
 
 -- the rows so far, and those that are left, are all

@@ -3,7 +3,7 @@ use Rattle.std.proofs.Common.{None, get_or, length, rules}
 use Rattle.std.proofs.lemmas.List.{get_or_append_left}
 use Rattle.bl_mem.specs.declared.frame_state.FrameState.TheVariants.{Bare}
 use Rattle.bl_mem.specs.SparseFrames.{SparseFramesFacts, frame_numbered}
-use Rattle.bl_mem.specs.Kept.{owed_slots, partner}
+use Rattle.bl_mem.specs.internal.FrameSlots.{owed_slots, partner}
 use Rattle.bl_mem.proofs.FrameLemmas.{kept_set, in_table, owes_room}
 use Rattle.bl_mem.proofs.PairLemmas.{reads_inside}
 use Rattle.bl_mem.proofs.SoundLemmas.{sound_appended}

@@ -2,7 +2,7 @@ use Rattle.std.proofs.Common.{None, ◌≡◌, ap, sym, subst, true, get_or, ◌
 use Rattle.bl_mem.specs.declared.frame_state.FrameState.TheVariants.{Bare}
 use Rattle.bl_mem.specs.FrameState.{has_room, cleared}
 use Rattle.bl_mem.specs.SparseFrames.{SparseFramesFacts, frame_numbered}
-use Rattle.bl_mem.specs.Kept.{partner}
+use Rattle.bl_mem.specs.internal.FrameSlots.{partner}
 use Rattle.bl_mem.proofs.FrameLemmas.{in_table, cleared_stored, cleared_owes, cleared_slot}
 use Rattle.bl_mem.proofs.FrameLemmas.{cleared_alone}
 use Rattle.bl_mem.proofs.SoundLemmas.{sound_set}

@@ -1,6 +1,6 @@
 use Rattle.std.proofs.Common.{subst, sym}
 use Rattle.bl_mem.specs.SparseFrames.{SparseFramesFacts}
-use Rattle.bl_mem.specs.Kept.{ArePair}
+use Rattle.bl_mem.specs.internal.FrameSlots.{ArePair}
 use Rattle.bl_mem.proofs.PairLemmas.{leaves}
 use Rattle.bl_mem.proofs.sparse_frames.SparseFrames.leave.Goals as goal
 

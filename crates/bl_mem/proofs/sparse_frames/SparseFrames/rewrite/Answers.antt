@@ -2,7 +2,7 @@ use Rattle.std.proofs.Common.{◌≡◌, arith, sym, subst, get_or}
 use Rattle.std.proofs.Common.{None, Some, refl, ◌∙◌}
 use Rattle.bl_mem.specs.declared.frame_state.FrameState.TheVariants.{Bare, Kept}
 use Rattle.bl_mem.specs.SparseFrames.{SparseFramesFacts, frame_numbered}
-use Rattle.bl_mem.specs.Kept.{slot_of, partner, AreSoundSlots}
+use Rattle.bl_mem.specs.internal.FrameSlots.{slot_of, partner, AreSoundSlots}
 use Rattle.bl_mem.proofs.FrameLemmas.{kept_set, beside_slot, in_table, slot_room, slot_owes}
 use Rattle.bl_mem.proofs.PairLemmas.{reads_other}
 use Rattle.bl_mem.proofs.SoundLemmas.{sound_set}

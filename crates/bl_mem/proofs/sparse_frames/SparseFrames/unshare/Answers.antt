@@ -1,7 +1,7 @@
 use Rattle.std.proofs.Common.{◌≡◌, sym, subst, inl, inr}
 use Rattle.bl_mem.specs.declared.frame_state.FrameState.TheVariants.{Lent, Borrowed}
 use Rattle.bl_mem.specs.SparseFrames.{SparseFramesFacts, frame_numbered}
-use Rattle.bl_mem.specs.Kept.{ArePair}
+use Rattle.bl_mem.specs.internal.FrameSlots.{ArePair}
 use Rattle.bl_mem.proofs.sparse_frames.SparseFrames.unshare.Goals as goal
 
 pub leave-requires : goal.leave-requires

@@ -17,7 +17,7 @@ use denote.Signature.{plain, types_at}
 use denote.Triple.Entry.{alive}
 use denote.Triple.Walked.{says, Stays, stay_none_ref, Goes-none_ref, walk_of, ends_at}
 use Rattle.std.proofs.raw_atomic.Walks.{proved}
-use Rattle.bl_session.specs.StoresKept.{item_of_completion}
+use Rattle.bl_session.specs.Stores.{item_of_completion}
 use Rattle.std.specs.contracts.option.Option as O
 use Rattle.bl_session.specs.contracts.store.Completion as C
 use Rattle.bl_session.specs.contracts.history.History as H

@@ -2,7 +2,7 @@ use Rattle.std.proofs.Common.{◌≡◌, arith, drop, length, rules, ap}
 use Rattle.std.proofs.lemmas.Grind.{common_steps}
 use Rattle.bl_session.specs.Menu.{EntryFacts, files_of}
 use Rattle.bl_session.specs.Phases.{phase_facts}
-use Rattle.bl_session.specs.PhasesKept.{facts_of_boot}
+use Rattle.bl_session.specs.internal.SessionPhases.{facts_of_boot}
 use Rattle.bl_session.proofs.MenuLemmas.{few_files}
 use Rattle.bl_session.proofs.RequestLemmas.{first_request_is}
 use Rattle.bl_session.proofs.phase.Boot.missing.Goals as goal

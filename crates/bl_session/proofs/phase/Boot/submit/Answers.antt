@@ -4,7 +4,7 @@ use Rattle.bl_session.proofs.MenuLemmas.{few_files}
 use Rattle.std.proofs.Common.{◌≡◌, drop, length, rules, ap}
 use Rattle.bl_session.specs.Menu.{EntryFacts, files_of}
 use Rattle.bl_session.specs.Phases.{phase_facts}
-use Rattle.bl_session.specs.PhasesKept.{facts_of_boot}
+use Rattle.bl_session.specs.internal.SessionPhases.{facts_of_boot}
 use Rattle.bl_session.proofs.AskFileLemmas.{asked_in}
 use Rattle.bl_session.proofs.phase.Boot.submit.Goals as goal
 

@@ -3,7 +3,7 @@ use Rattle.std.specs.Prelude.{OnErr}
 use Rattle.bl_session.specs.History.{HistoryItem}
 use Rattle.bl_session.specs.Submissions.{attempt_submissions}
 use Rattle.bl_session.specs.Phases.{SessionFacts, state_at}
-use Rattle.bl_session.specs.RunKept.{AreAskedButRest}
+use Rattle.bl_session.specs.internal.RunParts.{AreAskedButRest}
 use Rattle.bl_session.proofs.session.Session.submit.Goals as goal
 
 pub returns-clause-err : goal.returns-clause-err

@@ -1,6 +1,6 @@
 use Rattle.std.proofs.Common.{◌∷◌, ◌++◌, [], refl, sym, ap, ◌∙◌, arith}
 use Rattle.bl_session.specs.declared.submission.Submission.{Submission}
-use Rattle.bl_session.specs.PendingKept.{submissions_from}
+use Rattle.bl_session.specs.internal.SubmissionRuns.{submissions_from}
 use Rattle.bl_session.proofs.SubmissionRunLemmas.{run_goes_on, run_more}
 use Rattle.bl_session.proofs.submission_run.SubmissionRun.extend.Goals as goal
 

@@ -1,5 +1,5 @@
 use Rattle.std.proofs.Common.{ap, ◌∙◌}
-use Rattle.bl_stage.specs.PackedCells.{cells_of}
+use Rattle.bl_stage.specs.internal.PackedCells.{cells_of}
 use Rattle.bl_stage.proofs.CellGroupLemmas.{cells_empty}
 use Rattle.bl_stage.proofs.cells.Cells.empty.Goals as goal
 

@@ -1,8 +1,8 @@
 use Rattle.std.proofs.Common.{◌≡◌, ◌<◌, ◌≤◌, ◌/◌, ◌%◌, length, get_or, arith, sym, ap, ◌∙◌}
 use Rattle.std.proofs.Math.ListN.{get_or-eq_default}
 use Rattle.std.proofs.lemmas.List.{get_or_default}
-use Rattle.bl_stage.specs.Cells.{cell_at}
-use Rattle.bl_stage.specs.PackedCells.{no_group, cell_in}
+use Rattle.bl_stage.specs.internal.Cells.{cell_at}
+use Rattle.bl_stage.specs.internal.PackedCells.{no_group, cell_in}
 use Rattle.bl_stage.proofs.CellGroupLemmas.{cells_length, cells_read, cell_of_none}
 use Rattle.bl_stage.proofs.cells.Cells.get.Goals as goal
 

@@ -1,7 +1,7 @@
 use Rattle.std.proofs.Common.{◌≡◌, ◌<◌, ◌/◌, ◌%◌, length, get_or, set, arith, rules, sym, ap, ◌∙◌}
 use Rattle.std.proofs.lemmas.List.{get_or_default}
 use Rattle.bl_stage.specs.declared.cells.CellGroup.{CellGroup}
-use Rattle.bl_stage.specs.PackedCells.{no_group, holder_of, cell_in}
+use Rattle.bl_stage.specs.internal.PackedCells.{no_group, holder_of, cell_in}
 use Rattle.bl_stage.proofs.CellGroupLemmas.{cells_length, cells_put, cells_alike, put_here}
 use Rattle.bl_stage.proofs.CellGroupLemmas.{put_others}
 use Rattle.bl_stage.proofs.CellGroupLemmas.{holder_again}

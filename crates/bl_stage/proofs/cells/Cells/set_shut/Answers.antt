@@ -4,8 +4,8 @@ use Rattle.std.proofs.lemmas.List.{get_or_default, set-get_or}
 use Rattle.std.proofs.Math.ListN.{get_or-eq_default}
 use Rattle.bl_stage.specs.declared.cell.Cell.{Cell}
 use Rattle.bl_stage.specs.declared.cells.CellGroup.{CellGroup}
-use Rattle.bl_stage.specs.Cells.{cell_at, no_cell}
-use Rattle.bl_stage.specs.PackedCells.{no_group, cell_in}
+use Rattle.bl_stage.specs.internal.Cells.{cell_at, no_cell}
+use Rattle.bl_stage.specs.internal.PackedCells.{no_group, cell_in}
 use Rattle.bl_stage.proofs.CellGroupLemmas.{cells_length, cells_read, cells_put, cells_alike}
 use Rattle.bl_stage.proofs.CellGroupLemmas.{cell_of_none}
 use Rattle.bl_stage.proofs.CellGroupLemmas.{shut_here, shut_others}

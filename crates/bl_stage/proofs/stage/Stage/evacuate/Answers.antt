@@ -2,7 +2,7 @@ use Rattle.std.proofs.Common.{arith, ◌≡◌, length, rules, ap, ◌∙◌}
 use Rattle.std.specs.Vec.{with_items}
 use Rattle.std.proofs.lemmas.List.{with_items_is}
 use Rattle.bl_stage.specs.Staged.{Staging, AreStaged, staged_file, with_frames}
-use Rattle.bl_stage.specs.Cells.{ReadAlike, MadeWay}
+use Rattle.bl_stage.specs.internal.Cells.{ReadAlike, MadeWay}
 use Rattle.bl_stage.specs.PieceStates.{piece_states}
 use Rattle.bl_stage.proofs.PieceLemmas.{kept_staged, file_evacuated}
 use Rattle.bl_stage.proofs.PieceStateLemmas.{piece_states_same}

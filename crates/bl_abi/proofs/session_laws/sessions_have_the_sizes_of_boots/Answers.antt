@@ -1,5 +1,0 @@
-use Rattle.bl_abi.proofs.SizeLemmas.{sizes_as_stored}
-use Rattle.bl_abi.proofs.session_laws.sessions_have_the_sizes_of_boots.Goals as goal
-
-pub returns : goal.returns
-returns c = λ given. sizes_as_stored given given.files

@@ -1,5 +1,0 @@
-use Rattle.std.proofs.Common.{Ok, refl}
-use Rattle.bl_abi.proofs.walking.walk_all_told.Goals as goal
-
-pub returns-in-Ok : goal.returns-in-Ok
-returns-in-Ok g c = (Ok c.in-Ok.records, c.in-Ok.ensures, (c.tell_records.ensures, refl))

@@ -1,9 +1,0 @@
-use Rattle.std.proofs.Common.{◌≡◌, drop, map}
-use Rattle.bl_desc.specs.Views.{file_view}
-use Rattle.bl_desc.specs.Described as spec
-use Rattle.bl_desc.proofs.desc.file_named.Given as goal
-
-abbrev pub invariant-loop-file : goal.invariant-loop-file
-invariant-loop-file g l =
-    spec.file_named l.name (map file_view (drop l.file-index l.files))
-    ≡ spec.file_named l.name (map file_view l.files)

@@ -1,5 +1,0 @@
-use Rattle.std.proofs.Common.{length}
-use Rattle.bl_desc.proofs.name_index.+file_index.Given as goal
-
-abbrev pub decreases-file_index : goal.decreases-file_index
-decreases-file_index l = length l.names.now

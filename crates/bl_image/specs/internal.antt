@@ -1,0 +1,2 @@
+pub mod PlaceRecords
+pub mod SourceReading

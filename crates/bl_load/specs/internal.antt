@@ -1,0 +1,5 @@
+pub mod Loading
+pub mod ReadMultiboot2Kernels
+pub mod Placing
+pub mod ReadKernels
+pub mod CheckedEntries

@@ -1,0 +1,3 @@
+pub mod GroupSizes
+pub mod TagGroups
+pub mod BytesLeft

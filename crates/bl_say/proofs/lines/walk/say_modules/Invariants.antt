@@ -1,8 +1,0 @@
-use Rattle.std.proofs.Common.{◌≡◌, ◌++◌, take}
-use Rattle.std.specs.List.{flat_map}
-use Rattle.bl_say.specs.WalkLines.{module_line}
-use Rattle.bl_say.proofs.lines.walk.say_modules.Given as goal
-
-abbrev pub invariant-loop-module : goal.invariant-loop-module
-invariant-loop-module g l =
-    l.out.items ≡ l.initial.out.items ++ flat_map module_line (take l.module-index l.modules)

@@ -1,0 +1,5 @@
+pub mod SessionPhases
+pub mod AttemptStates
+pub mod LedgerCounts
+pub mod SubmissionRuns
+pub mod RunParts

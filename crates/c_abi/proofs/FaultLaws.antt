@@ -1,0 +1,96 @@
+-- Of an entry that C gives one first fault stands, none where it is sound; and so of its load.
+use Rattle.std.proofs.Common.{◌≡◌, ◌≢◌, ◌≤◌, ◌∙◌, ℕ, List, ap, sym, subst, refl, arith, inl, inr}
+use Rattle.std.proofs.Common.{Some, None}
+use Rattle.std.proofs.lemmas.Option.{same_Some}
+use Rattle.bl_map.specs.MachineFacts.{MachineFacts}
+use Rattle.bl_load.specs.Parts.{IsRefusal}
+use Rattle.bl_load.proofs.HandoverLaws as handovers
+use Rattle.c_abi.specs.declared.load_fault.LoadFault.{LoadFault}
+use Rattle.c_abi.specs.declared.load_fault.LoadFault.TheVariants.{Misused, Refused, NoMemory}
+use Rattle.c_abi.specs.declared.misuse.Misuse.{Misuse}
+use Rattle.c_abi.specs.declared.given_fault.GivenFault.TheVariants as given_fault
+use Rattle.c_abi.specs.declared.given_records.EntryRecord.{EntryRecord}
+use Rattle.c_abi.specs.declared.given_records.MachineRecord.{MachineRecord}
+use Rattle.c_abi.specs.declared.given_records.RegionRecord.{RegionRecord}
+use Rattle.c_abi.specs.Given.{GivenFacts, value_given}
+use Rattle.c_abi.specs.Load.{IsEntryMisuse, IsEntrySound, HasEntryFault, IsNotLoaded}
+use Rattle.c_abi.specs.Load.{few_places, bad_machine, bad_memory, bad_entry}
+use Rattle.c_abi.proofs.MachineLaws.{one_machine, sound_machine, one_machine_fault}
+
+-- ---- of an entry
+
+-- where none stands, none is told
+pub sound_entry : (given : GivenFacts) (entry : EntryRecord) (misuse : Misuse)
+    → IsEntrySound given entry → IsEntryMisuse given entry misuse → ⊥
+sound_entry given entry misuse sound (inl is) =
+    let e : Some misuse ≡ None = sym is ∙ sound.names in absurd cc
+sound_entry given entry misuse sound (inr (is, names, not)) = not sound.limits
+
+-- two that are told are one
+pub one_entry_misuse : (given : GivenFacts) (entry : EntryRecord) (m n : Misuse)
+    → IsEntryMisuse given entry m → IsEntryMisuse given entry n → n ≡ m
+one_entry_misuse given entry m n (inl a) (inl b) = same_Some n m (sym b ∙ a)
+one_entry_misuse given entry m n (inl a) (inr (is, names, not)) =
+    let e : Some m ≡ None = sym a ∙ names in absurd cc
+one_entry_misuse given entry m n (inr (is, names, not)) (inl b) =
+    let e : Some n ≡ None = sym b ∙ names in absurd cc
+one_entry_misuse given entry m n (inr (is, names, a)) (inr (same, known, b)) = same ∙ sym is
+
+-- ---- of an entry on a machine
+
+module _ (machine : MachineRecord) (regions : List RegionRecord) (given : GivenFacts)
+    (entry : EntryRecord) where
+  one_entry_fault : (f g : LoadFault) → f ≢ NoMemory → g ≢ NoMemory
+      → HasEntryFault machine regions given entry f → HasEntryFault machine regions given entry g
+      → g ≡ f
+  one_entry_fault NoMemory g told said a b = absurd (told refl)
+  one_entry_fault (Misused m) NoMemory told said a b = absurd (said refl)
+  one_entry_fault (Misused m) (Misused n) told said a b =
+      ap Misused (one_entry_misuse given entry m n a.is b.is)
+  one_entry_fault (Misused m) (Refused s) told said a b =
+      absurd (sound_entry given entry m b.is.0 a.is)
+  one_entry_fault (Refused r) NoMemory told said a b = absurd (said refl)
+  one_entry_fault (Refused r) (Misused n) told said a b =
+      absurd (sound_entry given entry n a.is.0 b.is)
+  one_entry_fault (Refused r) (Refused s) told said a b =
+      ap Refused
+      (handovers.one_refusal a.facts (value_given given entry) s r
+      (subst (λ (x : MachineFacts). IsRefusal x (value_given given entry) s)
+      (one_machine machine regions b.facts a.facts b.machine_is a.machine_is) b.is.1)
+      a.is.1)
+
+  -- two that are told are one, where memory reaches to the machine's end
+  pub one_fault : (room end last : ℕ) (f g : LoadFault) → machine.size ≤ end → machine.size ≤ last
+      → f ≢ NoMemory → g ≢ NoMemory
+      → IsNotLoaded machine regions given entry room end f
+      → IsNotLoaded machine regions given entry room last g → g ≡ f
+  one_fault room end last f g large wide told said (few_places few) (few_places less) = refl
+  one_fault room end last f g large wide told said (few_places few) (bad_machine many fault has) =
+      absurd (omega (arith, few, many))
+  one_fault room end last f g large wide told said (few_places few) (bad_memory many sound low) =
+      absurd (omega (arith, few, many))
+  one_fault room end last f g large wide told said (few_places few)
+      (bad_entry many sound reaches fault has) = absurd (omega (arith, few, many))
+  one_fault room end last f g large wide told said (bad_machine many fault has) (few_places few) =
+      absurd (omega (arith, few, many))
+  one_fault room end last f g large wide told said (bad_machine many fault has)
+      (bad_machine roomy other is) = one_machine_fault machine regions fault other told said has is
+  one_fault room end last f g large wide told said (bad_machine many fault has)
+      (bad_memory roomy sound low) = absurd (omega (arith, low, wide))
+  one_fault room end last f g large wide told said (bad_machine many (given_fault.Misused m) has)
+      (bad_entry roomy sound reaches other is) = absurd (sound_machine machine regions m sound has)
+  one_fault room end last f g large wide told said (bad_machine many given_fault.NoMemory has)
+      (bad_entry roomy sound reaches other is) = absurd (told refl)
+  one_fault room end last f g large wide told said (bad_memory many sound low) b =
+      absurd (omega (arith, low, large))
+  one_fault room end last f g large wide told said (bad_entry many sound reaches fault has)
+      (few_places few) = absurd (omega (arith, few, many))
+  one_fault room end last f g large wide told said (bad_entry many sound reaches fault has)
+      (bad_machine roomy (given_fault.Misused m) is) =
+      absurd (sound_machine machine regions m sound is)
+  one_fault room end last f g large wide told said (bad_entry many sound reaches fault has)
+      (bad_machine roomy given_fault.NoMemory is) = absurd (said refl)
+  one_fault room end last f g large wide told said (bad_entry many sound reaches fault has)
+      (bad_memory roomy whole low) = absurd (omega (arith, low, wide))
+  one_fault room end last f g large wide told said (bad_entry many sound reaches fault has)
+      (bad_entry roomy whole extends other is) = one_entry_fault fault other told said has is

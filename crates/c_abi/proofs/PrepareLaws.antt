@@ -1,0 +1,150 @@
+-- A load ends as its preparation did.
+use Rattle.std.proofs.Common.{◌≡◌, ◌≤◌, ◌+◌, ◌∙◌, ℕ, suc, List, [], ◌∷◌, All, length, map, ap, sym}
+use Rattle.std.proofs.Common.{subst, refl, arith}
+use Rattle.std.proofs.lemmas.List.{length-take, length-drop}
+use Rattle.std.proofs.lemmas.List.Elements.{All-map}
+use Rattle.bl_map.specs.MachineFacts.{MachineFacts}
+use Rattle.bl_plan.specs.declared.part.Place.{Place}
+use Rattle.bl_load.specs.declared.refusal.Refusal.{Refusal}
+use Rattle.bl_load.specs.HandoffFacts.{HandoffFacts, max_parts}
+use Rattle.bl_load.specs.Handover.{Handover}
+use Rattle.bl_load.specs.Parts.{IsHandover, IsRefusal}
+use Rattle.bl_load.specs.PlanContents.{part_in, handover_in}
+use Rattle.bl_load.proofs.HandoverLaws as handovers
+use Rattle.bl_load.proofs.WrittenLemmas.{EndsWithin, length-written}
+use Rattle.bl_image.specs.ImageHandover.{part_place, handoff_of}
+use Rattle.bl_image.proofs.Spelled.{EndsIn, length-place_bytes}
+use Rattle.c_abi.specs.declared.load_fault.LoadFault.{LoadFault}
+use Rattle.c_abi.specs.declared.load_fault.LoadFault.TheVariants.{Misused, Refused, NoMemory}
+use Rattle.c_abi.specs.declared.given_fault.GivenFault.TheVariants as given_fault
+use Rattle.c_abi.specs.declared.given_records.EntryRecord.{EntryRecord}
+use Rattle.c_abi.specs.declared.given_records.MachineRecord.{MachineRecord}
+use Rattle.c_abi.specs.declared.given_records.RegionRecord.{RegionRecord}
+use Rattle.c_abi.specs.Given.{GivenFacts, value_given}
+use Rattle.c_abi.specs.Load.{IsEntryFault, IsEntrySound, IsLoaded, IsNotLoaded}
+use Rattle.c_abi.specs.Load.{few_places, bad_machine, bad_memory, bad_entry}
+use Rattle.c_abi.specs.Machines.{IsMachineGiven, IsMachineSound}
+use Rattle.c_abi.specs.Prepare.{IsPrepared}
+use Rattle.c_abi.proofs.MachineLaws.{one_machine, sound_machine}
+use Rattle.c_abi.proofs.FaultLaws.{sound_entry}
+
+places_in : (bytes : List ℕ) (ps : List Place) → All (EndsIn bytes) ps
+    → map part_place (map (part_in bytes) ps) ≡ ps
+places_in bytes [] h = refl
+places_in bytes (p ∷ ps) h =
+    let size = length-place_bytes bytes p (h 0 p (omega arith)) in
+    let made : ℕ → Place =
+    λ n. record { role = p.role; index = p.index; address = p.address; length = n } in
+    ap (λ (q : Place). q ∷ map part_place (map (part_in bytes) ps)) (ap made size)
+    ∙ ap (λ (l : List Place). p ∷ l) (places_in bytes ps (λ k d within. h (suc k) d (omega arith)))
+
+-- what memory holds at a place is at most as long
+ends_within : (bytes : List ℕ) (size : ℕ) (ps : List Place)
+    → All (λ place. place.address + place.length ≤ size) ps
+    → All (EndsWithin size) (map (part_in bytes) ps)
+ends_within bytes size ps inside = All-map (EndsWithin size) (part_in bytes) ps (λ k d within.
+    let end = inside k d within in
+    omega (arith, length-take {A = ℕ}, length-drop {A = ℕ}, end))
+
+module _ (machine : MachineRecord) (regions : List RegionRecord) (given : GivenFacts)
+    (entry : EntryRecord) where
+  -- there is such a machine, and the entry is refused on it
+  record IsRefusedOn (r : Refusal) : Type 0 where
+    facts : MachineFacts
+    machine_is : IsMachineGiven machine regions facts
+    is : IsRefusal facts (value_given given entry) r
+
+  refused_on : (room end : ℕ) (r : Refusal) (fault : LoadFault) → fault ≡ Refused r
+      → IsNotLoaded machine regions given entry room end fault → IsRefusedOn r
+  refused_on room end r fault same (few_places few) = absurd cc
+  refused_on room end r fault same (bad_machine many (given_fault.Misused misuse) has) = absurd cc
+  refused_on room end r fault same (bad_machine many given_fault.NoMemory has) = absurd cc
+  refused_on room end r fault same (bad_memory many sound low) = absurd cc
+  refused_on room end r fault same (bad_entry many sound reaches found has) =
+      let moved : IsEntryFault has.facts given entry (Refused r) =
+      subst (IsEntryFault has.facts given entry) same has.is in
+      record { facts = has.facts; machine_is = has.machine_is; is = moved.1 }
+
+  -- a load leaves memory as long as it was
+  length_loaded : (room : ℕ) (old new : List ℕ) (loaded : HandoffFacts)
+      → IsLoaded machine regions given entry room old new loaded → length new ≡ length old
+  length_loaded room old new loaded l =
+      let size = l.machine_is.size in
+      let reaches = l.has_memory in
+      ap length l.handed.after
+      ∙ length-written (length old) (map (part_in new) loaded.places) old refl
+      (ends_within new (length old) loaded.places (λ k d within.
+      let inside = l.handed.inside k d within in omega (arith, inside, size, reaches)))
+
+  pub one_handoff : (room space : ℕ) (old new : List ℕ) (prepared loaded : HandoffFacts)
+      → IsPrepared machine regions given entry room prepared
+      → IsLoaded machine regions given entry space old new loaded → loaded ≡ prepared
+  one_handoff room space old new prepared loaded p l =
+      let value = value_given given entry in
+      let held = handover_in new loaded.protocol loaded.registers loaded.places in
+      let moved : IsHandover p.facts value held =
+      subst (λ (f : MachineFacts). IsHandover f value held)
+      (one_machine machine regions l.facts p.facts l.machine_is p.machine_is)
+      l.handed.handover in
+      let one : held ≡ p.handed.handover =
+      handovers.one_handover p.facts value held p.handed.handover moved p.handed.handover_is in
+      let size = l.machine_is.size in
+      let reaches = l.has_memory in
+      let kept = length_loaded space old new loaded l in
+      let read : map part_place (map (part_in new) loaded.places) ≡ loaded.places =
+      places_in new loaded.places (λ k d within.
+      let inside = l.handed.inside k d within in omega (arith, inside, size, reaches, kept)) in
+      ap
+      (λ (ps : List Place).
+      let h : HandoffFacts =
+      record { protocol = loaded.protocol; registers = loaded.registers; places = ps } in h)
+      (sym read)
+      ∙ ap handoff_of one ∙ sym p.handed.handoff_is
+
+  -- where no misuse stands and something is handed over, only memory can run out
+  pub only_memory : (facts : MachineFacts) (handover : Handover)
+      → IsMachineGiven machine regions facts → IsMachineSound machine regions
+      → IsEntrySound given entry → IsHandover facts (value_given given entry) handover
+      → (room end : ℕ) (fault : LoadFault) → machine.size ≤ end → max_parts ≤ room
+      → IsNotLoaded machine regions given entry room end fault → fault ≡ NoMemory
+  only_memory facts h is sound names handed room end fault large many (few_places few) =
+      absurd (omega (arith, few, many))
+  only_memory facts h is sound names handed room end fault large many
+      (bad_machine roomy (given_fault.Misused m) has) =
+      absurd (sound_machine machine regions m sound has)
+  only_memory facts h is sound names handed room end fault large many
+      (bad_machine roomy given_fault.NoMemory has) = refl
+  only_memory facts h is sound names handed room end fault large many (bad_memory roomy whole low) =
+      absurd (omega (arith, low, large))
+  only_memory facts h is sound names handed room end fault large many
+      (bad_entry roomy whole reaches (Misused misuse) has) =
+      absurd (sound_entry given entry misuse names has.is)
+  only_memory facts h is sound names handed room end fault large many
+      (bad_entry roomy whole reaches (Refused r) has) =
+      absurd
+      (handovers.not_both facts (value_given given entry) h r handed
+      (subst (λ (f : MachineFacts). IsRefusal f (value_given given entry) r)
+      (one_machine machine regions has.facts facts has.machine_is is) has.is.1))
+  only_memory facts h is sound names handed room end fault large many
+      (bad_entry roomy whole reaches NoMemory has) = refl
+
+  pub one_refusal : (room end space last : ℕ) (r s : Refusal)
+      → IsNotLoaded machine regions given entry room end (Refused r)
+      → IsNotLoaded machine regions given entry space last (Refused s) → s ≡ r
+  one_refusal room end space last r s a b =
+      let on = refused_on room end r (Refused r) refl a in
+      let by = refused_on space last s (Refused s) refl b in
+      handovers.one_refusal on.facts (value_given given entry) s r
+      (subst (λ (f : MachineFacts). IsRefusal f (value_given given entry) s)
+      (one_machine machine regions by.facts on.facts by.machine_is on.machine_is) by.is)
+      on.is
+
+  pub never_loaded : (room end space : ℕ) (old new : List ℕ) (r : Refusal) (loaded : HandoffFacts)
+      → IsNotLoaded machine regions given entry room end (Refused r)
+      → IsLoaded machine regions given entry space old new loaded → ⊥
+  never_loaded room end space old new r loaded not l =
+      let on = refused_on room end r (Refused r) refl not in
+      let held = handover_in new loaded.protocol loaded.registers loaded.places in
+      handovers.not_both l.facts (value_given given entry) held r l.handed.handover
+      (subst (λ (f : MachineFacts). IsRefusal f (value_given given entry) r)
+      (one_machine machine regions on.facts l.facts on.machine_is l.machine_is) on.is)

@@ -1,0 +1,11 @@
+use Rattle.std.proofs.Common.{◌≡◌, map, take}
+use Rattle.std.specs.Prelude.{option_copied}
+use Rattle.bl_session.specs.Ledger.{sliced_file}
+use Rattle.c_abi.specs.Boot.{stored_given}
+use Rattle.c_abi.proofs.menu_files.stored_files.Given as goal
+
+-- the files so far
+abbrev pub invariant-loop-range : goal.invariant-loop-range
+invariant-loop-range g l =
+    map (λ file. sliced_file (option_copied file)) l.files.items
+    ≡ map (stored_given l.given) (take l.range-index l.given.files)

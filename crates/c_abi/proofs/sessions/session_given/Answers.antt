@@ -1,0 +1,15 @@
+use Rattle.std.proofs.Common.{inl, inr, refl}
+use Rattle.c_abi.specs.declared.given_fault.GivenFault.TheVariants.{NoMemory}
+use Rattle.c_abi.specs.Sessions.{of_machine, of_menu}
+use Rattle.c_abi.proofs.sessions.session_given.Goals as goal
+
+pub returns-in-Err : goal.returns-in-Err
+returns-in-Err g c = of_machine c.in-Err.fault c.in-Err.ensures.fault
+
+pub returns-in-Err-menu_without_files : goal.returns-in-Err-menu_without_files
+returns-in-Err-menu_without_files g c =
+    of_menu c.in-Ok.made c.in-Ok.ensures.machine c.in-Ok.ensures.sound
+    c.in-Err-menu_without_files.fault c.in-Err-menu_without_files.ensures.fault
+
+pub returns-in_default : goal.returns-in_default
+returns-in_default g c = of_machine NoMemory (inr (inl refl))

@@ -1,0 +1,42 @@
+-- What comes of an entry that C has prepared: what a load of it hands over, or why it is not
+-- loaded. Nothing is said of memory. Own.
+use Rattle.std.specs.Prelude.{◌≡◌, ◌≤◌, ℕ, List, Result, Ok, Err}
+use Rattle.bl_map.specs.MachineFacts.{MachineFacts}
+use Rattle.bl_load.specs.HandoffFacts.{HandoffFacts, max_parts}
+use Rattle.bl_load.specs.Handover.{Handover}
+use Rattle.bl_load.specs.Parts.{IsHandover}
+use Rattle.bl_image.specs.ImageHandover.{handoff_of}
+use Rattle.c_abi.specs.declared.given_records.RegionRecord.{RegionRecord}
+use Rattle.c_abi.specs.declared.given_records.MachineRecord.{MachineRecord}
+use Rattle.c_abi.specs.declared.given_records.EntryRecord.{EntryRecord}
+use Rattle.c_abi.specs.declared.load_fault.LoadFault.{LoadFault}
+use Rattle.c_abi.specs.Given.{GivenFacts, value_given}
+use Rattle.c_abi.specs.Load.{IsEntrySound, IsNotLoaded}
+use Rattle.c_abi.specs.Machines.{IsMachineGiven, IsMachineSound}
+
+-- on a machine of these facts the entry hands over what this handoff says
+pub record IsHandoffOf (facts : MachineFacts) (given : GivenFacts) (entry : EntryRecord)
+    (handoff : HandoffFacts) : Type 0 where
+  pub handover : Handover
+  pub handover_is : IsHandover facts (value_given given entry) handover
+  pub handoff_is : handoff ≡ handoff_of handover
+
+-- on the machine that is given, where no misuse stands: there is room for the places, and the
+-- machine and the entry have none
+pub record IsPrepared (machine : MachineRecord) (regions : List RegionRecord) (given : GivenFacts)
+    (entry : EntryRecord) (room : ℕ) (handoff : HandoffFacts) : Type 0 where
+  pub has_room : max_parts ≤ room
+  pub facts : MachineFacts
+  pub machine_is : IsMachineGiven machine regions facts
+  pub machine_sound : IsMachineSound machine regions
+  pub entry_sound : IsEntrySound given entry
+  pub handed : IsHandoffOf facts given entry handoff
+
+-- how a call ends that has room for so many places: a fault is that of a load into memory that
+-- ends with the machine's
+abbrev pub IsGivenPrepareEnd : MachineRecord → List RegionRecord → GivenFacts → EntryRecord → ℕ
+    → Result HandoffFacts LoadFault → Type 0
+IsGivenPrepareEnd machine regions given entry room (Ok handoff) =
+    IsPrepared machine regions given entry room handoff
+IsGivenPrepareEnd machine regions given entry room (Err fault) =
+    IsNotLoaded machine regions given entry room machine.size fault

@@ -1,0 +1,129 @@
+//! What C is told of the end of a boot.
+ghost use Rattle.std.specs.Prelude.{◌≡◌, ◌≤◌, List, length, Ok, OnOk};
+ghost use Rattle.bl_session.specs.Phases.{outcome_facts, fault_facts};
+ghost use Rattle.c_abi.specs.Boot.{typed_end};
+ghost use Rattle.c_abi.specs.BootTold as spec;
+ghost use Rattle.c_abi.specs.Load.{load_fault_of_given};
+ghost use Rattle.c_abi.specs.Status.{fault_status};
+ghost use Rattle.c_abi.specs.declared.end_records.HandoffRecord.{HandoffRecord};
+ghost use Rattle.c_abi.specs.declared.end_records.PlaceRecord.{PlaceRecord};
+
+use crate::end_records::{HandoffRecord, PlaceRecord, RefusalRecord};
+use crate::given_fault::GivenFault;
+use crate::handoff_telling::{handoff_told, tell_places};
+use crate::refusal_telling::refusal_record;
+use bl_session::{BootFault, Outcome, RefusedEntry};
+use std::alloc::Allocator;
+
+/// Tells refusals in the first records, as many as there is room for.
+fn tell_refusals(refused: &[RefusedEntry], refusals: &mut [RefusalRecord])
+    ensures { refusals.new ≡ spec.refusals_told refused.now refusals.old }
+{
+    for index in 0..refused.len().min(refusals.len()) {
+        let one = refused[index];
+        refusals[index] = refusal_record(one.entry, one.refusal);
+    }
+}
+
+/// The status of why what C gives is not taken.
+pub fn given_status(fault: GivenFault) -> u32
+    ensures { result ≡ fault_status (load_fault_of_given fault) }
+{
+    match fault {
+        GivenFault::Misused(misuse) => misuse.status(),
+        GivenFault::NoMemory => 4,
+    }
+}
+
+/// Tells what is handed over, with its status.
+pub(crate) fn tell_outcome<A: Allocator>(
+    outcome: &Outcome<A>,
+    told: &mut HandoffRecord,
+    places: &mut [PlaceRecord],
+    refusals: &mut [RefusalRecord],
+    count: &mut u64,
+) -> u32
+    requires { 256 ≤ length places.old }
+    ensures { spec.TellsBoot (Ok (outcome_facts outcome.now)) result
+        (record {
+          handoff = told.old;
+          places = places.old;
+          refusals = refusals.old;
+          count = count.old;
+        })
+        (record {
+          handoff = told.new;
+          places = places.new;
+          refusals = refusals.new;
+          count = count.new;
+        }) }
+{
+    // what this ensures says that there is room for each place
+    outcome.handoff.len();
+    tell_places(&outcome.handoff, places);
+    *told = handoff_told(outcome.entry, &outcome.handoff);
+    tell_refusals(&outcome.refused, refusals);
+    *count = outcome.refused.len() as u64;
+    0
+}
+
+/// Tells why nothing is handed over, with its status.
+pub(crate) fn tell_boot_fault<A: Allocator>(
+    fault: &BootFault<A>,
+    refusals: &mut [RefusalRecord],
+    count: &mut u64,
+) -> u32
+    ensures { (handoff : HandoffRecord) → (places : List PlaceRecord)
+        → spec.TellsBoot (Ok (fault_facts fault.now)) result
+        (record {
+          handoff = handoff;
+          places = places;
+          refusals = refusals.old;
+          count = count.old;
+        })
+        (record {
+          handoff = handoff;
+          places = places;
+          refusals = refusals.new;
+          count = count.new;
+        }) }
+{
+    match fault {
+        BootFault::NoEntryLeft(refused) => {
+            tell_refusals(refused, refusals);
+            *count = refused.len() as u64;
+            1
+        }
+        BootFault::NoMemory => 4,
+    }
+}
+
+/// Tells the end of a boot, with its status.
+pub(crate) fn tell_boot<A: Allocator>(
+    end: Result<Result<Outcome<A>, BootFault<A>>, GivenFault>,
+    told: &mut HandoffRecord,
+    places: &mut [PlaceRecord],
+    refusals: &mut [RefusalRecord],
+    count: &mut u64,
+) -> u32
+    requires { OnOk end (256 ≤ length places.old) }
+    ensures { spec.TellsBoot (typed_end end) result
+        (record {
+          handoff = told.old;
+          places = places.old;
+          refusals = refusals.old;
+          count = count.old;
+        })
+        (record {
+          handoff = told.new;
+          places = places.new;
+          refusals = refusals.new;
+          count = count.new;
+        }) }
+{
+    match end {
+        Ok(Ok(outcome)) => tell_outcome(&outcome, told, places, refusals, count),
+        Ok(Err(fault)) => tell_boot_fault(&fault, refusals, count),
+        Err(fault) => given_status(fault),
+    }
+}

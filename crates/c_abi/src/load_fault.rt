@@ -1,0 +1,74 @@
+//! Why an entry is not loaded.
+ghost use Rattle.std.specs.Prelude.{◌≡◌};
+ghost use Rattle.c_abi.specs.declared.load_fault.LoadFault.TheVariants.{NoMemory, Misused};
+ghost use Rattle.c_abi.specs.Load.{load_fault_of_given, load_fault_of_prep};
+
+use crate::given_fault::GivenFault;
+use crate::misuse::Misuse;
+use bl_load::{PrepFault, Refusal};
+use std::alloc::AllocError;
+use thiserror::Error;
+
+/// Why an entry is not loaded: its caller broke a condition, or the entry is refused, or memory ran
+/// out.
+#[derive(Clone, Copy, Debug, PartialEq, Eq, Error)]
+pub enum LoadFault {
+    #[error("{0}")]
+    Misused(Misuse),
+    #[error("{0}")]
+    Refused(Refusal),
+    #[error("no memory")]
+    NoMemory,
+}
+
+impl From<Misuse> for LoadFault {
+    ghost from_gives = { λ misuse fault. fault ≡ Misused misuse };
+
+    fn from(misuse: Misuse) -> LoadFault {
+        LoadFault::Misused(misuse)
+    }
+}
+
+impl From<AllocError> for LoadFault {
+    ghost from_gives = { λ _ fault. fault ≡ NoMemory };
+
+    fn from(_: AllocError) -> LoadFault {
+        LoadFault::NoMemory
+    }
+}
+
+impl From<GivenFault> for LoadFault {
+    ghost from_gives = { λ given fault. fault ≡ load_fault_of_given given };
+
+    fn from(given: GivenFault) -> LoadFault {
+        given_fault(given)
+    }
+}
+
+impl From<PrepFault> for LoadFault {
+    ghost from_gives = { λ prepared fault. fault ≡ load_fault_of_prep prepared };
+
+    fn from(prepared: PrepFault) -> LoadFault {
+        load_fault(prepared)
+    }
+}
+
+/// The fault of a preparation, as one of a load.
+pub(crate) fn load_fault(fault: PrepFault) -> LoadFault
+    ensures { result ≡ load_fault_of_prep fault }
+{
+    match fault {
+        PrepFault::Refused(refusal) => LoadFault::Refused(refusal),
+        PrepFault::NoMemory => LoadFault::NoMemory,
+    }
+}
+
+/// The fault of what is given, as one of a load.
+pub(crate) fn given_fault(fault: GivenFault) -> LoadFault
+    ensures { result ≡ load_fault_of_given fault }
+{
+    match fault {
+        GivenFault::Misused(misuse) => LoadFault::Misused(misuse),
+        GivenFault::NoMemory => LoadFault::NoMemory,
+    }
+}

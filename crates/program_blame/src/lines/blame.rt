@@ -1,0 +1,165 @@
+//! Why a description is a bad one, line by line.
+ghost use Rattle.std.specs.Prelude.{◌≡◌, ◌++◌, None, OnErr, OnOk, Some};
+ghost use Rattle.program_desc.specs.Views.{view};
+ghost use Rattle.program_blame.specs.declared.subjects.blame.Blame.TheVariants.{BadMachine};
+ghost use Rattle.program_blame.specs.BlameLines as hints;
+ghost use Rattle.program_blame.specs.BlameLine as blames;
+
+use crate::lines::bad_key::say_bad_key;
+use crate::lines::number_and_line_end::say_number_in_brackets;
+use crate::lines::pool_lines::say_pool_lines;
+use crate::lines::radix_hints::{say_pool_hints, say_size_hint};
+use crate::lines::word_hints::say_key_hint;
+use crate::subjects::{Blame, TextPlace};
+use bl_map::MapFault;
+use program_desc::Description;
+use std::alloc::{AllocError, Allocator};
+
+/// The name of a machine's fault.
+fn map_fault_name(fault: MapFault) -> &'static str
+    ensures { result.now ≡ blames.map_fault_name fault }
+{
+    match fault {
+        MapFault::BadSize => "BadSize",
+        MapFault::BadRegion(_) => "BadRegion",
+        MapFault::TooManyRegions => "TooManyRegions",
+        MapFault::BadPool => "BadPool",
+        MapFault::NoMemory => "NoMemory",
+    }
+}
+
+/// What a machine's fault means.
+fn map_fault_meaning(fault: MapFault) -> &'static str
+    ensures { result.now ≡ blames.map_fault_meaning fault }
+{
+    match fault {
+        MapFault::BadSize => "a bad size: not 1 MiB to 4 GiB in whole frames",
+        MapFault::BadRegion(_) => "the region with this index ends above 2^52",
+        MapFault::TooManyRegions => "more than 128 regions",
+        MapFault::BadPool => "a bad pool: not whole frames, or with a byte that is not usable",
+        MapFault::NoMemory => "out of memory while a machine was made",
+    }
+}
+
+/// Appends what a machine's fault tells beside its name: the index of a region.
+fn say_told<A: Allocator + Copy>(out: &mut Vec<u8, A>, fault: MapFault) -> Result<(), AllocError>
+    ensures { OnOk result (out.new.items ≡ out.old.items ++ blames.map_fault_told fault) }
+{
+    match fault {
+        MapFault::BadRegion(index) => say_number_in_brackets(out, index as u64),
+        _ => Ok(()),
+    }
+}
+
+/// Appends a machine's fault: its number, its name with what it tells, its meaning.
+fn say_map_fault<A: Allocator + Copy>(
+    out: &mut Vec<u8, A>,
+    fault: MapFault,
+) -> Result<(), AllocError>
+    ensures { OnOk result (out.new.items ≡ out.old.items ++ blames.map_fault_words fault) }
+{
+    let alloc = *out.allocator();
+    let number = fault.number();
+    let name = map_fault_name(fault);
+    let front = format!(in alloc; "{number} {name}")?;
+    out.extend_from_slice(front.as_bytes())?;
+    say_told(out, fault)?;
+    out.extend_from_slice(b": ")?;
+    out.extend_from_slice(map_fault_meaning(fault).as_bytes())
+}
+
+/// Appends where a text is not TOML.
+fn say_place<A: Allocator + Copy>(out: &mut Vec<u8, A>, place: &TextPlace) -> Result<(), AllocError>
+    ensures { OnOk result (out.new.items ≡ out.old.items ++ blames.not_toml_words place.now) }
+{
+    let alloc = *out.allocator();
+    let line = place.line;
+    let column = place.column;
+    let words = format!(in alloc; "it is not TOML, at line {line}, column {column}")?;
+    out.extend_from_slice(words.as_bytes())
+}
+
+fn say_words<A: Allocator + Copy>(out: &mut Vec<u8, A>, blame: &Blame<'_>) -> Result<(), AllocError>
+    ensures { OnOk result (out.new.items ≡ out.old.items ++ blames.blame_words blame.now) }
+{
+    match blame {
+        Blame::NotUtf8 => out.extend_from_slice(b"it is not UTF-8"),
+        Blame::NotToml(place) => say_place(out, place),
+        Blame::BadKey(bad) => say_bad_key(out, bad),
+        Blame::BadMachine(fault) => {
+            out.extend_from_slice(b"machine ")?;
+            say_map_fault(out, *fault)
+        }
+    }
+}
+
+/// Appends the line that tells why a description is a bad one.
+fn say_line<A: Allocator + Copy>(out: &mut Vec<u8, A>, blame: &Blame<'_>) -> Result<(), AllocError>
+    ensures { OnOk result (out.new.items ≡ out.old.items ++ blames.blame_line blame.now) }
+{
+    out.extend_from_slice(b"bad description: ")?;
+    say_words(out, blame)?;
+    out.extend_from_slice(b"\n")
+}
+
+/// Appends the hint behind it, where nothing is described.
+fn say_hint<A: Allocator + Copy>(out: &mut Vec<u8, A>, blame: &Blame<'_>) -> Result<(), AllocError>
+    ensures { OnOk result (out.new.items ≡ out.old.items ++ hints.lines_behind blame.now None) }
+{
+    match blame {
+        Blame::BadKey(bad) => say_key_hint(out, &bad.fault),
+        _ => Ok(()),
+    }
+}
+
+/// Appends what is told of a machine, behind its fault.
+fn say_machine<A: Allocator + Copy, B: Allocator>(
+    out: &mut Vec<u8, A>,
+    fault: MapFault,
+    description: &Description<B>,
+) -> Result<(), AllocError>
+    ensures { OnOk result
+        (out.new.items ≡ out.old.items ++ hints.machine_lines fault (view description.now)) }
+{
+    match fault {
+        MapFault::BadSize => say_size_hint(out, description.size),
+        MapFault::BadPool => {
+            say_pool_lines(out, description)?;
+            say_pool_hints(out, description.size, &description.pool)
+        }
+        _ => Ok(()),
+    }
+}
+
+/// Appends the lines that tell why nothing is described. They are formed in `alloc` first, so that
+/// an error leaves the text as it was.
+pub fn say_blame<A: Allocator + Copy, B: Allocator>(
+    alloc: A,
+    blame: &Blame<'_>,
+    out: &mut Vec<u8, B>,
+) -> Result<(), AllocError>
+    ensures ok { OnOk result (out.new.items ≡ out.old.items ++ hints.blame_lines blame.now None) }
+    ensures err { OnErr result (out.new.items ≡ out.old.items) }
+{
+    let mut lines = Vec::new(alloc);
+    say_line(&mut lines, blame)?;
+    say_hint(&mut lines, blame)?;
+    out.extend_from_slice(&lines)
+}
+
+/// Appends the lines that tell why what is described is no machine, likewise.
+pub fn say_machine_blame<A: Allocator + Copy, B: Allocator>(
+    alloc: A,
+    fault: MapFault,
+    description: &Description<A>,
+    out: &mut Vec<u8, B>,
+) -> Result<(), AllocError>
+    ensures ok { OnOk result (out.new.items ≡ out.old.items
+        ++ hints.blame_lines (BadMachine fault) (Some (view description.now))) }
+    ensures err { OnErr result (out.new.items ≡ out.old.items) }
+{
+    let mut lines = Vec::new(alloc);
+    say_line(&mut lines, &Blame::BadMachine(fault))?;
+    say_machine(&mut lines, fault, description)?;
+    out.extend_from_slice(&lines)
+}

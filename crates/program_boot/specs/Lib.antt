@@ -1,0 +1,5 @@
+pub mod Ends
+pub mod MachineMap
+pub mod internal
+pub mod Walked
+pub mod Converted

@@ -1,0 +1,14 @@
+use Rattle.program_desc.proofs.DescribedLemmas.{described-table, described-no_text}
+use Rattle.program_desc.proofs.document.read_description.Goals as goal
+
+pub returns-in_default-clause-given : goal.returns-in_default-clause-given
+returns-in_default-clause-given g c =
+    described-no_text c.args.bytes.now c.in_default.ensures.cases.0
+
+pub returns-in-Ok-table_from_str-clause-given : goal.returns-in-Ok-table_from_str-clause-given
+returns-in-Ok-table_from_str-clause-given g c =
+    let text = c.in-Ok.ensures.cases in
+    let is =
+    described-table c.args.bytes.now c.in-Ok.text.now _ text.0 text.1
+    c.in-Ok-table_from_str.ensures.ok in
+    rw is c.described_in.ensures.given

@@ -1,0 +1,105 @@
+-- What a boot description says: for each of its tables a function from the table's keys to a
+-- record, or to none where the table is a bad one. Own.
+use Rattle.std.specs.Prelude.{ℕ, Bool, true, ◌&&◌, not, if◌then◌else◌, List, [], ◌∷◌, length}
+use Rattle.std.specs.Prelude.{Option, Some, None, codes}
+use Rattle.std.specs.Str.{bytes_eq, is_utf8}
+use Rattle.std.specs.List.{list_any}
+use Rattle.std.specs.declared.ops.Range.{Range}
+use Rattle.toml.specs.Data.{Data, Members}
+use Rattle.toml.specs.Parse.{parse_document}
+use Rattle.bl_map.specs.Kinds.{kind_named}
+use Rattle.bl_map.specs.declared.region.Region.{Region}
+use Rattle.program_desc.specs.Values.{◌>>=◌, some_when, toml_number, toml_byte, toml_text}
+use Rattle.program_desc.specs.Values.{toml_bytes}
+use Rattle.program_desc.specs.Values.{toml_range, toml_index, toml_indices, has_only, at_key}
+use Rattle.program_desc.specs.Values.{at_key_or, in_tables}
+use Rattle.program_desc.specs.Entries.{Entry, toml_entries}
+
+-- a file that stands in the description
+pub record InlineFile : Type 0 where
+  pub name : List ℕ
+  pub bytes : List ℕ
+
+-- the bytes of the first file of this name
+abbrev pub file_named : List ℕ → List InlineFile → Option (List ℕ)
+file_named name [] = None
+file_named name (f ∷ fs) = if bytes_eq f.name name then Some f.bytes else file_named name fs
+
+-- what the whole says; the default and each fallback is the index of an entry
+pub record DescriptionFacts : Type 0 where
+  pub size : ℕ
+  pub pool : Range ℕ
+  pub fill : ℕ
+  pub regions : List Region
+  pub files : List InlineFile
+  pub entries : List Entry
+  pub default : ℕ
+  pub fallbacks : List ℕ
+
+-- ---- region
+
+unfoldable pub region_in : Members → Option Region
+region_in ms =
+    if has_only (codes "base" ∷ codes "length" ∷ codes "kind" ∷ []) ms then (do
+      base ← at_key toml_number (codes "base") ms
+      length ← at_key toml_number (codes "length") ms
+      name ← at_key toml_text (codes "kind") ms
+      kind ← kind_named name
+      Some record { base = base; length = length; kind = kind })
+    else None
+
+unfoldable pub toml_regions : Data → Option (List Region)
+toml_regions d = in_tables region_in d
+
+-- ---- file
+
+unfoldable pub file_in : Members → Option InlineFile
+file_in ms =
+    if has_only (codes "name" ∷ codes "hex" ∷ []) ms then (do
+      name ← at_key toml_text (codes "name") ms
+      bytes ← at_key toml_bytes (codes "hex") ms
+      Some record { name = name; bytes = bytes })
+    else None
+
+-- one of the files has this name
+abbrev pub has_file : List ℕ → List InlineFile → Bool
+has_file name files = list_any (λ f. bytes_eq f.name name) files
+
+-- no two files have one name
+abbrev pub names_differ : List InlineFile → Bool
+names_differ [] = true
+names_differ (f ∷ fs) = not (has_file f.name fs) && names_differ fs
+
+unfoldable pub toml_files : Data → Option (List InlineFile)
+toml_files d = in_tables file_in d >>= some_when names_differ
+
+-- ---- the whole
+
+unfoldable pub described_in : Members → Option DescriptionFacts
+described_in ms =
+    if has_only (codes "size" ∷ codes "pool" ∷ codes "fill" ∷ codes "default" ∷ codes "fallback"
+    ∷ codes "region" ∷ codes "file" ∷ codes "entry" ∷ []) ms
+    then (do
+      size ← at_key toml_number (codes "size") ms
+      pool ← at_key toml_range (codes "pool") ms
+      fill ← at_key_or 0 toml_byte (codes "fill") ms
+      regions ← at_key_or [] toml_regions (codes "region") ms
+      files ← at_key_or [] toml_files (codes "file") ms
+      entries ← at_key toml_entries (codes "entry") ms
+      default ← at_key_or 0 (toml_index (length entries)) (codes "default") ms
+      fallbacks ← at_key_or [] (toml_indices (length entries)) (codes "fallback") ms
+      Some record {
+        size = size;
+        pool = pool;
+        fill = fill;
+        regions = regions;
+        files = files;
+        entries = entries;
+        default = default;
+        fallbacks = fallbacks;
+      })
+    else None
+
+-- what these bytes describe: UTF-8, the text of a TOML document
+unfoldable pub described : List ℕ → Option DescriptionFacts
+described bytes = if is_utf8 bytes then parse_document bytes >>= described_in else None

@@ -1,0 +1,9 @@
+pub mod Values
+pub mod Entries
+pub mod EntryNames
+pub mod Described
+pub mod EntryFormViews
+pub mod Views
+pub mod Allowed
+pub mod BadKeys
+pub mod internal

@@ -1,0 +1,3 @@
+pub mod BadKeySearch
+pub mod EntrySearch
+pub mod DescriptionSearch

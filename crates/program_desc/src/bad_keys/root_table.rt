@@ -1,0 +1,192 @@
+//! The first bad key of a description.
+ghost use Rattle.std.specs.Prelude.{◌≡◌, true, IfOk, IsSome, MatchOption};
+ghost use Rattle.toml.specs.View.{table_view};
+ghost use Rattle.program_desc.specs.Described.{described_in};
+ghost use Rattle.program_desc.specs.BadKeys.{BreaksAnyOf, IsBadKey};
+ghost use Rattle.program_desc.specs.internal.BadKeySearch as tests;
+ghost use Rattle.program_desc.specs.internal.DescriptionSearch as kept;
+
+use crate::bad_key::{Allowed, BadKey, KeyFault, KeySet, TablePlace};
+use crate::bad_keys::entries::bad_among_entries;
+use crate::bad_keys::items::{TableArray, bad_among, bad_number, items_at};
+use crate::bad_keys::rules::{broken_rules, optional_key, required_key, unknown_key};
+use crate::bad_keys::same_names::{name_value, same_name};
+use std::alloc::{AllocError, Global};
+use toml::{Table, Value};
+
+/// The keys `size` and `pool`.
+fn bad_size<'a>(table: &'a Table) -> Option<BadKey<'a>>
+    ensures { MatchOption result
+        (tests.all_pass kept.machine_rules (table_view table.now) ≡ true)
+        (λ bad. (bad.table ≡ TablePlace.Description)
+        × BreaksAnyOf kept.machine_rules (table_view table.now) bad.fault) }
+{
+    let size = required_key("size", Allowed::Number);
+    let pool = required_key("pool", Allowed::TwoNumbers);
+    broken_rules(table, TablePlace::Description, &[size, pool])
+}
+
+fn bad_fill<'a>(table: &'a Table) -> Option<BadKey<'a>>
+    ensures { MatchOption result
+        (tests.all_pass kept.fill_rules (table_view table.now) ≡ true)
+        (λ bad. (bad.table ≡ TablePlace.Description)
+        × BreaksAnyOf kept.fill_rules (table_view table.now) bad.fault) }
+{
+    let rule = optional_key("fill", Allowed::Byte);
+    broken_rules(table, TablePlace::Description, &[rule])
+}
+
+fn bad_region_key<'a>(table: &'a Table) -> Option<BadKey<'a>>
+    ensures { MatchOption result
+        (tests.all_pass kept.region_array_rules (table_view table.now) ≡ true)
+        (λ bad. (bad.table ≡ TablePlace.Description)
+        × BreaksAnyOf kept.region_array_rules (table_view table.now) bad.fault) }
+{
+    let rule = optional_key("region", Allowed::Tables);
+    broken_rules(table, TablePlace::Description, &[rule])
+}
+
+fn bad_file_key<'a>(table: &'a Table) -> Option<BadKey<'a>>
+    ensures { MatchOption result
+        (tests.all_pass kept.file_array_rules (table_view table.now) ≡ true)
+        (λ bad. (bad.table ≡ TablePlace.Description)
+        × BreaksAnyOf kept.file_array_rules (table_view table.now) bad.fault) }
+{
+    let rule = optional_key("file", Allowed::Tables);
+    broken_rules(table, TablePlace::Description, &[rule])
+}
+
+fn bad_entry_key<'a>(table: &'a Table) -> Option<BadKey<'a>>
+    ensures { MatchOption result
+        (tests.all_pass kept.entry_array_rules (table_view table.now) ≡ true)
+        (λ bad. (bad.table ≡ TablePlace.Description)
+        × BreaksAnyOf kept.entry_array_rules (table_view table.now) bad.fault) }
+{
+    let rule = required_key("entry", Allowed::EntryTables);
+    broken_rules(table, TablePlace::Description, &[rule])
+}
+
+/// The keys `default` and `fallback`, where there are so many entries.
+fn bad_index_keys<'a>(table: &'a Table, count: u64) -> Option<BadKey<'a>>
+    ensures { MatchOption result
+        (tests.all_pass (kept.index_rules count) (table_view table.now) ≡ true)
+        (λ bad. (bad.table ≡ TablePlace.Description)
+        × BreaksAnyOf (kept.index_rules count) (table_view table.now) bad.fault) }
+{
+    let default = optional_key("default", Allowed::IndexBelow(count));
+    let fallback = optional_key("fallback", Allowed::Indices);
+    broken_rules(table, TablePlace::Description, &[default, fallback])
+}
+
+/// The keys `size`, `pool` and `fill`, and those that the table may not have.
+fn bad_machine<'a>(table: &'a Table) -> Option<BadKey<'a>>
+    ensures { MatchOption result
+        (kept.machine_passes (table_view table.now) ≡ true)
+        (IsBadKey (table_view table.now)) }
+{
+    if let Some(bad) = unknown_key(table, TablePlace::Description, KeySet::Description) {
+        return Some(bad);
+    }
+    if let Some(bad) = bad_size(table) {
+        return Some(bad);
+    }
+    if let Some(bad) = bad_number(items_at(table, "pool"), "pool", Allowed::Number) {
+        return Some(bad);
+    }
+    bad_fill(table)
+}
+
+fn bad_regions<'a>(table: &'a Table) -> Option<BadKey<'a>>
+    ensures { MatchOption result
+        (kept.regions_pass (table_view table.now) ≡ true)
+        (IsBadKey (table_view table.now)) }
+{
+    match bad_region_key(table) {
+        Some(bad) => Some(bad),
+        None => bad_among(items_at(table, "region"), TableArray::Regions),
+    }
+}
+
+fn bad_files<'a>(table: &'a Table) -> Option<BadKey<'a>>
+    ensures { MatchOption result
+        (kept.files_pass (table_view table.now) ≡ true)
+        (IsBadKey (table_view table.now)) }
+{
+    match bad_file_key(table) {
+        Some(bad) => Some(bad),
+        None => bad_among(items_at(table, "file"), TableArray::Files),
+    }
+}
+
+/// A file that has the name of an earlier one.
+fn bad_repeated_name<'a>(global: Global, table: &'a Table) -> Result<Option<BadKey<'a>>, AllocError>
+    requires { kept.files_pass (table_view table.now) ≡ true }
+    ensures { IfOk result (λ found. MatchOption found
+        (kept.HasDistinctFileNames (table_view table.now))
+        (IsBadKey (table_view table.now))) }
+{
+    let files = items_at(table, "file");
+    match same_name(global, files)? {
+        Some(i) => Ok(Some(BadKey {
+            table: TablePlace::File(i),
+            fault: KeyFault::SameName(name_value(&files[i])),
+        })),
+        None => Ok(None),
+    }
+}
+
+fn bad_menu<'a>(table: &'a Table) -> Option<BadKey<'a>>
+    ensures { MatchOption result
+        (kept.menu_passes (table_view table.now) ≡ true)
+        (IsBadKey (table_view table.now)) }
+{
+    match bad_entry_key(table) {
+        Some(bad) => Some(bad),
+        None => bad_among_entries(items_at(table, "entry")),
+    }
+}
+
+/// The keys `default` and `fallback`.
+fn bad_indices<'a>(table: &'a Table) -> Option<BadKey<'a>>
+    ensures { MatchOption result
+        (kept.indices_pass (table_view table.now) ≡ true)
+        (IsBadKey (table_view table.now)) }
+{
+    let count = items_at(table, "entry").len() as u64;
+    match bad_index_keys(table, count) {
+        Some(bad) => Some(bad),
+        None => bad_number(
+            items_at(table, "fallback"),
+            "fallback",
+            Allowed::IndexBelow(count),
+        ),
+    }
+}
+
+/// The first bad key of a table that describes nothing, none if it describes something. A table is
+/// looked through by the order of `read_description`: keys that it may not have, then its keys one
+/// by one, arrays item by item.
+///
+/// `global` is what the names of the files are kept in meanwhile; nothing else takes memory.
+pub fn first_bad_key<'a>(global: Global, table: &'a Table) -> Result<Option<BadKey<'a>>, AllocError>
+    ensures { IfOk result (λ found. MatchOption found
+        (IsSome (described_in (table_view table.now)))
+        (IsBadKey (table_view table.now))) }
+{
+    if let Some(bad) = bad_machine(table) {
+        return Ok(Some(bad));
+    }
+    if let Some(bad) = bad_regions(table) {
+        return Ok(Some(bad));
+    }
+    if let Some(bad) = bad_files(table) {
+        return Ok(Some(bad));
+    }
+    if let Some(bad) = bad_repeated_name(global, table)? {
+        return Ok(Some(bad));
+    }
+    if let Some(bad) = bad_menu(table) {
+        return Ok(Some(bad));
+    }
+    Ok(bad_indices(table))
+}

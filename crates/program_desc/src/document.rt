@@ -1,0 +1,102 @@
+//! A description as a whole.
+ghost use Rattle.std.specs.Prelude.{codes, IfOk};
+ghost use Rattle.toml.specs.View.{table_view};
+ghost use Rattle.program_desc.specs.Values as values;
+ghost use Rattle.program_desc.specs.Described as spec;
+ghost use Rattle.program_desc.specs.Views.{AnswersAs, HasMenu, view};
+
+use crate::default_and_fallbacks::{default_at, fallbacks_at};
+use crate::desc::Description;
+use crate::entries::entries_at;
+use crate::fault::DescFault;
+use crate::files::files_at;
+use crate::keys::{at_key, has_only, number_at};
+use crate::regions::regions_at;
+use crate::values::{toml_byte, toml_range};
+use std::alloc::{Allocator, Global};
+use std::ops::Range;
+use toml::Table;
+
+fn pool_in(table: &Table) -> Result<Range<u64>, DescFault>
+    ensures { AnswersAs (λ pool. pool) result
+        (values.at_key values.toml_range (codes "pool") (table_view table.now)) }
+{
+    match at_key(table, "pool") {
+        Some(value) => toml_range(value),
+        None => Err(DescFault::BadDescription),
+    }
+}
+
+fn fill_in(table: &Table) -> Result<u8, DescFault>
+    ensures { AnswersAs (λ n. n) result
+        (values.at_key_or 0 values.toml_byte (codes "fill") (table_view table.now)) }
+{
+    match at_key(table, "fill") {
+        Some(value) => toml_byte(value).ok_or(DescFault::BadDescription),
+        None => Ok(0),
+    }
+}
+
+#[tactic(auto, unfolding(crate::specs::Described::described_in))]
+fn described_in<A: Allocator + Copy>(
+    alloc: A,
+    global: Global,
+    table: &Table,
+) -> Result<Description<A>, DescFault>
+    ensures given { AnswersAs view result (spec.described_in (table_view table.now)) }
+    ensures menu { IfOk result HasMenu }
+{
+    let known = [
+        "size", "pool", "fill", "default", "fallback", "region", "file", "entry",
+    ];
+    if !has_only(table, &known) {
+        return Err(DescFault::BadDescription);
+    }
+    let size = number_at(table, "size")?;
+    let pool = pool_in(table)?;
+    let fill = fill_in(table)?;
+    let regions = regions_at(alloc, table)?;
+    let files = files_at(alloc, global, table)?;
+    let entries = entries_at(alloc, table)?;
+    let default = default_at(table, &entries)?;
+    let fallbacks = fallbacks_at(alloc, table, &entries)?;
+    Ok(Description {
+        size,
+        pool,
+        fill,
+        regions,
+        files,
+        entries,
+        default,
+        fallbacks,
+    })
+}
+
+/// What these bytes describe. They are a bad description where they are not UTF-8, where the text
+/// is not TOML, where a key is unknown, missing or of another type, and where a value is not
+/// allowed.
+///
+/// `global` is what reading takes its memory from; the description is made in `alloc`.
+#[tactic(auto, unfolding(crate::specs::Described::described))]
+pub fn read_description<A: Allocator + Copy>(
+    alloc: A,
+    global: Global,
+    bytes: &[u8],
+) -> Result<Description<A>, DescFault>
+    ensures given { AnswersAs view result (spec.described bytes.now) }
+    ensures menu { IfOk result HasMenu }
+{
+    let Ok(text) = std::str::from_utf8(bytes) else {
+        return Err(DescFault::BadDescription);
+    };
+    match toml::table_from_str(global, text) {
+        Ok(table) => described_in(alloc, global, &table),
+        Err(e) => {
+            if e.is_memory() {
+                Err(DescFault::NoMemory)
+            } else {
+                Err(DescFault::BadDescription)
+            }
+        }
+    }
+}

@@ -1,0 +1,126 @@
+use Rattle.std.proofs.Common.{◌∙◌, length, refl, ap}
+use Rattle.std.proofs.lemmas.List.{length-replicate}
+use Rattle.std.proofs.lemmas.Result.{err_from_is_err_and}
+use Rattle.program_desc.specs.Described.{described}
+use Rattle.program_menu.specs.DescribedMenu.{max_names}
+use Rattle.program_menu.specs.BootCases.{names_fetched, names_sought}
+use Rattle.program_menu.proofs.AskedLemmas.{fetched, inline_in, none_asked, none_missing, sought}
+use Rattle.program_explain.proofs.ExplainEnds.{explain_asked, explained_by, unmade, unread}
+use Rattle.program_explain.proofs.explanation.run_explain.Goals as goal
+
+pub ready_boot-requires-clause-menu : goal.ready_boot-requires-clause-menu
+ready_boot-requires-clause-menu g c = c.in_ok-description.ensures.menu
+
+pub ready_boot-requires-clause-faults : goal.ready_boot-requires-clause-faults
+ready_boot-requires-clause-faults g c = c.requires
+
+pub explain_found-requires-clause-size : goal.explain_found-requires-clause-size
+explain_found-requires-clause-size g c =
+    ap length c.in_ok-ready.ensures.memory
+    ∙ length-replicate c.size.result c.in_ok-description.description.fill ∙ c.size.ensures.size
+
+pub explain_found-requires-clause-store : goal.explain_found-requires-clause-store
+explain_found-requires-clause-store g c = c.in_ok-ready.ensures.given
+
+pub explain_found-requires-clause-few : goal.explain_found-requires-clause-few
+explain_found-requires-clause-few g c = c.in_ok-description.ensures.menu.1
+
+pub explain_found-requires-clause-menu : goal.explain_found-requires-clause-menu
+explain_found-requires-clause-menu g c = c.in_ok-ready.ensures.menu
+
+pub explain_found-requires-clause-names : goal.explain_found-requires-clause-names
+explain_found-requires-clause-names g c = rw c.deref.ensures.value c.in_ok-ready.ensures.names
+
+pub returns-in_err-description : goal.returns-in_err-description
+returns-in_err-description g c =
+    let p =
+    err_from_is_err_and c.from_residual.result
+    c.from_residual.ensures.1 in
+    rw (p.1, p.2)
+    (record {
+      ends = unread g.F.Files.answers g.F.Files.faults c.args.desc.now c.args.files.now
+          c.args.say.now.items _ _ c.in_err-description.ensures.fault;
+      asked = none_asked (names_fetched (described c.args.desc.now))
+          (g.F.Files.asked c.args.files.now);
+      inline = λ _. refl;
+      same_files = λ file answer told. told;
+      missing = none_missing (g.F.Files.faults c.args.files.now)
+          (length (names_sought (described c.args.desc.now)));
+      few = (none_missing (g.F.Files.faults c.args.files.now) max_names).1;
+    })
+
+pub returns-in_err-machine : goal.returns-in_err-machine
+returns-in_err-machine g c =
+    let p =
+    err_from_is_err_and c.from_residual-in_err-machine.result
+    c.from_residual-in_err-machine.ensures.1 in
+    rw (p.1, p.2)
+    (record {
+      ends = unmade g.F.Files.answers g.F.Files.faults c.args.desc.now
+          c.in_ok-description.description c.in_ok-description.ensures.given c.args.files.now
+          c.args.say.now.items _ _ (rw c.in_ok-description.ensures.kept
+          at c.in_err-machine.ensures.fault);
+      asked = none_asked (names_fetched (described c.args.desc.now))
+          (g.F.Files.asked c.args.files.now);
+      inline = λ _. refl;
+      same_files = λ file answer told. told;
+      missing = none_missing (g.F.Files.faults c.args.files.now)
+          (length (names_sought (described c.args.desc.now)));
+      few = (none_missing (g.F.Files.faults c.args.files.now) max_names).1;
+    })
+
+pub returns-in_err-ready : goal.returns-in_err-ready
+returns-in_err-ready g c =
+    let p =
+    err_from_is_err_and c.from_residual-in_err-ready.result c.from_residual-in_err-ready.ensures.1
+    in
+    let d = c.in_ok-description.description in
+    let is = c.in_ok-description.ensures.given in
+    rw (p.1, p.2)
+    (record {
+      ends = c.in_ok-machine.ensures.kept ∙ c.in_ok-description.ensures.kept;
+      asked = rw (fetched c.args.desc.now d is) c.in_err-ready.ensures.asked_first;
+      inline =
+          λ has. c.in_err-ready.ensures.inline (inline_in c.args.desc.now d is has);
+      same_files = c.in_err-ready.ensures.same;
+      missing = rw (sought c.args.desc.now d is) c.in_err-ready.ensures.missing;
+      few = c.in_err-ready.ensures.few;
+    })
+
+pub returns-clause-asked : goal.returns-clause-asked
+returns-clause-asked g c =
+    explain_asked c.explain_found.result (names_fetched (described c.args.desc.now))
+    (g.F.Files.asked c.args.files.now) _
+    (rw (fetched c.args.desc.now c.in_ok-description.description
+    c.in_ok-description.ensures.given) c.in_ok-ready.ensures.asked)
+
+pub returns-clause-inline : goal.returns-clause-inline
+returns-clause-inline g c = λ has. c.in_ok-ready.ensures.inline
+    (inline_in c.args.desc.now c.in_ok-description.description c.in_ok-description.ensures.given
+    has)
+
+pub returns-clause-same_files : goal.returns-clause-same_files
+returns-clause-same_files g c = c.in_ok-ready.ensures.same
+
+pub returns-clause-missing : goal.returns-clause-missing
+returns-clause-missing g c =
+    rw (sought c.args.desc.now c.in_ok-description.description
+    c.in_ok-description.ensures.given) c.in_ok-ready.ensures.missing
+
+pub returns-clause-few : goal.returns-clause-few
+returns-clause-few g c = c.in_ok-ready.ensures.few
+
+pub returns-clause-ends : goal.returns-clause-ends
+returns-clause-ends g c =
+    explained_by g.F.Files.answers g.F.Files.faults c.args.desc.now
+    c.in_ok-description.description c.in_ok-description.ensures.given
+    c.in_ok-machine.machine c.in_ok-machine.ensures.machine _ _ c.in_ok-ready.ready.store.files
+    c.in_ok-ready.ensures.found
+    _ _ c.explain_found.result
+    (rw (
+      c.in_ok-ready.ensures.menu,
+      c.deref.ensures.value,
+      c.in_ok-ready.ensures.names,
+      c.in_ok-machine.ensures.kept,
+      c.in_ok-description.ensures.kept,
+    ) at c.explain_found.ensures)

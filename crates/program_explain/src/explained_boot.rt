@@ -1,0 +1,178 @@
+//! The boot of what was found for a description, explained.
+ghost use Rattle.std.specs.Prelude.{◌≡◌, [], ◌≤◌, ◌++◌, All, IfOk, OnOk, OnErr, length, map};
+ghost use Rattle.std.specs.List.{flat_map};
+ghost use Rattle.bl_stage.specs.Files.{size_of};
+ghost use Rattle.bl_session.specs.Phases.{boot_facts};
+ghost use Rattle.program_menu.specs.DescribedMenu.{menu_of, attempted_file_names};
+ghost use Rattle.program_explain.specs.Details.{AreToldRefusals};
+ghost use Rattle.program_explain.specs.internal.ExplanationEnds.{ExplainFoundEnds};
+ghost use Rattle.program_explain.specs.internal.ExplanationEnds.{HasKernelIfMultiboot2At};
+ghost use Rattle.program_explain.specs.internal.ExplanationEnds.{HasPlaceRefusal};
+ghost use Rattle.program_explain.specs.KernelSegments.{AreSegmentsAt};
+ghost use Rattle.program_say.specs.AttemptLines.{attempt_lines, refused_attempt_lines};
+ghost use Rattle.program_explain.specs.ExplanationLines.{booted_lines, entry_handoff_lines};
+ghost use Rattle.program_explain.specs.ExplanationLines.{none_left_lines};
+ghost use Rattle.program_desc.specs.Views.{view};
+
+use crate::booted_entry::say_outcome;
+use crate::fault::ExplainFault;
+use crate::kernel_segments::find_segments;
+use crate::refusal_details::find_details;
+use bl_mem::PhysMem;
+use bl_session::{BootFault, FileStore, Outcome, RefusedEntry, run};
+use program_menu::{DescribedBoot, End};
+use program_say::{
+    KernelSegments, Sought, ToldRefusal, say_attempt, say_hints, say_no_entry_left,
+    say_refused_attempts,
+};
+use std::alloc::{AllocError, Allocator};
+
+/// What is told of the refusals of a boot beside their numbers and names.
+fn details_of<A: Allocator + Copy>(
+    alloc: A,
+    boot: &DescribedBoot<'_, A>,
+    sought: &Sought<'_, A>,
+    refused: &[RefusedEntry],
+) -> Result<Vec<ToldRefusal, A>, AllocError>
+    requires { All (HasPlaceRefusal boot.now.machine.now (view boot.now.description.now).entries
+        sought.now) refused.now }
+    ensures { IfOk result (λ told. AreToldRefusals boot.now.machine.now
+        (view boot.now.description.now).entries sought.now refused.now told.items) }
+{
+    let entries = &boot.description.entries;
+    find_details(alloc, boot.machine, entries, sought, refused)
+}
+
+/// The segments of the kernel that is handed over.
+fn segments_of<A: Allocator + Copy>(
+    alloc: A,
+    boot: &DescribedBoot<'_, A>,
+    sought: &Sought<'_, A>,
+    entry: u32,
+) -> Result<KernelSegments<A>, AllocError>
+    requires { HasKernelIfMultiboot2At (view boot.now.description.now).entries sought.now entry }
+    ensures { IfOk result
+        (AreSegmentsAt (view boot.now.description.now).entries sought.now entry) }
+{
+    let entries = &boot.description.entries;
+    find_segments(alloc, entries, sought, entry)
+}
+
+/// Appends the lines of the attempts that were refused.
+fn say_refusals_of<A: Allocator + Copy>(
+    out: &mut Vec<u8, A>,
+    boot: &DescribedBoot<'_, A>,
+    sought: &Sought<'_, A>,
+    told: &[ToldRefusal],
+) -> Result<(), AllocError>
+    ensures { OnOk result (out.new.items ≡ out.old.items
+        ++ flat_map (refused_attempt_lines (view boot.now.description.now).entries
+        boot.now.machine.now sought.now) told.now) }
+{
+    let entries = &boot.description.entries;
+    say_refused_attempts(out, boot.machine, entries, sought, told)?;
+    Ok(())
+}
+
+/// Appends the lines of the attempt that was not refused.
+fn say_attempt_of<A: Allocator + Copy>(
+    out: &mut Vec<u8, A>,
+    boot: &DescribedBoot<'_, A>,
+    sought: &Sought<'_, A>,
+    entry: u32,
+) -> Result<(), AllocError>
+    ensures { OnOk result (out.new.items ≡ out.old.items
+        ++ attempt_lines (view boot.now.description.now).entries sought.now entry) }
+{
+    say_attempt(out, &boot.description.entries, sought, entry)?;
+    Ok(())
+}
+
+/// Appends the lines of a boot in which each entry that was attempted was refused. An error leaves
+/// the text as it was.
+fn tell_none_left<A: Allocator + Copy, B: Allocator>(
+    alloc: A,
+    boot: &DescribedBoot<'_, A>,
+    sought: &Sought<'_, A>,
+    told: &[ToldRefusal],
+    refused: &[RefusedEntry],
+    say: &mut Vec<u8, B>,
+) -> Result<(), AllocError>
+    requires { length boot.now.description.now.entries.items ≤ 32 }
+    ensures ok { OnOk result (say.new.items ≡ say.old.items
+        ++ none_left_lines (view boot.now.description.now) boot.now.machine.now sought.now
+        told.now refused.now) }
+    ensures err { OnErr result (say.new.items ≡ say.old.items) }
+{
+    let mut lines = Vec::new(alloc);
+    say_refusals_of(&mut lines, boot, sought, told)?;
+    say_no_entry_left(&mut lines)?;
+    say_hints(&mut lines, boot.description, sought, refused)?;
+    say.extend_from_slice(&lines)
+}
+
+/// Appends the lines of a boot in which an entry is handed over, whose kernel has these segments.
+/// An error leaves the text as it was.
+fn tell_booted<A: Allocator + Copy, B: Allocator>(
+    alloc: A,
+    boot: &DescribedBoot<'_, A>,
+    sought: &Sought<'_, A>,
+    told: &[ToldRefusal],
+    kernel: &KernelSegments<A>,
+    outcome: &Outcome<A>,
+    say: &mut Vec<u8, B>,
+) -> Result<(), AllocError>
+    requires { length boot.now.description.now.entries.items ≤ 32 }
+    ensures ok { OnOk result (say.new.items ≡ say.old.items
+        ++ booted_lines (view boot.now.description.now) boot.now.machine.now sought.now
+        outcome.now.entry told.now outcome.now.refused.items
+        (entry_handoff_lines (view boot.now.description.now).entries sought.now kernel.now
+        boot.now.machine.now.pool outcome.now.entry outcome.now.handoff)) }
+    ensures err { OnErr result (say.new.items ≡ say.old.items) }
+{
+    let mut lines = Vec::new(alloc);
+    say_refusals_of(&mut lines, boot, sought, told)?;
+    say_attempt_of(&mut lines, boot, sought, outcome.entry)?;
+    say_outcome(&mut lines, boot, sought, kernel, outcome)?;
+    say.extend_from_slice(&lines)
+}
+
+/// Boots what is described by a store of what was found for these names, and says what the boot
+/// comes to.
+pub fn explain_found<A: Allocator + Copy, M: PhysMem, B: Allocator>(
+    alloc: A,
+    memory: &mut M,
+    mut store: FileStore<A>,
+    boot: &DescribedBoot<'_, A>,
+    names: &[&str],
+    say: &mut Vec<u8, B>,
+) -> Result<End, ExplainFault>
+    requires size { length (M.bytes memory.old) ≡ boot.now.machine.now.size }
+    requires store { store.given ≡ [] }
+    requires few { length boot.now.description.now.entries.items ≤ 32 }
+    requires menu { boot.now.menu.now ≡ menu_of (view boot.now.description.now) }
+    requires names { map (λ n. n.now) names.now
+        ≡ attempted_file_names (view boot.now.description.now) }
+    ensures { ExplainFoundEnds (view boot.now.description.now)
+        (boot_facts boot.now.machine.now boot.now.menu.now (map size_of store.files)) store.files
+        (record { names = map (λ n. n.now) names.now; files = store.files })
+        say.old.items say.new.items result }
+{
+    let ended = run(alloc, memory, &mut store, boot.machine, boot.menu);
+    store.faithful();
+    let sought = Sought::new(names, store.fetched());
+    match ended {
+        Ok(outcome) => {
+            let told = details_of(alloc, boot, &sought, &outcome.refused)?;
+            let kernel = segments_of(alloc, boot, &sought, outcome.entry)?;
+            tell_booted(alloc, boot, &sought, &told, &kernel, &outcome, say)?;
+            Ok(End::Booted)
+        }
+        Err(BootFault::NoEntryLeft(refused)) => {
+            let told = details_of(alloc, boot, &sought, &refused)?;
+            tell_none_left(alloc, boot, &sought, &told, &refused, say)?;
+            Ok(End::NoEntryLeft)
+        }
+        Err(BootFault::NoMemory) => Err(ExplainFault::NoMemory),
+    }
+}

@@ -1,0 +1,136 @@
+-- The command line: the command that clap is given, and the job that its matches tell. Own.
+use Rattle.std.specs.Prelude.{◌≡◌, ◌⊎◌, true, if◌then◌else◌, List, [], ◌∷◌, map, Some, codes}
+use Rattle.std.specs.Prelude.{unwrap_or}
+use Rattle.std.specs.Str.{bytes_eq}
+use Rattle.std.specs.Borrow.{Bor}
+use Rattle.clap.specs.Words.{App, IsAmong, Kinds, Row, Rule, Text, fault_of, first_of, new_app}
+use Rattle.clap.specs.Words.{new_rule, subcommand_of, takes, with_rule, with_subcommand}
+use Rattle.clap.specs.Simple.{new_shape}
+use Rattle.clap.specs.declared.builder.value_parser.ValueParser.{ValueParser}
+use Rattle.clap.specs.declared.builder.value_parser.ValueParser.TheVariants.{Names}
+use Rattle.clap.specs.declared.error.kind.ErrorKind.{ErrorKind}
+use Rattle.clap.specs.declared.error.kind.ErrorKind.TheVariants.{OutOfMemory, DisplayHelp}
+use Rattle.program_line.specs.declared.fault.LineFault.{LineFault}
+use Rattle.program_line.specs.declared.fault.LineFault.TheVariants.{Help, Refused, NoMemory}
+use Rattle.program_line.specs.declared.job.Order.{Order}
+use Rattle.program_line.specs.declared.job.Order.TheVariants.{Forward, Reverse}
+use Rattle.program_line.specs.declared.job.Job.{Job}
+use Rattle.program_line.specs.declared.job.Job.TheVariants.{Boot, Map, Walk, Convert, Explain}
+
+-- ---- the command: boot DESC --out IMAGE [--order forward|reverse], map DESC, walk IMAGE,
+-- convert IMAGE --out NEW, or explain DESC [--order forward|reverse]
+
+-- the parser takes the two orders by name
+abbrev pub IsOrderParser : ValueParser → Type 0
+IsOrderParser parser = (names : Bor (List (Bor Text))) × (parser ≡ Names names)
+    × (map (λ name. name.now) names.now ≡ codes "forward" ∷ codes "reverse" ∷ [])
+
+-- for such a parser
+abbrev pub HasOrderParser : (ValueParser → Type 0) → Type 0
+HasOrderParser P = (parser : ValueParser) × IsOrderParser parser × P parser
+
+-- the description, which must be given
+abbrev pub desc_rule : Rule
+desc_rule = record (new_rule (codes "desc")) { required = true }
+
+abbrev pub out_rule : Rule
+out_rule = record (new_rule (codes "out")) { long = Some (codes "out"); required = true }
+
+abbrev pub order_rule : ValueParser → Rule
+order_rule parser =
+    record (new_rule (codes "order")) { long = Some (codes "order"); parser = Some parser }
+
+abbrev pub boot_app : ValueParser → App
+boot_app parser =
+    with_rule (with_rule (with_rule (new_app (codes "boot")) desc_rule) out_rule)
+    (order_rule parser)
+
+abbrev pub map_app : App
+map_app = with_rule (new_app (codes "map")) desc_rule
+
+-- the image, which must be given
+abbrev pub image_rule : Rule
+image_rule = record (new_rule (codes "image")) { required = true }
+
+abbrev pub walk_app : App
+walk_app = with_rule (new_app (codes "walk")) image_rule
+
+abbrev pub convert_app : App
+convert_app = with_rule (with_rule (new_app (codes "convert")) image_rule) out_rule
+
+abbrev pub explain_app : ValueParser → App
+explain_app parser = with_rule (with_rule (new_app (codes "explain")) desc_rule) (order_rule parser)
+
+-- a subcommand must be given, and `help` is none
+abbrev pub top_app : App
+top_app = record {
+  top = record (new_shape (codes "bootcore")) {
+    subcommand_required = true;
+    disable_help_subcommand = true;
+  };
+  subs = [];
+}
+
+abbrev pub line_app : ValueParser → App
+line_app parser =
+    with_subcommand
+    (with_subcommand
+    (with_subcommand (with_subcommand (with_subcommand top_app (boot_app parser).top) map_app.top)
+    walk_app.top)
+    convert_app.top)
+    (explain_app parser).top
+
+-- ---- the job
+
+-- the text of an argument, empty where it has none
+abbrev pub argument_text : Text → List Row → Text
+argument_text id rows = unwrap_or (first_of id rows) []
+
+abbrev pub order_named : Text → Order
+order_named text = if bytes_eq text (codes "reverse") then Reverse else Forward
+
+-- the job is that of the subcommand with this name and these matches
+abbrev pub IsJobOf : Text × List Row → Job → Type 0
+IsJobOf chosen (Boot description image order) = (bytes_eq chosen.0 (codes "boot") ≡ true)
+    × (description.now ≡ argument_text (codes "desc") chosen.1)
+    × (image.now ≡ argument_text (codes "out") chosen.1)
+    × (order ≡ order_named (argument_text (codes "order") chosen.1))
+IsJobOf chosen (Map description) = (bytes_eq chosen.0 (codes "map") ≡ true)
+    × (description.now ≡ argument_text (codes "desc") chosen.1)
+IsJobOf chosen (Walk image) = (bytes_eq chosen.0 (codes "walk") ≡ true)
+    × (image.now ≡ argument_text (codes "image") chosen.1)
+IsJobOf chosen (Convert image new) = (bytes_eq chosen.0 (codes "convert") ≡ true)
+    × (image.now ≡ argument_text (codes "image") chosen.1)
+    × (new.now ≡ argument_text (codes "out") chosen.1)
+IsJobOf chosen (Explain description order) = (bytes_eq chosen.0 (codes "explain") ≡ true)
+    × (description.now ≡ argument_text (codes "desc") chosen.1)
+    × (order ≡ order_named (argument_text (codes "order") chosen.1))
+
+-- clap's own definition has no fault for the words, and its matches tell the job
+abbrev pub IsJobOfWords : List Text → Job → Type 0
+IsJobOfWords words job = HasOrderParser (λ parser. (fault_of (line_app parser) words ≡ [])
+    × ((chosen : Text × List Row)
+    × (subcommand_of (line_app parser) words ≡ Some chosen) × IsJobOf chosen job))
+
+-- ---- the faults
+
+-- the fault that a kind of error of clap's is
+abbrev pub fault_of_kind : ErrorKind → LineFault
+fault_of_kind OutOfMemory = NoMemory
+fault_of_kind DisplayHelp = Help
+fault_of_kind _ = Refused
+
+-- the fault is that of one of these kinds
+abbrev pub IsFaultAmong : Kinds → LineFault → Type 0
+IsFaultAmong kinds fault = (kind : ErrorKind) × IsAmong kind kinds × (fault ≡ fault_of_kind kind)
+
+-- memory ran out, or the fault is one that clap's own definition has for the words
+abbrev pub RefusesLine : List Text → LineFault → Type 0
+RefusesLine words fault =
+    (fault ≡ NoMemory)
+    ⊎ HasOrderParser (λ parser. IsFaultAmong (fault_of (line_app parser) words) fault)
+
+-- clap's own definition takes the words
+abbrev pub AreTakenByClap : List Text → Type 0
+AreTakenByClap words =
+    (parser : ValueParser) → IsOrderParser parser → takes (line_app parser) words ≡ true

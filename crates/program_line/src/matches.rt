@@ -1,0 +1,101 @@
+//! The job of a command line.
+ghost use Rattle.std.specs.Prelude.{◌≡◌, false, map, codes, IfOk, IfErr, MatchOption};
+ghost use Rattle.std.specs.Str.{bytes_eq};
+ghost use Rattle.clap.specs.Words.{found_of, rows_of};
+ghost use Rattle.program_line.specs.CommandLineJobs as lines;
+ghost use Rattle.program_line.specs.CommandLineJobs.{IsJobOf, AreTakenByClap, IsJobOfWords};
+ghost use Rattle.program_line.specs.CommandLineJobs.{RefusesLine};
+
+use crate::command::line_command;
+use crate::fault::LineFault;
+use crate::job::{Job, Order};
+use clap::ArgMatches;
+use clap::error::ErrorKind;
+use std::alloc::Global;
+
+/// The text of an argument, empty where it has none.
+fn argument_text<'a>(matches: &ArgMatches<'a>, id: &str) -> &'a str
+    ensures { result.now ≡ lines.argument_text id.now (rows_of (found_of matches.now)) }
+{
+    match matches.get_str(id) {
+        Some(text) => text,
+        None => "",
+    }
+}
+
+/// The order of this name, forward where there is none.
+fn order_named(text: &str) -> Order
+    ensures { result ≡ lines.order_named text.now }
+{
+    if text == "reverse" {
+        Order::Reverse
+    } else {
+        Order::Forward
+    }
+}
+
+/// The job of a subcommand with its matches, if the program has one of that name.
+fn job_of<'a>(name: &str, matches: &ArgMatches<'a>) -> Option<Job<'a>>
+    ensures { MatchOption result
+        ((bytes_eq name.now (codes "boot") ≡ false) × (bytes_eq name.now (codes "map") ≡ false)
+        × (bytes_eq name.now (codes "walk") ≡ false)
+        × (bytes_eq name.now (codes "convert") ≡ false)
+        × (bytes_eq name.now (codes "explain") ≡ false))
+        (IsJobOf (name.now, rows_of (found_of matches.now))) }
+{
+    match name {
+        "boot" => Some(Job::Boot {
+            description: argument_text(matches, "desc"),
+            image: argument_text(matches, "out"),
+            order: order_named(argument_text(matches, "order")),
+        }),
+        "map" => Some(Job::Map {
+            description: argument_text(matches, "desc"),
+        }),
+        "walk" => Some(Job::Walk {
+            image: argument_text(matches, "image"),
+        }),
+        "convert" => Some(Job::Convert {
+            image: argument_text(matches, "image"),
+            new: argument_text(matches, "out"),
+        }),
+        "explain" => Some(Job::Explain {
+            description: argument_text(matches, "desc"),
+            order: order_named(argument_text(matches, "order")),
+        }),
+        _ => None,
+    }
+}
+
+/// The fault that an error of clap's is.
+fn fault_of(kind: ErrorKind) -> LineFault
+    ensures { result ≡ lines.fault_of_kind kind }
+{
+    match kind {
+        ErrorKind::OutOfMemory => LineFault::NoMemory,
+        ErrorKind::DisplayHelp => LineFault::Help,
+        _ => LineFault::Refused,
+    }
+}
+
+/// The job that a command line asks for; its first word is the program's name. No words at all are
+/// refused, and words that ask for help are a fault of their own.
+pub fn read_line<'a>(global: Global, words: &'a [&'a str]) -> Result<Job<'a>, LineFault>
+    ensures job { IfOk result (IsJobOfWords (map (λ word. word.now) words.entry.now)) }
+    ensures fault { IfErr result (RefusesLine (map (λ word. word.now) words.entry.now)) }
+    ensures taken { IfErr result (λ fault.
+        AreTakenByClap (map (λ word. word.now) words.entry.now) → fault ≡ LineFault.NoMemory) }
+{
+    let command = line_command(global)?;
+    let matches = match command.try_get_matches_from(words) {
+        Ok(matches) => matches,
+        Err(error) => return Err(fault_of(error.kind())),
+    };
+    let Some((name, inner)) = matches.subcommand() else {
+        return Err(LineFault::Refused);
+    };
+    match job_of(name, inner) {
+        Some(job) => Ok(job),
+        None => Err(LineFault::Refused),
+    }
+}

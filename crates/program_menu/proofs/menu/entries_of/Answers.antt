@@ -1,0 +1,29 @@
+use Rattle.std.proofs.Common.{map, arith}
+use Rattle.std.proofs.lemmas.List.{length-append, take_all}
+use Rattle.bl_load.specs.EntryValue.{IsWithinLimits}
+use Rattle.program_menu.proofs.MenuLemmas.{entries_more}
+use Rattle.program_menu.proofs.ValueLemmas.{all_more}
+use Rattle.program_menu.proofs.menu.entries_of.Goals as goal
+
+pub loop-row-preserved : goal.loop-row-preserved
+loop-row-preserved g c =
+    let entries = c.loop-row.entries.items in
+    let entry = c.in_ok-entry_of.field-0 in
+    let count = c.loop-row.invariant.1 in (
+      rw c.in_ok-push.ensures.items
+          (entries_more (map (λ n. n.now) c.args.names.now) c.args.rows.now c.loop-row.row-index
+          c.row-item.result
+          entries entry c.row-item.is c.loop-row-test.true c.loop-row.invariant.0
+          c.in_ok-entry_of.ensures.entry),
+      rw (c.in_ok-push.ensures.items, length-append) (omega (arith, count)),
+      all_more IsWithinLimits entries _ entry c.in_ok-push.ensures.items c.loop-row.invariant.2
+          c.in_ok-entry_of.ensures.few,
+    )
+
+pub returns-clause-entries : goal.returns-clause-entries
+returns-clause-entries g c =
+    rw (take_all c.loop-row.row-index c.args.rows.now c.loop-row-test.false)
+    at c.loop-row.invariant.0
+
+pub returns-clause-few : goal.returns-clause-few
+returns-clause-few g c = c.loop-row.invariant.2

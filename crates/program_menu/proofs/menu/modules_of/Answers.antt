@@ -1,0 +1,24 @@
+use Rattle.std.proofs.Common.{◌∙◌, ap, map}
+use Rattle.std.proofs.lemmas.List.{take_all}
+use Rattle.program_desc.specs.EntryNames.{file_index}
+use Rattle.program_menu.proofs.MenuLemmas.{modules_more}
+use Rattle.program_menu.proofs.menu.modules_of.Goals as goal
+
+pub loop-row-preserved : goal.loop-row-preserved
+loop-row-preserved g c =
+    let names = map (λ n. n.now) c.args.names.now in
+    modules_more names c.args.rows.now c.loop-row.row-index c.row-item.result
+    c.loop-row.modules.items _ _ c.row-item.is c.loop-row-test.true c.in_ok-push.ensures.items
+    (c.file_index.ensures.index ∙ ap (file_index names) c.as_str.ensures)
+    (c.in_ok-copy.ensures.ok ∙ c.as_bytes.ensures.value ∙ c.as_str-in-loop-row.ensures)
+    c.loop-row.invariant.0 c.loop-row.invariant.1 c.loop-row.invariant.2
+
+pub returns-clause-files : goal.returns-clause-files
+returns-clause-files g c =
+    rw (take_all c.loop-row.row-index c.args.rows.now c.loop-row-test.false)
+    at c.loop-row.invariant.0
+
+pub returns-clause-lines : goal.returns-clause-lines
+returns-clause-lines g c =
+    rw (take_all c.loop-row.row-index c.args.rows.now c.loop-row-test.false)
+    at c.loop-row.invariant.1

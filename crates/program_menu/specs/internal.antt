@@ -1,0 +1,2 @@
+pub mod DistinctNames
+pub mod WholeReads

@@ -1,0 +1,68 @@
+-- The lines of what is told of a refusal beside its number and its name. Own.
+use Rattle.std.specs.Prelude.{ℕ, List, [], ◌++◌, codes, decimal, Option, Some, None}
+use Rattle.bl_map.specs.Kinds.{kind_of}
+use Rattle.bl_map.specs.NormalMap.{kind_at}
+use Rattle.bl_map.specs.MachineFacts.{MachineFacts}
+use Rattle.bl_map.specs.PoolFrames.{frames_in}
+use Rattle.bl_plan.specs.declared.part.Choice.{Choice}
+use Rattle.bl_plan.specs.declared.part.Choice.TheVariants.{Fixed, Lowest, Highest, Preferred}
+use Rattle.bl_plan.specs.declared.part.Row.{Row}
+use Rattle.program_desc.specs.Entries.{Entry}
+use Rattle.program_blame.specs.UnusableAddress.{address_words, unusable_line}
+use Rattle.program_say.specs.Frames.{number_between, frames_line, frames_wanted, names_at}
+use Rattle.program_say.specs.HandoffLines.{role_name}
+use Rattle.program_say.specs.Sought.{SoughtFacts}
+use Rattle.program_say.specs.declared.subjects.refusal_detail.RefusalDetail.{RefusalDetail}
+use Rattle.program_say.specs.declared.subjects.refusal_detail.RefusalDetail.TheVariants.{Nothing}
+use Rattle.program_say.specs.declared.subjects.refusal_detail.RefusalDetail.TheVariants.{NoPlace}
+use Rattle.program_say.specs.declared.subjects.refusal_detail.RefusalDetail.TheVariants.{Frames}
+
+-- ---- a part that finds no place
+
+-- where a part may lie: from the low limit on, with its end at most at the high one, at a multiple
+-- of the alignment
+abbrev pub window_words : (align low high : ℕ) → List ℕ
+window_words align low high =
+    address_words (codes "from ") low (codes " to ") ++ address_words (codes "") high (codes "")
+    ++ number_between (codes ", alignment ") align (codes "")
+
+-- how its address is chosen
+abbrev pub choice_words : Choice → List ℕ
+choice_words (Fixed at) = address_words (codes "at ") at (codes "")
+choice_words (Lowest align low high) = codes "lowest " ++ window_words align low high
+choice_words (Highest align low high) = codes "highest " ++ window_words align low high
+choice_words (Preferred at align low high) =
+    address_words (codes "preferred ") at (codes ", lowest ") ++ window_words align low high
+
+-- what it is, which one of its role, its length
+unfoldable pub no_place_front : Row → List ℕ
+no_place_front row =
+    codes "no place " ++ role_name row.role ++ codes " " ++ decimal row.index ++ codes " "
+    ++ decimal row.length ++ codes " "
+
+abbrev pub no_place_line : Row → List ℕ
+no_place_line row = no_place_front row ++ choice_words row.choice ++ codes "\n"
+
+-- ---- its first byte that is not usable
+
+abbrev pub unusable_lines : MachineFacts → Option ℕ → List ℕ
+unusable_lines facts None = []
+unusable_lines facts (Some a) = unusable_line facts.size a (kind_of (kind_at facts.runs a))
+
+-- ---- frames of the pool
+
+-- those that files take, those beside the parts, if these have places, and all of them
+abbrev pub pool_frames_line : (wanted all : ℕ) → Option ℕ → List ℕ
+pool_frames_line wanted all (Some beside) = frames_line wanted beside all
+pool_frames_line wanted all None =
+    number_between (codes "frames ") wanted (codes " wanted, ")
+    ++ number_between (codes "") all (codes " in all\n")
+
+-- ---- a refusal of an entry, by its index in a menu
+
+abbrev pub detail_lines : List Entry → MachineFacts → SoughtFacts → ℕ → RefusalDetail → List ℕ
+detail_lines entries facts sought index Nothing = []
+detail_lines entries facts sought index (NoPlace row unusable) =
+    no_place_line row ++ unusable_lines facts unusable
+detail_lines entries facts sought index (Frames beside) =
+    pool_frames_line (frames_wanted sought (names_at entries index)) (frames_in facts.pool) beside

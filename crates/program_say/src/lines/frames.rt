@@ -1,0 +1,133 @@
+//! The frames of the pool that an entry's files take, in a line.
+ghost use Rattle.std.specs.Prelude.{◌≡◌, ◌*◌, ◌≤◌, ◌^◌, ◌++◌, OnOk, length, map};
+ghost use Rattle.bl_map.specs.PoolFrames as room;
+ghost use Rattle.bl_plan.specs.Placed.{place_range};
+ghost use Rattle.program_desc.specs.EntryNames.{file_names, names_beside};
+ghost use Rattle.program_say.specs.Frames.{number_between, frames_line, frames_wanted};
+ghost use Rattle.program_say.specs.Frames.{length_found};
+ghost use Rattle.program_say.specs.Frames.{names_at, sought_frames_line};
+ghost use Rattle.program_desc.specs.Views.{entry_view, form_view, module_view};
+
+use crate::subjects::Sought;
+use bl_load::Handoff;
+use bl_map::{Machine, frames_in, frames_of, open_frames};
+use program_desc::{EntryForm, EntryRow, ModuleRow};
+use std::alloc::{AllocError, Allocator};
+
+/// How many frames the file of this name takes.
+fn frames_of_name<A: Allocator>(sought: &Sought<'_, A>, name: &str) -> u64
+    ensures frames { result ≡ room.frames_of (length_found sought.now name.now) }
+    ensures most { result ≤ 2 ^ 52 }
+{
+    match sought.size(name) {
+        Some(size) => frames_of(size),
+        None => 0,
+    }
+}
+
+/// How many frames the files of modules take.
+fn frames_of_modules<A: Allocator, B: Allocator>(
+    sought: &Sought<'_, A>,
+    modules: &[ModuleRow<B>],
+) -> u64
+    requires { length modules.now ≤ 64 }
+    ensures frames { result ≡ frames_wanted sought.now
+        (map (λ m. m.file) (map module_view modules.now)) }
+    ensures most { result ≤ 2 ^ 52 * length modules.now }
+{
+    match modules {
+        [] => 0,
+        [first, rest @ ..] => {
+            frames_of_name(sought, first.file.as_str()) + frames_of_modules(sought, rest)
+        }
+    }
+}
+
+/// How many frames the files beside the kernel take.
+fn frames_of_files_beside<A: Allocator, B: Allocator>(
+    sought: &Sought<'_, A>,
+    form: &EntryForm<B>,
+) -> u64
+    ensures frames { result ≡ frames_wanted sought.now (names_beside (form_view form.now)) }
+    ensures most { result ≤ 2 ^ 58 }
+{
+    match form {
+        EntryForm::Multiboot2 { modules, .. } => frames_of_modules(sought, &modules.rows),
+        EntryForm::Linux {
+            initrd: Some(file),
+            ..
+        } => frames_of_name(sought, file.as_str()),
+        EntryForm::Linux { initrd: None, .. } => 0,
+    }
+}
+
+/// How many frames an entry's files take.
+fn frames_of_entry<A: Allocator, B: Allocator>(sought: &Sought<'_, A>, entry: &EntryRow<B>) -> u64
+    ensures { result ≡ frames_wanted sought.now (file_names (entry_view entry.now)) }
+{
+    frames_of_name(sought, entry.kernel.as_str()) + frames_of_files_beside(sought, &entry.form)
+}
+
+/// How many frames the files of an entry of the menu take, by its index.
+pub fn frames_at<A: Allocator, B: Allocator>(
+    entries: &[EntryRow<B>],
+    sought: &Sought<'_, A>,
+    index: u32,
+) -> u64
+    ensures { result
+        ≡ frames_wanted sought.now (names_at (map entry_view entries.now) index) }
+{
+    match entries.get(index as usize) {
+        Some(entry) => frames_of_entry(sought, entry),
+        None => 0,
+    }
+}
+
+/// Appends a number between two texts.
+#[tactic(auto, unfolding(crate::specs::Frames::number_between))]
+pub fn say_counted<A: Allocator + Copy>(
+    out: &mut Vec<u8, A>,
+    before: &str,
+    count: u64,
+    behind: &str,
+) -> Result<(), AllocError>
+    ensures { OnOk result
+        (out.new.items ≡ out.old.items ++ number_between before.now count behind.now) }
+{
+    let alloc = *out.allocator();
+    let words = format!(in alloc; "{before}{count}{behind}")?;
+    out.extend_from_slice(words.as_bytes())
+}
+
+pub fn say_frames<A: Allocator + Copy>(
+    out: &mut Vec<u8, A>,
+    wanted: u64,
+    beside: u64,
+    all: u64,
+) -> Result<(), AllocError>
+    ensures { OnOk result (out.new.items ≡ out.old.items ++ frames_line wanted beside all) }
+{
+    say_counted(out, "frames ", wanted, " wanted, ")?;
+    say_counted(out, "", beside, " open, ")?;
+    say_counted(out, "", all, " in all\n")
+}
+
+/// Appends the line of the frames of an entry that is handed over.
+pub fn say_handoff_frames<A: Allocator + Copy, B: Allocator>(
+    out: &mut Vec<u8, A>,
+    entries: &[EntryRow<B>],
+    sought: &Sought<'_, A>,
+    machine: &Machine<B>,
+    entry: u32,
+    handoff: &Handoff<B>,
+) -> Result<(), AllocError>
+    ensures { OnOk result (out.new.items ≡ out.old.items
+        ++ sought_frames_line sought.now (names_at (map entry_view entries.now) entry)
+        machine.now.pool (map place_range handoff.now.places)) }
+{
+    let wanted = frames_at(entries, sought, entry);
+    let pool = machine.pool();
+    handoff.len();
+    let beside = open_frames(&pool, handoff.ranges());
+    say_frames(out, wanted, beside, frames_in(&pool))
+}

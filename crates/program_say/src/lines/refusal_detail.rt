@@ -1,0 +1,148 @@
+//! What is told of a refusal beside its number and its name, line by line.
+ghost use Rattle.std.specs.Prelude.{◌≡◌, ◌++◌, OnOk, map};
+ghost use Rattle.bl_map.specs.Kinds.{kind_of};
+ghost use Rattle.bl_map.specs.NormalMap.{kind_at};
+ghost use Rattle.program_say.specs.DetailLines as words;
+ghost use Rattle.program_desc.specs.Views.{entry_view};
+
+use crate::lines::frames::{frames_at, say_counted, say_frames};
+use crate::lines::kernel_handoff::role_name;
+use crate::subjects::{RefusalDetail, Sought};
+use bl_load::{Choice, Row};
+use bl_map::{Kind, Machine, frames_in};
+use program_blame::{say_address, say_line_end, say_unusable};
+use program_desc::EntryRow;
+use std::alloc::{AllocError, Allocator};
+
+/// Appends where a part may lie.
+fn say_window<A: Allocator + Copy>(
+    out: &mut Vec<u8, A>,
+    align: u64,
+    low: u64,
+    high: u64,
+) -> Result<(), AllocError>
+    ensures { OnOk result (out.new.items ≡ out.old.items ++ words.window_words align low high) }
+{
+    say_address(out, "from ", low, " to ")?;
+    say_address(out, "", high, "")?;
+    say_counted(out, ", alignment ", align, "")
+}
+
+/// Appends how a part's address is chosen.
+fn say_choice<A: Allocator + Copy>(out: &mut Vec<u8, A>, choice: Choice) -> Result<(), AllocError>
+    ensures { OnOk result (out.new.items ≡ out.old.items ++ words.choice_words choice) }
+{
+    match choice {
+        Choice::Fixed(at) => say_address(out, "at ", at, ""),
+        Choice::Lowest { align, low, high } => {
+            out.extend_from_slice(b"lowest ")?;
+            say_window(out, align, low, high)
+        }
+        Choice::Highest { align, low, high } => {
+            out.extend_from_slice(b"highest ")?;
+            say_window(out, align, low, high)
+        }
+        Choice::Preferred {
+            at,
+            align,
+            low,
+            high,
+        } => {
+            say_address(out, "preferred ", at, ", lowest ")?;
+            say_window(out, align, low, high)
+        }
+    }
+}
+
+/// Appends what a part is that finds no place, which one of its role, its length.
+#[tactic(auto, unfolding(crate::specs::DetailLines::no_place_front))]
+fn say_no_place_front<A: Allocator + Copy>(
+    out: &mut Vec<u8, A>,
+    row: &Row,
+) -> Result<(), AllocError>
+    ensures { OnOk result (out.new.items ≡ out.old.items ++ words.no_place_front row.now) }
+{
+    let alloc = *out.allocator();
+    let role = role_name(row.role);
+    let index = row.index;
+    let length = row.length;
+    let line = format!(in alloc; "no place {role} {index} {length} ")?;
+    out.extend_from_slice(line.as_bytes())
+}
+
+fn say_no_place<A: Allocator + Copy>(out: &mut Vec<u8, A>, row: &Row) -> Result<(), AllocError>
+    ensures { OnOk result (out.new.items ≡ out.old.items ++ words.no_place_line row.now) }
+{
+    say_no_place_front(out, row)?;
+    say_choice(out, row.choice)?;
+    say_line_end(out)
+}
+
+/// The kind of an address, if it has one.
+fn kind_of_byte<B: Allocator>(machine: &Machine<B>, address: u64) -> Option<Kind>
+    ensures { result ≡ kind_of (kind_at machine.now.runs address) }
+{
+    machine.kind_at(address)
+}
+
+/// Appends the line of a byte that is not usable, if there is one.
+fn say_unusable_if<A: Allocator + Copy, B: Allocator>(
+    out: &mut Vec<u8, A>,
+    machine: &Machine<B>,
+    unusable: Option<u64>,
+) -> Result<(), AllocError>
+    ensures { OnOk result (out.new.items ≡ out.old.items
+        ++ words.unusable_lines machine.now unusable) }
+{
+    match unusable {
+        Some(address) => {
+            let kind = kind_of_byte(machine, address);
+            say_unusable(out, machine.size(), address, kind)
+        }
+        None => Ok(()),
+    }
+}
+
+/// Appends the line of the pool's frames.
+fn say_pool_frames<A: Allocator + Copy>(
+    out: &mut Vec<u8, A>,
+    wanted: u64,
+    all: u64,
+    beside: Option<u64>,
+) -> Result<(), AllocError>
+    ensures { OnOk result (out.new.items ≡ out.old.items
+        ++ words.pool_frames_line wanted all beside) }
+{
+    match beside {
+        Some(beside) => say_frames(out, wanted, beside, all),
+        None => {
+            say_counted(out, "frames ", wanted, " wanted, ")?;
+            say_counted(out, "", all, " in all\n")
+        }
+    }
+}
+
+/// Appends the lines of what is told of a refusal, of the entry of this index.
+pub fn say_detail<A: Allocator + Copy, B: Allocator>(
+    out: &mut Vec<u8, A>,
+    machine: &Machine<B>,
+    entries: &[EntryRow<B>],
+    sought: &Sought<'_, A>,
+    entry: u32,
+    detail: RefusalDetail,
+) -> Result<(), AllocError>
+    ensures { OnOk result (out.new.items ≡ out.old.items
+        ++ words.detail_lines (map entry_view entries.now) machine.now sought.now entry detail) }
+{
+    match detail {
+        RefusalDetail::Nothing => Ok(()),
+        RefusalDetail::NoPlace { row, unusable } => {
+            say_no_place(out, &row)?;
+            say_unusable_if(out, machine, unusable)
+        }
+        RefusalDetail::Frames { beside } => {
+            let wanted = frames_at(entries, sought, entry);
+            say_pool_frames(out, wanted, frames_in(&machine.pool()), beside)
+        }
+    }
+}

@@ -1,0 +1,95 @@
+//! `prepare ENTRY of KERNEL` and `load fill=VV ENTRY of KERNEL`, on the last machine.
+
+use crate::row_entry::{LoadedEntry, load_entry, prepare_entry, read_entry};
+use bl_load::{Handoff, Plan, Registers};
+use bl_mem::PhysMem;
+use bl_plan::{Place, Role};
+use test_refusing::Refusing;
+use test_rows::calls::memory::read;
+use test_rows::row::Row;
+
+/// The registers in the order of an image, which is that of their names.
+pub fn say_registers(row: &mut Row<'_>, registers: &Registers) {
+    row.say(" registers");
+    for index in 0..registers.count() {
+        if let Some(register) = registers.named(index) {
+            row.say_number(" ", register.value);
+        }
+    }
+}
+
+/// The word for a role.
+pub fn role_name(role: Role) -> &'static str {
+    match role {
+        Role::Kernel => "kernel",
+        Role::Module => "module",
+        Role::Information => "information",
+        Role::BootParams => "boot_params",
+        Role::CommandLine => "command_line",
+        Role::Gdt => "gdt",
+        Role::Initrd => "initrd",
+        Role::PageTables => "page_tables",
+    }
+}
+
+/// A place as `, ROLE INDEX ADDRESS+LENGTH`.
+pub fn say_place(row: &mut Row<'_>, place: &Place) {
+    row.say_text(", ", role_name(place.role));
+    row.say_numbers(&[
+        (" ", place.index as u64),
+        (" ", place.address),
+        ("+", place.length),
+    ]);
+}
+
+fn say_plan(row: &mut Row<'_>, plan: &Plan<&Refusing>) {
+    row.say_decimal("protocol ", plan.protocol.number() as u64);
+    say_registers(row, &plan.registers);
+    for part in &plan.parts {
+        say_place(row, &part.place);
+    }
+}
+
+/// All of a handoff's calls.
+pub fn say_handoff(row: &mut Row<'_>, handoff: &Handoff<&Refusing>) {
+    row.say_decimal("protocol ", handoff.protocol().number() as u64);
+    say_registers(row, &handoff.registers());
+    for i in 0..handoff.len() {
+        say_place(row, &handoff.place(i));
+    }
+}
+
+/// A handoff, how often loading asked for memory, and all of memory.
+fn say_loaded(row: &mut Row<'_>, loaded: &LoadedEntry<'_>) {
+    say_handoff(row, &loaded.handoff);
+    row.say_number(", asked ", loaded.requests);
+    let size = loaded.memory.size();
+    let memory = read(row, &loaded.memory, 0, size);
+    row.say_bytes(", memory ", memory.as_slice());
+}
+
+/// Prepares the entry over the heap.
+pub fn answer_prepare(row: &mut Row<'_>) {
+    let heap = row.heap;
+    let read = read_entry(row);
+    let files = read.views(row);
+    let Some(machine) = row.machine_over(heap) else {
+        return;
+    };
+    if let Some(plan) = prepare_entry(row, heap, &machine, &read, files.as_slice()) {
+        say_plan(row, &plan);
+    }
+}
+
+/// Prepares the entry and loads it, both over the heap.
+pub fn answer_load(row: &mut Row<'_>) {
+    let heap = row.heap;
+    let fill = row.byte_field("fill");
+    let read = read_entry(row);
+    let Some(machine) = row.machine_over(heap) else {
+        return;
+    };
+    if let Some(loaded) = load_entry(row, heap, &machine, fill, &read) {
+        say_loaded(row, &loaded);
+    }
+}

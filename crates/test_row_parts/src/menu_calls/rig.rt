@@ -1,0 +1,183 @@
+//! A session with its memory.
+ghost use Rattle.std.specs.Prelude.{IsTrue};
+ghost use Rattle.bl_mem.specs.Memory.{HasRoom};
+
+use crate::menu_calls::answers::{say_progress, say_request};
+use crate::menu_calls::building::Plan;
+use crate::menu_calls::either_session::EitherSession;
+use crate::menu_calls::end::{parts_of, say_end};
+use crate::menu_calls::memory::{FILL, say_outside};
+use crate::menu_calls::menu::say_menu;
+use bl_mem::{PhysMem, Sparse};
+use bl_session::{Event, OwnedSession, Session, Ticket};
+use std::marker::Model;
+use std::ops::Range;
+use test_refusing::Refusing;
+use test_rows::calls::memory::give_room;
+use test_rows::row::Row;
+
+/// A session, its machine's size and pool, and its memory.
+#[derive(Drop)]
+pub struct Rig<'a, 'h> {
+    size: u64,
+    pool: Range<u64>,
+    session: EitherSession<'a, 'h>,
+    memory: Sparse<&'h Refusing>,
+}
+
+impl<'a, 'h> Model for Rig<'a, 'h> {
+    ghost use Rattle.std.specs.Prelude.{◌≡◌};
+    ghost use Rattle.bl_session.specs.Phases.{SessionFacts};
+    ghost use Rattle.test_row_parts.specs.EitherSession.{either_facts};
+
+    ghost Value = { SessionFacts };
+
+    ghost view = { λ rig. either_facts rig.session };
+
+    ghost invariant = { λ rig. (rig.size ≡ (either_facts rig.session).boot.machine.size)
+        × (rig.pool ≡ (either_facts rig.session).boot.machine.pool) };
+}
+
+/// Gives room to the pool, as an event asks, and says whether memory sufficed. Where it did not,
+/// that is the answer.
+fn give_pool<M: PhysMem>(row: &mut Row<'_>, memory: &mut M, pool: &Range<u64>) -> bool
+    ensures room { IsTrue result → HasRoom (M.room memory.new) pool.now.start pool.now.end }
+{
+    pool.start >= pool.end || give_room(row, memory, pool)
+}
+
+impl<'a, 'h> Rig<'a, 'h> {
+    /// A session that is not started, over memory that reads as a5 everywhere; none if memory ran
+    /// out.
+    pub fn new(
+        heap: &'h Refusing,
+        plan: &'a Plan<'h>,
+        sizes: &[Option<u64>],
+    ) -> Option<Rig<'a, 'h>> {
+        let session = Session::new(heap, &plan.machine, &plan.menu, sizes).ok()?;
+        let memory = Sparse::new(heap, plan.machine.size(), FILL).ok()?;
+        Some(Rig {
+            size: plan.machine.size(),
+            pool: plan.machine.pool(),
+            session: EitherSession::Borrowing(session),
+            memory,
+        })
+    }
+
+    /// The same of a session that owns its machine and its menu.
+    pub fn owning(
+        heap: &'h Refusing,
+        plan: Plan<'h>,
+        sizes: &[Option<u64>],
+    ) -> Option<Rig<'a, 'h>> {
+        let Plan { machine, menu } = plan;
+        let sizes = Vec::from_slice(heap, sizes).ok()?;
+        let size = machine.size();
+        let pool = machine.pool();
+        let memory = Sparse::new(heap, size, FILL).ok()?;
+        let session = OwnedSession::new(heap, machine, menu, sizes);
+        Some(Rig {
+            size,
+            pool,
+            session: EitherSession::Owning(session),
+            memory,
+        })
+    }
+
+    /// Starts the session.
+    pub fn start(&mut self, row: &mut Row<'_>) {
+        if self.memory.size() != self.size {
+            return row.refuse();
+        }
+        say_progress(row, self.session.start(&mut self.memory));
+    }
+
+    /// Takes an event.
+    pub fn event(&mut self, row: &mut Row<'_>, event: Event<'_>) {
+        if !give_pool(row, &mut self.memory, &self.pool) {
+            return;
+        }
+        if self.memory.size() != self.size {
+            return row.refuse();
+        }
+        say_progress(row, self.session.event(&mut self.memory, event));
+    }
+
+    /// What it ended in, or `none`.
+    pub fn say_end(&self, row: &mut Row<'_>) {
+        match self.session.outcome() {
+            Some(end) => say_end(row, &self.memory, &self.pool, end),
+            None => row.say("none"),
+        }
+    }
+
+    /// What it ended in, or `none`, taken for good.
+    pub fn finish(self, row: &mut Row<'_>) {
+        let Rig {
+            pool,
+            session,
+            memory,
+            ..
+        } = self;
+        match session.into_outcome() {
+            Some(end) => say_end(row, &memory, &pool, end.as_ref()),
+            None => row.say("none"),
+        }
+    }
+
+    /// The size and the pool of the machine that the session owns.
+    pub fn say_machine(&self, row: &mut Row<'_>) {
+        let Some(session) = self.session.owned() else {
+            return row.refuse();
+        };
+        let pool = session.machine().pool();
+        row.say_numbers(&[
+            ("size ", session.machine().size()),
+            (" pool ", pool.start),
+            ("..", pool.end),
+        ]);
+    }
+
+    /// The menu that it owns.
+    pub fn say_menu(&self, row: &mut Row<'_>) {
+        match self.session.owned() {
+            Some(session) => say_menu(row, session.menu()),
+            None => row.refuse(),
+        }
+    }
+
+    /// Whether an attempt waits for pieces.
+    pub fn say_waiting(&self, row: &mut Row<'_>) {
+        row.say(if self.session.is_waiting() {
+            "yes"
+        } else {
+            "no"
+        });
+    }
+
+    /// The first piece that is awaited, or the first one after that of a ticket, or `none`.
+    pub fn say_missing(&self, row: &mut Row<'_>, after: Option<Ticket>) {
+        let request = match after {
+            Some(ticket) => self.session.missing_after(ticket),
+            None => self.session.missing(),
+        };
+        match request {
+            Some(request) => say_request(row, &request),
+            None => row.say("none"),
+        }
+    }
+
+    /// Whether memory outside the pool, and after a handover outside the parts, is as it was.
+    pub fn say_outside(&self, row: &mut Row<'_>) {
+        let parts = match self.session.outcome() {
+            Some(end) => parts_of(end),
+            None => &[],
+        };
+        say_outside(row, &self.memory, &self.pool, parts);
+    }
+
+    /// Its memory.
+    pub fn memory(&mut self) -> &mut Sparse<&'h Refusing> {
+        &mut self.memory
+    }
+}

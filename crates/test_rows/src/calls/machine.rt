@@ -1,0 +1,83 @@
+//! `machine size=SIZE pool=START..END region=BASE+LENGTH:KIND ..`: the machine that later rows
+//! are about.
+//!
+//! A region may stand there several times: `BASE+LENGTH:KIND*COUNT`, or each a step after the
+//! last: `..*COUNT/STEP`.
+
+use crate::line::split_or;
+use crate::row::Row;
+use bl_map::{Kind, Machine, MapFault, Region};
+use test_refusing::Refusing;
+
+fn kind_of(row: &mut Row<'_>, word: &str) -> Kind {
+    match Kind::from_name(word) {
+        Some(kind) => kind,
+        None => {
+            row.refuse();
+            Kind::Bad
+        }
+    }
+}
+
+impl Row<'_> {
+    /// The region that `BASE+LENGTH:KIND` is.
+    pub fn region_of(&mut self, word: &str) -> Region {
+        let (base, rest) = self.cut(word, "+");
+        let (length, kind) = self.cut(rest, ":");
+        Region {
+            base: self.number_of(base),
+            length: self.number_of(length),
+            kind: kind_of(self, kind),
+        }
+    }
+
+    /// Appends a text, and a region as `BASE+LENGTH:KIND`.
+    pub fn say_region(&mut self, before: &str, region: &Region) {
+        self.say_numbers(&[(before, region.base), ("+", region.length)]);
+        self.say(":");
+        self.say(region.kind.name());
+    }
+}
+
+/// Appends a region, or as many as stand after a `*`: `COUNT`, or `COUNT/STEP`, where each lies a
+/// step after the one before.
+fn keep_regions(row: &mut Row<'_>, regions: &mut Vec<Region>, word: &str) {
+    let (word, repeats) = split_or(word, "*", "1");
+    let (count, step) = split_or(repeats, "/", "0");
+    let count = row.number_of(count);
+    let step = row.number_of(step);
+    let mut next = row.region_of(word);
+    for _ in 0..count {
+        row.keep(regions, next);
+        next.base = next.base.wrapping_add(step);
+    }
+}
+
+fn read_regions(row: &mut Row<'_>) -> Vec<Region> {
+    let mut regions = Vec::new(row.alloc);
+    for word in row.rest().split_whitespace() {
+        let region = row.field_of(word, "region");
+        keep_regions(row, &mut regions, region);
+    }
+    regions
+}
+
+/// The machine that the words are which are left, over a heap.
+pub fn read_machine<'h>(
+    row: &mut Row<'_>,
+    heap: &'h Refusing,
+) -> Result<Machine<&'h Refusing>, MapFault> {
+    let size = row.number_field("size");
+    let pool = row.range_field("pool");
+    let regions = read_regions(row);
+    Machine::new(heap, size, regions.as_slice(), pool)
+}
+
+/// Makes the machine over the heap. One that is refused leaves the last one as it was.
+pub fn answer(row: &mut Row<'_>) {
+    let heap = row.heap;
+    match read_machine(row, heap) {
+        Ok(_) => row.say("ok"),
+        Err(fault) => row.say_shown(fault),
+    }
+}
