@@ -17,7 +17,7 @@ fn part_of<M: PhysMem, A: Allocator>(
     requires { place.now.address + place.now.length ≤ length (M.bytes memory.now) }
     ensures { IfOk result (λ part. part ≡ part_in (M.bytes memory.now) place.now) }
 {
-    // The size bounds each address.
+    // For the proof: each address lies below 2^64.
     let _size = memory.size();
     let mut held = Vec::from_elem(alloc, 0u8, place.length as usize)?;
     memory.read(place.address, held.as_mut_slice());

@@ -91,7 +91,7 @@ fn write_part<M: PhysMem, S: Sink>(
         (place_bytes (M.bytes memory.now) place.now)) }
     ensures fault { OnErr result (S.faults sink.new ≡ S.faults sink.old + 1) }
 {
-    // The size bounds each address below.
+    // For the proof: each address lies below 2^64.
     let _size = memory.size();
     let mut done = 0u64;
     while done < place.length {

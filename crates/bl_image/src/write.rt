@@ -40,7 +40,7 @@ pub fn write_image<M: PhysMem, S: Sink, A: Allocator>(
     ensures kept { IsKeptByImages (handover_in (M.bytes memory.now)
         handoff.now.protocol handoff.now.registers handoff.now.places) }
 {
-    // What a handoff keeps is told with its length.
+    // For the proof: what a handoff keeps.
     let _len = handoff.len();
     let mut buffer = [0u8; MAX_COPIED];
     write_front(

@@ -62,8 +62,7 @@ fn copy_by_pieces<M: PhysMem, F: FileSet>(
         ≡ F.texts files.now (M.bytes memory.old) }
     ensures kept { KeepsSizeAndRoom M.lender M.bytes M.room memory.old memory.new }
 {
-    // Both lengths are known to be below 2^64, so that no sum here wraps, only once they were asked
-    // for.
+    // For the proof: both lengths are below 2^64, so no sum here wraps.
     let _source = files.len(memory, file);
     let _target = memory.size();
     let mut buffer = [0u8; 4096];
@@ -122,6 +121,7 @@ pub(crate) fn copy<M: PhysMem, F: FileSet>(
     if count == 0 {
         return;
     }
+    // For the proof: the file's length is below 2^64.
     let _source = files.len(memory, file);
     match files.lend(memory, file, offset, count as usize) {
         Some(lent) => write_lent(memory, at, files, lent),

@@ -30,8 +30,7 @@ fn load_segment<M: PhysMem, F: FileSet>(
         ≡ F.texts files.now (M.bytes memory.old) }
     ensures kept { KeepsSizeAndRoom M.lender M.bytes M.room memory.old memory.new }
 {
-    // Memory's size is known to be below 2^64, so that no sum here wraps, only once it was asked
-    // for.
+    // For the proof: memory's size is below 2^64, so no sum here wraps.
     let _size = memory.size();
     copy(memory, at, files, file, segment.offset, segment.filesz);
     memory.zero(at + segment.filesz..at + segment.memsz);
@@ -62,8 +61,7 @@ pub(crate) fn load_block<M: PhysMem, F: FileSet>(
         ≡ F.texts files.now (M.bytes memory.old) }
     ensures kept { KeepsSizeAndRoom M.lender M.bytes M.room memory.old memory.new }
 {
-    // Memory's size is known to be below 2^64, so that no sum here wraps, only once it was asked
-    // for.
+    // For the proof: memory's size is below 2^64, so no sum here wraps.
     let _size = memory.size();
     let low = segments[0].address;
     let mut done = 0u64;

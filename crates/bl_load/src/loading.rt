@@ -65,8 +65,7 @@ fn load_part<M: PhysMem, F: FileSet, A: Allocator>(memory: &mut M, part: &Planne
         ≡ F.texts files.now (M.bytes memory.old) }
     ensures kept { KeepsSizeAndRoom M.lender M.bytes M.room memory.old memory.new }
 {
-    // Memory's size is known to be below 2^64, so that no sum here wraps, only once it was asked
-    // for.
+    // For the proof: memory's size is below 2^64, so no sum here wraps.
     let _size = memory.size();
     let address = part.place.address;
     let count = load_content(memory, address, &part.content, files);

@@ -50,7 +50,7 @@ impl<A: Allocator> Bytes<A> {
         self.held.is_empty()
     }
 
-    /// Nothing is done: for what it ensures, which is true of each value.
+    /// For the proof: each number is below 256. Nothing is done.
     pub fn are_bytes(&self)
         ensures { All (λ b. b < 256) self.now }
     {

@@ -133,6 +133,7 @@ impl<A: Allocator + Copy> PhysMem for Sparse<A> {
     }
 
     fn read(&self, at: u64, out: &mut [u8]) {
+        // For the proof: the size is below 2^64.
         let _size = self.size;
         let mut done = 0;
         while done < out.len() {
@@ -144,6 +145,7 @@ impl<A: Allocator + Copy> PhysMem for Sparse<A> {
     }
 
     fn lend(&self, at: u64, count: usize) -> Option<&[u8]> {
+        // For the proof: the size is below 2^64.
         let _size = self.size;
         self.frames.lend(at, count)
     }
@@ -156,6 +158,7 @@ impl<A: Allocator + Copy> PhysMem for Sparse<A> {
     }
 
     fn write(&mut self, at: u64, part: &[u8]) {
+        // For the proof: the size is below 2^64.
         let _size = self.size;
         let mut done = 0;
         while done < part.len() {
@@ -167,6 +170,7 @@ impl<A: Allocator + Copy> PhysMem for Sparse<A> {
     }
 
     fn copy(&mut self, from: u64, to: u64, count: usize) {
+        // For the proof: the size is below 2^64.
         let _size = self.size;
         let are_frames = from % FRAME_SIZE == 0 && to % FRAME_SIZE == 0 && count == 4096;
         if are_frames && self.share_frame(from, to) {

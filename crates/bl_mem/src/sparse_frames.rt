@@ -80,6 +80,7 @@ impl<A: Allocator + Copy> SparseFrames<A> {
         ensures inside { 4096 * slot + 4096 ≤ length self.now.kept }
         ensures few { length self.now.kept ≤ 2 ^ 44 }
     {
+        // For the proof: a slot's bytes are kept, and there are few slots.
         let _owed = self.owed;
         WIDTH * slot as usize + (at % FRAME_SIZE) as usize
     }

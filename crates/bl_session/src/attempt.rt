@@ -70,6 +70,7 @@ pub fn end_attempt<M: PhysMem, A: Allocator + Copy>(
     ensures whole { OnErr result (are_whole (piece_states (M.bytes memory.old) stage.old) ≡ true) }
     ensures kept { KeepsSizeAndRoom M.lender M.bytes M.room memory.old memory.new }
 {
+    // For the proof: the files' frames lie in the pool.
     stage.are_staged();
     if !stage.complete() {
         return Ok(None);

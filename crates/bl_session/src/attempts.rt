@@ -73,7 +73,7 @@ pub fn begin<M: PhysMem, A: Allocator + Copy>(
             }
         }
     }
-    // what this ensures says where the pool lies
+    // For the proof: where the pool lies.
     boot.machine.pool();
     scrub(boot.machine, memory, &[]);
     Ok(Phase::Failed(BootFault::NoEntryLeft(refused)))

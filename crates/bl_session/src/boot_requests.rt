@@ -29,7 +29,7 @@ impl<'a, A: Allocator + Copy> Boot<'a, A> {
     {
         match phase {
             Phase::Waits(waiting) => {
-                // called for its contract: there are few attempts, so the number fits
+                // For the proof: there are few attempts, so the number fits.
                 self.menu.attempts();
                 let entry = self.menu.entry(waiting.entry);
                 submit_files(store, waiting.earlier.len() as u32, entry, &waiting.stage)
@@ -46,7 +46,7 @@ impl<'a, A: Allocator + Copy> Boot<'a, A> {
     {
         match phase {
             Phase::Waits(waiting) => {
-                // called for their contracts: there are few attempts and files, so the numbers fit
+                // For the proof: there are few attempts and files, so the numbers fit.
                 self.menu.attempts();
                 let entry = self.menu.entry(waiting.entry);
                 let found = first_missing(waiting.earlier.len() as u32, &waiting.stage);
@@ -67,7 +67,7 @@ impl<'a, A: Allocator + Copy> Boot<'a, A> {
     {
         match phase {
             Phase::Waits(waiting) => {
-                // called for their contracts: there are few attempts and files, so the numbers fit
+                // For the proof: there are few attempts and files, so the numbers fit.
                 self.menu.attempts();
                 let entry = self.menu.entry(waiting.entry);
                 let found = next_missing(waiting.earlier.len() as u32, &waiting.stage, ticket);
@@ -88,7 +88,7 @@ impl<'a, A: Allocator + Copy> Boot<'a, A> {
     {
         match phase {
             Phase::Waits(waiting) => {
-                // called for their contracts: there are few attempts and files, so the numbers fit
+                // For the proof: there are few attempts and files, so the numbers fit.
                 self.menu.attempts();
                 self.menu.entry(waiting.entry);
                 missing_piece(waiting.earlier.len() as u32, &waiting.stage)

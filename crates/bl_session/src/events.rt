@@ -82,7 +82,7 @@ fn take_piece<M: PhysMem, A: Allocator + Copy>(
     if !is_of(running, ticket) {
         return Ok(None);
     }
-    // what this ensures says where the pool lies
+    // For the proof: where the pool lies.
     boot.machine.pool();
     let answer = running.stage.put(memory, ticket.file, ticket.piece, bytes);
     if !is_stored(answer) {

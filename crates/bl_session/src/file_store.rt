@@ -48,7 +48,7 @@ impl<A: Allocator + Copy> FileStore<A> {
         }
     }
 
-    /// That it answers each ticket once, with the piece that was asked for.
+    /// For the proof: it answers each ticket once, with the piece that was asked for.
     pub fn faithful(&self)
         ensures { IsFaithful self.now.files self.now.given }
     {

@@ -164,7 +164,7 @@ pub fn finish_attempt<M: PhysMem, A: Allocator + Copy>(
     ensures stage { stage.new ≡ with_frames stage.old stage.new.frames }
     ensures kept { KeepsSizeAndRoom M.lender M.bytes M.room memory.old memory.new }
 {
-    // what this ensures says where the pool lies
+    // For the proof: where the pool lies.
     machine.pool();
     let plan = prepare_staged(alloc, machine, memory, entry, stage)?;
     evacuate_ranges(memory, stage, plan.ranges())?;

@@ -118,7 +118,7 @@ impl<F: StoredFiles, A: Allocator + Copy> Ledger<F, A> {
         self.pending.at(at)
     }
 
-    /// That each ticket was answered at most once, with the piece that was asked for.
+    /// For the proof: each ticket was answered at most once, with the piece that was asked for.
     pub fn faithful(&self)
         ensures { IsFaithful self.now.files self.now.given }
     {

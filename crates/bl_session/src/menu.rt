@@ -120,6 +120,7 @@ impl<A: Allocator + Copy> Menu<A> {
         if !are_entry_indices(offered.len(), default, fallbacks) {
             return Err(MenuFault::BadIndex);
         }
+        // For the proof: all lines and copies are bytes.
         entries_are_well_formed(offered);
         let attempts = order_attempts(alloc, default, fallbacks)?;
         Ok(Menu { entries, attempts })

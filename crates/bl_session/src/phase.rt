@@ -78,7 +78,7 @@ pub fn progress_of<A: Allocator>(
     ensures { (bytes : List ℕ)
         → result ≡ boot.progress attempt (state_of menu.now.attempts bytes phase.now) }
 {
-    // what this ensures says that the number is small
+    // For the proof: the number is small.
     menu.attempts();
     match phase {
         Phase::Unstarted => Progress::Waiting,

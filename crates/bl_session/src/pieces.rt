@@ -131,6 +131,7 @@ pub fn missing_piece<A: Allocator>(attempt: u32, stage: &Stage<A>) -> Ticket
     ensures { (bytes : List ℕ) → first_ticket attempt 0 (piece_states bytes stage.now)
         ≡ Some result }
 {
+    // For the proof: each file has its frames.
     stage.are_staged();
     match first_missing(attempt, stage) {
         Some(ticket) => ticket,

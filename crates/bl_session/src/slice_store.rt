@@ -38,7 +38,7 @@ impl<'a, A: Allocator + Copy> SliceStore<'a, A> {
         }
     }
 
-    /// That it answers each ticket once, with the piece that was asked for.
+    /// For the proof: it answers each ticket once, with the piece that was asked for.
     pub fn faithful(&self)
         ensures { IsFaithful self.now.ledger.files self.now.ledger.given }
     {

@@ -16,11 +16,13 @@ impl<A: Allocator> FileSet for Stage<A> {
     }
 
     fn read<M: PhysMem>(&self, memory: &M, file: usize, at: u64, out: &mut [u8]) {
+        // For the proof: the file has its frames, in the pool.
         self.are_staged();
         self.lies_in(memory, file).read(at, out);
     }
 
     fn address<M: PhysMem>(&self, memory: &M, file: usize, at: u64, count: usize) -> Option<u64> {
+        // For the proof: the file has its frames, in the pool.
         self.are_staged();
         self.lies_in(memory, file).address(at, count)
     }

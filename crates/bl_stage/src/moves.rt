@@ -27,6 +27,7 @@ fn next_spare<A: Allocator>(cells: &Cells<A>, start: usize) -> usize
     ensures rest { count_by is_spare_cell (drop (result + 1) cells.now) + 1
         ≡ count_by is_spare_cell (drop start cells.now) }
 {
+    // For the proof: there are fewer than 2^64 cells.
     let _count = cells.len();
     let mut at = start;
     while !cells.get(at).is_spare() {
@@ -45,6 +46,7 @@ fn copy_frame<M: PhysMem>(memory: &mut M, base: u64, from: usize, to: usize)
         (slice_range (M.bytes memory.old) (4096 * (base + from)) (4096 * (base + from) + 4096)) }
     ensures kept { KeepsSizeAndRoom M.lender M.bytes M.room memory.old memory.new }
 {
+    // For the proof: memory's size is below 2^64.
     let _size = memory.size();
     let source = FRAME_SIZE * (base + from as u64);
     memory.copy(source, FRAME_SIZE * (base + to as u64), 4096);

@@ -59,8 +59,8 @@ impl<A: Allocator> Stage<A> {
         self.waiting == 0
     }
 
-    /// Nothing is done: for what it ensures, which is true of each stage. Each file has its frames,
-    /// in the pool, each of them one file's alone.
+    /// For the proof: each file has its frames, in the pool, each of them one file's alone. Nothing
+    /// is done.
     pub fn are_staged(&self)
         ensures { AreStaged self.now }
     {
@@ -110,6 +110,7 @@ impl<A: Allocator> Stage<A> {
         ensures { staged (M.bytes result.memory.now) result.frames.now result.size
             ≡ staged_file (M.bytes memory.now) self.now file }
     {
+        // For the proof: the file has its frames, in the pool.
         self.are_staged();
         self.lies_in(memory, file as usize)
     }

@@ -56,6 +56,7 @@ impl<M: PhysMem> FrameView<'_, M> {
             ≡ slice_range (staged (M.bytes self.now.memory.now) self.now.frames.now self.now.size)
             at (at + count)) }
     {
+        // For the proof: memory's size is below 2^64.
         let _size = self.memory.size();
         if count == 0 || at % FRAME_SIZE + count as u64 > FRAME_SIZE {
             return None;
@@ -75,6 +76,7 @@ impl<M: PhysMem> FrameView<'_, M> {
             (staged (M.bytes self.now.memory.now) self.now.frames.now self.now.size)
             at (at + length out.old) }
     {
+        // For the proof: memory's size is below 2^64.
         let _size = self.memory.size();
         let frame = self.frames[(at / FRAME_SIZE) as usize];
         self.memory.read(FRAME_SIZE * frame + at % FRAME_SIZE, out);
@@ -90,6 +92,7 @@ impl<M: PhysMem> ByteView for FrameView<'_, M> {
     }
 
     fn read(&self, at: u64, out: &mut [u8]) {
+        // For the proof: the size is below 2^64.
         let _size = self.size;
         let mut done = 0;
         while done < out.len() {

@@ -58,7 +58,7 @@ pub(crate) fn tell_outcome<A: Allocator>(
           count = count.new;
         }) }
 {
-    // what this ensures says that there is room for each place
+    // For the proof: there is room for each place.
     outcome.handoff.len();
     tell_places(&outcome.handoff, places);
     *told = handoff_told(outcome.entry, &outcome.handoff);

@@ -42,6 +42,7 @@ fn boot_slices<M: PhysMem, A: Allocator + Copy>(
 {
     let mut store = SliceStore::new(alloc, files, Order::Forward);
     let end = run(alloc, memory, &mut store, machine, menu);
+    // For the proof: each ticket was answered once, with its piece.
     store.faithful();
     end
 }

@@ -37,6 +37,7 @@ pub fn boot_from_disk<M: PhysMem, A: Allocator + Copy>(
         ledger: Ledger::new(alloc, SliceFiles { files }),
     };
     let end = run(alloc, memory, &mut disk, machine, menu);
+    // For the proof: each ticket was answered once, with its piece.
     disk.ledger.faithful();
     end
 }

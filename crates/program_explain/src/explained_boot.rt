@@ -159,6 +159,7 @@ pub fn explain_found<A: Allocator + Copy, M: PhysMem, B: Allocator>(
         say.old.items say.new.items result }
 {
     let ended = run(alloc, memory, &mut store, boot.machine, boot.menu);
+    // For the proof: each ticket was answered once, with its piece.
     store.faithful();
     let sought = Sought::new(names, store.fetched());
     match ended {

@@ -86,6 +86,7 @@ fn bytes_of<A: Allocator>(copy: &Option<Bytes<A>>) -> Option<&[u8]>
 {
     match copy {
         Some(bytes) => {
+            // For the proof: each number is below 256.
             bytes.are_bytes();
             Some(bytes.as_slice())
         }

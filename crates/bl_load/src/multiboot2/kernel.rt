@@ -146,8 +146,7 @@ pub fn read_kernel<A: Allocator + Copy, V: ByteView>(
         (kernel_by kernel).segments) }
     ensures fault { IfErr result (λ fault. IsMultiboot2Fault (V.bytes file.now) fault) }
 {
-    // The file's length, and so that of the tag's segment, is known to be below 2^64 only once it
-    // was asked for.
+    // For the proof: the file's length, and so that of the tag's segment, is below 2^64.
     let _len = file.len();
     let header = find_header(file)?;
     let executable = read_executable(alloc, file, header.segment)?;

@@ -13,7 +13,7 @@ impl<A: Allocator + Copy> SparseFrames<A> {
     pub(super) fn unshare(&mut self, number: u64)
         ensures { IsUnshared self.old self.new number }
     {
-        // Who shares a slot with whom is known once a field was asked for.
+        // For the proof: who shares a slot with whom.
         let _owed = self.owed;
         match self.frame(number) {
             FrameState::Bare | FrameState::Plain(_) | FrameState::Kept(_) | FrameState::Wiped(_) =>

@@ -1,5 +1,5 @@
-//! The lines of a menu and its copies of the RSDP are bytes, as the types of both have it. Nothing
-//! here is done but to learn this: whoever walks what is booted needs it of each entry.
+//! For the proof: the lines of a menu and its copies of the RSDP are bytes, as the types of both
+//! have it. Nothing is done here. Whoever walks what is booted needs this of each entry.
 ghost use Rattle.std.specs.Prelude.{◌<◌, [], All, IfSome, map};
 ghost use Rattle.bl_load.specs.WellFormedEntry.{IsWellFormedEntry};
 ghost use Rattle.bl_load.specs.EntryValue.{IsWithinLimits};

@@ -32,6 +32,7 @@ pub fn boot_found<A: Allocator + Copy, M: PhysMem, S: Sink, B: Allocator>(
     ensures faults { CountsSinkFault (S.faults out.old) (S.faults out.new) result }
 {
     let ended = run(alloc, memory, &mut store, boot.machine, boot.menu);
+    // For the proof: each ticket was answered once, with its piece.
     store.faithful();
     match ended {
         Ok(outcome) => {

@@ -127,6 +127,7 @@ pub fn say_handoff_frames<A: Allocator + Copy, B: Allocator>(
 {
     let wanted = frames_at(entries, sought, entry);
     let pool = machine.pool();
+    // For the proof: places ascend.
     handoff.len();
     let beside = open_frames(&pool, handoff.ranges());
     say_frames(out, wanted, beside, frames_in(&pool))
