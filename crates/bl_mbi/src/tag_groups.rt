@@ -15,7 +15,7 @@ use bl_mem::Bytes;
 use std::alloc::Allocator;
 
 /// The texts: the line, the loader's name, the modules.
-#[tactic(auto, unfolding(crate::specs::GroupsKept::text_and_module_tags_at))]
+#[tactic(auto, unfolding(crate::specs::internal::TagGroups::text_and_module_tags_at))]
 pub(crate) fn text_and_module_tags_at<'a, A: Allocator + Copy>(
     alloc: A,
     rest: Rest<'a>,
@@ -30,7 +30,7 @@ pub(crate) fn text_and_module_tags_at<'a, A: Allocator + Copy>(
 }
 
 /// The tags of memory: its sizes, its map.
-#[tactic(auto, unfolding(crate::specs::GroupsKept::map_tags_at))]
+#[tactic(auto, unfolding(crate::specs::internal::TagGroups::map_tags_at))]
 pub(crate) fn map_tags_at<'a, A: Allocator>(
     alloc: A,
     rest: Rest<'a>,
@@ -44,7 +44,7 @@ pub(crate) fn map_tags_at<'a, A: Allocator>(
 }
 
 /// The tags that do not always stand, and the one that ends the information, with nothing after it.
-#[tactic(auto, unfolding(crate::specs::GroupsKept::closing_tags_at))]
+#[tactic(auto, unfolding(crate::specs::internal::TagGroups::closing_tags_at))]
 pub(crate) fn closing_tags_at<A: Allocator + Copy>(
     alloc: A,
     rest: Rest,
