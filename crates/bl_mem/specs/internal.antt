@@ -1,1 +1,2 @@
 pub mod FrameSlots
+pub mod SliceWrites

@@ -73,6 +73,12 @@ impl<A: Allocator> PhysMem for Flat<A> {
         held[start..end].copy_from_slice(part);
     }
 
+    #[tactic(auto, using(crate::proofs::Overwrites::copied_within))]
+    fn copy(&mut self, from: u64, to: u64, count: usize) {
+        let start = from as usize;
+        self.held.copy_within(start..start + count, to as usize);
+    }
+
     fn zero(&mut self, range: Range<u64>) {
         self.held[range.start as usize..range.end as usize].fill(0);
     }

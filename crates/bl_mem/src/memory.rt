@@ -58,7 +58,9 @@ pub trait PhysMem {
         ensures kept { KeepsSizeAndRoom lender bytes room self.old self.new };
 
     /// Copies the `count` bytes from address `from` on, at most 4096, to the addresses from `to`
-    /// on. All other bytes stay.
+    /// on. All other bytes stay. A memory that can move bytes by itself writes its own body; this
+    /// one has a buffer on the stack, and so is never inlined.
+    #[inline(never)]
     fn copy(&mut self, from: u64, to: u64, count: usize)
         requires few { count ≤ 4096 }
         requires source { from + count ≤ length (bytes self.old) }

@@ -1,6 +1,7 @@
 //! Memory in a slice that the caller keeps.
 ghost use Rattle.std.specs.Prelude.{◌≡◌, ◌+◌, ◌-◌, ◌≤◌, ◌++◌, length, replicate, slice_range};
-ghost use Rattle.bl_mem.specs.Memory.{memory_from, overwrite};
+ghost use Rattle.bl_mem.specs.Memory.{memory_from};
+ghost use Rattle.bl_mem.specs.internal.SliceWrites.{IsPutInSlice};
 
 use crate::memory::PhysMem;
 use std::alloc::{AllocError, Allocator};
@@ -61,24 +62,42 @@ impl<'a> SliceMemory<'a> {
     /// Puts the part into the slice.
     fn write_slice(&mut self, offset: usize, part: &[u8])
         requires { offset + length part.now ≤ length self.old.held.now }
-        ensures after { self.new.held.now ≡ overwrite self.old.held.now offset part.now }
-        ensures base { self.new.base ≡ self.old.base }
-        ensures lender { self.new.held.ghost_name ≡ self.old.held.ghost_name }
+        ensures { IsPutInSlice self.old self.new offset part.now }
     {
         let end = offset + part.len();
         self.held[offset..end].copy_from_slice(part);
     }
 
+    /// Copies `count` bytes within the slice.
+    #[tactic(auto, using(crate::proofs::Overwrites::copied_within))]
+    fn copy_slice(&mut self, from: usize, to: usize, count: usize)
+        requires source { from + count ≤ length self.old.held.now }
+        requires inside { to + count ≤ length self.old.held.now }
+        ensures { IsPutInSlice self.old self.new to
+            (slice_range self.old.held.now from (from + count)) }
+    {
+        self.held.copy_within(from..from + count, to);
+    }
+
     /// Clears `count` bytes of the slice.
     fn clear(&mut self, offset: usize, count: usize)
         requires { offset + count ≤ length self.old.held.now }
-        ensures after { self.new.held.now
-            ≡ overwrite self.old.held.now offset (replicate count 0) }
-        ensures base { self.new.base ≡ self.old.base }
-        ensures lender { self.new.held.ghost_name ≡ self.old.held.ghost_name }
+        ensures { IsPutInSlice self.old self.new offset (replicate count 0) }
     {
         let end = offset + count;
         self.held[offset..end].fill(0);
+    }
+
+    /// Puts as many zeros as are told, and the slice's first bytes, `count` bytes in all.
+    fn copy_from_below(&mut self, zeros: usize, to: usize, count: usize)
+        requires short { zeros ≤ count }
+        requires inside { to + count ≤ length self.old.held.now }
+        ensures { IsPutInSlice self.old self.new to
+            (replicate zeros 0 ++ slice_range self.old.held.now 0 (count - zeros)) }
+    {
+        // first what is read, which the zeros may lie on
+        self.copy_slice(0, to + zeros, count - zeros);
+        self.clear(to, zeros);
     }
 }
 
@@ -127,6 +146,20 @@ impl PhysMem for SliceMemory<'_> {
             return;
         }
         self.write_slice(self.offset(at), part);
+    }
+
+    fn copy(&mut self, from: u64, to: u64, count: usize) {
+        if count == 0 {
+            return;
+        }
+        let target = self.offset(to);
+        let base = self.base as u64;
+        if from >= base {
+            self.copy_slice(self.offset(from), target, count);
+        } else {
+            let zeros = (base - from).min(count as u64);
+            self.copy_from_below(zeros as usize, target, count);
+        }
     }
 
     fn zero(&mut self, range: Range<u64>) {

@@ -16,7 +16,8 @@ use std::ops::Range;
 /// A machine's memory that keeps only those frames of 4096 bytes which were written to. An address
 /// of a frame without room reads as `fill`, so that a machine of 4 GiB costs what is written of it
 /// and, once a frame has room, twelve bytes for each frame up to the highest one that has it. A
-/// whole frame that is copied may share its bytes with the copy, until one is written or cleared.
+/// whole frame that is kept and copied may share its bytes with the copy, until one is written or
+/// cleared.
 ///
 /// `reserve` gives room to each frame that a range meets, and its bytes read as before. After a
 /// refused growth the frames that got room until then keep it. No more than 2^32 frames have room:
@@ -169,6 +170,8 @@ impl<A: Allocator + Copy> PhysMem for Sparse<A> {
         }
     }
 
+    // never inlined, for its buffer
+    #[inline(never)]
     fn copy(&mut self, from: u64, to: u64, count: usize) {
         // For the proof: the size is below 2^64.
         let _size = self.size;

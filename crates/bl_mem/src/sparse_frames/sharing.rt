@@ -32,9 +32,10 @@ impl<A: Allocator + Copy> SparseFrames<A> {
         self.table[number as usize] = FrameState::Plain(0);
     }
 
-    /// Has a frame read as another one does, without a copy, if it has room and no slot, and the
-    /// other has a slot that it shares with none. The copy owns the slot then, and lends it. The
-    /// answer is whether it does; if not, nothing changed.
+    /// Has a frame read as another one does, without a copy, if it has room and no slot, so that
+    /// its bytes are all one value, and the other is kept in a slot that it shares with none. The
+    /// copy owns the slot then, and lends it. One that was cleared has its slot alone too, but is
+    /// not kept in it. The answer is whether it does; if not, nothing changed.
     pub fn share(&mut self, from: u64, to: u64) -> bool
         ensures shared { result ≡ true → IsShared self.old self.new from to }
         ensures same { result ≡ false → self.new ≡ self.old }
