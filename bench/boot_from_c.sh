@@ -12,13 +12,12 @@
 source "$(dirname "${BASH_SOURCE[0]}")/loads.sh"
 goal=1.0
 
-archive=$here/../crates/bootcore_c/out/libbootcore_c.a
+archive=$here/../examples/c/out/libbootcore.a
 [ -e "$archive" ] || fail "$archive is not built: examples/c/build builds it"
 type -P cc > /dev/null || fail "cc is not at hand"
 has_rustc || fail "rustc is not at hand"
 build plain_boot
-heap=$(dirname "$(rt doc)")/c/liblibc_c.a
-cc -std=c99 -O2 -I"$here/../include" -o "$work/core_boot" "$here/core_boot.c" "$archive" "$heap" ||
+cc -std=c99 -O2 -I"$here/../include" -o "$work/core_boot" "$here/core_boot.c" "$archive" ||
     fail "core_boot.c does not build"
 cd "$work"
 make_files

@@ -11,12 +11,11 @@
 # shellcheck source-path=SCRIPTDIR source=loads.sh
 source "$(dirname "${BASH_SOURCE[0]}")/loads.sh"
 
-archive=$here/../crates/bootcore_c/out/libbootcore_c.a
+archive=$here/../examples/c/out/libbootcore.a
 [ -e "$archive" ] || fail "$archive is not built: examples/c/build builds it"
 type -P cc > /dev/null || fail "cc is not at hand"
-heap=$(dirname "$(rt doc)")/c/liblibc_c.a
 cc -std=c99 -O2 -o "$work/plain_guest" "$here/plain_guest.c" || fail "plain_guest.c does not build"
-cc -std=c99 -O2 -I"$here/../include" -o "$work/core_guest" "$here/core_guest.c" "$archive" "$heap" ||
+cc -std=c99 -O2 -I"$here/../include" -o "$work/core_guest" "$here/core_guest.c" "$archive" ||
     fail "core_guest.c does not build"
 cd "$work"
 make_files

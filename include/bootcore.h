@@ -1,10 +1,11 @@
 /*
  * bootcore: what a boot loader does with memory, for C.
  *
- * Link libbootcore.a, which ./install puts into a prefix, with bootcore.pc for pkg-config. It wants
- * memmove, memset and memcpy, and malloc, realloc and free, which align as the C library's and always
- * return. Nothing else is wanted: no file, no clock, no thread, no text. (In a checkout it is two
- * archives, libbootcore_c.a and the toolchain's heap object; examples/c/build shows the line.)
+ * Link libbootcore.a, which ./install puts into a prefix, with bootcore.pc for pkg-config, and which
+ * examples/c/build makes in a checkout. It wants memmove, memset and memcpy, and malloc, realloc and
+ * free, which align as the C library's and always return. Nothing else is wanted: no file, no clock,
+ * no thread. Each function of this file is a symbol of the archive; what else has a name there that
+ * begins with bootcore_ is no interface.
  *
  * Target. The library is built for x86-64 (x86-64-v2, with SSE enabled) and the System V calling
  * convention, and so its calls are declared.
@@ -32,7 +33,9 @@
  * An array without elements may be null, but `memory` and `places` may not. Whatever else the values
  * are, a call ends, and what is wrong with them has a status.
  *
- * The names of this file hold in C99 and in C++.
+ * Versions. BOOTCORE_VERSION is that of this file, bootcore_version() that of the archive.
+ *
+ * The names of this file hold in C99 and later, and in C++98 and later.
  */
 #ifndef BOOTCORE_H
 #define BOOTCORE_H
@@ -46,13 +49,20 @@ extern "C" {
 #endif
 
 /* The convention of the library's calls, also where the compiler's own is another, as for UEFI. */
-#if defined(__GNUC__) && defined(__x86_64__)
+#if (defined(__GNUC__) || defined(__clang__)) && defined(__x86_64__)
 #define BOOTCORE_CALL __attribute__((sysv_abi))
 #elif defined(_MSC_VER)
 #error "bootcore's calls have the System V convention, which this compiler does not know"
 #else
 #define BOOTCORE_CALL
 #endif
+
+/* The version: major * 10000 + minor * 100 + patch. */
+#define BOOTCORE_VERSION 10000
+
+/* The version of the archive that is linked. */
+BOOTCORE_CALL
+uint32_t bootcore_version(void);
 
 /* What a call answers. Of several misuses the first in the order of these lines is told, with one
  * exception: BOOTCORE_BAD_PROTOCOL to BOOTCORE_BAD_FILE are looked for entry by entry, so those of a
@@ -91,6 +101,55 @@ enum {
     BOOTCORE_MAX_REFUSALS = 32 /* a boot refuses no more entries */
 };
 
+/* Why an entry is refused: the numbers of a bootcore_refusal. docs/REFUSALS.md says more of each, and what
+ * to do; bootcore_text says it in words. In brackets: what `first`, and `second`, of a refusal are. */
+enum {
+    BOOTCORE_REFUSAL_NO_FILE = 1, /* file */
+    BOOTCORE_REFUSAL_FILE_FAULT = 2, /* file */
+    BOOTCORE_REFUSAL_FILE_TOO_LONG = 3, /* file */
+    BOOTCORE_REFUSAL_NO_HEADER = 4,
+    BOOTCORE_REFUSAL_HEADER_CUT = 5,
+    BOOTCORE_REFUSAL_BAD_ARCHITECTURE = 6,
+    BOOTCORE_REFUSAL_BAD_TAG = 7, /* offset */
+    BOOTCORE_REFUSAL_UNSUPPORTED_TAG = 8, /* type */
+    BOOTCORE_REFUSAL_UNSUPPORTED_REQUEST = 9, /* type */
+    BOOTCORE_REFUSAL_NO_CONSOLE = 10,
+    BOOTCORE_REFUSAL_NOT_ELF = 11,
+    BOOTCORE_REFUSAL_BAD_ELF = 12,
+    BOOTCORE_REFUSAL_SEGMENT_CUT = 13, /* i */
+    BOOTCORE_REFUSAL_ADDRESS_TOO_HIGH = 14, /* i */
+    BOOTCORE_REFUSAL_SEGMENTS_OVERLAP = 15, /* i, j */
+    BOOTCORE_REFUSAL_NO_ENTRY = 16,
+    BOOTCORE_REFUSAL_ENTRY_OUTSIDE = 17,
+    BOOTCORE_REFUSAL_BAD_ALIGN = 18,
+    BOOTCORE_REFUSAL_NOT_USABLE = 19,
+    BOOTCORE_REFUSAL_NO_ROOM = 20,
+    BOOTCORE_REFUSAL_NO_POOL = 21,
+    BOOTCORE_REFUSAL_NOT_BZ_IMAGE = 22,
+    BOOTCORE_REFUSAL_OLD_PROTOCOL = 23,
+    BOOTCORE_REFUSAL_NOT_HIGH = 24,
+    BOOTCORE_REFUSAL_SETUP_CUT = 25,
+    BOOTCORE_REFUSAL_BAD_PREFERRED = 26,
+    BOOTCORE_REFUSAL_LINE_TOO_LONG = 27,
+    BOOTCORE_REFUSAL_LINE_HAS_NUL = 28,
+    BOOTCORE_REFUSAL_MAP_TOO_LONG = 29,
+    BOOTCORE_REFUSAL_NO_64_ENTRY = 30
+};
+
+/* Why an image is refused by a walk: 71 to 75, it is no image; 81 to 83, no kernel can be entered with it. */
+enum {
+    BOOTCORE_FAULT_BAD_MAGIC = 71,
+    BOOTCORE_FAULT_BAD_VERSION = 72,
+    BOOTCORE_FAULT_BAD_HEADER = 73,
+    BOOTCORE_FAULT_BAD_PART = 74, /* i */
+    BOOTCORE_FAULT_WRONG_LENGTH = 75,
+    BOOTCORE_FAULT_READ_NO_MEMORY = 77,
+    BOOTCORE_FAULT_OUTSIDE_IMAGE = 81,
+    BOOTCORE_FAULT_BAD_INFO = 82,
+    BOOTCORE_FAULT_BAD_STATE = 83,
+    BOOTCORE_FAULT_WALK_NO_MEMORY = 84
+};
+
 /* Kinds of memory: the numbers of an e820 entry. Where regions overlap, the greatest counts. An
  * address is usable if its kind is BOOTCORE_USABLE and it lies from 4096 on, below the machine's size
  * and below 0xFFFFF000; one in no region is not. */
@@ -121,9 +180,9 @@ enum {
     BOOTCORE_PAGE_TABLES = 8
 };
 
-#define BOOTCORE_NO_FILE UINT32_MAX /* the index of no file */
-#define BOOTCORE_MISSING UINT64_MAX /* a boot or a session: the offset of a file that can't be read;
-                                     * a walk: that of a copy of an RSDP that is not there */
+#define BOOTCORE_NO_FILE (~(uint32_t)0) /* the index of no file */
+#define BOOTCORE_MISSING (~(uint64_t)0) /* a boot or a session: the offset of a file that can't be read;
+                                         * a walk: that of a copy of an RSDP that is not there */
 
 /* Bytes of an array. A range without bytes, too, begins within the array or at its end, but where
  * BOOTCORE_MISSING stands for none. */
@@ -213,6 +272,18 @@ typedef struct bootcore_refusal {
     uint64_t second;
 } bootcore_refusal;
 
+/* What a refusal's number means, in the words of `bootcore explain`; of a walk's fault, in those of
+ * docs/REFUSALS.md. Of any other number it says that there is none. The text is constant. */
+BOOTCORE_CALL
+const char *bootcore_text(uint32_t number);
+
+/* Writes a refusal, or a walk's fault, as a line of text without its end: as `bootcore explain` has it,
+ * `refused NUMBER NAME(WHAT IT CARRIES): MEANING`, or `bad image ..`. At most `length` bytes are written,
+ * the last one a zero byte; the answer is the whole text's length without that byte, so a buffer that is
+ * longer than the answer has all of it. `buffer` may be null where `length` is 0. */
+BOOTCORE_CALL
+size_t bootcore_describe(const bootcore_refusal *refusal, char *buffer, size_t length);
+
 typedef struct bootcore_handoff {
     uint32_t entry;    /* the index of the entry that is handed over */
     uint32_t protocol; /* how its kernel is entered */
@@ -264,7 +335,7 @@ typedef struct bootcore_seen_arrays {
     size_t text_room;
 } bootcore_seen_arrays;
 
-#if defined(__cplusplus)
+#if defined(__cplusplus) && __cplusplus >= 201103L
 #define BOOTCORE_ASSERT(test, text) static_assert(test, text)
 #elif defined(__STDC_VERSION__) && __STDC_VERSION__ >= 201112L
 #define BOOTCORE_ASSERT(test, text) _Static_assert(test, text)
@@ -298,78 +369,6 @@ BOOTCORE_ASSERT(sizeof(bootcore_seen_part) == 16, "bootcore_seen_part");
 BOOTCORE_ASSERT(sizeof(bootcore_seen_module) == 32, "bootcore_seen_module");
 BOOTCORE_ASSERT(offsetof(bootcore_seen_module, line) == 16, "bootcore_seen_module.line");
 
-/* As bootcore_load, for arrays that are not null. */
-BOOTCORE_CALL
-uint32_t bootcore_load_arrays(uint8_t *memory, size_t memory_length, uint32_t base,
-                              const bootcore_machine *machine, const bootcore_region *regions,
-                              size_t region_count, const bootcore_entry *entry,
-                              const bootcore_module *modules, size_t module_count,
-                              const uint8_t *text, size_t text_length, const bootcore_range *files,
-                              size_t file_count, const uint8_t *contents, size_t contents_length,
-                              bootcore_handoff *handoff, bootcore_place *places,
-                              size_t place_count, bootcore_refusal *refusal);
-
-/* As bootcore_prepare, for arrays that are not null. */
-BOOTCORE_CALL
-uint32_t bootcore_prepare_arrays(const bootcore_machine *machine, const bootcore_region *regions,
-                                 size_t region_count, const bootcore_entry *entry,
-                                 const bootcore_module *modules, size_t module_count,
-                                 const uint8_t *text, size_t text_length,
-                                 const bootcore_range *files, size_t file_count,
-                                 const uint8_t *contents, size_t contents_length,
-                                 bootcore_handoff *handoff, bootcore_place *places,
-                                 size_t place_count, bootcore_refusal *refusal);
-
-/* As bootcore_boot, for arrays that are not null. */
-BOOTCORE_CALL
-uint32_t bootcore_boot_arrays(uint8_t *memory, size_t memory_length, uint32_t base,
-                              const bootcore_machine *machine, const bootcore_region *regions,
-                              size_t region_count, const bootcore_entry *entries,
-                              size_t entry_count, uint32_t first, const uint32_t *fallbacks,
-                              size_t fallback_count, const bootcore_module *modules,
-                              size_t module_count, const uint8_t *text, size_t text_length,
-                              const bootcore_range *files, size_t file_count,
-                              const uint8_t *contents, size_t contents_length,
-                              bootcore_handoff *handoff, bootcore_place *places,
-                              size_t place_count, bootcore_refusal *refusals,
-                              size_t refusal_room, uint64_t *refused);
-
-/* As bootcore_walk, for an image that is not null. */
-BOOTCORE_CALL
-uint32_t bootcore_walk_array(const uint8_t *image, size_t image_length, bootcore_seen *seen,
-                             bootcore_refusal *fault);
-
-/* As bootcore_walk_all, for an image and arrays that are not null. */
-BOOTCORE_CALL
-uint32_t bootcore_walk_all_arrays(const uint8_t *image, size_t image_length, bootcore_seen *seen,
-                                  bootcore_seen_part *kernel_parts, size_t kernel_part_room,
-                                  bootcore_seen_module *modules, size_t module_room,
-                                  bootcore_region *runs, size_t run_room, uint8_t *text,
-                                  size_t text_room, bootcore_refusal *fault);
-
-/* What stands for an array without elements. */
-static inline const void *bootcore_array(const void *array) {
-    static const uint64_t nothing = 0;
-    return array ? array : &nothing;
-}
-
-/* An array that is null with one element or more. */
-static inline int bootcore_is_null(const void *array, size_t count) {
-    return !array && count;
-}
-
-static inline int bootcore_has_null_beside_contents(const bootcore_given *given) {
-    return bootcore_is_null(given->regions, given->region_count) ||
-           bootcore_is_null(given->modules, given->module_count) ||
-           bootcore_is_null(given->text, given->text_length) ||
-           bootcore_is_null(given->files, given->file_count);
-}
-
-static inline int bootcore_has_null(const bootcore_given *given) {
-    return bootcore_has_null_beside_contents(given) ||
-           bootcore_is_null(given->contents, given->contents_length);
-}
-
 /*
  * Loads one entry into memory, and tells how its kernel is entered: what a hypervisor does before it
  * enters its guest. There is no menu and no pool.
@@ -384,23 +383,11 @@ static inline int bootcore_has_null(const bootcore_given *given) {
  * - BOOTCORE_REFUSED: *refusal is told (with entry 0); all else is as before.
  * - Any other: all is as before.
  */
-static inline uint32_t bootcore_load(uint8_t *memory, size_t memory_length, uint32_t base,
-                                     const bootcore_given *given, const bootcore_entry *entry,
-                                     bootcore_handoff *handoff, bootcore_place *places,
-                                     size_t place_count, bootcore_refusal *refusal) {
-    if (!memory || !given || !entry || !handoff || !places || !refusal ||
-        bootcore_has_null(given)) {
-        return BOOTCORE_NULL;
-    }
-    return bootcore_load_arrays(
-        memory, memory_length, base, &given->machine,
-        (const bootcore_region *)bootcore_array(given->regions), given->region_count, entry,
-        (const bootcore_module *)bootcore_array(given->modules), given->module_count,
-        (const uint8_t *)bootcore_array(given->text), given->text_length,
-        (const bootcore_range *)bootcore_array(given->files), given->file_count,
-        (const uint8_t *)bootcore_array(given->contents), given->contents_length, handoff, places,
-        place_count, refusal);
-}
+BOOTCORE_CALL
+uint32_t bootcore_load(uint8_t *memory, size_t memory_length, uint32_t base,
+                       const bootcore_given *given, const bootcore_entry *entry,
+                       bootcore_handoff *handoff, bootcore_place *places, size_t place_count,
+                       bootcore_refusal *refusal);
 
 /*
  * Tells what bootcore_load would hand over of an entry, or why it would not, without the machine's
@@ -417,20 +404,10 @@ static inline uint32_t bootcore_load(uint8_t *memory, size_t memory_length, uint
  * BOOTCORE_NO_MEMORY. After BOOTCORE_REFUSED none answers BOOTCORE_DONE, and one that answers
  * BOOTCORE_REFUSED tells the same refusal.
  */
-static inline uint32_t bootcore_prepare(const bootcore_given *given, const bootcore_entry *entry,
-                                        bootcore_handoff *handoff, bootcore_place *places,
-                                        size_t place_count, bootcore_refusal *refusal) {
-    if (!given || !entry || !handoff || !places || !refusal || bootcore_has_null(given)) {
-        return BOOTCORE_NULL;
-    }
-    return bootcore_prepare_arrays(
-        &given->machine, (const bootcore_region *)bootcore_array(given->regions),
-        given->region_count, entry, (const bootcore_module *)bootcore_array(given->modules),
-        given->module_count, (const uint8_t *)bootcore_array(given->text), given->text_length,
-        (const bootcore_range *)bootcore_array(given->files), given->file_count,
-        (const uint8_t *)bootcore_array(given->contents), given->contents_length, handoff, places,
-        place_count, refusal);
-}
+BOOTCORE_CALL
+uint32_t bootcore_prepare(const bootcore_given *given, const bootcore_entry *entry,
+                          bootcore_handoff *handoff, bootcore_place *places, size_t place_count,
+                          bootcore_refusal *refusal);
 
 /* The entries of a menu, and the order in which they are attempted: `first`, then the fallbacks, each
  * entry once. */
@@ -460,29 +437,11 @@ typedef struct bootcore_menu {
  * After the first two the refusals are told in order, as many as there is room for, and in *refused
  * how many there were. What is not told is as before.
  */
-static inline uint32_t bootcore_boot(uint8_t *memory, size_t memory_length, uint32_t base,
-                                     const bootcore_given *given, const bootcore_menu *menu,
-                                     bootcore_handoff *handoff, bootcore_place *places,
-                                     size_t place_count, bootcore_refusal *refusals,
-                                     size_t refusal_room, uint64_t *refused) {
-    bootcore_refusal none;
-    if (!memory || !given || !menu || !handoff || !places || !refused ||
-        bootcore_is_null(refusals, refusal_room) || bootcore_has_null(given) ||
-        bootcore_is_null(menu->entries, menu->entry_count) ||
-        bootcore_is_null(menu->fallbacks, menu->fallback_count)) {
-        return BOOTCORE_NULL;
-    }
-    return bootcore_boot_arrays(
-        memory, memory_length, base, &given->machine,
-        (const bootcore_region *)bootcore_array(given->regions), given->region_count,
-        (const bootcore_entry *)bootcore_array(menu->entries), menu->entry_count, menu->first,
-        (const uint32_t *)bootcore_array(menu->fallbacks), menu->fallback_count,
-        (const bootcore_module *)bootcore_array(given->modules), given->module_count,
-        (const uint8_t *)bootcore_array(given->text), given->text_length,
-        (const bootcore_range *)bootcore_array(given->files), given->file_count,
-        (const uint8_t *)bootcore_array(given->contents), given->contents_length, handoff, places,
-        place_count, refusals ? refusals : &none, refusal_room, refused);
-}
+BOOTCORE_CALL
+uint32_t bootcore_boot(uint8_t *memory, size_t memory_length, uint32_t base,
+                       const bootcore_given *given, const bootcore_menu *menu,
+                       bootcore_handoff *handoff, bootcore_place *places, size_t place_count,
+                       bootcore_refusal *refusals, size_t refusal_room, uint64_t *refused);
 
 /*
  * Walks an image in memory, as a measured boot does before it trusts what an image hands over: reads
@@ -495,13 +454,9 @@ static inline uint32_t bootcore_boot(uint8_t *memory, size_t memory_length, uint
  * - BOOTCORE_NO_MEMORY: fault->number is 77 or 84.
  * What is not told is as before.
  */
-static inline uint32_t bootcore_walk(const uint8_t *image, size_t image_length,
-                                     bootcore_seen *seen, bootcore_refusal *fault) {
-    if (!seen || !fault || bootcore_is_null(image, image_length)) {
-        return BOOTCORE_NULL;
-    }
-    return bootcore_walk_array((const uint8_t *)bootcore_array(image), image_length, seen, fault);
-}
+BOOTCORE_CALL
+uint32_t bootcore_walk(const uint8_t *image, size_t image_length, bootcore_seen *seen,
+                       bootcore_refusal *fault);
 
 /*
  * Walks an image in memory as bootcore_walk does, and tells all that its kernel sees.
@@ -515,27 +470,9 @@ static inline uint32_t bootcore_walk(const uint8_t *image, size_t image_length,
  * The bytes of modules and of an initial ramdisk are not told. They lie in the image, in the part
  * that has their address.
  */
-static inline uint32_t bootcore_walk_all(const uint8_t *image, size_t image_length,
-                                         bootcore_seen *seen, const bootcore_seen_arrays *arrays,
-                                         bootcore_refusal *fault) {
-    bootcore_seen_part no_part;
-    bootcore_seen_module no_module;
-    bootcore_region no_run;
-    uint8_t no_text;
-    if (!seen || !arrays || !fault || bootcore_is_null(image, image_length) ||
-        bootcore_is_null(arrays->kernel_parts, arrays->kernel_part_room) ||
-        bootcore_is_null(arrays->modules, arrays->module_room) ||
-        bootcore_is_null(arrays->runs, arrays->run_room) ||
-        bootcore_is_null(arrays->text, arrays->text_room)) {
-        return BOOTCORE_NULL;
-    }
-    return bootcore_walk_all_arrays(
-        (const uint8_t *)bootcore_array(image), image_length, seen,
-        arrays->kernel_parts ? arrays->kernel_parts : &no_part, arrays->kernel_part_room,
-        arrays->modules ? arrays->modules : &no_module, arrays->module_room,
-        arrays->runs ? arrays->runs : &no_run, arrays->run_room,
-        arrays->text ? arrays->text : &no_text, arrays->text_room, fault);
-}
+BOOTCORE_CALL
+uint32_t bootcore_walk_all(const uint8_t *image, size_t image_length, bootcore_seen *seen,
+                           const bootcore_seen_arrays *arrays, bootcore_refusal *fault);
 
 /* ---- a boot piece by piece */
 
@@ -578,40 +515,6 @@ BOOTCORE_ASSERT(sizeof(bootcore_request) == 20, "bootcore_request");
 BOOTCORE_ASSERT(offsetof(bootcore_request, length) == 16, "bootcore_request.length");
 BOOTCORE_ASSERT(sizeof(bool) == 1, "bool");
 
-/* As the calls of these names without the last word, for pointers that are not null. */
-BOOTCORE_CALL
-uint32_t bootcore_session_make_arrays(bootcore_session *session, const bootcore_machine *machine,
-                                      const bootcore_region *regions, size_t region_count,
-                                      const bootcore_entry *entries, size_t entry_count,
-                                      uint32_t first, const uint32_t *fallbacks,
-                                      size_t fallback_count, const bootcore_module *modules,
-                                      size_t module_count, const uint8_t *text,
-                                      size_t text_length, const bootcore_range *files,
-                                      size_t file_count);
-BOOTCORE_CALL
-uint32_t bootcore_session_start_array(bootcore_session *session, uint8_t *memory,
-                                      size_t memory_length, uint32_t base);
-BOOTCORE_CALL
-uint32_t bootcore_session_piece_arrays(bootcore_session *session, uint8_t *memory,
-                                       size_t memory_length, uint32_t base,
-                                       const bootcore_request *request, const uint8_t *bytes,
-                                       size_t length);
-BOOTCORE_CALL
-uint32_t bootcore_session_fault_array(bootcore_session *session, uint8_t *memory,
-                                      size_t memory_length, uint32_t base,
-                                      const bootcore_request *request);
-BOOTCORE_CALL
-bool bootcore_session_missing_record(bootcore_session *session, bootcore_request *request);
-BOOTCORE_CALL
-bool bootcore_session_missing_after_record(bootcore_session *session, bootcore_request *request);
-BOOTCORE_CALL
-uint32_t bootcore_session_outcome_arrays(bootcore_session *session, bootcore_handoff *handoff,
-                                         bootcore_place *places, size_t place_count,
-                                         bootcore_refusal *refusals, size_t refusal_room,
-                                         uint64_t *refused);
-BOOTCORE_CALL
-void bootcore_session_free_kept(bootcore_session *session);
-
 /*
  * Makes a session of a menu, and keeps it; one that was kept before is freed then. It is not yet
  * started.
@@ -623,22 +526,9 @@ void bootcore_session_free_kept(bootcore_session *session);
  * - Any other: what was kept before is still kept. BOOTCORE_FEW_PLACES, BOOTCORE_BAD_MEMORY and
  *   BOOTCORE_BAD_CONTENTS don't come.
  */
-static inline uint32_t bootcore_session_make(bootcore_session *session,
-                                             const bootcore_given *given,
-                                             const bootcore_menu *menu) {
-    if (!session || !given || !menu || bootcore_has_null_beside_contents(given) ||
-        bootcore_is_null(menu->entries, menu->entry_count) ||
-        bootcore_is_null(menu->fallbacks, menu->fallback_count)) {
-        return BOOTCORE_NULL;
-    }
-    return bootcore_session_make_arrays(
-        session, &given->machine, (const bootcore_region *)bootcore_array(given->regions),
-        given->region_count, (const bootcore_entry *)bootcore_array(menu->entries),
-        menu->entry_count, menu->first, (const uint32_t *)bootcore_array(menu->fallbacks),
-        menu->fallback_count, (const bootcore_module *)bootcore_array(given->modules),
-        given->module_count, (const uint8_t *)bootcore_array(given->text), given->text_length,
-        (const bootcore_range *)bootcore_array(given->files), given->file_count);
-}
+BOOTCORE_CALL
+uint32_t bootcore_session_make(bootcore_session *session, const bootcore_given *given,
+                               const bootcore_menu *menu);
 
 /*
  * Starts a session: the first attempt begins. A session that was started before stays as it is.
@@ -660,13 +550,9 @@ static inline uint32_t bootcore_session_make(bootcore_session *session,
  * After the end each further call without a misuse answers BOOTCORE_DONE or BOOTCORE_FAILED again, and
  * changes nothing. A piece or a fault before the start answers BOOTCORE_WAITING, and changes nothing.
  */
-static inline uint32_t bootcore_session_start(bootcore_session *session, uint8_t *memory,
-                                              size_t memory_length, uint32_t base) {
-    if (!session || !memory) {
-        return BOOTCORE_NULL;
-    }
-    return bootcore_session_start_array(session, memory, memory_length, base);
-}
+BOOTCORE_CALL
+uint32_t bootcore_session_start(bootcore_session *session, uint8_t *memory, size_t memory_length,
+                                uint32_t base);
 
 /*
  * Tells a session that a piece came: the bytes of a request. They are copied. The request's file and
@@ -674,42 +560,27 @@ static inline uint32_t bootcore_session_start(bootcore_session *session, uint8_t
  * runs out. A piece that is not awaited changes nothing: one that came before, one of an earlier
  * attempt, or one of another length.
  */
-static inline uint32_t bootcore_session_piece(bootcore_session *session, uint8_t *memory,
-                                              size_t memory_length, uint32_t base,
-                                              const bootcore_request *request,
-                                              const uint8_t *bytes, size_t length) {
-    if (!session || !memory || !request || bootcore_is_null(bytes, length)) {
-        return BOOTCORE_NULL;
-    }
-    return bootcore_session_piece_arrays(session, memory, memory_length, base, request,
-                                         (const uint8_t *)bootcore_array(bytes), length);
-}
+BOOTCORE_CALL
+uint32_t bootcore_session_piece(bootcore_session *session, uint8_t *memory, size_t memory_length,
+                                uint32_t base, const bootcore_request *request,
+                                const uint8_t *bytes, size_t length);
 
 /* Tells a session that a piece can't be read: its entry is refused, and the next attempt begins, if
  * there is one. A fault of a piece that is not awaited changes nothing. */
-static inline uint32_t bootcore_session_fault(bootcore_session *session, uint8_t *memory,
-                                              size_t memory_length, uint32_t base,
-                                              const bootcore_request *request) {
-    if (!session || !memory || !request) {
-        return BOOTCORE_NULL;
-    }
-    return bootcore_session_fault_array(session, memory, memory_length, base, request);
-}
+BOOTCORE_CALL
+uint32_t bootcore_session_fault(bootcore_session *session, uint8_t *memory, size_t memory_length,
+                                uint32_t base, const bootcore_request *request);
 
 /* Tells the first piece that the running attempt awaits, files and pieces ascending, and whether
  * there is one. If there is none, or no session, *request is as before. */
-static inline bool bootcore_session_missing(bootcore_session *session,
-                                            bootcore_request *request) {
-    return session && request && bootcore_session_missing_record(session, request);
-}
+BOOTCORE_CALL
+bool bootcore_session_missing(bootcore_session *session, bootcore_request *request);
 
 /* Tells the first one after *request in this order, so that repeated calls tell all of them; if there
  * is none, *request is as before. Of *request its place and piece alone are looked at, so begin anew
  * by bootcore_session_missing after BOOTCORE_NEXT. */
-static inline bool bootcore_session_missing_after(bootcore_session *session,
-                                                  bootcore_request *request) {
-    return session && request && bootcore_session_missing_after_record(session, request);
-}
+BOOTCORE_CALL
+bool bootcore_session_missing_after(bootcore_session *session, bootcore_request *request);
 
 /*
  * Tells how a session ended. The session stays as it is, and may be asked again.
@@ -722,27 +593,16 @@ static inline bool bootcore_session_missing_after(bootcore_session *session,
  * After the first two the refusals are told in order, as many as there is room for, and in *refused
  * how many there were. What is not told is as before.
  */
-static inline uint32_t bootcore_session_outcome(bootcore_session *session,
-                                                bootcore_handoff *handoff,
-                                                bootcore_place *places, size_t place_count,
-                                                bootcore_refusal *refusals, size_t refusal_room,
-                                                uint64_t *refused) {
-    bootcore_refusal none;
-    if (!session || !handoff || !places || !refused ||
-        bootcore_is_null(refusals, refusal_room)) {
-        return BOOTCORE_NULL;
-    }
-    return bootcore_session_outcome_arrays(session, handoff, places, place_count,
-                                           refusals ? refusals : &none, refusal_room, refused);
-}
+BOOTCORE_CALL
+uint32_t bootcore_session_outcome(bootcore_session *session, bootcore_handoff *handoff,
+                                  bootcore_place *places, size_t place_count,
+                                  bootcore_refusal *refusals, size_t refusal_room,
+                                  uint64_t *refused);
 
 /* Frees what a session keeps, if there is something. After that none is kept, and one may be made
  * again. A session that is freed, or made anew, before its end leaves in the pool what came. */
-static inline void bootcore_session_free(bootcore_session *session) {
-    if (session) {
-        bootcore_session_free_kept(session);
-    }
-}
+BOOTCORE_CALL
+void bootcore_session_free(bootcore_session *session);
 
 #ifdef __cplusplus
 }

@@ -76,9 +76,10 @@ class Header(CoreChecks):
 
     def test_cxx(self) -> None:
         if not is_at_hand("c++"):
-            self.leave_out("include/bootcore.h is accepted as C++11 without a warning", "c++ is not at hand")
+            self.leave_out("include/bootcore.h is accepted as C++98 and C++11 without a warning", "c++ is not at hand")
             self.leave_out("a program in C++11 is linked with the core and runs", "c++ is not at hand")
             return
+        self.reads("include/bootcore.h is accepted as C++98 without a warning", ["c++"], "c++98", "c++")
         self.reads("include/bootcore.h is accepted as C++11 without a warning", ["c++"], "c++11", "c++")
         source, linked = self.room / "linked.cc", self.room / "linked"
         source.write_text(IN_CXX, encoding="utf-8")
@@ -86,6 +87,40 @@ class Header(CoreChecks):
             words = ["c++", "-std=c++11", *WARNINGS, "-I", HEADER.parent, source, *libraries(), "-o", linked]
             self.assert_ended(run(*words))
             self.assert_ended(run(linked))
+
+
+class Texts(CoreChecks):
+    """Refusals in words."""
+
+    SAID = re.compile(rb"(?m)^(refused (\d+) \w+(?:\((0x)?(\w+)(?:, (\d+))?\))?: .*)$")
+    BAD_IMAGES = {
+        "71 0 0": "bad image 71 BadMagic: the first eight bytes are not BLIMAGE and a zero byte",
+        "74 3 0": "bad image 74 BadPart(3): record i is bad: its role, its address, its length or its end;"
+        " role 8 is allowed with protocol 3 alone",
+        "90 1 2": "bad image 90: no refusal has this number",
+    }
+
+    def test_texts(self) -> None:
+        made = self.room / "texts"
+        words = [*CC, "-std=c99", "-O2", *WARNINGS, "-I", HEADER.parent, TOP / "tools/c/texts.c", *libraries()]
+        self.ends("the driver that prints refusals in words is built", run(*words, "-o", made))
+        if not made.exists():
+            return
+        expanded = self.room / "expanded"
+        self.ends("the cases' descriptions are written", run(TOP / "cases/expand", expanded), 0, None)
+        wanted, asked = [], []
+        for description in sorted(expanded.glob("*.toml")):
+            explained = self.program("explain", description)
+            for line, number, is_offset, first, second in self.SAID.findall(explained.out):
+                if line not in wanted:
+                    wanted.append(line)
+                    asked.append(f"{int(number)} {int(first or b'0', 16 if is_offset else 10)} {int(second or b'0')}")
+        numbers = {line.split()[0] for line in asked}
+        with self.check("the cases are refused with at least 25 of the 30 numbers"):
+            self.assertGreaterEqual(len(numbers), 25, f"numbers: {sorted(map(int, numbers))}")
+        ran = run(made, stdin="\n".join([*asked, *self.BAD_IMAGES]).encode())
+        said = b"\n".join([*wanted, *map(str.encode, self.BAD_IMAGES.values()), b""]).decode()
+        self.ends("bootcore_describe says of each refusal of the cases what explain says", ran, 0, said)
 
 
 class Statuses(CoreChecks):
@@ -167,7 +202,7 @@ class Examples(CoreChecks):
         entered = self.example("guest", "multiboot2", "kernel.elf", "k", "settings.cfg", cwd=self.modules)
         self.ends("the guest loader prints how its guest is entered", entered, 0, GUEST)
         refused = self.example("guest", "multiboot2", "settings.cfg", "k", cwd=self.modules)
-        self.ends("the guest loader prints which refusal a bad kernel meets", refused, 1, "refused 4 0 0\n")
+        self.ends("the guest loader prints which refusal a bad kernel meets", refused, 1, "refused 4 NoHeader: no Multiboot2 header in the first 32768 bytes, at a multiple of 8, with a right sum\n")
 
 
 class Cases(CoreChecks):

@@ -37,8 +37,8 @@ def build() -> Ran:
 
 @lru_cache(maxsize=None)
 def libraries() -> List[Path]:
-    """What a program in C links: the core, and the toolchain's object by which it asks malloc, realloc and free."""
-    return [C_ARCHIVE, Path(run("rt", "doc").out.decode().strip()).parent / "c/liblibc_c.a"]
+    """What a program in C links."""
+    return [OUT / "libbootcore.a"]
 
 
 class CoreChecks(ProgramChecks):

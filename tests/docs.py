@@ -23,6 +23,7 @@ TOOLS = [
     ("no definition that a reader must believe, and no exported clause, uses one of specs/internal", "tools/believed", "--check"),
     ("a reader's hour in docs/THEOREMS.md has the lines that it counts", "tools/hour", "--check"),
     ("explain has the name and the meaning of each refusal that docs/REFUSALS.md has", "tools/refusals"),
+    ("the core for C has the numbers and the words of docs/REFUSALS.md", "tools/c_texts", "--check"),
     ("CONTRIBUTING.md lists each place where a refusal and a key stand", "tools/refusal_places", "--check"),
 ]
 

@@ -122,8 +122,9 @@ int main(int argc, char **argv) {
     if (status == BOOTCORE_DONE) {
         print_handoff(&handoff, places);
     } else if (status == BOOTCORE_REFUSED) {
-        printf("refused %" PRIu32 " %" PRIu64 " %" PRIu64 "\n", refusal.number, refusal.first,
-               refusal.second);
+        char words[256];
+        bootcore_describe(&refusal, words, sizeof words);
+        puts(words);
     } else {
         printf("status %" PRIu32 "\n", status);
     }
