@@ -19,14 +19,14 @@ pub enum ImageFault {
     #[error("bad version")]
     BadVersion,
 
-    /// The protocol is neither 1 nor 2; in version 2, a register that the protocol does not give is
-    /// not 0, or another one is 2^32 or more; there are more than 256 parts; or the word after
-    /// their number is not 0.
+    /// The protocol is none of the version, which has 1 and 2, and from version 2 on 3; in version 2
+    /// under protocol 1 or 2, a register that the protocol does not give is not 0, or another one
+    /// is 2^32 or more; there are more than 256 parts; or the word after their number is not 0.
     #[error("bad header")]
     BadHeader,
 
-    /// The record with this number, from 0, has a role outside 1 to 7, an address below the end of
-    /// the record before, a length of 0, or an end above 2^32.
+    /// The record with this number, from 0, has a role outside 1 to 7 (under protocol 3, outside 1
+    /// to 8), an address below the end of the part before, a length of 0, or an end above 2^32.
     #[error("bad part {0}")]
     BadPart(u32),
 

@@ -1,4 +1,4 @@
-//! The image of a handoff, written to a sink.
+//! The image of a handoff: written to a sink, and read from a source.
 #![tactic(auto)]
 
 mod fault;

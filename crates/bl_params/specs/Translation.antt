@@ -1,6 +1,8 @@
--- How a processor translates an address by page tables (Intel SDM, volume 3, chapter 4.5, "4-Level
--- Paging and 5-Level Paging"), for tables of six frames that name each other and pages of 2 MiB
--- that are present and writable, and no more (own: all else translates to nothing).
+-- The translation of an address by page tables (Intel SDM, volume 3, chapter 4.5, "4-Level Paging
+-- and 5-Level Paging"), for tables of six frames that name each other and pages of 2 MiB that are
+-- present and writable, and no more (own: all else translates to nothing). It is a processor's
+-- where the base is a multiple of 4096 and bits 52 to 63 of each word are 0: a processor ignores
+-- the low bits of the base, and reads those bits of a word as something else than an address.
 use Rattle.std.specs.Prelude.{ℕ, ◌+◌, ◌*◌, ◌/◌, ◌%◌, ◌^◌, ◌==◌, ◌&&◌, nat_lt, if◌then◌else◌}
 use Rattle.std.specs.Prelude.{List, length, Option, None, Some}
 use Rattle.bl_mem.specs.LittleEndian.{u64_at}

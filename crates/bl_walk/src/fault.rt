@@ -12,8 +12,9 @@ use thiserror::Error;
 /// - `OutsideImage`: the kernel is entered outside of its parts, or a range of at least one byte
 ///   that it follows does not lie in one part.
 /// - `BadInfo`: the boot information or the boot parameters are none, or no zero ends the line.
-/// - `BadState`: a register has another number than its protocol gives it, or the descriptors of a
-///   Linux kernel are other ones.
+/// - `BadState`: a register that does not hold an address has another number than its protocol
+///   gives it; or a Linux kernel is handed other descriptors, or by its 64-bit entry page tables
+///   that do not translate each address below 4 GiB to itself.
 /// - `NoMemory`: memory ran out. This says nothing of the image, and may come at any growth.
 ///
 /// Of several faults that stand any may be answered.

@@ -9,7 +9,9 @@ use bl_walk::{WalkFault, walk};
 use std::alloc::Allocator;
 use thiserror::Error;
 
-/// Why an image is not to be entered: it is none, or a kernel would be harmed by it.
+/// Why an image is not to be entered: it is none, or a walk refuses it. A walk reads page tables as
+/// a processor does if they begin at a multiple of 4096 and bits 52 to 63 of their words are 0. Of
+/// other tables it judges the rule's translation, which a processor's differs from.
 #[derive(Clone, Copy, Debug, PartialEq, Eq, Error)]
 pub enum CheckFault {
     #[error("no image: {0}")]
