@@ -16,9 +16,8 @@ use std::ops::Range;
 fn unusable_stretch(runs: &[Region], start: u64, end: u64) -> Option<Range<u64>>
     requires runs { AreRuns runs.now }
     requires forward { start < end }
-    ensures { MatchOption result
-        ((a : ℕ) → start ≤ a → a < end → kind_at runs.now a ≡ 1)
-        (λ stretch. IsBlockedBy (λ a. kind_at runs.now a ≡ 1) start end stretch) }
+    ensures { MatchOption result ((a : ℕ) → start ≤ a → a < end → kind_at runs.now a ≡ 1)
+        (IsBlockedBy (λ a. kind_at runs.now a ≡ 1) start end) }
 {
     let mut from = 0;
     for run in runs {
@@ -49,9 +48,8 @@ fn ended_by(ranges: &[Range<u64>], start: u64) -> usize
 /// A taken range that meets these bytes.
 pub fn taken_stretch(taken: &[Range<u64>], start: u64, end: u64) -> Option<Range<u64>>
     requires apart { AreApartRanges taken.now }
-    ensures { MatchOption result
-        (AreUntaken taken.now start end)
-        (λ stretch. IsBlockedBy (λ a. All (λ range. ¬ IsIn range a) taken.now) start end stretch) }
+    ensures { MatchOption result (AreUntaken taken.now start end)
+        (IsBlockedBy (λ a. All (λ range. ¬ IsIn range a) taken.now) start end) }
 {
     let next = ended_by(taken, start);
     if next < taken.len() {
@@ -75,9 +73,8 @@ pub fn blocked_stretch<A: Allocator>(
     requires above { FIRST_USABLE ≤ start }
     requires in_size { end ≤ machine.now.size }
     requires below { end ≤ USABLE_LIMIT }
-    ensures { MatchOption result
-        (AllUsable machine.now start end × AreUntaken taken.now start end)
-        (λ stretch. IsBlockedBy (IsFree machine.now taken.now) start end stretch) }
+    ensures { MatchOption result (AllUsable machine.now start end × AreUntaken taken.now start end)
+        (IsBlockedBy (IsFree machine.now taken.now) start end) }
 {
     if let Some(stretch) = unusable_stretch(machine.normal(), start, end) {
         return Some(stretch);

@@ -15,19 +15,13 @@ ghost use Rattle.bl_plan.specs.Placed.{IsPlaceOf};
 pub fn places_are_determined()
     ensures one_list { (facts : MachineFacts) (taken : List (Range ℕ)) (rows : List Row)
         (ps qs : List Place)
-        → ArePlaced facts taken rows ps
-        → ArePlaced facts taken rows qs
-        → ps ≡ qs }
+        → ArePlaced facts taken rows ps → ArePlaced facts taken rows qs → ps ≡ qs }
     ensures one_fault { (facts : MachineFacts) (taken : List (Range ℕ)) (rows : List Row)
         (f g : PlanFault)
-        → IsFirstPlaceFault facts taken rows f
-        → IsFirstPlaceFault facts taken rows g
-        → f ≡ g }
+        → IsFirstPlaceFault facts taken rows f → IsFirstPlaceFault facts taken rows g → f ≡ g }
     ensures not_both { (facts : MachineFacts) (taken : List (Range ℕ)) (rows : List Row)
         (ps : List Place) (f : PlanFault)
-        → ArePlaced facts taken rows ps
-        → IsFirstPlaceFault facts taken rows f
-        → ⊥ }
+        → ArePlaced facts taken rows ps → IsFirstPlaceFault facts taken rows f → ⊥ }
 {}
 
 /// Rows have places or a first fault, so by the law above exactly one of both. Want of memory is
@@ -41,27 +35,17 @@ pub fn rows_have_places_or_a_fault()
 /// The places of rows are usable and meet neither one another nor what was taken before.
 pub fn places_are_legal()
     ensures usable { (facts : MachineFacts) (taken : List (Range ℕ)) (rows : List Row)
-        (ps : List Place)
-        → ArePlaced facts taken rows ps
-        → All (IsPlaceable facts) ps }
+        (ps : List Place) → ArePlaced facts taken rows ps → All (IsPlaceable facts) ps }
     ensures beside { (facts : MachineFacts) (taken : List (Range ℕ)) (rows : List Row)
-        (ps : List Place)
-        → ArePlaced facts taken rows ps
-        → All (IsUntaken taken) ps }
+        (ps : List Place) → ArePlaced facts taken rows ps → All (IsUntaken taken) ps }
     ensures apart { (facts : MachineFacts) (taken : List (Range ℕ)) (rows : List Row)
-        (ps : List Place)
-        → ArePlaced facts taken rows ps
-        → AllPairs IsApart ps }
+        (ps : List Place) → ArePlaced facts taken rows ps → AllPairs IsApart ps }
 {}
 
 /// There is one place for each row, in the rows' order, with the row's role, index and length.
 pub fn places_are_of_rows()
     ensures as_many { (facts : MachineFacts) (taken : List (Range ℕ)) (rows : List Row)
-        (ps : List Place)
-        → ArePlaced facts taken rows ps
-        → length ps ≡ length rows }
+        (ps : List Place) → ArePlaced facts taken rows ps → length ps ≡ length rows }
     ensures of_rows { (facts : MachineFacts) (taken : List (Range ℕ)) (rows : List Row)
-        (ps : List Place)
-        → ArePlaced facts taken rows ps
-        → AllZip IsPlaceOf rows ps }
+        (ps : List Place) → ArePlaced facts taken rows ps → AllZip IsPlaceOf rows ps }
 {}

@@ -1,10 +1,9 @@
 //! The search for a permitted address. It goes from one blocked stretch to the next, never from
 //! byte to byte.
-ghost use Rattle.std.specs.Prelude.{ℕ, ◌+◌, ◌≤◌, MatchOption, MatchBool};
+ghost use Rattle.std.specs.Prelude.{ℕ, ◌≤◌, MatchBool};
 ghost use Rattle.bl_mem.specs.Least.{IsLeast, IsGreatest};
 ghost use Rattle.bl_plan.specs.Permitted.{IsAtSide};
-ghost use Rattle.bl_plan.specs.internal.FreeBytes.{IsPermittedIn};
-ghost use Rattle.bl_plan.specs.PlannerFacts.{AreApartRanges};
+ghost use Rattle.bl_plan.specs.internal.FreeBytes.{IsPermittedIn, CanSearch, Finds};
 
 use crate::blocked_stretches::{blocked_stretch, taken_stretch};
 use crate::part::{Side, Window};
@@ -30,12 +29,8 @@ fn least_place<A: Allocator>(
     length: u64,
     window: Window,
 ) -> Option<u64>
-    requires apart { AreApartRanges taken.now }
-    requires filled { 1 ≤ length }
-    requires aligned { 1 ≤ window.align }
-    ensures { MatchOption result
-        ((a : ℕ) → ¬ IsPermittedIn machine.now taken.now length window a)
-        (λ a. IsLeast (IsPermittedIn machine.now taken.now length window) a) }
+    requires { CanSearch taken.now length window }
+    ensures { Finds (IsPermittedIn machine.now taken.now length window) IsLeast result }
 {
     let end = end_of_room(machine, window.high);
     if end < length {
@@ -59,12 +54,8 @@ fn greatest_place<A: Allocator>(
     length: u64,
     window: Window,
 ) -> Option<u64>
-    requires apart { AreApartRanges taken.now }
-    requires filled { 1 ≤ length }
-    requires aligned { 1 ≤ window.align }
-    ensures { MatchOption result
-        ((a : ℕ) → ¬ IsPermittedIn machine.now taken.now length window a)
-        (λ a. IsGreatest (IsPermittedIn machine.now taken.now length window) a) }
+    requires { CanSearch taken.now length window }
+    ensures { Finds (IsPermittedIn machine.now taken.now length window) IsGreatest result }
 {
     let first = window.low.max(FIRST_USABLE);
     let end = end_of_room(machine, window.high);
@@ -92,12 +83,8 @@ pub fn place_at_side<A: Allocator>(
     window: Window,
     side: Side,
 ) -> Option<u64>
-    requires apart { AreApartRanges taken.now }
-    requires filled { 1 ≤ length }
-    requires aligned { 1 ≤ window.align }
-    ensures { MatchOption result
-        ((a : ℕ) → ¬ IsPermittedIn machine.now taken.now length window a)
-        (λ a. IsAtSide side (IsPermittedIn machine.now taken.now length window) a) }
+    requires { CanSearch taken.now length window }
+    ensures { Finds (IsPermittedIn machine.now taken.now length window) (IsAtSide side) result }
 {
     match side {
         Side::Lowest => least_place(machine, taken, length, window),
@@ -113,11 +100,8 @@ pub fn is_permitted<A: Allocator>(
     length: u64,
     window: Window,
 ) -> bool
-    requires apart { AreApartRanges taken.now }
-    requires filled { 1 ≤ length }
-    requires aligned { 1 ≤ window.align }
-    ensures { MatchBool result
-        (IsPermittedIn machine.now taken.now length window at)
+    requires { CanSearch taken.now length window }
+    ensures { MatchBool result (IsPermittedIn machine.now taken.now length window at)
         (¬ IsPermittedIn machine.now taken.now length window at) }
 {
     if at % window.align != 0 {
