@@ -8,17 +8,27 @@ ghost use Rattle.bl_session.specs.internal.AttemptStates.{IsAttempt, IsAttemptBe
 ghost use Rattle.bl_session.specs.internal.AttemptStates.{IsMemoryAfterAttempt};
 ghost use Rattle.bl_session.specs.internal.AttemptStates.{KeepsAttempt};
 ghost use Rattle.bl_session.specs.internal.AttemptStates.{attempt_with};
-ghost use Rattle.bl_session.specs.Menu.{facts_of, files_of};
+ghost use Rattle.bl_session.specs.menu.Menu.{facts_of, files_of};
 ghost use Rattle.bl_session.specs.internal.SessionPhases.{HasSmallFiles};
-ghost use Rattle.bl_session.specs.Pieces.{are_whole};
+ghost use Rattle.bl_session.specs.attempt.AwaitedPieces.{are_whole};
 
-use crate::handing_over::finish_attempt;
-use crate::stage_beginning::begin_stage;
+use crate::attempt::stage_beginning::begin_stage;
 use bl_load::{Entry, Handoff, PrepFault, Refusal};
 use bl_map::Machine;
 use bl_mem::PhysMem;
 use bl_stage::Stage;
 use std::alloc::{AllocError, Allocator};
+
+pub(crate) mod entry_files;
+mod frame_counts;
+mod handing_over;
+pub(crate) mod missing_pieces;
+mod stage_beginning;
+pub(crate) mod ticket;
+
+pub use frame_counts::frames_for;
+pub use handing_over::finish_attempt;
+pub use ticket::{Event, Request, Ticket};
 
 /// How an attempt ended: its entry is handed over, or refused.
 #[derive(Drop)]

@@ -4,10 +4,11 @@ ghost use Rattle.std.specs.Prelude.{All, IfErr, IfOk, OnOk, slice_index_or, if�
 ghost use Rattle.std.specs.List.{list_any};
 ghost use Rattle.bl_load.specs.WellFormedEntry.{IsWellFormedEntry, IsWellFormedValue};
 ghost use Rattle.bl_load.specs.EntryValue.{IsWithinLimits};
-ghost use Rattle.bl_session.specs.Menu.{facts_of, entry_at};
-ghost use Rattle.bl_session.specs.Attempts.{attempt_order, AreWithinLimits, AreEntryIndices};
-ghost use Rattle.bl_session.specs.Attempts.{HasMenuFault};
-ghost use Rattle.bl_session.specs.Attempts as attempts;
+ghost use Rattle.bl_session.specs.menu.Menu.{facts_of, entry_at};
+ghost use Rattle.bl_session.specs.menu.AttemptOrder.{attempt_order};
+ghost use Rattle.bl_session.specs.menu.MenuFaults.{AreWithinLimits, AreEntryIndices};
+ghost use Rattle.bl_session.specs.menu.MenuFaults.{HasMenuFault};
+ghost use Rattle.bl_session.specs.menu.NamedFiles as attempts;
 
 use crate::menu::fault::{are_entry_indices, is_small};
 use crate::menu::lines_and_copies::entries_are_well_formed;
@@ -33,7 +34,7 @@ impl<A: Allocator> Model for Menu<A> {
     ghost use Rattle.std.specs.Prelude.{◌<◌, ◌≤◌, [], length, map, All};
     ghost use Rattle.bl_load.specs.WellFormedEntry.{IsWellFormedEntry};
     ghost use Rattle.bl_load.specs.EntryValue.{IsWithinLimits};
-    ghost use Rattle.bl_session.specs.Menu.{MenuFacts, facts_of};
+    ghost use Rattle.bl_session.specs.menu.Menu.{MenuFacts, facts_of};
     ghost use Rattle.bl_plan.specs.MenuLimits.{max_entries};
 
     ghost Value = { MenuFacts };

@@ -7,23 +7,31 @@ ghost use Rattle.bl_mem.specs.Memory.{KeepsSizeAndRoom};
 ghost use Rattle.bl_stage.specs.Ranges.{IsSameOutside};
 ghost use Rattle.bl_stage.specs.Files.{missing};
 ghost use Rattle.bl_stage.specs.Files as menu_files;
-ghost use Rattle.bl_session.specs.BootSteps.{out_of_memory};
-ghost use Rattle.bl_session.specs.Memory.{IsMemoryAt};
-ghost use Rattle.bl_session.specs.Faithful.{IsFaithful};
-ghost use Rattle.bl_session.specs.Schedules.{Faults};
-ghost use Rattle.bl_session.specs.Outcome.{IsOutcome, HasEnded};
-ghost use Rattle.bl_session.specs.Phases.{boot_facts, state_at, is_waiting, not_started};
-ghost use Rattle.bl_session.specs.Phases.{LiesWithin};
-ghost use Rattle.bl_session.specs.Run.{IsRun, IsGenuineRun, final_phase};
+ghost use Rattle.bl_session.specs.session.BootSteps.{out_of_memory};
+ghost use Rattle.bl_session.specs.session.BootMemory.{IsMemoryAt};
+ghost use Rattle.bl_session.specs.store.Faithful.{IsFaithful};
+ghost use Rattle.bl_session.specs.session.Schedules.{Faults};
+ghost use Rattle.bl_session.specs.session.Outcome.{IsOutcome, HasEnded};
+ghost use Rattle.bl_session.specs.session.Phases.{boot_facts, state_at, is_waiting, not_started};
+ghost use Rattle.bl_session.specs.session.Phases.{LiesWithin};
+ghost use Rattle.bl_session.specs.runs.Run.{IsRun, IsGenuineRun, final_phase};
 
-use crate::answer_loop::drive;
 use crate::menu::Menu;
-use crate::outcome::{BootFault, Outcome};
+use crate::runs::answer_loop::drive;
 use crate::session::Session;
+use crate::session::outcome::{BootFault, Outcome};
 use crate::store::Store;
 use bl_map::Machine;
 use bl_mem::PhysMem;
 use std::alloc::{AllocError, Allocator};
+
+mod answer_loop;
+mod run_laws;
+
+pub use run_laws::{
+    faithful_stores_boot_by_their_files, marked_histories_are_genuine,
+    runs_end_with_the_first_entry_not_refused,
+};
 
 /// The sizes of so many files of a store, by their index.
 fn sizes_of<S: Store, A: Allocator>(
@@ -79,7 +87,7 @@ fn run_session<'a, M: PhysMem, S: Store, A: Allocator + Copy>(
 }
 
 /// The end of a session that has ended.
-fn end_of<A: Allocator + Copy>(session: Session<A>) -> Result<Outcome<A>, BootFault<A>>
+fn outcome_of<A: Allocator + Copy>(session: Session<A>) -> Result<Outcome<A>, BootFault<A>>
     requires started { session.phase ≢ not_started }
     requires ended { is_waiting session.phase ≡ false }
     ensures end { final_phase result ≡ session.entry.phase }
@@ -135,7 +143,7 @@ pub fn run<M: PhysMem, S: Store, A: Allocator + Copy>(
     ensures kept { KeepsSizeAndRoom M.lender M.bytes M.room memory.old memory.new }
 {
     match run_session(alloc, memory, store, machine, menu) {
-        Ok(session) => end_of(session),
+        Ok(session) => outcome_of(session),
         Err(_) => Err(BootFault::NoMemory),
     }
 }

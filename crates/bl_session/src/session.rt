@@ -2,25 +2,39 @@
 ghost use Rattle.std.specs.Prelude.{◌≡◌, ◌≢◌, true, false, IfOk, IfSome, MatchBool, length};
 ghost use Rattle.std.specs.Prelude.{option_map};
 ghost use Rattle.bl_mem.specs.Memory.{HasRoom, KeepsSizeAndRoom};
-ghost use Rattle.bl_session.specs.BootSteps.{StepsToOrFails, StartsOrFails, is_taken};
-ghost use Rattle.bl_session.specs.BootSteps.{attempt_number};
-ghost use Rattle.bl_session.specs.BootSteps as boot;
-ghost use Rattle.bl_session.specs.Memory.{IsMemoryAt};
-ghost use Rattle.bl_session.specs.Phases.{boot_facts, event_facts, state_at, is_waiting};
-ghost use Rattle.bl_session.specs.Phases.{phase_facts, end_facts, told_end, not_started};
-ghost use Rattle.bl_session.specs.Phases.{LiesWithin};
-ghost use Rattle.bl_session.specs.Run.{final_phase};
+ghost use Rattle.bl_session.specs.session.BootSteps.{StepsToOrFails, StartsOrFails, is_taken};
+ghost use Rattle.bl_session.specs.session.BootSteps.{attempt_number};
+ghost use Rattle.bl_session.specs.session.BootSteps as boot;
+ghost use Rattle.bl_session.specs.session.BootMemory.{IsMemoryAt};
+ghost use Rattle.bl_session.specs.session.Phases.{boot_facts, event_facts, state_at, is_waiting};
+ghost use Rattle.bl_session.specs.session.Phases.{phase_facts, end_facts, told_end, not_started};
+ghost use Rattle.bl_session.specs.session.Phases.{LiesWithin};
+ghost use Rattle.bl_session.specs.runs.Run.{final_phase};
 
+use crate::attempt::ticket::Event;
 use crate::menu::Menu;
-use crate::outcome::{BootFault, Outcome, Progress};
-use crate::phase::{Boot, Phase};
-use crate::phase_end::{end_of, into_end};
-use crate::steps::{advance, begin_first};
-use crate::ticket::Event;
+use crate::session::advancing::advance;
+use crate::session::boot_end::{boot_end, into_boot_end};
+use crate::session::phase::{Boot, Phase};
+use crate::session::starting::begin_first;
 use bl_map::Machine;
 use bl_mem::PhysMem;
 use std::alloc::{AllocError, Allocator};
 use std::marker::Model;
+
+mod advancing;
+mod boot_end;
+mod boot_requests;
+mod event_taking;
+mod falling_back;
+pub(crate) mod outcome;
+mod owned_session;
+mod phase;
+mod session_requests;
+mod starting;
+
+pub use outcome::{BootFault, Outcome, Progress};
+pub use owned_session::OwnedSession;
 
 /// A boot on its way. It keeps no bytes of files: these lie in the pool of the memory that each of
 /// its calls is handed.
@@ -34,7 +48,7 @@ pub struct Session<'a, A: Allocator + Copy> {
 }
 
 impl<'a, A: Allocator + Copy> Model for Session<'a, A> {
-    ghost use Rattle.bl_session.specs.Phases.{SessionFacts, boot_facts, phase_facts};
+    ghost use Rattle.bl_session.specs.session.Phases.{SessionFacts, boot_facts, phase_facts};
     ghost use Rattle.bl_session.specs.internal.SessionPhases.{IsPhaseKept};
 
     ghost Value = { SessionFacts };
@@ -146,7 +160,7 @@ impl<'a, A: Allocator + Copy> Session<'a, A> {
         ensures inside { IfSome result (λ end. IfOk end (λ outcome.
             LiesWithin self.now.boot.machine.size outcome.now.handoff)) }
     {
-        end_of(&self.phase)
+        boot_end(&self.phase)
     }
 
     /// The end, once there is one, for good.
@@ -156,6 +170,6 @@ impl<'a, A: Allocator + Copy> Session<'a, A> {
             LiesWithin self.entry.boot.machine.size outcome.handoff)) }
     {
         let Session { phase, .. } = self;
-        into_end(phase)
+        into_boot_end(phase)
     }
 }

@@ -2,10 +2,34 @@
 ghost use Rattle.std.specs.Prelude.{◌≡◌, ◌↔◌, ℕ, ◌+◌, ◌≤◌, List, [], ◌∷◌, ◌++◌, IfOk, OnOk, OnErr};
 ghost use Rattle.std.specs.Prelude.{IfSome, IsNone, slice_index_or};
 ghost use Rattle.bl_stage.specs.Files.{File, missing, size_of};
-ghost use Rattle.bl_session.specs.History.{HistoryItem, submitted, IsItemOfAnswer};
+ghost use Rattle.bl_session.specs.store.History.{HistoryItem, submitted, IsItemOfAnswer};
 
-use crate::ticket::{Event, Ticket};
+use crate::attempt::ticket::{Event, Ticket};
 use std::alloc::{AllocError, Allocator};
+
+pub(crate) mod attempt_submissions;
+mod fetched_files;
+mod file_store;
+mod history;
+mod ledger;
+mod order;
+mod pending;
+mod script;
+mod script_reply;
+mod script_store;
+mod slice_store;
+mod stored_files;
+mod submission;
+mod submission_run;
+
+pub use file_store::FileStore;
+pub use history::History;
+pub use ledger::Ledger;
+pub use order::Order;
+pub use script_store::ScriptStore;
+pub use slice_store::SliceStore;
+pub use stored_files::{SliceFiles, StoredFiles};
+pub use submission::Submission;
 
 /// An answer to a ticket: a piece, or a fault in its place.
 #[derive(Drop)]
@@ -15,8 +39,8 @@ pub enum Completion<A: Allocator> {
 }
 
 impl<A: Allocator> Completion<A> {
-    ghost use Rattle.bl_session.specs.Phases.{event_facts};
-    ghost use Rattle.bl_session.specs.Stores.{event_of};
+    ghost use Rattle.bl_session.specs.session.Phases.{event_facts};
+    ghost use Rattle.bl_session.specs.store.Stores.{event_of};
 
     /// The event that it is.
     pub fn event(&self) -> Event

@@ -4,7 +4,7 @@
 ghost use Rattle.std.specs.Prelude.{length, Result};
 ghost use Rattle.bl_mem.specs.Memory.{memory_from};
 ghost use Rattle.bl_load.specs.HandoffFacts.{HandoffFacts};
-ghost use Rattle.bl_session.specs.Phases.{PhaseFacts};
+ghost use Rattle.bl_session.specs.session.Phases.{PhaseFacts};
 ghost use Rattle.c_abi.specs.Boot.{IsGivenBootEnd};
 ghost use Rattle.c_abi.specs.BootTold.{TellsBoot};
 ghost use Rattle.c_abi.specs.Load.{IsGivenLoadEnd};

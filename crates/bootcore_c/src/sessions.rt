@@ -1,10 +1,10 @@
 //! A session for C: a boot that is told its pieces as they come.
 ghost use Rattle.std.specs.Prelude.{◌≡◌, ℕ, List, [], None, Err, Result};
 ghost use Rattle.std.specs.Option.{MatchOption};
-ghost use Rattle.bl_session.specs.declared.outcome.Progress.{Progress};
-ghost use Rattle.bl_session.specs.BootSteps.{piece, fault};
-ghost use Rattle.bl_session.specs.Phases.{SessionFacts, state_at};
-ghost use Rattle.bl_session.specs.Requests.{first_request, request_after};
+ghost use Rattle.bl_session.specs.declared.session.outcome.Progress.{Progress};
+ghost use Rattle.bl_session.specs.session.BootSteps.{piece, fault};
+ghost use Rattle.bl_session.specs.session.Phases.{SessionFacts, state_at};
+ghost use Rattle.bl_session.specs.session.Requests.{first_request, request_after};
 ghost use Rattle.c_abi.specs.BootTold.{Telling};
 ghost use Rattle.c_abi.specs.Sessions.{IsSessionMade, TellsSession, TellsOutcome};
 ghost use Rattle.c_abi.specs.declared.given_fault.GivenFault.{GivenFault};

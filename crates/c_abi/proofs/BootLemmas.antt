@@ -6,8 +6,8 @@ use Rattle.std.proofs.lemmas.List.{length-map, get_or-map, drop_more}
 use Rattle.std.proofs.lemmas.List.Elements.{All-map}
 use Rattle.bl_load.specs.declared.entry.Entry.{Entry}
 use Rattle.bl_load.specs.EntryValue.{HasLimits, IsWithinLimits}
-use Rattle.bl_session.specs.Attempts.{AreWithinLimits, AreEntryIndices, HasMenuFault}
-use Rattle.bl_session.specs.Menu.{EntryFacts, facts_of}
+use Rattle.bl_session.specs.menu.MenuFaults.{AreWithinLimits, AreEntryIndices, HasMenuFault}
+use Rattle.bl_session.specs.menu.Menu.{EntryFacts, facts_of}
 use Rattle.bl_session.specs.declared.menu.fault.MenuFault.{MenuFault}
 use Rattle.bl_session.specs.declared.menu.fault.MenuFault.TheVariants as menu_faults
 use Rattle.c_abi.specs.declared.misuse.Misuse.{Misuse}

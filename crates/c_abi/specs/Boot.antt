@@ -9,16 +9,17 @@ use Rattle.bl_load.specs.HandoffFacts.{max_parts}
 use Rattle.bl_load.specs.EntryValue.{HasLimits}
 use Rattle.bl_plan.specs.MenuLimits.{max_entries}
 use Rattle.bl_stage.specs.Files.{File, missing, whole, size_of}
-use Rattle.bl_session.specs.Attempts.{attempt_order, AreEntryIndices}
-use Rattle.bl_session.specs.Memory.{IsMemoryAt}
-use Rattle.bl_session.specs.Menu.{EntryFacts, MenuFacts}
-use Rattle.bl_session.specs.Outcome.{IsOutcome, HasEnded}
-use Rattle.bl_session.specs.Phases.{PhaseFacts, boot_facts, state_at}
-use Rattle.bl_session.specs.Run.{final_phase}
+use Rattle.bl_session.specs.menu.AttemptOrder.{attempt_order}
+use Rattle.bl_session.specs.menu.MenuFaults.{AreEntryIndices}
+use Rattle.bl_session.specs.session.BootMemory.{IsMemoryAt}
+use Rattle.bl_session.specs.menu.Menu.{EntryFacts, MenuFacts}
+use Rattle.bl_session.specs.session.Outcome.{IsOutcome, HasEnded}
+use Rattle.bl_session.specs.session.Phases.{PhaseFacts, boot_facts, state_at}
+use Rattle.bl_session.specs.runs.Run.{final_phase}
 use Rattle.bl_session.specs.declared.menu.fault.MenuFault.{MenuFault}
 use Rattle.bl_session.specs.declared.menu.fault.MenuFault.TheVariants as menu_faults
-use Rattle.bl_session.specs.declared.outcome.BootFault.{BootFault}
-use Rattle.bl_session.specs.declared.outcome.Outcome.{Outcome}
+use Rattle.bl_session.specs.declared.session.outcome.BootFault.{BootFault}
+use Rattle.bl_session.specs.declared.session.outcome.Outcome.{Outcome}
 use Rattle.c_abi.specs.declared.given_records.ByteRange.{ByteRange}
 use Rattle.c_abi.specs.declared.given_records.RegionRecord.{RegionRecord}
 use Rattle.c_abi.specs.declared.given_records.MachineRecord.{MachineRecord}

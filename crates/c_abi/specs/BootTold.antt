@@ -2,8 +2,8 @@
 use Rattle.std.specs.Prelude.{◌≡◌, ℕ, List, ◌++◌, length, map, take, drop, Result, Ok, Err}
 use Rattle.bl_load.specs.HandoffFacts.{HandoffFacts}
 use Rattle.bl_load.specs.declared.refused_entry.RefusedEntry.{RefusedEntry}
-use Rattle.bl_session.specs.Phases.{PhaseFacts, not_started, waits, hands_over, has_none}
-use Rattle.bl_session.specs.Phases.{lacks_memory}
+use Rattle.bl_session.specs.session.Phases.{PhaseFacts, not_started, waits, hands_over, has_none}
+use Rattle.bl_session.specs.session.Phases.{lacks_memory}
 use Rattle.c_abi.specs.declared.end_records.PlaceRecord.{PlaceRecord}
 use Rattle.c_abi.specs.declared.end_records.HandoffRecord.{HandoffRecord}
 use Rattle.c_abi.specs.declared.end_records.RefusalRecord.{RefusalRecord}

@@ -3,7 +3,8 @@ use Rattle.std.specs.Prelude.{◌≡◌, ℕ, MatchBool, nat_lt, List, length, m
 use Rattle.std.specs.Prelude.{Result, Ok, Err, if◌then◌else◌}
 use Rattle.bl_map.specs.MachineFacts.{MachineFacts}
 use Rattle.bl_load.specs.HandoffFacts.{max_parts}
-use Rattle.bl_session.specs.Phases.{PhaseFacts, SessionFacts, boot_facts, end_facts, not_started}
+use Rattle.bl_session.specs.session.Phases.{PhaseFacts, SessionFacts, boot_facts, end_facts}
+use Rattle.bl_session.specs.session.Phases.{not_started}
 use Rattle.c_abi.specs.declared.given_records.ByteRange.{ByteRange}
 use Rattle.c_abi.specs.declared.given_records.RegionRecord.{RegionRecord}
 use Rattle.c_abi.specs.declared.given_records.MachineRecord.{MachineRecord}

@@ -1,6 +1,6 @@
 //! What C is told of the end of a boot.
 ghost use Rattle.std.specs.Prelude.{◌≡◌, ◌≤◌, List, length, Ok, OnOk};
-ghost use Rattle.bl_session.specs.Phases.{outcome_facts, fault_facts};
+ghost use Rattle.bl_session.specs.session.Phases.{outcome_facts, fault_facts};
 ghost use Rattle.c_abi.specs.Boot.{typed_end};
 ghost use Rattle.c_abi.specs.BootTold as spec;
 ghost use Rattle.c_abi.specs.Load.{load_fault_of_given};

@@ -2,9 +2,9 @@
 ghost use Rattle.std.specs.Prelude.{◌≡◌, ◌+◌, ◌≤◌, None, IfOk, IfErr, OnOk, Result, map, length};
 ghost use Rattle.std.specs.Prelude.{option_copied};
 ghost use Rattle.bl_mem.specs.Memory.{KeepsSizeAndRoom, memory_from};
-ghost use Rattle.bl_session.specs.Ledger.{sliced_file};
-ghost use Rattle.bl_session.specs.Run.{final_phase};
-ghost use Rattle.bl_session.specs.Phases.{PhaseFacts};
+ghost use Rattle.bl_session.specs.store.Ledger.{sliced_file};
+ghost use Rattle.bl_session.specs.runs.Run.{final_phase};
+ghost use Rattle.bl_session.specs.session.Phases.{PhaseFacts};
 ghost use Rattle.c_abi.specs.Boot.{HasBootEnded, IsGivenBootEnd, IsBootMenuFault, IsMenuAllowed};
 ghost use Rattle.c_abi.specs.Boot.{files_misuse, typed_end, menu_given};
 ghost use Rattle.c_abi.specs.Boot as spec;

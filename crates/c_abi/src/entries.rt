@@ -2,7 +2,7 @@
 ghost use Rattle.std.specs.Prelude.{◌≡◌, [], None, Some, IfOk, IfErr, OnOk, MatchResult};
 ghost use Rattle.std.specs.Prelude.{length, map, option_to_list};
 ghost use Rattle.bl_load.specs.EntryValue.{file_count, value_of, IsWithinLimits};
-ghost use Rattle.bl_session.specs.Menu.{facts_of};
+ghost use Rattle.bl_session.specs.menu.Menu.{facts_of};
 ghost use Rattle.c_abi.specs.Boot.{entry_facts_given, entries_misuse};
 ghost use Rattle.c_abi.specs.GivenChecks.{load_misuse};
 ghost use Rattle.c_abi.specs.Given as spec;

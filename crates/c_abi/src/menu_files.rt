@@ -1,6 +1,6 @@
 //! The files of a menu.
 ghost use Rattle.std.specs.Prelude.{◌≡◌, None, Some, IfOk, MatchResult, map, option_copied};
-ghost use Rattle.bl_session.specs.Ledger.{sliced_file};
+ghost use Rattle.bl_session.specs.store.Ledger.{sliced_file};
 ghost use Rattle.c_abi.specs.Boot as spec;
 
 use crate::array_ranges::range_bytes;

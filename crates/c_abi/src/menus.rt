@@ -1,6 +1,6 @@
 //! A menu as the libraries take it.
 ghost use Rattle.std.specs.Prelude.{◌≡◌, IfOk, IfErr, OnOk, length};
-ghost use Rattle.bl_session.specs.Attempts.{AreEntryIndices};
+ghost use Rattle.bl_session.specs.menu.MenuFaults.{AreEntryIndices};
 ghost use Rattle.c_abi.specs.Boot.{AreFewGiven, IsNoMenu, menu_given};
 ghost use Rattle.c_abi.specs.Boot as spec;
 

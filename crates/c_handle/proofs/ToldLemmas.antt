@@ -1,7 +1,7 @@
 -- What is told of a piece that is awaited, if a session is kept, and if none is.
 use Rattle.std.proofs.Common.{◌≡◌, Bool, Option, None, Some, subst}
 use Rattle.std.specs.Option.{MatchOption}
-use Rattle.bl_session.specs.declared.ticket.Request.{Request}
+use Rattle.bl_session.specs.declared.attempt.ticket.Request.{Request}
 use Rattle.c_handle.specs.declared.records.RequestRecord.{RequestRecord}
 use Rattle.c_handle.specs.HandleTold.{TellsRequest}
 

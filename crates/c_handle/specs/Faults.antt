@@ -2,7 +2,7 @@
 use Rattle.std.specs.Prelude.{◌≡◌, ◌≢◌, ℕ, ◌+◌, ◌<◌, ◌≤◌, Option, None, Some}
 use Rattle.bl_map.specs.MachineFacts.{MachineFacts}
 use Rattle.bl_mem.specs.Memory.{HasRoom}
-use Rattle.bl_session.specs.Phases.{SessionFacts}
+use Rattle.bl_session.specs.session.Phases.{SessionFacts}
 use Rattle.c_handle.specs.declared.handle_fault.HandleFault.{HandleFault}
 use Rattle.c_handle.specs.declared.handle_fault.HandleFault.TheVariants.{NoSession, WrongSize}
 use Rattle.c_handle.specs.declared.handle_fault.HandleFault.TheVariants.{BelowBase}

@@ -1,9 +1,10 @@
 -- What a call through a handle answers in C. Own.
 use Rattle.std.specs.Prelude.{◌≡◌, ℕ, Bool, true, false, Option, None, Some, Result, Ok, Err}
-use Rattle.bl_session.specs.declared.outcome.Progress.{Progress}
-use Rattle.bl_session.specs.declared.outcome.Progress.TheVariants.{Waiting, Next, Done, Failed}
-use Rattle.bl_session.specs.declared.ticket.Request.{Request}
-use Rattle.bl_session.specs.declared.ticket.Ticket.{Ticket}
+use Rattle.bl_session.specs.declared.session.outcome.Progress.{Progress}
+use Rattle.bl_session.specs.declared.session.outcome.Progress.TheVariants.{Waiting, Next, Done}
+use Rattle.bl_session.specs.declared.session.outcome.Progress.TheVariants.{Failed}
+use Rattle.bl_session.specs.declared.attempt.ticket.Request.{Request}
+use Rattle.bl_session.specs.declared.attempt.ticket.Ticket.{Ticket}
 use Rattle.c_handle.specs.declared.handle_fault.HandleFault.{HandleFault}
 use Rattle.c_handle.specs.declared.handle_fault.HandleFault.TheVariants.{NoSession, WrongSize}
 use Rattle.c_handle.specs.declared.handle_fault.HandleFault.TheVariants.{BelowBase}

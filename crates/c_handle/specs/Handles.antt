@@ -9,7 +9,7 @@ use base.Fml.{Fml, feq}
 use denote.RattleType.{RattleType}
 use denote.RawPtr.{Ptr, null_ptr}
 use Rattle.bl_session.specs.contracts.OwnedSession as owned
-use Rattle.bl_session.specs.Phases.{SessionFacts}
+use Rattle.bl_session.specs.session.Phases.{SessionFacts}
 
 -- a session on the heap, as the logic sees its type
 abbrev pub session_type : RattleType

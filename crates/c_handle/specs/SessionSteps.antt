@@ -2,12 +2,12 @@
 use Rattle.std.specs.Prelude.{◌≡◌, ◌≢◌, ℕ, List, Option, MatchBool, OnErr, OnOk, IfErr, IfOk}
 use Rattle.std.specs.Prelude.{Result, length}
 use Rattle.bl_mem.specs.Memory.{memory_from}
-use Rattle.bl_session.specs.declared.outcome.Progress.{Progress}
-use Rattle.bl_session.specs.BootSteps.{EventFacts, StepsToOrFails, StartsOrFails, is_taken}
-use Rattle.bl_session.specs.BootSteps.{attempt_number}
-use Rattle.bl_session.specs.BootSteps as steps
-use Rattle.bl_session.specs.Memory.{IsMemoryAt}
-use Rattle.bl_session.specs.Phases.{SessionFacts, state_at, not_started}
+use Rattle.bl_session.specs.declared.session.outcome.Progress.{Progress}
+use Rattle.bl_session.specs.session.BootSteps.{EventFacts, StepsToOrFails, StartsOrFails, is_taken}
+use Rattle.bl_session.specs.session.BootSteps.{attempt_number}
+use Rattle.bl_session.specs.session.BootSteps as steps
+use Rattle.bl_session.specs.session.BootMemory.{IsMemoryAt}
+use Rattle.bl_session.specs.session.Phases.{SessionFacts, state_at, not_started}
 use Rattle.c_handle.specs.declared.handle_fault.HandleFault.{HandleFault}
 use Rattle.c_handle.specs.Faults.{IsHandleFault}
 use Rattle.c_handle.specs.Handles.{RelatesKeptSessions}

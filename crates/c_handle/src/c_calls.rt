@@ -1,10 +1,10 @@
 //! The calls of a session through its handle, with the numbers and records of C.
 ghost use Rattle.std.specs.Prelude.{◌≡◌, ℕ, List, None, Result};
 ghost use Rattle.std.specs.Option.{MatchOption};
-ghost use Rattle.bl_session.specs.declared.outcome.Progress.{Progress as Progressed};
-ghost use Rattle.bl_session.specs.BootSteps.{piece, fault};
-ghost use Rattle.bl_session.specs.Phases.{state_at};
-ghost use Rattle.bl_session.specs.Requests.{first_request, request_after};
+ghost use Rattle.bl_session.specs.declared.session.outcome.Progress.{Progress as Progressed};
+ghost use Rattle.bl_session.specs.session.BootSteps.{piece, fault};
+ghost use Rattle.bl_session.specs.session.Phases.{state_at};
+ghost use Rattle.bl_session.specs.session.Requests.{first_request, request_after};
 ghost use Rattle.c_handle.specs.declared.handle_fault.HandleFault.{HandleFault as Faulted};
 ghost use Rattle.c_handle.specs.HandleTold.{TellsRequest, progress_status, record_ticket};
 ghost use Rattle.c_handle.specs.SessionSteps.{IsStarted, IsStepped};

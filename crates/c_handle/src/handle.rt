@@ -1,6 +1,6 @@
 //! A handle to a session.
 ghost use Rattle.std.specs.Prelude.{◌≡◌, Option, None, Some, option_map};
-ghost use Rattle.bl_session.specs.Phases.{SessionFacts};
+ghost use Rattle.bl_session.specs.session.Phases.{SessionFacts};
 ghost use Rattle.c_handle.specs.Handles.{handle_owns, coded_kept_session};
 
 use crate::raw_box::RawBox;

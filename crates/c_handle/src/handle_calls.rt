@@ -1,8 +1,8 @@
 //! A session is kept, asked and freed through its handle.
 ghost use Rattle.std.specs.Prelude.{◌≡◌, ℕ, List, None, Some, OnOk, OnErr};
 ghost use Rattle.std.specs.Option.{MatchOption};
-ghost use Rattle.bl_session.specs.Phases.{state_at};
-ghost use Rattle.bl_session.specs.Requests.{first_request, request_after};
+ghost use Rattle.bl_session.specs.session.Phases.{state_at};
+ghost use Rattle.bl_session.specs.session.Requests.{first_request, request_after};
 
 use crate::handle::Handle;
 use bl_session::{OwnedSession, Request, Ticket};

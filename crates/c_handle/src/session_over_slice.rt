@@ -1,11 +1,11 @@
 //! One call of a session over memory in a slice.
 ghost use Rattle.std.specs.Prelude.{◌≡◌, ◌≢◌, IfErr, IfOk, MatchBool, OnErr, OnOk, length};
 ghost use Rattle.bl_mem.specs.Memory.{memory_from};
-ghost use Rattle.bl_session.specs.BootSteps.{StepsToOrFails, StartsOrFails, is_taken};
-ghost use Rattle.bl_session.specs.BootSteps.{attempt_number};
-ghost use Rattle.bl_session.specs.BootSteps as boot;
-ghost use Rattle.bl_session.specs.Memory.{IsMemoryAt};
-ghost use Rattle.bl_session.specs.Phases.{event_facts, state_at, not_started};
+ghost use Rattle.bl_session.specs.session.BootSteps.{StepsToOrFails, StartsOrFails, is_taken};
+ghost use Rattle.bl_session.specs.session.BootSteps.{attempt_number};
+ghost use Rattle.bl_session.specs.session.BootSteps as boot;
+ghost use Rattle.bl_session.specs.session.BootMemory.{IsMemoryAt};
+ghost use Rattle.bl_session.specs.session.Phases.{event_facts, state_at, not_started};
 ghost use Rattle.c_handle.specs.Faults.{IsMemoryFault, IsMachineMemory};
 
 use crate::handle_fault::HandleFault;

@@ -1,7 +1,7 @@
 //! A boot that is driven by hand: whoever owns the event loop tells the session each event.
 ghost use Rattle.std.specs.Prelude.{◌≡◌, true, length};
 ghost use Rattle.bl_mem.specs.Memory.{HasRoom};
-ghost use Rattle.bl_session.specs.Phases.{is_waiting};
+ghost use Rattle.bl_session.specs.session.Phases.{is_waiting};
 
 use bl_mem::PhysMem;
 use bl_session::{Event, Progress, Request, Session};

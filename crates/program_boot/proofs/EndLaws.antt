@@ -11,13 +11,13 @@ use Rattle.bl_load.specs.EntryValue.{EntryValue}
 use Rattle.bl_stage.specs.Files.{File}
 use Rattle.bl_image.specs.Image.{spelling}
 use Rattle.bl_image.specs.Versions.{written_version}
-use Rattle.bl_session.specs.BootSteps.{fresh}
-use Rattle.bl_session.specs.AttemptResult.{AttemptResult, AttemptHasResult}
-use Rattle.bl_session.specs.Schedules.{no_fault}
-use Rattle.bl_session.specs.Outcome.{faulty_file}
-use Rattle.bl_session.specs.Pieces.{are_whole}
-use Rattle.bl_session.proofs.EndLaws.{one_end}
-use Rattle.bl_session.proofs.OutcomeLaws.{same_handover}
+use Rattle.bl_session.specs.session.BootSteps.{fresh}
+use Rattle.bl_session.specs.attempt.AttemptResult.{AttemptResult, AttemptHasResult}
+use Rattle.bl_session.specs.session.Schedules.{no_fault}
+use Rattle.bl_session.specs.session.Outcome.{faulty_file}
+use Rattle.bl_session.specs.attempt.AwaitedPieces.{are_whole}
+use Rattle.bl_session.proofs.attempt_lemmas.EndLaws.{one_end}
+use Rattle.bl_session.proofs.session_lemmas.OutcomeLaws.{same_handover}
 use Rattle.program_desc.specs.Described.{DescriptionFacts}
 use Rattle.program_menu.specs.DescribedMenu.{boot_of}
 use Rattle.program_menu.specs.DescribedMachine.{IsMachineOf}

@@ -7,11 +7,11 @@ use Rattle.bl_load.specs.declared.refused_entry.RefusedEntry.{RefusedEntry}
 use Rattle.bl_stage.specs.Files.{File, size_of}
 use Rattle.bl_image.specs.Image.{spelling}
 use Rattle.bl_image.specs.Versions.{written_version}
-use Rattle.bl_session.specs.BootSteps.{BootFacts, handed_over}
-use Rattle.bl_session.specs.MenuFiles.{entry_value_in}
-use Rattle.bl_session.specs.Schedules.{no_fault}
-use Rattle.bl_session.specs.Outcome.{IsOutcome}
-use Rattle.bl_session.specs.Phases.{boot_facts}
+use Rattle.bl_session.specs.session.BootSteps.{BootFacts, handed_over}
+use Rattle.bl_session.specs.menu.MenuFiles.{entry_value_in}
+use Rattle.bl_session.specs.session.Schedules.{no_fault}
+use Rattle.bl_session.specs.session.Outcome.{IsOutcome}
+use Rattle.bl_session.specs.session.Phases.{boot_facts}
 use Rattle.program_desc.specs.declared.desc.Description.{Description}
 use Rattle.program_desc.specs.Described.{DescriptionFacts, described}
 use Rattle.program_desc.specs.declared.fault.DescFault.{DescFault}

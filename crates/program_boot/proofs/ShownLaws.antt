@@ -14,8 +14,8 @@ use Rattle.bl_walk.specs.SeenFacts.{SeenFacts}
 use Rattle.bl_walk.specs.EntryShown.{ShowsEntry}
 use Rattle.bl_walk.specs.State.{IsEntered}
 use Rattle.bl_walk.proofs.LegalLaws.{images_show, images_are_entered, images_are_sound}
-use Rattle.bl_session.specs.Schedules.{no_fault}
-use Rattle.bl_session.proofs.OutcomeLaws.{is_handover}
+use Rattle.bl_session.specs.session.Schedules.{no_fault}
+use Rattle.bl_session.proofs.session_lemmas.OutcomeLaws.{is_handover}
 use Rattle.program_menu.specs.DescribedMenu.{boot_of}
 use Rattle.program_menu.specs.BootCases.{entry_value_at}
 use Rattle.program_boot.specs.Ends.{IsBooted, Surroundings}

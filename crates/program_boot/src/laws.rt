@@ -12,7 +12,7 @@ ghost use Rattle.bl_walk.specs.Seen.{IsSeen};
 ghost use Rattle.bl_walk.specs.SeenFacts.{SeenFacts};
 ghost use Rattle.bl_walk.specs.EntryShown.{ShowsEntry};
 ghost use Rattle.bl_walk.specs.State.{IsEntered};
-ghost use Rattle.bl_session.specs.AttemptResult.{AttemptResult};
+ghost use Rattle.bl_session.specs.attempt.AttemptResult.{AttemptResult};
 ghost use Rattle.program_boot.specs.Converted.{Converts, Walks, WalkRefuses};
 ghost use Rattle.program_desc.specs.Described.{DescriptionFacts};
 ghost use Rattle.program_menu.specs.DescribedMachine.{IsMachineOf};

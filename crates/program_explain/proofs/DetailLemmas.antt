@@ -17,9 +17,9 @@ use Rattle.bl_load.specs.declared.entry.Entry.TheVariants.{Multiboot2, Linux}
 use Rattle.bl_load.specs.declared.plan.Plan.{Plan}
 use Rattle.bl_load.specs.declared.refusal.Refusal.{Refusal}
 use Rattle.bl_load.specs.declared.refused_entry.RefusedEntry.{RefusedEntry}
-use Rattle.bl_session.specs.Menu.{EntryFacts, facts_of, files_of, value_with}
-use Rattle.bl_session.proofs.AfterLemmas.{ranges_are}
-use Rattle.bl_session.proofs.AttemptLemmas.{value_is}
+use Rattle.bl_session.specs.menu.Menu.{EntryFacts, facts_of, files_of, value_with}
+use Rattle.bl_session.proofs.attempt_lemmas.AfterLemmas.{ranges_are}
+use Rattle.bl_session.proofs.attempt_lemmas.AttemptLemmas.{value_is}
 use Rattle.program_desc.specs.declared.entry_row.EntryRow.{EntryRow}
 use Rattle.program_desc.specs.Entries.{Entry}
 use Rattle.program_desc.specs.Views.{entry_view}

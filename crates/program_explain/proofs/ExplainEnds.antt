@@ -3,7 +3,7 @@ use Rattle.std.proofs.Common.{◌≡◌, ◌++◌, ℕ, List, Some, None, Result
 use Rattle.std.proofs.Common.{inl, inr}
 use Rattle.bl_map.specs.MachineFacts.{MachineFacts}
 use Rattle.bl_stage.specs.Files.{File, size_of}
-use Rattle.bl_session.specs.Phases.{boot_facts}
+use Rattle.bl_session.specs.session.Phases.{boot_facts}
 use Rattle.program_desc.specs.declared.desc.Description.{Description}
 use Rattle.program_desc.specs.Described.{described}
 use Rattle.program_desc.specs.Views.{view}

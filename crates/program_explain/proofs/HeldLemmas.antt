@@ -12,9 +12,9 @@ use Rattle.bl_load.specs.HandoffFacts.{HandoffFacts}
 use Rattle.bl_load.specs.PlanContents.{part_in}
 use Rattle.bl_load.specs.declared.refused_entry.RefusedEntry.{RefusedEntry}
 use Rattle.bl_image.proofs.Spelled.{EndsIn, length-place_bytes}
-use Rattle.bl_session.specs.AttemptResult.{part_range}
-use Rattle.bl_session.specs.BootSteps.{handed_over}
-use Rattle.bl_session.specs.Phases.{handover_held}
+use Rattle.bl_session.specs.attempt.AttemptResult.{part_range}
+use Rattle.bl_session.specs.session.BootSteps.{handed_over}
+use Rattle.bl_session.specs.session.Phases.{handover_held}
 use Rattle.program_desc.specs.declared.entry_row.EntryRow.{EntryRow}
 use Rattle.program_desc.specs.Described.{DescriptionFacts}
 use Rattle.program_desc.specs.Entries.{Entry}

@@ -14,17 +14,18 @@ use Rattle.bl_load.specs.declared.refusal.Refusal.{Refusal}
 use Rattle.bl_load.specs.declared.refusal.Refusal.TheVariants.{NoFile, FileTooLong, NoPool}
 use Rattle.bl_load.specs.declared.refused_entry.RefusedEntry.{RefusedEntry}
 use Rattle.bl_stage.specs.Files.{file_limit, File, file_bytes, missing, size_of}
-use Rattle.bl_session.specs.AttemptResult.{AttemptResult, HasWholeFilesResult, UnlessRefused}
-use Rattle.bl_session.specs.AttemptResult.{handed, refused}
-use Rattle.bl_session.specs.AttemptResult.{file_refusal, known_lengths, pool_refusal}
-use Rattle.bl_session.specs.AttemptResult.{size_refusal}
-use Rattle.bl_session.specs.BootSteps.{BootFacts, State, fresh, sizes_of}
-use Rattle.bl_session.specs.Menu.{EntryFacts, MenuFacts, entry_at, no_entry, value_with}
-use Rattle.bl_session.specs.Outcome.{EntryHasResult, IsFirst, IsOutcome, faulty_file}
-use Rattle.bl_session.specs.MenuFiles.{entry_value_in}
-use Rattle.bl_session.specs.Schedules.{no_fault}
-use Rattle.bl_session.specs.Phases.{boot_facts}
-use Rattle.bl_session.specs.Pieces.{are_whole}
+use Rattle.bl_session.specs.attempt.AttemptResult.{AttemptResult, HasWholeFilesResult}
+use Rattle.bl_session.specs.attempt.AttemptResult.{UnlessRefused}
+use Rattle.bl_session.specs.attempt.AttemptResult.{handed, refused}
+use Rattle.bl_session.specs.attempt.AttemptResult.{file_refusal, known_lengths, pool_refusal}
+use Rattle.bl_session.specs.attempt.AttemptResult.{size_refusal}
+use Rattle.bl_session.specs.session.BootSteps.{BootFacts, State, fresh, sizes_of}
+use Rattle.bl_session.specs.menu.Menu.{EntryFacts, MenuFacts, entry_at, no_entry, value_with}
+use Rattle.bl_session.specs.session.Outcome.{EntryHasResult, IsFirst, IsOutcome, faulty_file}
+use Rattle.bl_session.specs.menu.MenuFiles.{entry_value_in}
+use Rattle.bl_session.specs.session.Schedules.{no_fault}
+use Rattle.bl_session.specs.session.Phases.{boot_facts}
+use Rattle.bl_session.specs.attempt.AwaitedPieces.{are_whole}
 use Rattle.program_desc.specs.Described.{DescriptionFacts}
 use Rattle.program_desc.specs.Entries.{Entry}
 use Rattle.program_menu.specs.DescribedMenu.{boot_of, entry_facts, menu_of, attempted_file_names}

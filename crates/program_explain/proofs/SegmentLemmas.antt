@@ -23,12 +23,12 @@ use Rattle.bl_load.specs.KernelReading.{KernelReading, multiboot2, linux, IsKern
 use Rattle.bl_load.specs.EntryValue.{EntryValue, kernel_file}
 use Rattle.bl_load.specs.declared.refused_entry.RefusedEntry.{RefusedEntry}
 use Rattle.bl_stage.specs.Files.{File, size_of}
-use Rattle.bl_session.specs.BootSteps.{handed_over}
-use Rattle.bl_session.specs.Menu.{MenuFacts}
-use Rattle.bl_session.specs.Schedules.{no_fault}
-use Rattle.bl_session.specs.Outcome.{IsOutcome}
-use Rattle.bl_session.specs.Phases.{boot_facts}
-use Rattle.bl_session.proofs.OutcomeLaws.{is_handover}
+use Rattle.bl_session.specs.session.BootSteps.{handed_over}
+use Rattle.bl_session.specs.menu.Menu.{MenuFacts}
+use Rattle.bl_session.specs.session.Schedules.{no_fault}
+use Rattle.bl_session.specs.session.Outcome.{IsOutcome}
+use Rattle.bl_session.specs.session.Phases.{boot_facts}
+use Rattle.bl_session.proofs.session_lemmas.OutcomeLaws.{is_handover}
 use Rattle.program_desc.specs.declared.entry_row.EntryRow.{EntryRow}
 use Rattle.program_desc.specs.Described.{DescriptionFacts}
 use Rattle.program_desc.specs.Entries.{Entry}

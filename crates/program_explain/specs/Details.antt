@@ -14,7 +14,7 @@ use Rattle.bl_load.specs.EntryValue.{EntryValue}
 use Rattle.bl_load.specs.declared.refusal.Refusal.{Refusal}
 use Rattle.bl_load.specs.declared.refusal.Refusal.TheVariants.{NotUsable, NoRoom, NoPool}
 use Rattle.bl_load.specs.declared.refused_entry.RefusedEntry.{RefusedEntry}
-use Rattle.bl_session.specs.AttemptResult.{part_range}
+use Rattle.bl_session.specs.attempt.AttemptResult.{part_range}
 use Rattle.program_desc.specs.Entries.{Entry}
 use Rattle.program_menu.specs.DescribedMenu.{entry_value}
 use Rattle.program_desc.specs.EntryNames.{file_names}

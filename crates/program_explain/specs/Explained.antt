@@ -3,7 +3,7 @@ use Rattle.std.specs.Prelude.{◌≡◌, ℕ, List, ◌++◌}
 use Rattle.bl_load.specs.Handover.{Handover}
 use Rattle.bl_load.specs.declared.refused_entry.RefusedEntry.{RefusedEntry}
 use Rattle.bl_stage.specs.Files.{File}
-use Rattle.bl_session.specs.BootSteps.{State, handed_over, none_left}
+use Rattle.bl_session.specs.session.BootSteps.{State, handed_over, none_left}
 use Rattle.program_desc.specs.Described.{described}
 use Rattle.program_blame.specs.declared.subjects.blame.Blame.{Blame}
 use Rattle.program_explain.specs.BlameConditions.{HasBlame}

@@ -8,9 +8,9 @@ use Rattle.bl_load.specs.HandoffFacts.{HandoffFacts}
 use Rattle.bl_load.specs.Handover.{Handover}
 use Rattle.bl_load.specs.declared.refused_entry.RefusedEntry.{RefusedEntry}
 use Rattle.bl_stage.specs.Files.{File}
-use Rattle.bl_session.specs.AttemptResult.{part_range}
-use Rattle.bl_session.specs.BootSteps.{State, unstarted, running, handed_over, none_left}
-use Rattle.bl_session.specs.BootSteps.{out_of_memory}
+use Rattle.bl_session.specs.attempt.AttemptResult.{part_range}
+use Rattle.bl_session.specs.session.BootSteps.{State, unstarted, running, handed_over, none_left}
+use Rattle.bl_session.specs.session.BootSteps.{out_of_memory}
 use Rattle.program_desc.specs.Described.{DescriptionFacts}
 use Rattle.program_desc.specs.Entries.{Entry}
 use Rattle.program_menu.specs.DescribedMenu.{described_entry, attempted_file_names}

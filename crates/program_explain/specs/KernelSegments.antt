@@ -3,8 +3,8 @@ use Rattle.std.specs.Prelude.{◌≡◌, ℕ, List, Option, Some, None, is_some,
 use Rattle.bl_plan.specs.declared.protocol.Protocol.{Protocol}
 use Rattle.bl_plan.specs.declared.protocol.Protocol.TheVariants.{Multiboot2, Linux, Linux64}
 use Rattle.bl_load.specs.Multiboot2Kernel.{Multiboot2KernelFacts, IsMultiboot2Kernel}
-use Rattle.bl_session.specs.BootSteps.{State, unstarted, running, handed_over, none_left}
-use Rattle.bl_session.specs.BootSteps.{out_of_memory}
+use Rattle.bl_session.specs.session.BootSteps.{State, unstarted, running, handed_over, none_left}
+use Rattle.bl_session.specs.session.BootSteps.{out_of_memory}
 use Rattle.program_desc.specs.Entries.{Entry}
 use Rattle.program_say.specs.Sought.{SoughtFacts, bytes_found}
 use Rattle.program_say.specs.Segments.{KernelSegmentsFacts, no_segments}

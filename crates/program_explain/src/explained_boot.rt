@@ -2,7 +2,7 @@
 ghost use Rattle.std.specs.Prelude.{◌≡◌, [], ◌≤◌, ◌++◌, All, IfOk, OnOk, OnErr, length, map};
 ghost use Rattle.std.specs.List.{flat_map};
 ghost use Rattle.bl_stage.specs.Files.{size_of};
-ghost use Rattle.bl_session.specs.Phases.{boot_facts};
+ghost use Rattle.bl_session.specs.session.Phases.{boot_facts};
 ghost use Rattle.program_menu.specs.DescribedMenu.{menu_of, attempted_file_names};
 ghost use Rattle.program_explain.specs.Details.{AreToldRefusals};
 ghost use Rattle.program_explain.specs.internal.ExplanationEnds.{ExplainFoundEnds};

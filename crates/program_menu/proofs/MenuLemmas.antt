@@ -7,8 +7,8 @@ use Rattle.bl_load.specs.declared.entry.Entry.{Entry}
 use Rattle.bl_load.specs.declared.entry.Module.{Module}
 use Rattle.bl_load.specs.EntryValue.{IsRsdpCopy}
 use Rattle.program_desc.specs.EntryFormViews.{HasCopyLength}
-use Rattle.bl_session.specs.Attempts.{AreWithinLimits, AreEntryIndices, HasMenuFault}
-use Rattle.bl_session.specs.Menu.{EntryFacts, facts_of}
+use Rattle.bl_session.specs.menu.MenuFaults.{AreWithinLimits, AreEntryIndices, HasMenuFault}
+use Rattle.bl_session.specs.menu.Menu.{EntryFacts, facts_of}
 use Rattle.bl_session.specs.declared.menu.fault.MenuFault.{MenuFault}
 use Rattle.bl_session.specs.declared.menu.fault.MenuFault.TheVariants.{BadIndex, TooMany, NoMemory}
 use Rattle.program_desc.specs.declared.entry_row.EntryRow.{EntryRow}

@@ -7,15 +7,15 @@ use Rattle.std.specs.Str.{bytes_eq}
 use Rattle.std.specs.List.{list_any}
 use Rattle.std.specs.List.{flat_map}
 use Rattle.std.proofs.lemmas.List.{map-append, length-append, length-map, at_drop_more, at_drop_all}
-use Rattle.bl_session.specs.Attempts.{attempt_order}
-use Rattle.bl_session.proofs.OnceLemmas.{few_attempts}
+use Rattle.bl_session.specs.menu.AttemptOrder.{attempt_order}
+use Rattle.bl_session.proofs.menu_lemmas.OnceLemmas.{few_attempts}
 use Rattle.program_desc.specs.declared.desc.Description.{Description}
 use Rattle.program_desc.specs.declared.entry_row.EntryRow.{EntryRow}
 use Rattle.program_desc.specs.declared.entry_form.EntryForm.{EntryForm}
 use Rattle.program_desc.specs.declared.entry_form.EntryForm.TheVariants.{Multiboot2, Linux}
 use Rattle.program_desc.specs.declared.entry_form.ModuleRow.{ModuleRow}
 use Rattle.program_desc.specs.Views.{HasMenu, entry_view, form_view, module_view, view}
-use Rattle.bl_session.specs.Attempts.{without_repeats_by}
+use Rattle.bl_session.specs.menu.AttemptOrder.{without_repeats_by}
 use Rattle.program_menu.specs.DescribedMenu.{absent_entry, described_entry, attempted_file_names}
 use Rattle.program_menu.specs.internal.DistinctNames.{with_new_names}
 use Rattle.program_desc.specs.EntryNames.{file_names, names_beside}

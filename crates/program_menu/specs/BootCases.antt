@@ -3,11 +3,11 @@ use Rattle.std.specs.Prelude.{◌≡◌, ℕ, List, [], Option, Some, None, IsSo
 use Rattle.bl_map.specs.MachineFacts.{MachineFacts}
 use Rattle.bl_load.specs.EntryValue.{EntryValue}
 use Rattle.bl_stage.specs.Files.{File}
-use Rattle.bl_session.specs.AttemptResult.{AttemptResult}
-use Rattle.bl_session.specs.BootSteps.{State, sizes_of}
-use Rattle.bl_session.specs.MenuFiles.{entry_value_in}
-use Rattle.bl_session.specs.Schedules.{no_fault}
-use Rattle.bl_session.specs.Outcome.{IsOutcome, EntryHasResult}
+use Rattle.bl_session.specs.attempt.AttemptResult.{AttemptResult}
+use Rattle.bl_session.specs.session.BootSteps.{State, sizes_of}
+use Rattle.bl_session.specs.menu.MenuFiles.{entry_value_in}
+use Rattle.bl_session.specs.session.Schedules.{no_fault}
+use Rattle.bl_session.specs.session.Outcome.{IsOutcome, EntryHasResult}
 use Rattle.program_desc.specs.Described.{DescriptionFacts, described, file_named}
 use Rattle.program_menu.specs.DescribedMenu.{attempted_file_names, boot_of}
 use Rattle.program_menu.specs.DescribedMachine.{IsMachineOf}

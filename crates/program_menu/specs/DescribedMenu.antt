@@ -6,9 +6,9 @@ use Rattle.bl_map.specs.MachineFacts.{MachineFacts}
 use Rattle.bl_plan.specs.declared.protocol.Protocol.TheVariants.{Multiboot2}
 use Rattle.bl_load.specs.EntryValue.{EntryValue}
 use Rattle.bl_stage.specs.Files.{File, size_of}
-use Rattle.bl_session.specs.Menu.{EntryFacts, MenuFacts}
-use Rattle.bl_session.specs.Attempts.{without_repeats_by, attempt_order}
-use Rattle.bl_session.specs.BootSteps.{BootFacts}
+use Rattle.bl_session.specs.menu.Menu.{EntryFacts, MenuFacts}
+use Rattle.bl_session.specs.menu.AttemptOrder.{without_repeats_by, attempt_order}
+use Rattle.bl_session.specs.session.BootSteps.{BootFacts}
 use Rattle.program_desc.specs.Described.{DescriptionFacts}
 use Rattle.program_desc.specs.Entries.{Entry, bare_form}
 use Rattle.program_desc.specs.EntryNames.{file_names, file_index}

@@ -2,7 +2,7 @@
 ghost use Rattle.std.specs.Prelude.{◌≡◌, ◌<◌, ◌^◌, All, IfOk, length, map};
 ghost use Rattle.bl_load.specs.WellFormedEntry.{IsWellFormedValue};
 ghost use Rattle.bl_load.specs.EntryValue.{IsWithinLimits};
-ghost use Rattle.bl_session.specs.Menu.{facts_of};
+ghost use Rattle.bl_session.specs.menu.Menu.{facts_of};
 ghost use Rattle.bl_session.specs.declared.menu.fault.MenuFault.TheVariants as menu_fault;
 ghost use Rattle.program_menu.specs.DescribedMenu as attempted;
 ghost use Rattle.program_menu.specs.DescribedMenu.{entry_facts};

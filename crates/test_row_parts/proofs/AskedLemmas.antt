@@ -1,6 +1,6 @@
 -- One thing more that a store was asked.
 use Rattle.std.proofs.Common.{◌≡◌, ◌∷◌, ◌++◌, [], List, refl}
-use Rattle.bl_session.specs.History.{HistoryItem}
+use Rattle.bl_session.specs.store.History.{HistoryItem}
 use Rattle.test_row_parts.specs.Asked.{item_of, asked_after}
 use Rattle.test_row_parts.specs.declared.menu_calls.dry_store.Asked.{Asked}
 

@@ -12,11 +12,12 @@ use Rattle.bl_session.specs.declared.attempt.Attempt.{Attempt}
 use Rattle.bl_session.specs.declared.attempt.Attempt.TheVariants.{Waits, Ended}
 use Rattle.bl_session.specs.declared.attempt.AttemptEnd.{AttemptEnd}
 use Rattle.bl_session.specs.declared.attempt.AttemptEnd.TheVariants.{HandedOver, Refused}
-use Rattle.bl_session.specs.AttemptResult.{handed, refused, HasWholeFilesResult, size_refusal}
-use Rattle.bl_session.specs.AttemptResult.{known_lengths}
-use Rattle.bl_session.specs.Menu.{EntryFacts, value_with}
-use Rattle.bl_session.specs.Pieces.{are_whole, waiting_files}
-use Rattle.bl_session.specs.Phases.{handover_held, LiesWithin}
+use Rattle.bl_session.specs.attempt.AttemptResult.{handed, refused, HasWholeFilesResult}
+use Rattle.bl_session.specs.attempt.AttemptResult.{size_refusal}
+use Rattle.bl_session.specs.attempt.AttemptResult.{known_lengths}
+use Rattle.bl_session.specs.menu.Menu.{EntryFacts, value_with}
+use Rattle.bl_session.specs.attempt.AwaitedPieces.{are_whole, waiting_files}
+use Rattle.bl_session.specs.session.Phases.{handover_held, LiesWithin}
 use Rattle.bl_session.specs.internal.SessionPhases.{HasSmallFiles, LacksPiece}
 
 -- an attempt with this stage, unless it has ended

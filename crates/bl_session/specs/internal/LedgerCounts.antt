@@ -1,10 +1,10 @@
 -- What a `Ledger` keeps of the submissions that are still to be answered, and of its history.
 use Rattle.std.specs.Prelude.{◌≡◌, ℕ, ◌+◌, ◌≤◌, List, [], ◌∷◌, Some, if◌then◌else◌, Option}
 use Rattle.bl_stage.specs.Files.{File}
-use Rattle.bl_session.specs.declared.ticket.Ticket.{Ticket}
-use Rattle.bl_session.specs.declared.submission.Submission.{Submission}
-use Rattle.bl_session.specs.History.{HistoryItem, is_same, file_under}
-use Rattle.bl_session.specs.Faithful.{IsFaithful, times_asked, times_answered}
+use Rattle.bl_session.specs.declared.attempt.ticket.Ticket.{Ticket}
+use Rattle.bl_session.specs.declared.store.submission.Submission.{Submission}
+use Rattle.bl_session.specs.store.History.{HistoryItem, is_same, file_under}
+use Rattle.bl_session.specs.store.Faithful.{IsFaithful, times_asked, times_answered}
 
 -- how many of these submissions have a ticket
 abbrev pub count_of : List Submission → Ticket → ℕ

@@ -1,11 +1,11 @@
 -- Parts of a run: what a history gained leads from one state of a run to another. Own.
 use Rattle.std.specs.Prelude.{◌≡◌, ℕ, ◌+◌, List, [], ◌∷◌, ◌++◌, length, Option, None}
 use Rattle.bl_stage.specs.Files.{File}
-use Rattle.bl_session.specs.declared.ticket.Ticket.{Ticket}
-use Rattle.bl_session.specs.BootSteps.{BootFacts, State, on_running}
-use Rattle.bl_session.specs.History.{HistoryItem}
-use Rattle.bl_session.specs.Submissions.{first_ticket}
-use Rattle.bl_session.specs.Run.{RunState, Delivers}
+use Rattle.bl_session.specs.declared.attempt.ticket.Ticket.{Ticket}
+use Rattle.bl_session.specs.session.BootSteps.{BootFacts, State, on_running}
+use Rattle.bl_session.specs.store.History.{HistoryItem}
+use Rattle.bl_session.specs.attempt.Tickets.{first_ticket}
+use Rattle.bl_session.specs.runs.Run.{RunState, Delivers}
 
 -- of these orders, in order, all but the rest were asked for
 pub record AreAskedButRest (attempt_submissions rest old new : List HistoryItem) : Type 0 where

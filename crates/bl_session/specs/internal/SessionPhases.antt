@@ -5,14 +5,16 @@ use Rattle.bl_load.specs.declared.refusal.PrepFault.{PrepFault}
 use Rattle.bl_load.specs.declared.refusal.PrepFault.TheVariants as prep_fault
 use Rattle.bl_stage.specs.Staged.{Staging, AllCame, empty_stage}
 use Rattle.bl_stage.specs.Files.{file_limit}
-use Rattle.bl_session.specs.declared.phase.Boot.{Boot}
-use Rattle.bl_session.specs.declared.phase.Running.{Running}
-use Rattle.bl_session.specs.declared.phase.Phase.{Phase}
-use Rattle.bl_session.specs.declared.phase.Phase.TheVariants.{Unstarted, Waits, HandedOver, Failed}
-use Rattle.bl_session.specs.AttemptResult.{file_refusal, size_refusal, known_lengths}
-use Rattle.bl_session.specs.Menu.{MenuFacts, entry_at}
-use Rattle.bl_session.specs.BootSteps.{BootFacts, State}
-use Rattle.bl_session.specs.Phases.{state_at, running_facts, phase_facts, boot_facts, LiesWithin}
+use Rattle.bl_session.specs.declared.session.phase.Boot.{Boot}
+use Rattle.bl_session.specs.declared.session.phase.Running.{Running}
+use Rattle.bl_session.specs.declared.session.phase.Phase.{Phase}
+use Rattle.bl_session.specs.declared.session.phase.Phase.TheVariants.{Unstarted, Waits, HandedOver}
+use Rattle.bl_session.specs.declared.session.phase.Phase.TheVariants.{Failed}
+use Rattle.bl_session.specs.attempt.AttemptResult.{file_refusal, size_refusal, known_lengths}
+use Rattle.bl_session.specs.menu.Menu.{MenuFacts, entry_at}
+use Rattle.bl_session.specs.session.BootSteps.{BootFacts, State}
+use Rattle.bl_session.specs.session.Phases.{state_at, running_facts, phase_facts, boot_facts}
+use Rattle.bl_session.specs.session.Phases.{LiesWithin}
 
 abbrev pub running_state : {A : Type 0} → (attempts bytes : List ℕ) → Running A → State
 running_state attempts bytes r = state_at bytes (running_facts attempts r)

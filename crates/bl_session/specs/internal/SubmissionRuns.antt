@@ -2,8 +2,8 @@
 use Rattle.std.specs.Prelude.{◌≡◌, ℕ, ◌+◌, ◌<◌, List, [], ◌∷◌, ◌++◌, length, take, drop, map}
 use Rattle.std.specs.Prelude.{slice_index_or}
 use Rattle.std.specs.List.{flat_map, range_with_len}
-use Rattle.bl_session.specs.declared.submission.Submission.{Submission}
-use Rattle.bl_session.specs.Stores.{without_index}
+use Rattle.bl_session.specs.declared.store.submission.Submission.{Submission}
+use Rattle.bl_session.specs.store.Stores.{without_index}
 
 -- ---- a run: submissions for one file under one attempt, of one piece after the other
 

@@ -1,7 +1,7 @@
 //! Why there is no menu.
 ghost use Rattle.std.specs.Prelude.{◌≡◌, ◌↔◌, All, IsTrue};
 ghost use Rattle.bl_load.specs.EntryValue.{IsWithinLimits};
-ghost use Rattle.bl_session.specs.Attempts.{AreWithinLimits, AreEntryIndices};
+ghost use Rattle.bl_session.specs.menu.MenuFaults.{AreWithinLimits, AreEntryIndices};
 ghost use Rattle.bl_session.specs.declared.menu.fault.MenuFault.TheVariants.{NoMemory};
 
 use bl_load::Entry;
@@ -22,7 +22,7 @@ pub enum MenuFault {
 }
 
 impl MenuFault {
-    ghost use Rattle.bl_session.specs.Attempts.{menu_fault_number};
+    ghost use Rattle.bl_session.specs.menu.MenuFaults.{menu_fault_number};
 
     /// The fault's number, 51 to 53.
     pub fn number(self) -> u32

@@ -1,8 +1,8 @@
 //! The files that entries name.
 ghost use Rattle.std.specs.Prelude.{◌≡◌, ◌≤◌, ◌^◌, map};
-ghost use Rattle.bl_session.specs.Menu.{files_of, facts_of};
-ghost use Rattle.bl_session.specs.Attempts.{index_bound};
-ghost use Rattle.bl_session.specs.Attempts as attempts;
+ghost use Rattle.bl_session.specs.menu.Menu.{files_of, facts_of};
+ghost use Rattle.bl_session.specs.menu.NamedFiles.{index_bound};
+ghost use Rattle.bl_session.specs.menu.NamedFiles as attempts;
 
 use bl_load::{Entry, Module};
 use std::alloc::Allocator;

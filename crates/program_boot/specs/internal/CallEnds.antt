@@ -10,9 +10,9 @@ use Rattle.bl_image.specs.ImageHandover.{IsKeptByImages}
 use Rattle.bl_image.specs.Versions.{written_version}
 use Rattle.bl_load.specs.Handover.{Handover}
 use Rattle.bl_load.specs.declared.refused_entry.RefusedEntry.{RefusedEntry}
-use Rattle.bl_session.specs.BootSteps.{BootFacts, handed_over, none_left}
-use Rattle.bl_session.specs.Schedules.{no_fault}
-use Rattle.bl_session.specs.Outcome.{IsOutcome}
+use Rattle.bl_session.specs.session.BootSteps.{BootFacts, handed_over, none_left}
+use Rattle.bl_session.specs.session.Schedules.{no_fault}
+use Rattle.bl_session.specs.session.Outcome.{IsOutcome}
 use Rattle.program_menu.specs.DescribedMenu.{described_entry}
 use Rattle.program_menu.specs.FoundFiles.{AsksPrefix}
 use Rattle.program_say.specs.BootAndMapLines.{booted_line, refused_lines, no_entry_line}

@@ -1,7 +1,7 @@
 //! The boot of what was found for a description.
 ghost use Rattle.std.specs.Prelude.{◌≡◌, [], ◌<◌, ◌^◌, length, map};
 ghost use Rattle.bl_stage.specs.Files.{size_of};
-ghost use Rattle.bl_session.specs.Phases.{boot_facts};
+ghost use Rattle.bl_session.specs.session.Phases.{boot_facts};
 ghost use Rattle.program_boot.specs.internal.CallEnds.{FoundBootEnds, CountsSinkFault};
 ghost use Rattle.program_desc.specs.Views.{view};
 

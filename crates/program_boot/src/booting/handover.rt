@@ -3,7 +3,7 @@ ghost use Rattle.std.specs.Prelude.{◌≡◌, ◌+◌, ◌<◌, ◌≤◌, ◌^
 ghost use Rattle.bl_image.specs.Image.{spelling};
 ghost use Rattle.bl_image.specs.ImageHandover.{IsKeptByImages};
 ghost use Rattle.bl_image.specs.Versions.{written_version};
-ghost use Rattle.bl_session.specs.Phases.{handover_held};
+ghost use Rattle.bl_session.specs.session.Phases.{handover_held};
 ghost use Rattle.program_boot.specs.internal.CallEnds.{IsImageWriteFault};
 ghost use Rattle.program_say.specs.BootAndMapLines.{booted_line, refused_lines, no_entry_line};
 

@@ -14,9 +14,9 @@ use Rattle.bl_load.specs.declared.refusal.Refusal.{Refusal}
 use Rattle.bl_load.specs.declared.refusal.Refusal.TheVariants.{NotUsable, NoRoom}
 use Rattle.bl_load.specs.declared.refused_entry.RefusedEntry.{RefusedEntry}
 use Rattle.bl_stage.specs.Files.{File}
-use Rattle.bl_session.specs.BootSteps.{BootFacts, handed_over, none_left}
-use Rattle.bl_session.specs.Schedules.{no_fault}
-use Rattle.bl_session.specs.Outcome.{IsOutcome}
+use Rattle.bl_session.specs.session.BootSteps.{BootFacts, handed_over, none_left}
+use Rattle.bl_session.specs.session.Schedules.{no_fault}
+use Rattle.bl_session.specs.session.Outcome.{IsOutcome}
 use Rattle.program_desc.specs.Described.{DescriptionFacts}
 use Rattle.program_desc.specs.Entries.{Entry}
 use Rattle.program_menu.specs.declared.boot_end.End.{End}

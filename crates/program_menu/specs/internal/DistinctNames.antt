@@ -1,7 +1,7 @@
 -- What the code keeps of the names that are looked for. Own.
 use Rattle.std.specs.Prelude.{ℕ, ◌++◌, List}
 use Rattle.std.specs.Str.{bytes_eq}
-use Rattle.bl_session.specs.Attempts.{without_repeats_by}
+use Rattle.bl_session.specs.menu.AttemptOrder.{without_repeats_by}
 
 -- the names so far, and after them what these add: each one that is not there yet
 abbrev pub with_new_names : List (List ℕ) → List (List ℕ) → List (List ℕ)

@@ -1,7 +1,7 @@
 //! A session that borrows its machine and its menu, or one that owns them.
 ghost use Rattle.std.specs.Prelude.{◌≡◌, true, length};
 ghost use Rattle.bl_mem.specs.Memory.{HasRoom};
-ghost use Rattle.bl_session.specs.Phases.{is_waiting};
+ghost use Rattle.bl_session.specs.session.Phases.{is_waiting};
 ghost use Rattle.test_row_parts.specs.EitherSession.{either_facts};
 
 use crate::menu_calls::end::End;

@@ -27,7 +27,7 @@ pub struct Rig<'a, 'h> {
 
 impl<'a, 'h> Model for Rig<'a, 'h> {
     ghost use Rattle.std.specs.Prelude.{◌≡◌};
-    ghost use Rattle.bl_session.specs.Phases.{SessionFacts};
+    ghost use Rattle.bl_session.specs.session.Phases.{SessionFacts};
     ghost use Rattle.test_row_parts.specs.EitherSession.{either_facts};
 
     ghost Value = { SessionFacts };

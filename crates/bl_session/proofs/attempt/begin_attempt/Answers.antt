@@ -1,8 +1,8 @@
 use Rattle.std.proofs.Common.{map, slice_index_or, None, ap, refl}
 use Rattle.bl_stage.specs.Staged.{Staging}
-use Rattle.bl_session.specs.Menu.{facts_of, files_of}
-use Rattle.bl_session.proofs.AttemptLemmas.{begun_staged}
-use Rattle.bl_session.proofs.EarlyReturnLemmas.{no_value, on_error, keeps_same}
+use Rattle.bl_session.specs.menu.Menu.{facts_of, files_of}
+use Rattle.bl_session.proofs.attempt_lemmas.AttemptLemmas.{begun_staged}
+use Rattle.bl_session.proofs.attempt_lemmas.EarlyReturnLemmas.{no_value, on_error, keeps_same}
 use Rattle.bl_session.proofs.attempt.begin_attempt.Goals as goal
 
 pub begin_stage-requires : goal.begin_stage-requires

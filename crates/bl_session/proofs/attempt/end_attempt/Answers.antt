@@ -6,13 +6,13 @@ use Rattle.bl_load.specs.declared.refusal.PrepFault.TheVariants.{Refused, NoMemo
 use Rattle.bl_load.specs.MemoryAfter.{IsMemoryAfter}
 use Rattle.bl_load.specs.EntryValue.{value_of}
 use Rattle.bl_stage.specs.Staged.{staged_texts}
-use Rattle.bl_session.specs.AttemptResult.{handed, refused, HasWholeFilesResult}
-use Rattle.bl_session.specs.FinishedAttempt.{IsNotHandedOver}
-use Rattle.bl_session.specs.Phases.{handover_held}
-use Rattle.bl_session.proofs.AttemptLemmas.{not_whole, ends_by_piece_states}
-use Rattle.bl_session.proofs.WholeLemmas.{came_whole}
+use Rattle.bl_session.specs.attempt.AttemptResult.{handed, refused, HasWholeFilesResult}
+use Rattle.bl_session.specs.attempt.FinishedAttempt.{IsNotHandedOver}
+use Rattle.bl_session.specs.session.Phases.{handover_held}
+use Rattle.bl_session.proofs.attempt_lemmas.AttemptLemmas.{not_whole, ends_by_piece_states}
+use Rattle.bl_session.proofs.attempt_lemmas.WholeLemmas.{came_whole}
 use Rattle.std.proofs.lemmas.Grind.{common_steps}
-use Rattle.bl_session.proofs.EarlyReturnLemmas.{keeps_same}
+use Rattle.bl_session.proofs.attempt_lemmas.EarlyReturnLemmas.{keeps_same}
 use Rattle.bl_session.proofs.attempt.end_attempt.Goals as goal
 
 pub returns-then-not-complete-clause-keeps : goal.returns-then-not-complete-clause-keeps

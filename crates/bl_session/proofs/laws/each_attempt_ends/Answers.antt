@@ -1,4 +1,4 @@
-use Rattle.bl_session.proofs.EndLaws.{some_end_in, some_end}
+use Rattle.bl_session.proofs.attempt_lemmas.EndLaws.{some_end_in, some_end}
 use Rattle.bl_session.proofs.laws.each_attempt_ends.Goals as goal
 
 pub returns-clause-whole : goal.returns-clause-whole

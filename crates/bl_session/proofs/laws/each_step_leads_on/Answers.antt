@@ -1,4 +1,4 @@
-use Rattle.bl_session.proofs.BootLaws.{some_start, some_step}
+use Rattle.bl_session.proofs.session_lemmas.BootLaws.{some_start, some_step}
 use Rattle.bl_session.proofs.laws.each_step_leads_on.Goals as goal
 
 pub returns-clause-start : goal.returns-clause-start

@@ -1,4 +1,4 @@
-use Rattle.bl_session.proofs.EndLaws.{one_end_in, one_end}
+use Rattle.bl_session.proofs.attempt_lemmas.EndLaws.{one_end_in, one_end}
 use Rattle.bl_session.proofs.laws.ends_are_determined.Goals as goal
 
 pub returns-clause-whole : goal.returns-clause-whole

@@ -1,5 +1,5 @@
-use Rattle.bl_session.proofs.FirstEndLaws.{first_ended}
-use Rattle.bl_session.proofs.OutcomeLaws.{one_outcome}
+use Rattle.bl_session.proofs.session_lemmas.FirstEndLaws.{first_ended}
+use Rattle.bl_session.proofs.session_lemmas.OutcomeLaws.{one_outcome}
 use Rattle.bl_session.proofs.laws.first_entry_not_refused.Goals as goal
 
 pub returns-clause-exact : goal.returns-clause-exact

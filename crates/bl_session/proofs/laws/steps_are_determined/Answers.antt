@@ -1,4 +1,4 @@
-use Rattle.bl_session.proofs.BootLaws.{one_start, one_step}
+use Rattle.bl_session.proofs.session_lemmas.BootLaws.{one_start, one_step}
 use Rattle.bl_session.proofs.laws.steps_are_determined.Goals as goal
 
 pub returns-clause-start : goal.returns-clause-start

@@ -1,4 +1,4 @@
-use Rattle.bl_session.proofs.OutcomeLaws.{is_handover, same_handover}
+use Rattle.bl_session.proofs.session_lemmas.OutcomeLaws.{is_handover, same_handover}
 use Rattle.bl_session.proofs.laws.two_outcomes.Goals as goal
 
 pub returns-clause-handover : goal.returns-clause-handover

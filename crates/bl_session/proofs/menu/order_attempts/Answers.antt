@@ -1,6 +1,6 @@
 use Rattle.std.proofs.Common.{◌∙◌, ◌+◌, drop}
 use Rattle.std.proofs.lemmas.List.{drop_more}
-use Rattle.bl_session.proofs.OnceLemmas.{once_more}
+use Rattle.bl_session.proofs.menu_lemmas.OnceLemmas.{once_more}
 use Rattle.bl_session.proofs.menu.order_attempts.Goals as goal
 
 pub loop-index-preserved : goal.loop-index-preserved

@@ -1,5 +1,5 @@
 use Rattle.std.proofs.Common.{◌≡◌, ◌++◌, ◌==◌, drop}
-use Rattle.bl_session.specs.Attempts.{attempt_order, without_repeats_by}
+use Rattle.bl_session.specs.menu.AttemptOrder.{attempt_order, without_repeats_by}
 use Rattle.bl_session.proofs.menu.order_attempts.Given as goal
 
 -- what was taken so far and what is left give all

@@ -4,13 +4,13 @@ use Rattle.bl_mem.specs.Memory.{HasRoom}
 use Rattle.std.proofs.lemmas.Result.{err_from_is_err_and}
 use Rattle.bl_stage.specs.Ranges.{IsSameOutside}
 use Rattle.bl_stage.specs.Files.{missing, size_of}
-use Rattle.bl_session.specs.BootSteps.{BootFacts, out_of_memory}
-use Rattle.bl_session.specs.Memory.{IsMemoryAt}
-use Rattle.bl_session.specs.Phases.{SessionFacts, boot_facts, state_at}
-use Rattle.bl_session.specs.Run.{run_state_of}
-use Rattle.bl_session.proofs.RunLemmas.{unbegun, has_started, run_started}
-use Rattle.bl_session.proofs.KeptMemoryLemmas.{keeps_on}
-use Rattle.bl_session.proofs.EarlyReturnLemmas.{no_value, on_error, keeps_same}
+use Rattle.bl_session.specs.session.BootSteps.{BootFacts, out_of_memory}
+use Rattle.bl_session.specs.session.BootMemory.{IsMemoryAt}
+use Rattle.bl_session.specs.session.Phases.{SessionFacts, boot_facts, state_at}
+use Rattle.bl_session.specs.runs.Run.{run_state_of}
+use Rattle.bl_session.proofs.run_lemmas.RunLemmas.{unbegun, has_started, run_started}
+use Rattle.bl_session.proofs.session_lemmas.KeptMemoryLemmas.{keeps_on}
+use Rattle.bl_session.proofs.attempt_lemmas.EarlyReturnLemmas.{no_value, on_error, keeps_same}
 use Rattle.bl_session.proofs.runs.run_session.Goals as goal
 
 pub returns-in_err-sizes-clause-run : goal.returns-in_err-sizes-clause-run

@@ -1,6 +1,6 @@
 use Rattle.std.proofs.lemmas.List.{take_all}
 use Rattle.std.proofs.lemmas.Result.{err_from_is_err_and}
-use Rattle.bl_session.specs.Menu.{facts_of}
+use Rattle.bl_session.specs.menu.Menu.{facts_of}
 use Rattle.c_abi.specs.Boot.{entry_facts_given}
 use Rattle.c_abi.proofs.ListLemmas.{one_more_mapped}
 use Rattle.c_abi.proofs.entries.entries_of.Goals as goal

@@ -1,5 +1,5 @@
 use Rattle.std.proofs.Common.{◌≡◌, map, take}
-use Rattle.bl_session.specs.Menu.{facts_of}
+use Rattle.bl_session.specs.menu.Menu.{facts_of}
 use Rattle.c_abi.specs.Boot.{entry_facts_given}
 use Rattle.c_abi.proofs.entries.entries_of.Given as goal
 

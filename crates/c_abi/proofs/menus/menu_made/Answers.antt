@@ -1,5 +1,5 @@
 use Rattle.std.proofs.Common.{subst, sym}
-use Rattle.bl_session.specs.Attempts.{AreEntryIndices}
+use Rattle.bl_session.specs.menu.MenuFaults.{AreEntryIndices}
 use Rattle.c_abi.specs.Boot.{IsNoMenu, is_short}
 use Rattle.c_abi.proofs.BootLemmas.{entry_count, few_given, no_menu_is}
 use Rattle.c_abi.proofs.menus.menu_made.Goals as goal

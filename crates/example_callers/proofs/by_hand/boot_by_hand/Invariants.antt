@@ -1,6 +1,6 @@
 use Rattle.std.proofs.Common.{◌≡◌, length, true}
 use Rattle.bl_mem.specs.Memory.{HasRoom}
-use Rattle.bl_session.specs.Phases.{is_waiting}
+use Rattle.bl_session.specs.session.Phases.{is_waiting}
 use Rattle.example_callers.proofs.by_hand.boot_by_hand.Given as goal
 
 -- memory has the machine's size, and while an attempt waits the pool has room

@@ -1,7 +1,7 @@
 use Rattle.std.proofs.Common.{◌≡◌, ◌∙◌, length}
-use Rattle.bl_session.specs.BootSteps.{none_left}
-use Rattle.bl_session.specs.Phases.{handover_held}
-use Rattle.bl_session.specs.BootSteps.{handed_over}
+use Rattle.bl_session.specs.session.BootSteps.{none_left}
+use Rattle.bl_session.specs.session.Phases.{handover_held}
+use Rattle.bl_session.specs.session.BootSteps.{handed_over}
 use Rattle.program_desc.specs.Views.{view}
 use Rattle.program_explain.specs.ExplanationLines.{sought_in}
 use Rattle.program_explain.proofs.HeldLemmas.{told_booted}

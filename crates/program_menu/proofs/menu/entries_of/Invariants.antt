@@ -1,6 +1,6 @@
 use Rattle.std.proofs.Common.{◌≡◌, All, length, map, take}
 use Rattle.bl_load.specs.EntryValue.{IsWithinLimits}
-use Rattle.bl_session.specs.Menu.{facts_of}
+use Rattle.bl_session.specs.menu.Menu.{facts_of}
 use Rattle.program_desc.specs.Views.{entry_view}
 use Rattle.program_menu.specs.DescribedMenu.{entry_facts}
 use Rattle.program_menu.proofs.menu.entries_of.Given as goal

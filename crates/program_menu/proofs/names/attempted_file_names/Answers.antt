@@ -1,5 +1,5 @@
 use Rattle.std.proofs.Common.{◌*◌}
-use Rattle.bl_session.proofs.OnceLemmas.{all_attempts}
+use Rattle.bl_session.proofs.menu_lemmas.OnceLemmas.{all_attempts}
 use Rattle.program_desc.specs.Views.{view}
 use Rattle.program_menu.specs.DescribedMenu.{names_of_entries}
 use Rattle.program_menu.proofs.NameLemmas.{few_kept, few_names}

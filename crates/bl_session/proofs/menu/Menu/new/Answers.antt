@@ -1,9 +1,10 @@
 use Rattle.std.proofs.Common.{◌≡◌, All, List, ◌≤◌, length, refl, sym, subst, arith, rules}
 use Rattle.bl_load.specs.WellFormedEntry.{IsWellFormedEntry}
 use Rattle.bl_load.specs.declared.entry.Entry.{Entry}
-use Rattle.bl_session.specs.Attempts.{AreEntryIndices, AreWithinLimits, attempt_order}
-use Rattle.bl_session.proofs.MenuLemmas.{offered_entries}
-use Rattle.bl_session.proofs.OnceLemmas.{all_attempts, few_attempts}
+use Rattle.bl_session.specs.menu.MenuFaults.{AreEntryIndices, AreWithinLimits}
+use Rattle.bl_session.specs.menu.AttemptOrder.{attempt_order}
+use Rattle.bl_session.proofs.menu_lemmas.MenuLemmas.{offered_entries}
+use Rattle.bl_session.proofs.menu_lemmas.OnceLemmas.{all_attempts, few_attempts}
 use Rattle.std.proofs.lemmas.Bool.{false≢true}
 use Rattle.std.proofs.lemmas.Result.{err_from_is_err_and}
 use Rattle.bl_session.proofs.menu.Menu.new.Goals as goal

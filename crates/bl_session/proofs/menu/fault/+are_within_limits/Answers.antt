@@ -1,6 +1,6 @@
 use Rattle.std.proofs.Common.{refl}
 use Rattle.bl_load.specs.EntryValue.{IsWithinLimits}
-use Rattle.bl_session.proofs.MenuLemmas.{all_by_first}
+use Rattle.bl_session.proofs.menu_lemmas.MenuLemmas.{all_by_first}
 use Rattle.bl_session.proofs.menu.fault.+are_within_limits.Goals as goal
 
 pub returns-then-is_within_limits : goal.returns-then-is_within_limits

@@ -1,8 +1,8 @@
 use Rattle.std.proofs.Common.{ℕ, List, subst}
 use Rattle.std.specs.Prelude.{OnErr}
-use Rattle.bl_session.specs.History.{HistoryItem}
-use Rattle.bl_session.specs.Submissions.{attempt_submissions}
-use Rattle.bl_session.specs.Phases.{SessionFacts, state_at}
+use Rattle.bl_session.specs.store.History.{HistoryItem}
+use Rattle.bl_session.specs.store.Submissions.{attempt_submissions}
+use Rattle.bl_session.specs.session.Phases.{SessionFacts, state_at}
 use Rattle.bl_session.specs.internal.RunParts.{AreAskedButRest}
 use Rattle.bl_session.proofs.session.Session.submit.Goals as goal
 

@@ -15,7 +15,7 @@ use Rattle.std.specs.contracts.alloc.Global as heap
 use Rattle.std.specs.contracts.impls.GlobalAllocator.TheImpl.{ghosts}
 use Rattle.std.specs.declared.alloc.Global.{Global}
 use Rattle.bl_session.proofs.OwnedSession.TheSendSync.{the_send as owned_send}
-use Rattle.bl_session.specs.Phases.{SessionFacts}
+use Rattle.bl_session.specs.session.Phases.{SessionFacts}
 use Rattle.c_handle.specs.Handles.{session_type, handle_owns}
 use Rattle.c_handle.specs.contracts.handle.Handle.{the_row, the_type}
 

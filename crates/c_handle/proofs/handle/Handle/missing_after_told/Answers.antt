@@ -1,8 +1,8 @@
 use Rattle.std.proofs.Common.{◌≡◌, None, subst}
 use Rattle.std.specs.Option.{MatchOption}
-use Rattle.bl_session.specs.declared.ticket.Ticket.{Ticket}
-use Rattle.bl_session.specs.Phases.{SessionFacts, state_at}
-use Rattle.bl_session.specs.Requests.{request_after}
+use Rattle.bl_session.specs.declared.attempt.ticket.Ticket.{Ticket}
+use Rattle.bl_session.specs.session.Phases.{SessionFacts, state_at}
+use Rattle.bl_session.specs.session.Requests.{request_after}
 use Rattle.c_handle.specs.HandleTold.{record_ticket}
 use Rattle.c_handle.proofs.ToldLemmas.{told_of_kept}
 use Rattle.c_handle.proofs.handle.Handle.missing_after_told.Goals as goal

@@ -1,5 +1,5 @@
-use Rattle.bl_session.specs.Phases.{SessionFacts, state_at}
-use Rattle.bl_session.specs.Requests.{first_request}
+use Rattle.bl_session.specs.session.Phases.{SessionFacts, state_at}
+use Rattle.bl_session.specs.session.Requests.{first_request}
 use Rattle.c_handle.proofs.ToldLemmas.{told_of_kept}
 use Rattle.c_handle.proofs.handle.Handle.missing_told.Goals as goal
 

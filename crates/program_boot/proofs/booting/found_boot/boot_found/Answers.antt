@@ -1,5 +1,5 @@
 use Rattle.std.proofs.Common.{◌≡◌, ◌∙◌, length}
-use Rattle.bl_session.specs.Phases.{handover_held}
+use Rattle.bl_session.specs.session.Phases.{handover_held}
 use Rattle.program_boot.proofs.booting.found_boot.boot_found.Goals as goal
 
 pub write_handover-requires-clause-inside : goal.write_handover-requires-clause-inside

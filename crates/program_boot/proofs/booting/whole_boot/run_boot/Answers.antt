@@ -2,8 +2,8 @@ use Rattle.std.proofs.Common.{◌∙◌, All, length, refl, ap, subst}
 use Rattle.std.proofs.lemmas.List.{length-replicate}
 use Rattle.std.proofs.lemmas.Result.{err_from_is_err_and}
 use Rattle.bl_load.specs.WellFormedEntry.{IsWellFormedValue}
-use Rattle.bl_session.specs.Menu.{MenuFacts}
-use Rattle.bl_session.proofs.MenuLemmas.{offered_values}
+use Rattle.bl_session.specs.menu.Menu.{MenuFacts}
+use Rattle.bl_session.proofs.menu_lemmas.MenuLemmas.{offered_values}
 use Rattle.program_desc.specs.Described.{described}
 use Rattle.program_desc.specs.Views.{view}
 use Rattle.program_menu.specs.DescribedMenu.{boot_of, max_names}

@@ -1,0 +1,51 @@
+use Rattle.std.proofs.Common.{arith, ◌∙◌, List, length, map, slice_index, ap, sym, refl}
+use Rattle.bl_load.specs.Handover.{Part, Handover}
+use Rattle.bl_load.specs.PlanContents.{handover_by}
+use Rattle.bl_load.proofs.HeldLemmas.{all_end_within}
+use Rattle.bl_load.proofs.WrittenLemmas.{written_elsewhere}
+use Rattle.bl_stage.specs.Staged.{staged_texts}
+use Rattle.bl_session.proofs.attempt_lemmas.AfterLemmas.{ranges_are, after_scrub, held_on}
+use Rattle.bl_session.proofs.session_lemmas.KeptMemoryLemmas.{keeps_on}
+use Rattle.std.proofs.lemmas.Grind.{common_steps}
+use Rattle.bl_session.proofs.attempt.handing_over.hand_over.Goals as goal
+
+pub returns-clause-held : goal.returns-clause-held
+returns-clause-held g c =
+    let loaded = g.M.PhysMem.bytes c.load-handoff.new.memory in
+    let new = g.M.PhysMem.bytes c.scrub.new.memory in
+    let handoff = c.load-handoff.result in
+    let cleared = rw (c.ranges-2.ensures) at c.scrub.ensures.after in
+    let inside = c.requires.loadable.inside in
+    let same =
+    held_on c.args.machine.now.pool handoff.places loaded new c.scrub.ensures.kept.size cleared
+    (rw (c.load-handoff.ensures.places, c.load-handoff.ensures.kept.size) inside) in
+    ap (λ (ps : List Part).
+    let h : Handover =
+    record { protocol = handoff.protocol; registers = handoff.registers; parts = ps } in h)
+    same
+    ∙ c.load-handoff.ensures.handed
+
+pub returns-clause-after : goal.returns-clause-after
+returns-clause-after g c =
+    let old = g.M.PhysMem.bytes c.args.memory.now in
+    let texts = staged_texts old c.args.stage.now in
+    let plan = c.args.plan in
+    let loadable = c.requires.loadable in
+    let parts = (handover_by texts plan).parts in
+    let ranges = ranges_are texts plan.parts.items loadable.backed in
+    let kept = c.ranges-2.ensures ∙ ap (map _) c.load-handoff.ensures.places ∙ sym ranges in
+    let cleared = rw kept at c.scrub.ensures.after in
+    after_scrub c.args.machine.now.pool parts old (g.M.PhysMem.bytes c.load-handoff.new.memory)
+    (g.M.PhysMem.bytes c.scrub.new.memory)
+    c.load-handoff.ensures.in_parts
+    (λ a out.
+    ap (λ m. slice_index m a) c.load-handoff.ensures.after
+    ∙ written_elsewhere (length old) parts old a refl
+    (all_end_within texts (length old) plan loadable) out)
+    cleared
+
+pub returns-clause-kept : goal.returns-clause-kept
+returns-clause-kept g c = keeps_on c.load-handoff.ensures.kept c.scrub.ensures.kept
+
+pub scrub-requires-clause-room : goal.scrub-requires-clause-room
+scrub-requires-clause-room g c = grind (arith, common_steps)

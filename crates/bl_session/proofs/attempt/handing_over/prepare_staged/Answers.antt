@@ -1,0 +1,55 @@
+use Rattle.std.proofs.Common.{arith}
+use Rattle.bl_session.proofs.menu_lemmas.MenuLemmas.{few_counted}
+use Rattle.std.proofs.Common.{List, ℕ, length, ap, sym, ◌∙◌}
+use Rattle.std.proofs.lemmas.List.{length-map}
+use Rattle.std.proofs.lemmas.List.FromFn.{length-map-range_with_len}
+use Rattle.bl_stage.specs.Staged.{staged, staged_file}
+use Rattle.bl_session.proofs.attempt_lemmas.EarlyReturnLemmas.{no_value}
+use Rattle.bl_session.proofs.attempt.handing_over.prepare_staged.Goals as goal
+
+pub views_of-requires-clause-complete : goal.views_of-requires-clause-complete
+views_of-requires-clause-complete g c = c.requires.complete
+
+pub views_of-requires-clause-inside : goal.views_of-requires-clause-inside
+views_of-requires-clause-inside g c = c.requires.inside
+
+pub returns-in_err-views-clause-handover : goal.returns-in_err-views-clause-handover
+returns-in_err-views-clause-handover g c =
+    no_value _ _ c.from_residual.result c.from_residual.ensures.1
+
+pub returns-in_err-views-clause-loadable : goal.returns-in_err-views-clause-loadable
+returns-in_err-views-clause-loadable g c =
+    no_value _ _ c.from_residual.result c.from_residual.ensures.1
+
+pub prepare-requires-clause-limits : goal.prepare-requires-clause-limits
+prepare-requires-clause-limits g c = c.requires.limits
+
+pub returns-clause-handover : goal.returns-clause-handover
+returns-clause-handover g c =
+    rw (← c.in_ok-views.ensures, ← c.deref.ensures.value) c.prepare.ensures.handover
+
+pub returns-clause-loadable : goal.returns-clause-loadable
+returns-clause-loadable g c =
+    rw (← c.in_ok-views.ensures, ← c.deref.ensures.value) c.prepare.ensures.loadable
+
+pub prepare-requires-clause-files : goal.prepare-requires-clause-files
+prepare-requires-clause-files g c =
+    let bytes = g.M.PhysMem.bytes in
+    let stage = c.args.stage.now in
+    ap length c.deref.ensures.value
+    ∙ sym
+    (length-map c.in_ok-views.views.items
+    (λ view. staged (bytes view.memory.now) view.frames.now view.size))
+    ∙ ap (λ (texts : List (List ℕ)). length texts) c.in_ok-views.ensures
+    ∙ length-map-range_with_len (λ file. staged_file (bytes c.args.memory.now) stage file) 0
+    (length stage.sizes)
+    ∙ c.requires.files
+
+pub returns-clause-fault : goal.returns-clause-fault
+returns-clause-fault g c =
+    rw (← c.in_ok-views.ensures, ← c.deref.ensures.value) c.prepare.ensures.fault
+
+pub views_of-requires-clause-few : goal.views_of-requires-clause-few
+views_of-requires-clause-few g c =
+    let few = few_counted c.args.entry.now c.requires.limits in
+    omega (arith, few, c.requires.files)

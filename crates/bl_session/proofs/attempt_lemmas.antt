@@ -1,0 +1,15 @@
+pub mod EndLaws
+pub mod GatherLemmas
+pub mod EntryEndLemmas
+pub mod AwaitedLemmas
+pub mod PieceStateLemmas
+pub mod StoredLemmas
+pub mod WholeLemmas
+pub mod AttemptLemmas
+pub mod EarlyReturnLemmas
+pub mod StageLemmas
+pub mod AfterLemmas
+pub mod FinishLemmas
+pub mod RequestLemmas
+pub mod MissingLemmas
+pub mod SizeLemmas

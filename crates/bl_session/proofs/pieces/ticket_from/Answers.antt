@@ -1,8 +1,0 @@
-use Rattle.std.proofs.Common.{arith}
-use Rattle.bl_session.proofs.MissingLemmas.{ticket_none}
-use Rattle.bl_session.proofs.pieces.ticket_from.Goals as goal
-
-pub returns-clause-first : goal.returns-clause-first
-returns-clause-first g c = λ bytes.
-    ticket_none c.args.attempt c.loop-place.place bytes c.args.stage.now _
-    (omega (arith, c.files-place-end.ensures)) (c.loop-place.invariant bytes)

@@ -1,0 +1,10 @@
+pub mod BootLaws
+pub mod FirstEndLaws
+pub mod OutcomeLaws
+pub mod AdvanceLemmas
+pub mod KeptMemoryLemmas
+pub mod StepLemmas
+pub mod StepFaultLemmas
+pub mod EndedLemmas
+pub mod LaterLemmas
+pub mod NextLemmas

@@ -1,0 +1,8 @@
+pub mod TicketLemmas
+pub mod SubmissionLemmas
+pub mod StoreLemmas
+pub mod ToldLemmas
+pub mod LedgerLemmas
+pub mod SubmissionRunLemmas
+pub mod ListedLemmas
+pub mod PendingLemmas

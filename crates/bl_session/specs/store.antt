@@ -1,0 +1,6 @@
+pub mod History
+pub mod Submissions
+pub mod Faithful
+pub mod Stores
+pub mod Ledger
+pub mod Scripts

@@ -1,0 +1,173 @@
+//! An attempt ends, once each piece of its files came.
+ghost use Rattle.std.specs.Prelude.{◌≡◌, ◌+◌, ◌<◌, ◌^◌, IfErr, IfOk, OnErr, OnOk};
+ghost use Rattle.std.specs.Prelude.{length, map};
+ghost use Rattle.bl_map.specs.PoolFrames.{HasFramesFor};
+ghost use Rattle.bl_mem.specs.Files.{AreAddressesBelow, AllApartFrom};
+ghost use Rattle.bl_mem.specs.Memory.{HasRoom, AllHaveRoom, KeepsSizeAndRoom};
+ghost use Rattle.bl_plan.specs.Placed.{place_range};
+ghost use Rattle.bl_stage.specs.Ranges.{IsSameOutside};
+ghost use Rattle.bl_stage.specs.Staged.{AllCame, HasPool, IsStagedOn, staged_texts, with_frames};
+ghost use Rattle.bl_stage.specs.Staged.{staged};
+ghost use Rattle.bl_load.specs.MemoryAfter.{IsMemoryAfter};
+ghost use Rattle.bl_load.specs.Loadable.{lengths_of, IsLoadable};
+ghost use Rattle.bl_load.specs.Parts.{IsHandover, IsPrepFault};
+ghost use Rattle.bl_load.specs.PlanContents.{handover_by, handover_in, places_of};
+ghost use Rattle.bl_load.specs.EntryValue.{value_of, file_count, IsWithinLimits};
+ghost use Rattle.bl_session.specs.attempt.FinishedAttempt.{IsHandedOver, IsNotHandedOver};
+ghost use Rattle.bl_session.specs.attempt.FinishedAttempt.{IsStageAfterFault};
+
+use bl_load::{Entry, Handoff, Plan, PrepFault, Refusal, load, prepare};
+use bl_map::Machine;
+use bl_mem::PhysMem;
+use bl_stage::{FrameView, Stage, scrub};
+use std::alloc::{AllocError, Allocator};
+use std::ops::Range;
+
+/// Views of a stage's files, in order.
+fn views_of<'a, M: PhysMem, A: Allocator + Copy>(
+    alloc: A,
+    memory: &'a M,
+    stage: &'a Stage<A>,
+) -> Result<Vec<FrameView<'a, M>, A>, AllocError>
+    requires few { length stage.now.sizes < 2 ^ 32 }
+    requires complete { AllCame stage.now }
+    requires inside { HasPool (M.bytes memory.now) stage.now.pool }
+    ensures { IfOk result (λ views.
+        map (λ view. staged (M.bytes view.memory.now) view.frames.now view.size) views.items
+        ≡ staged_texts (M.bytes memory.now) stage.now) }
+{
+    let count = stage.files();
+    let mut views = Vec::with_capacity(alloc, count)?;
+    for file in 0..count {
+        views.push(stage.view(memory, file as u32))?;
+    }
+    Ok(views)
+}
+
+/// What is loaded for an entry whose files are staged, or its first refusal.
+fn prepare_staged<M: PhysMem, A: Allocator + Copy>(
+    alloc: A,
+    machine: &Machine<A>,
+    memory: &M,
+    entry: &Entry<A>,
+    stage: &Stage<A>,
+) -> Result<Plan<A>, PrepFault>
+    requires files { length stage.now.sizes ≡ file_count entry.now }
+    requires limits { IsWithinLimits entry.now }
+    requires complete { AllCame stage.now }
+    requires inside { HasPool (M.bytes memory.now) stage.now.pool }
+    ensures handover { IfOk result (λ plan. IsHandover machine.now
+        (value_of (staged_texts (M.bytes memory.now) stage.now) entry.now)
+        (handover_by (staged_texts (M.bytes memory.now) stage.now) plan)) }
+    ensures loadable { IfOk result (λ plan. IsLoadable
+        (lengths_of (staged_texts (M.bytes memory.now) stage.now)) machine.now.size plan) }
+    ensures fault { IfErr result (λ fault. IsPrepFault machine.now
+        (value_of (staged_texts (M.bytes memory.now) stage.now) entry.now) fault) }
+{
+    let views = views_of(alloc, memory, stage)?;
+    prepare(alloc, machine, entry, &views)
+}
+
+/// Makes way for the ranges of an entry's parts, or refuses the entry if the pool has too few
+/// frames beside them.
+fn evacuate_ranges<M: PhysMem, A: Allocator>(
+    memory: &mut M,
+    stage: &mut Stage<A>,
+    ranges: &[Range<u64>],
+) -> Result<(), Refusal>
+    requires inside { HasPool (M.bytes memory.old) stage.old.pool }
+    requires room { HasRoom (M.room memory.old) stage.old.pool.start stage.old.pool.end }
+    ensures room { OnOk result
+        (HasFramesFor stage.old.pool ranges.now (staged_texts (M.bytes memory.old) stage.old)) }
+    ensures refused { IfErr result (λ refusal. (refusal ≡ Refusal.NoPool)
+        × ¬ HasFramesFor stage.old.pool ranges.now (staged_texts (M.bytes memory.old) stage.old)) }
+    ensures unchanged { OnErr result
+        ((stage.new ≡ stage.old) × (M.bytes memory.new ≡ M.bytes memory.old)) }
+    ensures stage { stage.new ≡ with_frames stage.old stage.new.frames }
+    ensures texts { OnOk result
+        (staged_texts (M.bytes memory.new) stage.new
+        ≡ staged_texts (M.bytes memory.old) stage.old) }
+    ensures held { OnOk result
+        (AreAddressesBelow (λ a. IsStagedOn stage.new a) (length (M.bytes memory.new))) }
+    ensures beside { OnOk result (AllApartFrom (λ a. IsStagedOn stage.new a) ranges.now) }
+    ensures outside { IsSameOutside stage.old.pool (M.bytes memory.old) (M.bytes memory.new) }
+    ensures kept { KeepsSizeAndRoom M.lender M.bytes M.room memory.old memory.new }
+{
+    if stage.evacuate(memory, ranges).is_err() {
+        return Err(Refusal::NoPool);
+    }
+    Ok(())
+}
+
+/// Loads a plan out of staged files, and clears the rest of the pool.
+fn hand_over<M: PhysMem, A: Allocator>(
+    machine: &Machine<A>,
+    memory: &mut M,
+    stage: &Stage<A>,
+    plan: Plan<A>,
+) -> Handoff<A>
+    requires held { AreAddressesBelow (λ a. IsStagedOn stage.now a) (length (M.bytes memory.old)) }
+    requires loadable { IsLoadable (lengths_of (staged_texts (M.bytes memory.old) stage.now))
+        (length (M.bytes memory.old)) plan }
+    requires room { AllHaveRoom (M.room memory.old) (map place_range (places_of plan)) }
+    requires beside { AllApartFrom (λ a. IsStagedOn stage.now a)
+        (map place_range (places_of plan)) }
+    requires inside { HasPool (M.bytes memory.old) machine.now.pool }
+    requires pool_room { HasRoom (M.room memory.old) machine.now.pool.start machine.now.pool.end }
+    ensures places { result.places ≡ places_of plan }
+    ensures held { handover_in (M.bytes memory.new) result.protocol result.registers result.places
+        ≡ handover_by (staged_texts (M.bytes memory.old) stage.now) plan }
+    ensures after { IsMemoryAfter machine.now.pool
+        (handover_by (staged_texts (M.bytes memory.old) stage.now) plan).parts
+        (M.bytes memory.old) (M.bytes memory.new) }
+    ensures kept { KeepsSizeAndRoom M.lender M.bytes M.room memory.old memory.new }
+{
+    let handoff = load(memory, plan, stage);
+    scrub(machine, memory, handoff.ranges());
+    handoff
+}
+
+/// Ends an attempt whose files are staged whole: hands its entry over, or says why not. The checks
+/// come in this order:
+///
+/// 1. the entry's own first refusal, as `prepare` answers it;
+/// 2. `NoPool`, exactly if the pool has too few frames beside the parts for the files;
+/// 3. memory for the parts, where they have no room yet.
+///
+/// `Ok`: memory holds the parts, the pool is 0 outside of them, and every other byte is as before.
+/// `Refused`: no byte changed, and the stage is as before. `NoMemory` may be answered at any
+/// growth, and then no byte outside the pool changed, and each file reads as before. No address
+/// loses its room.
+///
+/// The stage is that of the machine's pool, and has one file for each file of the entry, in order.
+pub fn finish_attempt<M: PhysMem, A: Allocator + Copy>(
+    alloc: A,
+    machine: &Machine<A>,
+    memory: &mut M,
+    entry: &Entry<A>,
+    stage: &mut Stage<A>,
+) -> Result<Handoff<A>, PrepFault>
+    requires complete { AllCame stage.old }
+    requires files { length stage.old.sizes ≡ file_count entry.now }
+    requires limits { IsWithinLimits entry.now }
+    requires pool { stage.old.pool ≡ machine.now.pool }
+    requires size { length (M.bytes memory.old) ≡ machine.now.size }
+    requires room { HasRoom (M.room memory.old) machine.now.pool.start machine.now.pool.end }
+    ensures ok { IfOk result (λ handoff. IsHandedOver machine.now
+        (value_of (staged_texts (M.bytes memory.old) stage.old) entry.now) handoff
+        (M.bytes memory.old) (M.bytes memory.new)) }
+    ensures err { IfErr result (λ fault. IsNotHandedOver machine.now
+        (value_of (staged_texts (M.bytes memory.old) stage.old) entry.now) fault
+        (M.bytes memory.old) (M.bytes memory.new)) }
+    ensures left { IfErr result (λ fault. IsStageAfterFault fault stage.old stage.new
+        (M.bytes memory.old) (M.bytes memory.new)) }
+    ensures stage { stage.new ≡ with_frames stage.old stage.new.frames }
+    ensures kept { KeepsSizeAndRoom M.lender M.bytes M.room memory.old memory.new }
+{
+    // For the proof: where the pool lies.
+    machine.pool();
+    let plan = prepare_staged(alloc, machine, memory, entry, stage)?;
+    evacuate_ranges(memory, stage, plan.ranges())?;
+    memory.reserve(plan.ranges())?;
+    Ok(hand_over(machine, memory, stage, plan))
+}

@@ -1,0 +1,159 @@
+//! Attempts, one after the other.
+ghost use Rattle.std.specs.Prelude.{◌≡◌, ◌<◌, ◌≤◌, ◌++◌, ◌∷◌, [], true, IfOk, OnErr, length, drop};
+ghost use Rattle.bl_mem.specs.Memory.{HasRoom, KeepsSizeAndRoom};
+ghost use Rattle.bl_stage.specs.Ranges.{IsSameOutside};
+ghost use Rattle.bl_stage.specs.PieceStates.{piece_states};
+ghost use Rattle.bl_session.specs.session.BootSteps.{Begins, Continues};
+ghost use Rattle.bl_session.specs.attempt.AwaitedPieces.{are_whole};
+ghost use Rattle.bl_session.specs.session.BootMemory.{IsMemoryAt};
+ghost use Rattle.bl_session.specs.internal.SessionPhases.{facts_of_boot, state_in, phase_by};
+ghost use Rattle.bl_session.specs.internal.SessionPhases.{IsPhaseKept, IsWaiting};
+
+use crate::attempt::{Attempt, AttemptEnd, begin_attempt, end_attempt};
+use crate::session::outcome::{BootFault, Outcome};
+use crate::session::phase::{Boot, Phase, Running};
+use bl_load::{Refusal, RefusedEntry};
+use bl_mem::PhysMem;
+use bl_stage::scrub;
+use std::alloc::{AllocError, Allocator};
+use std::mem;
+
+/// Begins the attempt of this number, and goes on with the next ones until one waits for pieces, is
+/// handed over, or none is left: then the whole pool is cleared.
+pub fn begin<M: PhysMem, A: Allocator + Copy>(
+    boot: &Boot<A>,
+    memory: &mut M,
+    next: usize,
+    earlier: Vec<RefusedEntry, A>,
+) -> Result<Phase<A>, AllocError>
+    requires number { length earlier.items ≤ next }
+    requires size { length (M.bytes memory.old) ≡ boot.now.machine.now.size }
+    requires room { HasRoom (M.room memory.old)
+        boot.now.machine.now.pool.start boot.now.machine.now.pool.end }
+    ensures begun { IfOk result (λ phase. Begins (facts_of_boot boot.now)
+        (drop next boot.now.menu.now.attempts) earlier.items
+        (state_in boot.now (M.bytes memory.new) phase)) }
+    ensures memory { IfOk result (λ phase. IsMemoryAt boot.now.machine.now.pool
+        (state_in boot.now (M.bytes memory.new) phase)
+        (M.bytes memory.old) (M.bytes memory.new)) }
+    ensures phase { IfOk result (IsPhaseKept boot.now.machine.now boot.now.menu.now) }
+    ensures err { OnErr result
+        (IsSameOutside boot.now.machine.now.pool (M.bytes memory.old) (M.bytes memory.new)) }
+    ensures kept { KeepsSizeAndRoom M.lender M.bytes M.room memory.old memory.new }
+{
+    let mut number = next;
+    let mut refused = earlier;
+    'attempts: while number < boot.menu.attempts() {
+        let entry = boot.menu.entry_of(number);
+        number += 1;
+        match begin_attempt(
+            boot.alloc,
+            boot.machine,
+            memory,
+            boot.menu.entry(entry),
+            boot.sizes,
+        )? {
+            Attempt::Waits(stage) => {
+                return Ok(Phase::Waits(Running {
+                    entry,
+                    next: number,
+                    earlier: refused,
+                    stage,
+                }));
+            }
+            Attempt::Ended(AttemptEnd::HandedOver(handoff)) => {
+                return Ok(Phase::HandedOver(Outcome {
+                    entry,
+                    refused,
+                    handoff,
+                }));
+            }
+            Attempt::Ended(AttemptEnd::Refused(refusal)) => {
+                refused.push(RefusedEntry { entry, refusal })?;
+            }
+        }
+    }
+    // For the proof: where the pool lies.
+    boot.machine.pool();
+    scrub(boot.machine, memory, &[]);
+    Ok(Phase::Failed(BootFault::NoEntryLeft(refused)))
+}
+
+/// Refuses the entry of an attempt that runs, and answers the phase after it: that of the next one.
+pub fn refuse<M: PhysMem, A: Allocator + Copy>(
+    boot: &Boot<A>,
+    memory: &mut M,
+    running: &mut Running<A>,
+    refusal: Refusal,
+) -> Result<Option<Phase<A>>, AllocError>
+    requires number { length running.old.earlier.items < running.old.next }
+    requires size { length (M.bytes memory.old) ≡ boot.now.machine.now.size }
+    requires room { HasRoom (M.room memory.old)
+        boot.now.machine.now.pool.start boot.now.machine.now.pool.end }
+    ensures begun { IfOk result (λ ended. Begins (facts_of_boot boot.now)
+        (drop running.old.next boot.now.menu.now.attempts)
+        (running.old.earlier.items
+        ++ record { entry = running.old.entry; refusal = refusal } ∷ [])
+        (state_in boot.now (M.bytes memory.new) (phase_by running.new ended))) }
+    ensures memory { IfOk result (λ ended. IsMemoryAt boot.now.machine.now.pool
+        (state_in boot.now (M.bytes memory.new) (phase_by running.new ended))
+        (M.bytes memory.old) (M.bytes memory.new)) }
+    ensures phase { IfOk result (λ ended.
+        IsPhaseKept boot.now.machine.now boot.now.menu.now (phase_by running.new ended)) }
+    ensures err { OnErr result
+        (IsSameOutside boot.now.machine.now.pool (M.bytes memory.old) (M.bytes memory.new)) }
+    ensures kept { KeepsSizeAndRoom M.lender M.bytes M.room memory.old memory.new }
+{
+    let mut refused = mem::replace(&mut running.earlier, Vec::new(boot.alloc));
+    refused.push(RefusedEntry {
+        entry: running.entry,
+        refusal,
+    })?;
+    Ok(Some(begin(boot, memory, running.next, refused)?))
+}
+
+/// Goes on with an attempt that has some pieces of its files: it runs on while one is missing, and
+/// else answers the phase after it.
+pub fn settle<M: PhysMem, A: Allocator + Copy>(
+    boot: &Boot<A>,
+    memory: &mut M,
+    running: &mut Running<A>,
+) -> Result<Option<Phase<A>>, AllocError>
+    requires waiting { IsWaiting boot.now.machine.now boot.now.menu.now running.old }
+    requires size { length (M.bytes memory.old) ≡ boot.now.machine.now.size }
+    requires room { HasRoom (M.room memory.old)
+        boot.now.machine.now.pool.start boot.now.machine.now.pool.end }
+    ensures continues { IfOk result (λ ended. Continues (facts_of_boot boot.now)
+        (Begins (facts_of_boot boot.now)
+        (drop running.old.next boot.now.menu.now.attempts))
+        running.old.entry (drop running.old.next boot.now.menu.now.attempts)
+        running.old.earlier.items (piece_states (M.bytes memory.old) running.old.stage)
+        (state_in boot.now (M.bytes memory.new) (phase_by running.new ended))) }
+    ensures memory { IfOk result (λ ended. IsMemoryAt boot.now.machine.now.pool
+        (state_in boot.now (M.bytes memory.new) (phase_by running.new ended))
+        (M.bytes memory.old) (M.bytes memory.new)) }
+    ensures phase { IfOk result (λ ended.
+        IsPhaseKept boot.now.machine.now boot.now.menu.now (phase_by running.new ended)) }
+    ensures err { OnErr result
+        (IsSameOutside boot.now.machine.now.pool (M.bytes memory.old) (M.bytes memory.new)) }
+    ensures whole { OnErr result
+        (are_whole (piece_states (M.bytes memory.old) running.old.stage) ≡ true) }
+    ensures kept { KeepsSizeAndRoom M.lender M.bytes M.room memory.old memory.new }
+{
+    let entry = running.entry;
+    match end_attempt(
+        boot.alloc,
+        boot.machine,
+        memory,
+        boot.menu.entry(entry),
+        &mut running.stage,
+    )? {
+        None => Ok(None),
+        Some(AttemptEnd::HandedOver(handoff)) => Ok(Some(Phase::HandedOver(Outcome {
+            entry,
+            refused: mem::replace(&mut running.earlier, Vec::new(boot.alloc)),
+            handoff,
+        }))),
+        Some(AttemptEnd::Refused(refusal)) => refuse(boot, memory, running, refusal),
+    }
+}

@@ -1,0 +1,97 @@
+//! A session starts: its first attempt begins.
+ghost use Rattle.std.specs.Prelude.{◌≡◌, ◌≢◌, [], true, IfOk, OnErr, OnOk};
+ghost use Rattle.std.specs.Prelude.{length};
+ghost use Rattle.bl_mem.specs.Memory.{HasRoom, KeepsSizeAndRoom};
+ghost use Rattle.bl_stage.specs.Ranges.{IsSameOutside};
+ghost use Rattle.bl_session.specs.session.BootSteps.{attempt_number, Begins};
+ghost use Rattle.bl_session.specs.session.BootSteps.{StartsOrFails};
+ghost use Rattle.bl_session.specs.session.BootSteps as boot_specs;
+ghost use Rattle.bl_session.specs.session.BootMemory.{IsMemoryAt};
+ghost use Rattle.bl_session.specs.session.Phases.{phase_facts};
+ghost use Rattle.bl_session.specs.session.Phases.{is_waiting, not_started};
+ghost use Rattle.bl_session.specs.internal.SessionPhases.{facts_of_boot, state_in, IsPhaseKept};
+
+use crate::session::falling_back::begin;
+use crate::session::outcome::{BootFault, Progress};
+use crate::session::phase::{Boot, Phase, number_of, progress_of};
+use bl_map::Machine;
+use bl_mem::PhysMem;
+use std::alloc::{AllocError, Allocator};
+
+/// Gives room to the pool.
+fn reserve_pool<M: PhysMem, A: Allocator>(
+    machine: &Machine<A>,
+    memory: &mut M,
+) -> Result<(), AllocError>
+    requires { length (M.bytes memory.old) ≡ machine.now.size }
+    ensures same { M.bytes memory.new ≡ M.bytes memory.old }
+    ensures room { OnOk result
+        (HasRoom (M.room memory.new) machine.now.pool.start machine.now.pool.end) }
+    ensures kept { KeepsSizeAndRoom M.lender M.bytes M.room memory.old memory.new }
+{
+    let pool = machine.pool();
+    // A pool of no frames may lie anywhere.
+    if pool.start < pool.end {
+        memory.reserve(&[pool])?;
+    }
+    Ok(())
+}
+
+/// Gives room to the pool, and begins the first attempt.
+fn reserve_and_begin<M: PhysMem, A: Allocator + Copy>(
+    boot: &Boot<A>,
+    memory: &mut M,
+) -> Result<Phase<A>, AllocError>
+    requires { length (M.bytes memory.old) ≡ boot.now.machine.now.size }
+    ensures begun { IfOk result (λ phase. Begins (facts_of_boot boot.now)
+        boot.now.menu.now.attempts [] (state_in boot.now (M.bytes memory.new) phase)) }
+    ensures memory { IfOk result (λ phase. IsMemoryAt boot.now.machine.now.pool
+        (state_in boot.now (M.bytes memory.new) phase)
+        (M.bytes memory.old) (M.bytes memory.new)) }
+    ensures phase { IfOk result (IsPhaseKept boot.now.machine.now boot.now.menu.now) }
+    ensures err { OnErr result
+        (IsSameOutside boot.now.machine.now.pool (M.bytes memory.old) (M.bytes memory.new)) }
+    ensures room { OnOk result
+        (HasRoom (M.room memory.new)
+        boot.now.machine.now.pool.start boot.now.machine.now.pool.end) }
+    ensures kept { KeepsSizeAndRoom M.lender M.bytes M.room memory.old memory.new }
+{
+    reserve_pool(boot.machine, memory)?;
+    begin(boot, memory, 0, Vec::new(boot.alloc))
+}
+
+/// The start. It acts once.
+pub fn begin_first<M: PhysMem, A: Allocator + Copy>(
+    boot: &Boot<A>,
+    memory: &mut M,
+    phase: &mut Phase<A>,
+) -> Progress
+    requires standing { IsPhaseKept boot.now.machine.now boot.now.menu.now phase.old }
+    requires size { length (M.bytes memory.old) ≡ boot.now.machine.now.size }
+    ensures step { StartsOrFails (facts_of_boot boot.now)
+        (state_in boot.now (M.bytes memory.old) phase.old)
+        (state_in boot.now (M.bytes memory.new) phase.new) }
+    ensures progress { result ≡ boot_specs.progress
+        (attempt_number (state_in boot.now (M.bytes memory.old) phase.old))
+        (state_in boot.now (M.bytes memory.new) phase.new) }
+    ensures memory { phase_facts boot.now.menu.now.attempts phase.old ≡ not_started
+        → IsMemoryAt boot.now.machine.now.pool (state_in boot.now (M.bytes memory.new) phase.new)
+        (M.bytes memory.old) (M.bytes memory.new) }
+    ensures same { phase_facts boot.now.menu.now.attempts phase.old ≢ not_started
+        → (phase.new ≡ phase.old) × (M.bytes memory.new ≡ M.bytes memory.old) }
+    ensures room { phase_facts boot.now.menu.now.attempts phase.old ≡ not_started
+        → is_waiting (phase_facts boot.now.menu.now.attempts phase.new) ≡ true
+        → HasRoom (M.room memory.new)
+        boot.now.machine.now.pool.start boot.now.machine.now.pool.end }
+    ensures stands { IsPhaseKept boot.now.machine.now boot.now.menu.now phase.new }
+    ensures kept { KeepsSizeAndRoom M.lender M.bytes M.room memory.old memory.new }
+{
+    let attempt = number_of(phase);
+    if let Phase::Unstarted = phase {
+        *phase = match reserve_and_begin(boot, memory) {
+            Ok(first) => first,
+            Err(_) => Phase::Failed(BootFault::NoMemory),
+        };
+    }
+    progress_of(boot.machine, boot.menu, attempt, phase)
+}
