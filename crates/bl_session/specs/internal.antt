@@ -3,3 +3,4 @@ pub mod AttemptStates
 pub mod LedgerCounts
 pub mod SubmissionRuns
 pub mod RunParts
+pub mod AnswerSteps

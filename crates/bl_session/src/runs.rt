@@ -1,11 +1,8 @@
 //! A whole boot over a store.
 ghost use Rattle.std.specs.Prelude.{◌≡◌, ◌≢◌, ◌+◌, ◌≤◌, ◌^◌, [], All, None, false};
 ghost use Rattle.std.specs.Prelude.{IfOk, OnErr, length, map};
-ghost use Rattle.std.specs.Prelude.{slice_index_or};
-ghost use Rattle.std.specs.List.{range_with_len};
 ghost use Rattle.bl_mem.specs.Memory.{KeepsSizeAndRoom};
 ghost use Rattle.bl_stage.specs.Ranges.{IsSameOutside};
-ghost use Rattle.bl_stage.specs.Files.{missing};
 ghost use Rattle.bl_stage.specs.Files as menu_files;
 ghost use Rattle.bl_session.specs.session.BootSteps.{out_of_memory};
 ghost use Rattle.bl_session.specs.session.BootMemory.{IsMemoryAt};
@@ -15,6 +12,8 @@ ghost use Rattle.bl_session.specs.session.Outcome.{IsOutcome, HasEnded};
 ghost use Rattle.bl_session.specs.session.Phases.{boot_facts, state_at, is_waiting, not_started};
 ghost use Rattle.bl_session.specs.session.Phases.{LiesWithin};
 ghost use Rattle.bl_session.specs.runs.Run.{IsRun, IsGenuineRun, final_phase};
+ghost use Rattle.bl_session.specs.internal.RunParts.{asked_sizes};
+ghost use Rattle.bl_session.specs.internal.AnswerSteps.{HasRun};
 
 use crate::menu::Menu;
 use crate::runs::answer_loop::drive;
@@ -40,9 +39,7 @@ fn sizes_of<S: Store, A: Allocator>(
     count: usize,
 ) -> Result<Vec<Option<u64>, A>, AllocError>
     requires { count ≤ 2 ^ 32 }
-    ensures { IfOk result (λ sizes. sizes.items
-        ≡ map (λ file. menu_files.size_of (slice_index_or (S.files store.now) file missing))
-        (range_with_len 0 count)) }
+    ensures { IfOk result (λ sizes. sizes.items ≡ asked_sizes (S.files store.now) count) }
 {
     let mut sizes = Vec::new(alloc);
     for file in 0..count {
@@ -61,16 +58,8 @@ fn run_session<'a, M: PhysMem, S: Store, A: Allocator + Copy>(
     menu: &'a Menu<A>,
 ) -> Result<Session<'a, A>, AllocError>
     requires { length (M.bytes memory.old) ≡ machine.now.size }
-    ensures run { IfOk result (λ session. IsRun
-        (boot_facts machine.now menu.now (map menu_files.size_of (S.files store.old)))
-        (S.files store.old) (S.given store.old) (S.given store.new)
-        (state_at (M.bytes memory.new) session.phase)) }
-    ensures machine { IfOk result (λ session. session.boot.machine ≡ machine.now) }
-    ensures started { IfOk result (λ session. session.phase ≢ not_started) }
-    ensures ended { IfOk result (λ session. is_waiting session.phase ≡ false) }
-    ensures memory { IfOk result (λ session. IsMemoryAt machine.now.pool
-        (state_at (M.bytes memory.new) session.phase)
-        (M.bytes memory.old) (M.bytes memory.new)) }
+    ensures ok { IfOk result (λ session. HasRun machine.now menu.now session (S.files store.old)
+        (S.given store.old) (S.given store.new) (M.bytes memory.old) (M.bytes memory.new)) }
     ensures lacking { OnErr result (IsRun
         (boot_facts machine.now menu.now (map menu_files.size_of (S.files store.old)))
         (S.files store.old) (S.given store.old) (S.given store.new) out_of_memory) }

@@ -9,8 +9,7 @@ use Rattle.bl_session.specs.declared.attempt.ticket.Ticket.{Ticket}
 use Rattle.bl_session.specs.declared.session.outcome.Progress.{Progress}
 use Rattle.bl_session.specs.declared.session.outcome.Progress.TheVariants.{Waiting}
 use Rattle.bl_session.specs.session.BootSteps.{BootFacts, piece, fault, State, StepsToOrFails}
-use Rattle.bl_session.specs.session.BootSteps.{attempt_number}
-use Rattle.bl_session.specs.session.BootSteps.{is_running, progress}
+use Rattle.bl_session.specs.session.BootSteps.{attempt_number, is_running, progress}
 use Rattle.bl_session.specs.store.History.{HistoryItem, came, failed, nothing, file_under}
 use Rattle.bl_session.specs.store.History.{IsPieceOf}
 use Rattle.bl_session.specs.store.Submissions.{attempt_submissions, new_submissions}
@@ -18,7 +17,8 @@ use Rattle.bl_session.specs.session.BootMemory.{IsMemoryAt}
 use Rattle.bl_session.specs.session.Phases.{PhaseFacts, not_started, waits, hands_over, has_none}
 use Rattle.bl_session.specs.session.Phases.{lacks_memory, state_at, is_waiting}
 use Rattle.bl_session.specs.runs.Run.{RunState, run_state_of, IsAnswer, IsEventOf}
-use Rattle.bl_session.specs.internal.RunParts.{HistoryLeadsOn, first_awaited_ticket}
+use Rattle.bl_session.specs.internal.RunParts.{HistoryLeadsOn, all_asked, run_state_after}
+use Rattle.bl_session.specs.internal.RunParts.{first_awaited_ticket}
 use Rattle.bl_session.proofs.session_lemmas.NextLemmas.{lost_ends}
 use Rattle.bl_session.proofs.run_lemmas.TurnLemmas.{heard_on, owed_same, owed_next}
 
@@ -102,28 +102,25 @@ waiting_memory pool lacks_memory bytes old new w memory = absurd cc
 
 -- ---- one answer more
 
-abbrev pub at : State → RunState
-at state = record { state = state; owed = [] }
-
 pub heard_more : (facts now : BootFacts) (files those : List File)
     (first mid last : List HistoryItem)
     (start : RunState) (old new : State) → now ≡ facts → those ≡ files
-    → HistoryLeadsOn facts files first mid start (at old)
-    → HistoryLeadsOn now those mid last (at old)
-    (record { state = new; owed = new_submissions now old new })
+    → HistoryLeadsOn facts files first mid start (all_asked old)
+    → HistoryLeadsOn now those mid last (all_asked old)
+    (run_state_after now old new)
     → HistoryLeadsOn facts files first last start
-    (record { state = new; owed = new_submissions facts old new })
+    (run_state_after facts old new)
 heard_more facts now files those first mid last start old new e f so_far more =
-    heard_on facts files first mid last start (at old)
-    (record { state = new; owed = new_submissions facts old new }) so_far
+    heard_on facts files first mid last start (all_asked old)
+    (run_state_after facts old new) so_far
     (subst
     (λ (b : BootFacts).
-    HistoryLeadsOn b files mid last (at old)
-    (record { state = new; owed = new_submissions b old new })) e
+    HistoryLeadsOn b files mid last (all_asked old)
+    (run_state_after b old new)) e
     (subst
     (λ (fs : List File).
-    HistoryLeadsOn now fs mid last (at old)
-    (record { state = new; owed = new_submissions now old new })) f more))
+    HistoryLeadsOn now fs mid last (all_asked old)
+    (run_state_after now old new)) f more))
 
 owing : (facts : BootFacts) (files : List File) (first last : List HistoryItem) (start : RunState)
     (new : State) (a b : List HistoryItem) → a ≡ b
@@ -140,8 +137,8 @@ pub heard_waiting : (facts : BootFacts) (files : List File) (first last : List H
     (start : RunState)
     (old new : State) (p : Progress) → p ≡ progress (attempt_number old) new → p ≡ Waiting
     → HistoryLeadsOn facts files first last start
-    (record { state = new; owed = new_submissions facts old new })
-    → HistoryLeadsOn facts files first last start (at new)
+    (run_state_after facts old new)
+    → HistoryLeadsOn facts files first last start (all_asked new)
 heard_waiting facts files first last start old new p told is heard =
     owing facts files first last start new (new_submissions facts old new) []
     (owed_same facts old new (sym told ∙ is)) heard
@@ -151,7 +148,7 @@ pub heard_ended : (facts : BootFacts) (files : List File) (first last : List His
     (start : RunState)
     (old new : State) (p : Progress) → p ≡ progress (attempt_number old) new → p ≢ Waiting
     → HistoryLeadsOn facts files first last start
-    (record { state = new; owed = new_submissions facts old new })
+    (run_state_after facts old new)
     → HistoryLeadsOn facts files first last start (run_state_of facts new)
 heard_ended facts files first last start old new p told is heard =
     owing facts files first last start new (new_submissions facts old new)

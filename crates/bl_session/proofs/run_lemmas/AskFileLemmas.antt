@@ -1,6 +1,6 @@
 -- The orders of an attempt's files, asked for one after the other.
 use Rattle.std.proofs.Common.{◌≡◌, ℕ, suc, ◌+◌, ◌<◌, ◌≤◌, List, [], ◌∷◌, ◌++◌, length, map, drop}
-use Rattle.std.proofs.Common.{get_or, Result, Ok, Err, OnErr, refl, sym, ap, subst, ◌∙◌, arith}
+use Rattle.std.proofs.Common.{get_or, Result, refl, sym, ap, subst, ◌∙◌, arith}
 use Rattle.std.specs.List.{range_with_len}
 use Rattle.std.proofs.lemmas.List.{drop_more, drop_all}
 use Rattle.bl_map.specs.PoolFrames.{frames_of}
@@ -13,7 +13,7 @@ use Rattle.bl_session.specs.menu.Menu.{entry_at}
 use Rattle.bl_session.specs.store.Submissions.{piece_submissions, submissions_for_files}
 use Rattle.bl_session.specs.store.Submissions.{attempt_submissions}
 use Rattle.bl_session.specs.session.Phases.{PhaseFacts, waits, state_at}
-use Rattle.bl_session.specs.internal.RunParts.{AreAskedButRest}
+use Rattle.bl_session.specs.internal.RunParts.{AreAskedButRest, AreSubmitted}
 use Rattle.bl_session.proofs.attempt_lemmas.PieceStateLemmas.{length-piece_states_of}
 use Rattle.bl_session.proofs.run_lemmas.AskLemmas.{asked_on, asked_part, asked_all}
 
@@ -138,23 +138,16 @@ pub asked_in : {T E : Type 0} (result : Result T E) (facts : BootFacts) (phase :
     (files : List ℕ) (old new : List HistoryItem)
     → phase ≡ waits entry rest earlier stage → number ≡ length earlier
     → files ≡ (entry_at facts.menu entry).files
-    → OnErr result
-    ((bytes : List ℕ)
-    → (left : List HistoryItem)
-    × AreAskedButRest (submissions_for_files number 0 files (piece_states bytes stage)) left old new)
-    → OnErr result
-    ((bytes : List ℕ)
-    → (left : List HistoryItem)
-    × AreAskedButRest (attempt_submissions facts (state_at bytes phase)) left old new)
-asked_in (Ok x) facts phase entry rest earlier stage number files old new is number_is files_is
-    asked = tt
-asked_in (Err e) facts phase entry rest earlier stage number files old new is number_is files_is
+    → ((bytes : List ℕ) → AreSubmitted result
+    (submissions_for_files number 0 files (piece_states bytes stage)) old new)
+    → (bytes : List ℕ) → AreSubmitted result (attempt_submissions facts (state_at bytes phase)) old
+    new
+asked_in result facts phase entry rest earlier stage number files old new is number_is files_is
     asked = λ bytes.
-    let one = asked bytes in
     let same : submissions_for_files number 0 files (piece_states bytes stage)
     ≡ attempt_submissions facts (state_at bytes phase) =
     ap (λ n. submissions_for_files n 0 files (piece_states bytes stage)) number_is
     ∙ ap (λ (fs : List ℕ). submissions_for_files (length earlier) 0 fs (piece_states bytes stage))
     files_is
     ∙ sym (ap (λ (p : PhaseFacts). attempt_submissions facts (state_at bytes p)) is) in
-    (one.0, subst (λ (l : List HistoryItem). AreAskedButRest l one.0 old new) same one.1)
+    subst (λ (l : List HistoryItem). AreSubmitted result l old new) same (asked bytes)

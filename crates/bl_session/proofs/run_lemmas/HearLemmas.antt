@@ -7,14 +7,14 @@ use Rattle.bl_stage.specs.PieceStates.{PieceState, piece_states}
 use Rattle.bl_session.specs.declared.session.outcome.Progress.{Progress}
 use Rattle.bl_session.specs.declared.session.outcome.Progress.TheVariants.{Waiting}
 use Rattle.bl_session.specs.session.BootSteps.{BootFacts, EventFacts, unstarted, running, is_taken}
-use Rattle.bl_session.specs.session.BootSteps.{StepsToOrFails}
-use Rattle.bl_session.specs.session.BootSteps.{attempt_number, progress}
+use Rattle.bl_session.specs.session.BootSteps.{StepsToOrFails, attempt_number, progress}
 use Rattle.bl_session.specs.session.BootMemory.{IsMemoryAt}
-use Rattle.bl_session.specs.session.Phases.{PhaseFacts, not_started, waits, hands_over, has_none}
-use Rattle.bl_session.specs.session.Phases.{lacks_memory, state_at, is_waiting}
+use Rattle.bl_session.specs.session.Phases.{SessionFacts, PhaseFacts, not_started, waits}
+use Rattle.bl_session.specs.session.Phases.{hands_over, has_none, lacks_memory, state_at}
+use Rattle.bl_session.specs.session.Phases.{is_waiting}
 use Rattle.bl_session.specs.internal.RunParts.{attempts_left}
-use Rattle.bl_session.proofs.session_lemmas.NextLemmas.{IsNext, next_step, still_runs, has_ended}
-use Rattle.bl_session.proofs.session_lemmas.NextLemmas.{fewer_left}
+use Rattle.bl_session.specs.internal.AnswerSteps.{WaitsOnOrEnds}
+use Rattle.bl_session.proofs.session_lemmas.NextLemmas.{IsNext, next_step, still_runs, has_ended, fewer_left}
 use Rattle.bl_session.proofs.session_lemmas.NextLemmas.{memory_step}
 
 -- ---- one event
@@ -28,7 +28,7 @@ running_waits (hands_over n refusals handoff) bytes entry rest earlier files e =
 running_waits (has_none refusals) bytes entry rest earlier files e = absurd cc
 running_waits lacks_memory bytes entry rest earlier files e = absurd cc
 
-pub hears_on : (facts : BootFacts) (event : EventFacts) (old new : PhaseFacts)
+hears_on : (facts : BootFacts) (event : EventFacts) (old new : PhaseFacts)
     (before after : List ℕ) (p : Progress) → is_waiting old ≡ true
     → StepsToOrFails facts (state_at before old) event (state_at after new)
     → p ≡ progress (attempt_number (state_at before old)) (state_at after new) → p ≡ Waiting
@@ -44,7 +44,7 @@ hears_on facts event (hands_over n refusals handoff) new before after p w step t
 hears_on facts event (has_none refusals) new before after p w step told is = absurd cc
 hears_on facts event lacks_memory new before after p w step told is = absurd cc
 
-pub hears_as_many : (facts : BootFacts) (event : EventFacts) (old new : PhaseFacts)
+hears_as_many : (facts : BootFacts) (event : EventFacts) (old new : PhaseFacts)
     (before after : List ℕ) (p : Progress) → is_waiting old ≡ true
     → StepsToOrFails facts (state_at before old) event (state_at after new)
     → p ≡ progress (attempt_number (state_at before old)) (state_at after new) → p ≡ Waiting
@@ -61,7 +61,7 @@ hears_as_many facts event (hands_over n refusals handoff) new before after p w s
 hears_as_many facts event (has_none refusals) new before after p w step told is = absurd cc
 hears_as_many facts event lacks_memory new before after p w step told is = absurd cc
 
-pub hears_fewer : (facts : BootFacts) (event : EventFacts) (old new : PhaseFacts)
+hears_fewer : (facts : BootFacts) (event : EventFacts) (old new : PhaseFacts)
     (before after : List ℕ) (p : Progress) → is_waiting old ≡ true
     → StepsToOrFails facts (state_at before old) event (state_at after new)
     → p ≡ progress (attempt_number (state_at before old)) (state_at after new) → p ≢ Waiting
@@ -83,7 +83,7 @@ not_unstarted facts entry rest earlier (inl same) =
     let no : unstarted ≡ running entry rest earlier same.0 = same.1 in absurd cc
 not_unstarted facts entry rest earlier (inr later) = later
 
-pub hears_started : (facts : BootFacts) (event : EventFacts) (old new : PhaseFacts)
+hears_started : (facts : BootFacts) (event : EventFacts) (old new : PhaseFacts)
     (before after : List ℕ) → is_waiting old ≡ true
     → StepsToOrFails facts (state_at before old) event (state_at after new) → new ≢ not_started
 hears_started facts event (waits entry rest earlier stage) new before after w step = λ e.
@@ -96,7 +96,7 @@ hears_started facts event (hands_over n refusals handoff) new before after w ste
 hears_started facts event (has_none refusals) new before after w step = absurd cc
 hears_started facts event lacks_memory new before after w step = absurd cc
 
-pub hears_memory : (pool : Range ℕ) (facts : BootFacts) (event : EventFacts) (old new : PhaseFacts)
+hears_memory : (pool : Range ℕ) (facts : BootFacts) (event : EventFacts) (old new : PhaseFacts)
     (before after : List ℕ) → is_waiting old ≡ true
     → StepsToOrFails facts (state_at before old) event (state_at after new)
     → MatchBool (is_taken (state_at before old) event)
@@ -111,3 +111,25 @@ hears_memory pool facts event (hands_over n refusals handoff) new before after w
     absurd cc
 hears_memory pool facts event (has_none refusals) new before after w step memory = absurd cc
 hears_memory pool facts event lacks_memory new before after w step memory = absurd cc
+
+-- ---- the whole
+
+pub hears : (old new : SessionFacts) (event : EventFacts) (before after : List ℕ) (told : Progress)
+    → is_waiting old.phase ≡ true
+    → StepsToOrFails old.boot (state_at before old.phase) event (state_at after new.phase)
+    → told ≡ progress (attempt_number (state_at before old.phase)) (state_at after new.phase)
+    → MatchBool (is_taken (state_at before old.phase) event)
+    (IsMemoryAt old.boot.machine.pool (state_at after new.phase) before after) (after ≡ before)
+    → WaitsOnOrEnds old new before after told
+hears old new event before after told waiting step is memory =
+    let facts = old.boot in
+    record {
+      progress = is;
+      goes_on = hears_on facts event old.phase new.phase before after told waiting step is;
+      as_many = hears_as_many facts event old.phase new.phase before after told waiting step is;
+      fewer = hears_fewer facts event old.phase new.phase before after told waiting step is;
+      started = hears_started facts event old.phase new.phase before after waiting step;
+      memory =
+          hears_memory facts.machine.pool facts event old.phase new.phase before after waiting step
+          memory;
+    }

@@ -8,8 +8,7 @@ use Rattle.bl_map.specs.MachineFacts.{MachineFacts}
 use Rattle.bl_mem.specs.Memory.{HasRoom, KeepsRoom}
 use Rattle.bl_stage.specs.Files.{File, missing, size_of}
 use Rattle.bl_session.specs.session.BootSteps.{BootFacts, State, unstarted, out_of_memory}
-use Rattle.bl_session.specs.session.BootSteps.{is_running}
-use Rattle.bl_session.specs.session.BootSteps.{StartsOrFails}
+use Rattle.bl_session.specs.session.BootSteps.{is_running, StartsOrFails}
 use Rattle.bl_session.specs.menu.NamedFiles.{named_file_count}
 use Rattle.bl_session.specs.menu.Menu.{MenuFacts}
 use Rattle.bl_session.specs.store.History.{HistoryItem}
@@ -18,12 +17,13 @@ use Rattle.bl_session.specs.store.Submissions.{attempt_submissions}
 use Rattle.bl_session.specs.session.Phases.{PhaseFacts, not_started, state_at, is_waiting}
 use Rattle.bl_session.specs.session.Phases.{boot_facts}
 use Rattle.bl_session.specs.runs.Run.{RunState, run_state_of, IsRun}
-use Rattle.bl_session.specs.internal.RunParts.{AreAskedButRest, HistoryLeadsOn}
+use Rattle.bl_session.specs.internal.RunParts.{AreAskedButRest, HistoryLeadsOn, all_asked}
+use Rattle.bl_session.specs.internal.AnswerSteps.{StopsInAttempt}
 use Rattle.bl_session.proofs.run_lemmas.AlikeRuns.{run_alike, alike_listed}
 use Rattle.bl_session.proofs.session_lemmas.KeptMemoryLemmas.{memory_on}
 use Rattle.bl_session.proofs.run_lemmas.WentLemmas.{new_begins}
 use Rattle.bl_session.proofs.run_lemmas.TurnLemmas.{heard_on, heard_asked, heard_orders, reads_to}
-use Rattle.bl_session.proofs.run_lemmas.AnswerLemmas.{at, waiting_memory}
+use Rattle.bl_session.proofs.run_lemmas.AnswerLemmas.{waiting_memory}
 
 -- ---- one attempt more
 
@@ -32,18 +32,18 @@ pub heard_attempt : (facts now : BootFacts) (files those those_next : List File)
     → those ≡ files → those_next ≡ files
     → HistoryLeadsOn facts files first mid start (run_state_of facts old) → asked ≡ mid
     ++ attempt_submissions now old
-    → HistoryLeadsOn now those_next asked last (at old) (run_state_of now new)
+    → HistoryLeadsOn now those_next asked last (all_asked old) (run_state_of now new)
     → HistoryLeadsOn facts files first last start (run_state_of facts new)
 heard_attempt facts now files those those_next first mid asked last start old new e f f_next so_far
     given more =
-    let mine : HistoryLeadsOn facts files asked last (at old) (run_state_of facts new) =
-    subst (λ (b : BootFacts). HistoryLeadsOn b files asked last (at old) (run_state_of b new)) e
-    (subst (λ (fs : List File). HistoryLeadsOn now fs asked last (at old) (run_state_of now new)) f_next
+    let mine : HistoryLeadsOn facts files asked last (all_asked old) (run_state_of facts new) =
+    subst (λ (b : BootFacts). HistoryLeadsOn b files asked last (all_asked old) (run_state_of b new)) e
+    (subst (λ (fs : List File). HistoryLeadsOn now fs asked last (all_asked old) (run_state_of now new)) f_next
     more) in
     let orders_given : asked ≡ mid ++ attempt_submissions facts old =
     given ∙ ap (λ (b : BootFacts). mid ++ attempt_submissions b old) e in
-    heard_on facts files first asked last start (at old) (run_state_of facts new)
-    (heard_on facts files first mid asked start (run_state_of facts old) (at old) so_far
+    heard_on facts files first asked last start (all_asked old) (run_state_of facts new)
+    (heard_on facts files first mid asked start (run_state_of facts old) (all_asked old) so_far
     (heard_orders facts files mid asked old orders_given)) mine
 
 -- memory ran out while the attempt asked
@@ -52,17 +52,18 @@ pub lacks_orders : (facts now : BootFacts) (files : List File) (first mid asked 
     → HistoryLeadsOn facts files first mid start (run_state_of facts old)
     → (rest : List HistoryItem) × AreAskedButRest (attempt_submissions now old) rest mid asked
     → is_running old ≡ true
-    → (run_state : RunState) × HistoryLeadsOn facts files first asked start run_state
-    × (is_running run_state.state ≡ true)
+    → StopsInAttempt facts files first asked start
 lacks_orders facts now files first mid asked start old e so_far part runs =
     let mine =
     subst (λ (b : BootFacts). AreAskedButRest (attempt_submissions b old) part.0 mid asked) e part.1 in
-    let end : RunState = record { state = old; owed = part.0 } in (
-      end,
-      heard_on facts files first mid asked start (run_state_of facts old) end so_far
-          (heard_asked facts files mid asked old (attempt_submissions facts old) part.0 mine),
-      runs,
-    )
+    let end : RunState = record { state = old; owed = part.0 } in
+    record {
+      stopped = end;
+      heard =
+          heard_on facts files first mid asked start (run_state_of facts old) end so_far
+          (heard_asked facts files mid asked old (attempt_submissions facts old) part.0 mine);
+      running = runs;
+    }
 
 -- memory ran out while it took answers
 pub lacks_answers : (facts now : BootFacts) (files those : List File)
@@ -70,22 +71,24 @@ pub lacks_answers : (facts now : BootFacts) (files those : List File)
     ≡ files
     → HistoryLeadsOn facts files first mid start (run_state_of facts old) → asked ≡ mid
     ++ attempt_submissions now old
-    → (run_state : RunState) × HistoryLeadsOn now those asked last (at old) run_state
-    × (is_running run_state.state ≡ true)
-    → (run_state : RunState) × HistoryLeadsOn facts files first last start run_state
-    × (is_running run_state.state ≡ true)
+    → StopsInAttempt now those asked last (all_asked old)
+    → StopsInAttempt facts files first last start
 lacks_answers facts now files those first mid asked last start old e f so_far given more =
-    let mine : HistoryLeadsOn facts files asked last (at old) more.0 =
-    subst (λ (b : BootFacts). HistoryLeadsOn b files asked last (at old) more.0) e
-    (subst (λ (fs : List File). HistoryLeadsOn now fs asked last (at old) more.0) f more.1) in
+    let stopped = more.stopped in
+    let mine : HistoryLeadsOn facts files asked last (all_asked old) stopped =
+    subst (λ (b : BootFacts). HistoryLeadsOn b files asked last (all_asked old) stopped) e
+    (subst (λ (fs : List File). HistoryLeadsOn now fs asked last (all_asked old) stopped) f
+    more.heard) in
     let orders_given : asked ≡ mid ++ attempt_submissions facts old =
-    given ∙ ap (λ (b : BootFacts). mid ++ attempt_submissions b old) e in (
-      more.0,
-      heard_on facts files first asked last start (at old) more.0
-          (heard_on facts files first mid asked start (run_state_of facts old) (at old) so_far
-          (heard_orders facts files mid asked old orders_given)) mine,
-      more.2,
-    )
+    given ∙ ap (λ (b : BootFacts). mid ++ attempt_submissions b old) e in
+    record {
+      stopped = stopped;
+      heard =
+          heard_on facts files first asked last start (all_asked old) stopped
+          (heard_on facts files first mid asked start (run_state_of facts old) (all_asked old) so_far
+          (heard_orders facts files mid asked old orders_given)) mine;
+      running = more.running;
+    }
 
 -- ---- the whole
 

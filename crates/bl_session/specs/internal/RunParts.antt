@@ -1,17 +1,33 @@
 -- Parts of a run: what a history gained leads from one state of a run to another. Own.
 use Rattle.std.specs.Prelude.{◌≡◌, ℕ, ◌+◌, List, [], ◌∷◌, ◌++◌, length, Option, None}
-use Rattle.bl_stage.specs.Files.{File}
+use Rattle.std.specs.Prelude.{Result, Ok, Err}
+use Rattle.std.specs.Prelude.{map, slice_index_or}
+use Rattle.std.specs.List.{range_with_len}
+use Rattle.bl_stage.specs.Files.{File, missing, size_of}
 use Rattle.bl_session.specs.declared.attempt.ticket.Ticket.{Ticket}
 use Rattle.bl_session.specs.session.BootSteps.{BootFacts, State, on_running}
 use Rattle.bl_session.specs.store.History.{HistoryItem}
 use Rattle.bl_session.specs.attempt.Tickets.{first_ticket}
+use Rattle.bl_session.specs.store.Submissions.{new_submissions}
 use Rattle.bl_session.specs.runs.Run.{RunState, Delivers}
+
+-- the sizes of so many files, by their index, as a run asks for them
+abbrev pub asked_sizes : List File → ℕ → List (Option ℕ)
+asked_sizes files count =
+    map (λ file. size_of (slice_index_or files file missing)) (range_with_len 0 count)
 
 -- of these orders, in order, all but the rest were asked for
 pub record AreAskedButRest (attempt_submissions rest old new : List HistoryItem) : Type 0 where
   pub asked : List HistoryItem
   pub all : attempt_submissions ≡ asked ++ rest
   pub given : new ≡ old ++ asked
+
+-- these orders were asked for, in order; if that ended in an error, all but the rest
+abbrev pub AreSubmitted :
+    {T E : Type 0} → Result T E → (attempt_submissions old new : List HistoryItem) → Type 0
+AreSubmitted (Ok done) attempt_submissions old new = new ≡ old ++ attempt_submissions
+AreSubmitted (Err why) attempt_submissions old new =
+    (rest : List HistoryItem) × AreAskedButRest attempt_submissions rest old new
 
 -- these items, after this history, lead from one state of a run to another
 abbrev pub LeadsOn :
@@ -27,6 +43,17 @@ pub record HistoryLeadsOn (facts : BootFacts) (files : List File) (old new : Lis
   pub gained : List HistoryItem
   pub given : new ≡ old ++ gained
   pub leads : LeadsOn facts files old start gained end
+
+-- a state at which all that is to be asked for was asked for
+abbrev pub all_asked : State → RunState
+all_asked state = record { state = state; owed = [] }
+
+-- the state to which an event led from an old one
+abbrev pub run_state_after : BootFacts → (old new : State) → RunState
+run_state_after facts old new = record {
+  state = new;
+  owed = new_submissions facts old new;
+}
 
 -- how many attempts are left, with the one that runs
 abbrev pub attempts_left : State → ℕ

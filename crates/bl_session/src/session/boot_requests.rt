@@ -1,11 +1,10 @@
 //! What a boot awaits at a phase, and what it asks a store for.
-ghost use Rattle.std.specs.Prelude.{◌≡◌, ◌++◌, ℕ, List, Some, true, OnOk, OnErr};
-ghost use Rattle.bl_session.specs.store.History.{HistoryItem};
+ghost use Rattle.std.specs.Prelude.{◌≡◌, ℕ, List, Some, true};
 ghost use Rattle.bl_session.specs.store.Submissions.{attempt_submissions};
 ghost use Rattle.bl_session.specs.session.Phases.{phase_facts, is_waiting};
 ghost use Rattle.bl_session.specs.internal.SessionPhases.{IsPhaseKept, facts_of_boot, state_in};
 ghost use Rattle.bl_session.specs.session.Requests.{first_request, request_after};
-ghost use Rattle.bl_session.specs.internal.RunParts.{AreAskedButRest, first_awaited_ticket};
+ghost use Rattle.bl_session.specs.internal.RunParts.{AreSubmitted, first_awaited_ticket};
 
 use crate::attempt::missing_pieces::{first_missing, missing_piece, next_missing, request_of};
 use crate::attempt::ticket::{Request, Ticket};
@@ -19,12 +18,9 @@ impl<'a, A: Allocator + Copy> Boot<'a, A> {
     pub fn submit<S: Store>(&self, phase: &Phase<A>, store: &mut S) -> Result<(), AllocError>
         requires standing { IsPhaseKept self.now.machine.now self.now.menu.now phase.now }
         requires waiting { is_waiting (phase_facts self.now.menu.now.attempts phase.now) ≡ true }
-        ensures ok { OnOk result ((bytes : List ℕ) → S.given store.new
-            ≡ S.given store.old ++ attempt_submissions (facts_of_boot self.now)
-            (state_in self.now bytes phase.now)) }
-        ensures err { OnErr result ((bytes : List ℕ) → (rest : List HistoryItem) × AreAskedButRest
-            (attempt_submissions (facts_of_boot self.now) (state_in self.now bytes phase.now)) rest
-            (S.given store.old) (S.given store.new)) }
+        ensures asked { (bytes : List ℕ) → AreSubmitted result
+            (attempt_submissions (facts_of_boot self.now) (state_in self.now bytes phase.now))
+            (S.given store.old) (S.given store.new) }
         ensures files { S.files store.new ≡ S.files store.old }
     {
         match phase {

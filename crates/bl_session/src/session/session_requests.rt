@@ -1,10 +1,9 @@
 //! What a session awaits, and what it asks a store for.
-ghost use Rattle.std.specs.Prelude.{◌≡◌, ◌++◌, ℕ, List, Some, true, OnOk, OnErr};
-ghost use Rattle.bl_session.specs.store.History.{HistoryItem};
+ghost use Rattle.std.specs.Prelude.{◌≡◌, ℕ, List, Some, true};
 ghost use Rattle.bl_session.specs.store.Submissions.{attempt_submissions};
 ghost use Rattle.bl_session.specs.session.Phases.{state_at, is_waiting};
 ghost use Rattle.bl_session.specs.session.Requests.{first_request, request_after};
-ghost use Rattle.bl_session.specs.internal.RunParts.{AreAskedButRest, first_awaited_ticket};
+ghost use Rattle.bl_session.specs.internal.RunParts.{AreSubmitted, first_awaited_ticket};
 
 use crate::attempt::ticket::{Request, Ticket};
 use crate::session::Session;
@@ -23,12 +22,9 @@ impl<'a, A: Allocator + Copy> Session<'a, A> {
     /// Asks for each piece of the attempt that waits.
     pub(crate) fn submit<S: Store>(&self, store: &mut S) -> Result<(), AllocError>
         requires { is_waiting self.now.phase ≡ true }
-        ensures ok { OnOk result ((bytes : List ℕ) → S.given store.new
-            ≡ S.given store.old
-            ++ attempt_submissions self.now.boot (state_at bytes self.now.phase)) }
-        ensures err { OnErr result ((bytes : List ℕ) → (rest : List HistoryItem) × AreAskedButRest
-            (attempt_submissions self.now.boot (state_at bytes self.now.phase)) rest
-            (S.given store.old) (S.given store.new)) }
+        ensures asked { (bytes : List ℕ) → AreSubmitted result
+            (attempt_submissions self.now.boot (state_at bytes self.now.phase))
+            (S.given store.old) (S.given store.new) }
         ensures files { S.files store.new ≡ S.files store.old }
     {
         let boot = Boot {

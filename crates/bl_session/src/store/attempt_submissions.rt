@@ -1,11 +1,10 @@
 //! What an attempt asks a store for.
-ghost use Rattle.std.specs.Prelude.{◌≡◌, ◌<◌, ◌^◌, ◌++◌, ℕ, List, OnOk, OnErr, length};
+ghost use Rattle.std.specs.Prelude.{◌≡◌, ◌<◌, ◌^◌, ℕ, List, length};
 ghost use Rattle.bl_stage.specs.PieceStates.{piece_states};
-ghost use Rattle.bl_session.specs.store.History.{HistoryItem};
 ghost use Rattle.bl_session.specs.menu.Menu.{files_of};
 ghost use Rattle.bl_session.specs.store.Submissions.{piece_submissions, submissions_for_files};
 ghost use Rattle.bl_session.specs.internal.SessionPhases.{HasSmallFiles};
-ghost use Rattle.bl_session.specs.internal.RunParts.{AreAskedButRest};
+ghost use Rattle.bl_session.specs.internal.RunParts.{AreSubmitted};
 
 use crate::attempt::entry_files::file_at;
 use crate::attempt::missing_pieces::pieces_of;
@@ -23,10 +22,8 @@ fn submit_file<S: Store>(
     file: u32,
     count: u32,
 ) -> Result<(), AllocError>
-    ensures ok { OnOk result
-        (S.given store.new ≡ S.given store.old ++ piece_submissions attempt place file count) }
-    ensures err { OnErr result ((rest : List HistoryItem) × AreAskedButRest
-        (piece_submissions attempt place file count) rest (S.given store.old) (S.given store.new)) }
+    ensures asked { AreSubmitted result (piece_submissions attempt place file count)
+        (S.given store.old) (S.given store.new) }
     ensures files { S.files store.new ≡ S.files store.old }
 {
     for piece in 0..count {
@@ -53,12 +50,9 @@ pub fn submit_files<S: Store, A: Allocator>(
     requires files { length stage.now.sizes ≡ length (files_of entry.now) }
     requires few { length stage.now.sizes < 2 ^ 32 }
     requires small { HasSmallFiles stage.now }
-    ensures ok { OnOk result ((bytes : List ℕ) → S.given store.new
-        ≡ S.given store.old
-        ++ submissions_for_files attempt 0 (files_of entry.now) (piece_states bytes stage.now)) }
-    ensures err { OnErr result ((bytes : List ℕ) → (rest : List HistoryItem) × AreAskedButRest
-        (submissions_for_files attempt 0 (files_of entry.now) (piece_states bytes stage.now)) rest
-        (S.given store.old) (S.given store.new)) }
+    ensures asked { (bytes : List ℕ) → AreSubmitted result
+        (submissions_for_files attempt 0 (files_of entry.now) (piece_states bytes stage.now))
+        (S.given store.old) (S.given store.new) }
     ensures files { S.files store.new ≡ S.files store.old }
 {
     for place in 0..stage.files() {

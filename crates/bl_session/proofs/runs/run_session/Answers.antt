@@ -1,36 +1,20 @@
-use Rattle.std.proofs.Common.{◌≡◌, ◌∙◌, map, slice_index_or, refl, ap, sym, subst, inl, inr}
-use Rattle.std.specs.List.{range_with_len}
+use Rattle.std.proofs.Common.{◌≡◌, ◌∙◌, map, refl, ap, sym, subst, inl, inr}
 use Rattle.bl_mem.specs.Memory.{HasRoom}
 use Rattle.std.proofs.lemmas.Result.{err_from_is_err_and}
 use Rattle.bl_stage.specs.Ranges.{IsSameOutside}
-use Rattle.bl_stage.specs.Files.{missing, size_of}
+use Rattle.bl_stage.specs.Files.{size_of}
 use Rattle.bl_session.specs.session.BootSteps.{BootFacts, out_of_memory}
 use Rattle.bl_session.specs.session.BootMemory.{IsMemoryAt}
 use Rattle.bl_session.specs.session.Phases.{SessionFacts, boot_facts, state_at}
 use Rattle.bl_session.specs.runs.Run.{run_state_of}
+use Rattle.bl_session.specs.internal.RunParts.{asked_sizes}
 use Rattle.bl_session.proofs.run_lemmas.RunLemmas.{unbegun, has_started, run_started}
 use Rattle.bl_session.proofs.session_lemmas.KeptMemoryLemmas.{keeps_on}
 use Rattle.bl_session.proofs.attempt_lemmas.EarlyReturnLemmas.{no_value, on_error, keeps_same}
 use Rattle.bl_session.proofs.runs.run_session.Goals as goal
 
-pub returns-in_err-sizes-clause-run : goal.returns-in_err-sizes-clause-run
-returns-in_err-sizes-clause-run g c = no_value _ _ c.from_residual.result c.from_residual.ensures.1
-
-pub returns-in_err-sizes-clause-machine : goal.returns-in_err-sizes-clause-machine
-returns-in_err-sizes-clause-machine g c =
-    no_value _ _ c.from_residual.result c.from_residual.ensures.1
-
-pub returns-in_err-sizes-clause-started : goal.returns-in_err-sizes-clause-started
-returns-in_err-sizes-clause-started g c =
-    no_value _ _ c.from_residual.result c.from_residual.ensures.1
-
-pub returns-in_err-sizes-clause-ended : goal.returns-in_err-sizes-clause-ended
-returns-in_err-sizes-clause-ended g c =
-    no_value _ _ c.from_residual.result c.from_residual.ensures.1
-
-pub returns-in_err-sizes-clause-memory : goal.returns-in_err-sizes-clause-memory
-returns-in_err-sizes-clause-memory g c =
-    no_value _ _ c.from_residual.result c.from_residual.ensures.1
+pub returns-in_err-sizes-clause-ok : goal.returns-in_err-sizes-clause-ok
+returns-in_err-sizes-clause-ok g c = no_value _ _ c.from_residual.result c.from_residual.ensures.1
 
 pub returns-in_err-sizes-clause-outside : goal.returns-in_err-sizes-clause-outside
 returns-in_err-sizes-clause-outside g c = on_error c.from_residual.result (λ a out. refl)
@@ -41,24 +25,8 @@ returns-in_err-sizes-clause-files g c = refl
 pub returns-in_err-sizes-clause-kept : goal.returns-in_err-sizes-clause-kept
 returns-in_err-sizes-clause-kept g c = keeps_same
 
-pub returns-in_err-session-clause-run : goal.returns-in_err-session-clause-run
-returns-in_err-session-clause-run g c =
-    no_value _ _ c.from_residual-in_err-session.result c.from_residual-in_err-session.ensures.1
-
-pub returns-in_err-session-clause-machine : goal.returns-in_err-session-clause-machine
-returns-in_err-session-clause-machine g c =
-    no_value _ _ c.from_residual-in_err-session.result c.from_residual-in_err-session.ensures.1
-
-pub returns-in_err-session-clause-started : goal.returns-in_err-session-clause-started
-returns-in_err-session-clause-started g c =
-    no_value _ _ c.from_residual-in_err-session.result c.from_residual-in_err-session.ensures.1
-
-pub returns-in_err-session-clause-ended : goal.returns-in_err-session-clause-ended
-returns-in_err-session-clause-ended g c =
-    no_value _ _ c.from_residual-in_err-session.result c.from_residual-in_err-session.ensures.1
-
-pub returns-in_err-session-clause-memory : goal.returns-in_err-session-clause-memory
-returns-in_err-session-clause-memory g c =
+pub returns-in_err-session-clause-ok : goal.returns-in_err-session-clause-ok
+returns-in_err-session-clause-ok g c =
     no_value _ _ c.from_residual-in_err-session.result c.from_residual-in_err-session.ensures.1
 
 pub returns-in_err-session-clause-outside : goal.returns-in_err-session-clause-outside
@@ -71,24 +39,8 @@ returns-in_err-session-clause-files g c = refl
 pub returns-in_err-session-clause-kept : goal.returns-in_err-session-clause-kept
 returns-in_err-session-clause-kept g c = keeps_same
 
-pub returns-in_err-drive-clause-run : goal.returns-in_err-drive-clause-run
-returns-in_err-drive-clause-run g c =
-    no_value _ _ c.from_residual-in_err-drive.result c.from_residual-in_err-drive.ensures.1
-
-pub returns-in_err-drive-clause-machine : goal.returns-in_err-drive-clause-machine
-returns-in_err-drive-clause-machine g c =
-    no_value _ _ c.from_residual-in_err-drive.result c.from_residual-in_err-drive.ensures.1
-
-pub returns-in_err-drive-clause-started : goal.returns-in_err-drive-clause-started
-returns-in_err-drive-clause-started g c =
-    no_value _ _ c.from_residual-in_err-drive.result c.from_residual-in_err-drive.ensures.1
-
-pub returns-in_err-drive-clause-ended : goal.returns-in_err-drive-clause-ended
-returns-in_err-drive-clause-ended g c =
-    no_value _ _ c.from_residual-in_err-drive.result c.from_residual-in_err-drive.ensures.1
-
-pub returns-in_err-drive-clause-memory : goal.returns-in_err-drive-clause-memory
-returns-in_err-drive-clause-memory g c =
+pub returns-in_err-drive-clause-ok : goal.returns-in_err-drive-clause-ok
+returns-in_err-drive-clause-ok g c =
     no_value _ _ c.from_residual-in_err-drive.result c.from_residual-in_err-drive.ensures.1
 
 pub returns-in_err-drive-clause-files : goal.returns-in_err-drive-clause-files
@@ -96,49 +48,6 @@ returns-in_err-drive-clause-files g c = c.drive.ensures.files
 
 pub returns-in_err-drive-clause-kept : goal.returns-in_err-drive-clause-kept
 returns-in_err-drive-clause-kept g c = keeps_on c.start.ensures.kept c.drive.ensures.kept
-
-pub drive-requires-clause-size : goal.drive-requires-clause-size
-drive-requires-clause-size g c =
-    c.start.ensures.kept.size ∙ c.requires
-    ∙ sym (ap (λ (s : SessionFacts). s.boot.machine.size) c.in_ok-session.ensures)
-    ∙ sym (ap (λ (b : BootFacts). b.machine.size) c.start.ensures.boot)
-
-pub drive-requires-clause-room : goal.drive-requires-clause-room
-drive-requires-clause-room g c =
-    λ waits.
-    let room = g.M.PhysMem.room c.start.new.memory in
-    subst (λ (b : BootFacts). HasRoom room b.machine.pool.start b.machine.pool.end)
-    (sym c.start.ensures.boot)
-    (c.start.ensures.room (ap (λ (s : SessionFacts). s.phase) c.in_ok-session.ensures) waits)
-
-pub returns-clause-machine : goal.returns-clause-machine
-returns-clause-machine g c =
-    ap (λ (b : BootFacts). b.machine)
-    (c.drive.ensures.boot ∙ c.start.ensures.boot
-    ∙ ap (λ (s : SessionFacts). s.boot) c.in_ok-session.ensures)
-
-pub returns-clause-started : goal.returns-clause-started
-returns-clause-started g c = c.in_ok-drive.ensures.started
-
-pub returns-clause-ended : goal.returns-clause-ended
-returns-clause-ended g c = c.in_ok-drive.ensures.ended
-
-pub returns-clause-memory : goal.returns-clause-memory
-returns-clause-memory g c =
-    let bytes = g.M.PhysMem.bytes in
-    let first = bytes c.args.memory.now in
-    let new = bytes c.drive.new.memory in
-    let begun = state_at (bytes c.start.new.memory) c.start.new.self.phase in
-    let end = state_at new c.drive.new.session.phase in
-    let boot_is : c.start.new.self.boot
-    ≡ boot_facts c.args.machine.now c.args.menu.now c.deref.result.now =
-    c.start.ensures.boot ∙ ap (λ (s : SessionFacts). s.boot) c.in_ok-session.ensures in
-    let memory =
-    c.start.ensures.memory (ap (λ (s : SessionFacts). s.phase) c.in_ok-session.ensures) in
-    subst (λ (b : BootFacts). IsMemoryAt b.machine.pool end first new) boot_is
-    (c.in_ok-drive.ensures.memory first
-    (subst (λ (b : BootFacts). IsMemoryAt b.machine.pool begun first (bytes c.start.new.memory))
-    (sym c.start.ensures.boot) memory))
 
 pub returns-clause-lacking : goal.returns-clause-lacking
 returns-clause-lacking g c = tt
@@ -172,12 +81,25 @@ returns-in_err-session-clause-lacking g c =
     (unbegun (boot_facts c.args.machine.now c.args.menu.now (map size_of files)) files given
     given refl)
 
-pub drive-requires-clause-started : goal.drive-requires-clause-started
-drive-requires-clause-started g c =
+pub drive-requires : goal.drive-requires
+drive-requires g c =
     let bytes = g.M.PhysMem.bytes in
-    has_started c.in_ok-session.session.boot c.in_ok-session.session.phase c.start.new.self.phase
-    (bytes c.args.memory.now) (bytes c.start.new.memory)
-    (ap (λ (s : SessionFacts). s.phase) c.in_ok-session.ensures) c.start.ensures.step
+    let room = g.M.PhysMem.room c.start.new.memory in
+    let unbegun = ap (λ (s : SessionFacts). s.phase) c.in_ok-session.ensures in
+    record {
+      started =
+          has_started c.in_ok-session.session.boot c.in_ok-session.session.phase
+          c.start.new.self.phase (bytes c.args.memory.now) (bytes c.start.new.memory) unbegun
+          c.start.ensures.step;
+      size =
+          c.start.ensures.kept.size ∙ c.requires
+          ∙ sym (ap (λ (s : SessionFacts). s.boot.machine.size) c.in_ok-session.ensures)
+          ∙ sym (ap (λ (b : BootFacts). b.machine.size) c.start.ensures.boot);
+      room =
+          λ waits.
+          subst (λ (b : BootFacts). HasRoom room b.machine.pool.start b.machine.pool.end)
+          (sym c.start.ensures.boot) (c.start.ensures.room unbegun waits);
+    }
 
 pub returns-in_err-drive-clause-lacking : goal.returns-in_err-drive-clause-lacking
 returns-in_err-drive-clause-lacking g c =
@@ -188,10 +110,7 @@ returns-in_err-drive-clause-lacking g c =
     let lacking = c.in_err-drive.ensures.lacking in
     let sizes =
     c.deref.ensures.value ∙ c.in_ok-sizes.ensures
-    ∙ ap
-    (λ n.
-    map (λ file. size_of (slice_index_or files file missing)) (range_with_len 0 n))
-    c.files.ensures.count in
+    ∙ ap (asked_sizes files) c.files.ensures.count in
     let p =
     err_from_is_err_and c.from_residual-in_err-drive.result
     c.from_residual-in_err-drive.ensures.1 in
@@ -199,10 +118,10 @@ returns-in_err-drive-clause-lacking g c =
     (run_started c.args.machine.now menu files c.deref.result.now c.in_ok-session.session.boot
     c.start.new.self.boot c.in_ok-session.session.phase c.start.new.self.phase
     (bytes c.args.memory.now) (bytes c.start.new.memory)
-    (given c.args.store.now) (given c.drive.new.store) lacking.0 out_of_memory sizes
+    (given c.args.store.now) (given c.drive.new.store) lacking.stopped out_of_memory sizes
     (ap (λ (s : SessionFacts). s.boot) c.in_ok-session.ensures)
     (ap (λ (s : SessionFacts). s.phase) c.in_ok-session.ensures) c.start.ensures.boot
-    c.start.ensures.step lacking.1 (inr (refl, lacking.2)))
+    c.start.ensures.step lacking.heard (inr (refl, lacking.running)))
 
 pub returns-in_err-drive-clause-outside : goal.returns-in_err-drive-clause-outside
 returns-in_err-drive-clause-outside g c =
@@ -223,24 +142,41 @@ returns-in_err-drive-clause-outside g c =
     (subst (λ (b : BootFacts). IsMemoryAt b.machine.pool begun first (bytes c.start.new.memory))
     (sym c.start.ensures.boot) memory)))
 
-pub returns-clause-run : goal.returns-clause-run
-returns-clause-run g c =
+pub returns-clause-ok : goal.returns-clause-ok
+returns-clause-ok g c =
     let bytes = g.M.PhysMem.bytes in
     let files = g.S.Store.files c.args.store.now in
     let given = g.S.Store.given in
     let menu = c.args.menu.now in
-    let end = state_at (bytes c.drive.new.memory) c.drive.new.session.phase in
+    let first = bytes c.args.memory.now in
+    let new = bytes c.drive.new.memory in
+    let begun = state_at (bytes c.start.new.memory) c.start.new.self.phase in
+    let end = state_at new c.drive.new.session.phase in
+    let ended = c.in_ok-drive.ensures.ok in
+    let unbegun = ap (λ (s : SessionFacts). s.phase) c.in_ok-session.ensures in
+    let boot_is : c.start.new.self.boot
+    ≡ boot_facts c.args.machine.now menu c.deref.result.now =
+    c.start.ensures.boot ∙ ap (λ (s : SessionFacts). s.boot) c.in_ok-session.ensures in
     let sizes =
     c.deref.ensures.value ∙ c.in_ok-sizes.ensures
-    ∙ ap
-    (λ n.
-    map (λ file. size_of (slice_index_or files file missing)) (range_with_len 0 n))
-    c.files.ensures.count in
-    run_started c.args.machine.now menu files c.deref.result.now c.in_ok-session.session.boot
-    c.start.new.self.boot c.in_ok-session.session.phase c.start.new.self.phase
-    (bytes c.args.memory.now) (bytes c.start.new.memory)
-    (given c.args.store.now) (given c.drive.new.store) (run_state_of c.start.new.self.boot end) end
-    sizes
-    (ap (λ (s : SessionFacts). s.boot) c.in_ok-session.ensures)
-    (ap (λ (s : SessionFacts). s.phase) c.in_ok-session.ensures) c.start.ensures.boot
-    c.start.ensures.step c.in_ok-drive.ensures.heard (inl refl)
+    ∙ ap (asked_sizes files) c.files.ensures.count in
+    record {
+      run =
+          run_started c.args.machine.now menu files c.deref.result.now
+          c.in_ok-session.session.boot
+          c.start.new.self.boot c.in_ok-session.session.phase c.start.new.self.phase
+          first (bytes c.start.new.memory)
+          (given c.args.store.now) (given c.drive.new.store)
+          (run_state_of c.start.new.self.boot end) end sizes
+          (ap (λ (s : SessionFacts). s.boot) c.in_ok-session.ensures) unbegun
+          c.start.ensures.boot c.start.ensures.step ended.heard (inl refl);
+      on_machine = ap (λ (b : BootFacts). b.machine) (c.drive.ensures.boot ∙ boot_is);
+      started = ended.started;
+      ended = ended.ended;
+      memory =
+          subst (λ (b : BootFacts). IsMemoryAt b.machine.pool end first new) boot_is
+          (ended.memory first
+          (subst
+          (λ (b : BootFacts). IsMemoryAt b.machine.pool begun first (bytes c.start.new.memory))
+          (sym c.start.ensures.boot) (c.start.ensures.memory unbegun)));
+    }

@@ -2,9 +2,9 @@ use Rattle.std.proofs.Common.{◌<◌, ◌∙◌, subst}
 use Rattle.bl_session.specs.session.BootSteps.{BootFacts}
 use Rattle.bl_session.specs.session.BootMemory.{IsMemoryAt}
 use Rattle.bl_session.specs.session.Phases.{state_at}
-use Rattle.bl_session.specs.internal.RunParts.{attempts_left}
+use Rattle.bl_session.specs.internal.RunParts.{all_asked, attempts_left}
 use Rattle.bl_session.proofs.session_lemmas.KeptMemoryLemmas.{memory_on, same_on, keeps_on}
-use Rattle.bl_session.proofs.run_lemmas.AnswerLemmas.{at, heard_more, heard_waiting, heard_ended}
+use Rattle.bl_session.proofs.run_lemmas.AnswerLemmas.{heard_more, heard_waiting, heard_ended}
 use Rattle.bl_session.proofs.run_lemmas.AnswerLemmas.{waiting_memory}
 use Rattle.bl_session.proofs.runs.answer_loop.await_end.Goals as goal
 
@@ -16,28 +16,29 @@ answers-preserved g c =
     let facts = c.args.session.now.boot in
     let so_far = c.answers.invariant in
     let told = c.in_ok-answer.ensures in
+    let taken = told.taken in
     let first = state_at (bytes c.args.memory.now) c.args.session.now.phase in
     let old = state_at (bytes c.answers.memory) c.answers.session.phase in
     let new = state_at (bytes c.answer.new.memory) c.answer.new.session.phase in
     let more =
     heard_more facts c.answers.session.boot (files c.args.store.now) (files c.answers.store)
-    (given c.args.store.now) (given c.answers.store) (given c.answer.new.store) (at first)
+    (given c.args.store.now) (given c.answers.store) (given c.answer.new.store) (all_asked first)
     old new
     so_far.boot so_far.files so_far.heard told.heard in
-    let waiting = told.goes_on c.in-Waiting.is in
+    let waiting = taken.goes_on c.in-Waiting.is in
     let memory =
     subst
     (λ (b : BootFacts).
     IsMemoryAt b.machine.pool new (bytes c.answers.memory) (bytes c.answer.new.memory))
-    so_far.boot told.memory in
+    so_far.boot taken.memory in
     record {
       boot = c.answer.ensures.boot ∙ so_far.boot;
       waiting = waiting;
       heard =
           heard_waiting facts (files c.args.store.now) (given c.args.store.now)
-          (given c.answer.new.store) (at first) old new c.in_ok-answer.field-0 told.progress
+          (given c.answer.new.store) (all_asked first) old new c.in_ok-answer.field-0 taken.progress
           c.in-Waiting.is more;
-      as_many = told.as_many c.in-Waiting.is ∙ so_far.as_many;
+      as_many = taken.as_many c.in-Waiting.is ∙ so_far.as_many;
       outside =
           same_on facts.machine.pool (bytes c.args.memory.now) (bytes c.answers.memory)
           (bytes c.answer.new.memory) so_far.outside
@@ -55,31 +56,36 @@ returns-in_default g c =
     let facts = c.args.session.now.boot in
     let so_far = c.answers.invariant in
     let told = c.in_ok-answer.ensures in
+    let taken = told.taken in
     let first = state_at (bytes c.args.memory.now) c.args.session.now.phase in
     let old = state_at (bytes c.answers.memory) c.answers.session.phase in
     let new = state_at (bytes c.answer.new.memory) c.answer.new.session.phase in
     let more =
     heard_more facts c.answers.session.boot (files c.args.store.now) (files c.answers.store)
-    (given c.args.store.now) (given c.answers.store) (given c.answer.new.store) (at first)
+    (given c.args.store.now) (given c.answers.store) (given c.answer.new.store) (all_asked first)
     old new
     so_far.boot so_far.files so_far.heard told.heard in
     let memory =
     subst
     (λ (b : BootFacts).
     IsMemoryAt b.machine.pool new (bytes c.answers.memory) (bytes c.answer.new.memory))
-    so_far.boot told.memory in
+    so_far.boot taken.memory in
     record {
       boot = c.answer.ensures.boot ∙ so_far.boot;
-      heard =
-          heard_ended facts (files c.args.store.now) (given c.args.store.now)
-          (given c.answer.new.store) (at first) old new c.in_ok-answer.field-0 told.progress
-          c.in_default.not-Waiting more;
-      fewer = subst (λ n. attempts_left new < n) so_far.as_many
-          (told.fewer c.in_default.not-Waiting);
-      started = told.started;
-      memory =
-          memory_on facts.machine.pool new (bytes c.args.memory.now) (bytes c.answers.memory)
-          (bytes c.answer.new.memory) so_far.outside memory;
+      ok = record {
+        heard =
+            heard_ended facts (files c.args.store.now) (given c.args.store.now)
+            (given c.answer.new.store) (all_asked first) old new c.in_ok-answer.field-0
+            taken.progress
+            c.in_default.not-Waiting more;
+        fewer =
+            subst (λ n. attempts_left new < n) so_far.as_many
+            (taken.fewer c.in_default.not-Waiting);
+        started = taken.started;
+        memory =
+            memory_on facts.machine.pool new (bytes c.args.memory.now) (bytes c.answers.memory)
+            (bytes c.answer.new.memory) so_far.outside memory;
+      };
       lacking = tt;
       outside = tt;
       files = c.answer.ensures.files ∙ so_far.files;

@@ -2,8 +2,7 @@ use Rattle.std.proofs.Common.{◌≡◌, true}
 use Rattle.bl_mem.specs.Memory.{KeepsSizeAndRoom}
 use Rattle.bl_stage.specs.Ranges.{IsSameOutside}
 use Rattle.bl_session.specs.session.Phases.{state_at, is_waiting}
-use Rattle.bl_session.specs.internal.RunParts.{HistoryLeadsOn, attempts_left}
-use Rattle.bl_session.proofs.run_lemmas.AnswerLemmas.{at}
+use Rattle.bl_session.specs.internal.RunParts.{HistoryLeadsOn, all_asked, attempts_left}
 use Rattle.bl_session.proofs.runs.answer_loop.await_end.Given as goal
 
 -- the attempt waits; what was heard so far led from where it stood
@@ -16,7 +15,7 @@ invariant-answers g l =
       boot : l.session.boot ≡ l.fn.session.boot;
       waiting : is_waiting l.session.phase ≡ true;
       heard : HistoryLeadsOn l.fn.session.boot (g.S.Store.files l.fn.store) (g.S.Store.given l.fn.store)
-          (g.S.Store.given l.store) (at old) (at now);
+          (g.S.Store.given l.store) (all_asked old) (all_asked now);
       as_many : attempts_left now ≡ attempts_left old;
       outside : IsSameOutside l.fn.session.boot.machine.pool (bytes l.fn.memory) (bytes l.memory);
       files : g.S.Store.files l.store ≡ g.S.Store.files l.fn.store;

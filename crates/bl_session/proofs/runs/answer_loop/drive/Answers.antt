@@ -5,8 +5,7 @@ use Rattle.bl_session.specs.session.BootMemory.{IsMemoryAt}
 use Rattle.bl_session.specs.session.Phases.{state_at}
 use Rattle.bl_session.specs.runs.Run.{run_state_of}
 use Rattle.bl_session.proofs.run_lemmas.AnswerLemmas.{running_waiting}
-use Rattle.bl_session.proofs.run_lemmas.RunLemmas.{heard_attempt, lacks_orders, lacks_answers}
-use Rattle.bl_session.proofs.run_lemmas.RunLemmas.{memory_later}
+use Rattle.bl_session.proofs.run_lemmas.RunLemmas.{heard_attempt, lacks_orders, lacks_answers, memory_later}
 use Rattle.bl_session.proofs.run_lemmas.RunLemmas.{room_on}
 use Rattle.bl_session.proofs.session_lemmas.KeptMemoryLemmas.{keeps_on}
 use Rattle.bl_session.proofs.runs.answer_loop.drive.Goals as goal
@@ -24,7 +23,7 @@ returns-in_err-submit-clause-lacking g c =
     (lacks_orders facts c.attempts.session.boot (g.S.Store.files c.args.store.now)
     (given c.args.store.now) (given c.attempts.store) (given c.submit.new.store)
     (run_state_of facts first) old
-    so_far.boot so_far.heard (c.in_err-submit.ensures.err (bytes c.attempts.memory))
+    so_far.boot so_far.heard (c.in_err-submit.ensures.asked (bytes c.attempts.memory))
     (running_waiting (bytes c.attempts.memory) c.attempts.session.phase
     (sym c.is_waiting.ensures ∙ c.attempts-test.true)))
 
@@ -37,7 +36,7 @@ attempts-preserved g c =
     let facts = c.args.session.now.boot in
     let pool = facts.machine.pool in
     let so_far = c.attempts.invariant in
-    let told = c.in_ok-await_end.ensures in
+    let told = c.in_ok-await_end.ensures.ok in
     let first = state_at (bytes c.args.memory.now) c.args.session.now.phase in
     let old = state_at (bytes c.attempts.memory) c.attempts.session.phase in
     let new = state_at (bytes c.await_end.new.memory) c.await_end.new.session.phase in
@@ -56,7 +55,7 @@ attempts-preserved g c =
           (given c.attempts.store) (given c.submit.new.store) (given c.await_end.new.store)
           (run_state_of facts first) old new so_far.boot so_far.files
           (c.submit.ensures.files ∙ so_far.files) so_far.heard
-          (c.in_ok-submit.ensures.ok (bytes c.attempts.memory)) told.heard;
+          (c.in_ok-submit.ensures.asked (bytes c.attempts.memory)) told.heard;
       memory =
           λ start was.
           memory_later pool c.attempts.session.phase c.await_end.new.session.phase start
@@ -87,4 +86,4 @@ returns-in_err-await_end-clause-lacking g c =
     (files c.submit.new.store) (given c.args.store.now) (given c.attempts.store)
     (given c.submit.new.store) (given c.await_end.new.store) (run_state_of facts first) old
     so_far.boot (c.submit.ensures.files ∙ so_far.files) so_far.heard
-    (c.in_ok-submit.ensures.ok (bytes c.attempts.memory)) c.in_err-await_end.ensures.lacking)
+    (c.in_ok-submit.ensures.asked (bytes c.attempts.memory)) c.in_err-await_end.ensures.lacking)

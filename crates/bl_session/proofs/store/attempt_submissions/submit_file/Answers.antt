@@ -24,8 +24,8 @@ loop-piece-preserved g c = record {
   files = c.submit.ensures.files ∙ c.loop-piece.invariant.files;
 }
 
-pub returns-in_err-submit-clause-err : goal.returns-in_err-submit-clause-err
-returns-in_err-submit-clause-err g c =
+pub returns-in_err-submit-clause-asked : goal.returns-in_err-submit-clause-asked
+returns-in_err-submit-clause-asked g c =
     let attempt_submissions =
     piece_submissions c.args.attempt c.args.place c.args.file c.args.count in
     let p = err_from_is_err_and c.from_residual.result c.from_residual.ensures.1 in
@@ -41,8 +41,8 @@ returns-in_err-submit-clause-err g c =
 pub returns-in_err-submit-clause-files : goal.returns-in_err-submit-clause-files
 returns-in_err-submit-clause-files g c = c.submit.ensures.files ∙ c.loop-piece.invariant.files
 
-pub returns-clause-ok : goal.returns-clause-ok
-returns-clause-ok g c =
+pub returns-clause-asked : goal.returns-clause-asked
+returns-clause-asked g c =
     asked_pieces c.args.attempt c.args.place c.args.file c.args.count c.loop-piece.piece
     (g.S.Store.given c.args.store.now) (g.S.Store.given c.loop-piece.store) (omega arith)
     c.loop-piece.invariant.asked

@@ -2,8 +2,7 @@ use Rattle.std.proofs.Common.{◌∙◌, refl, arith}
 use Rattle.std.proofs.lemmas.Result.{err_from_is_err_and}
 use Rattle.bl_session.specs.menu.Menu.{files_of}
 use Rattle.bl_session.proofs.run_lemmas.AskLemmas.{asked_none}
-use Rattle.bl_session.proofs.run_lemmas.AskFileLemmas.{sized_orders, asked_file, asked_some}
-use Rattle.bl_session.proofs.run_lemmas.AskFileLemmas.{asked_files}
+use Rattle.bl_session.proofs.run_lemmas.AskFileLemmas.{sized_orders, asked_file, asked_some, asked_files}
 use Rattle.bl_session.proofs.run_lemmas.AskFileLemmas.{asked_sized}
 use Rattle.bl_session.proofs.store.attempt_submissions.submit_files.Goals as goal
 
@@ -26,12 +25,12 @@ loop-place-preserved g c =
           (omega (arith, c.files-place-end.ensures, c.requires.files))
           (omega (arith, c.files-place-end.ensures)) (c.file_at-file.ensures 0)
           c.pieces_of.ensures
-          c.loop-place.invariant.asked c.in_ok-submit_file.ensures.ok;
+          c.loop-place.invariant.asked c.in_ok-submit_file.ensures.asked;
       files = c.submit_file.ensures.files ∙ c.loop-place.invariant.files;
     }
 
-pub returns-in_err-submit_file-clause-err : goal.returns-in_err-submit_file-clause-err
-returns-in_err-submit_file-clause-err g c =
+pub returns-in_err-submit_file-clause-asked : goal.returns-in_err-submit_file-clause-asked
+returns-in_err-submit_file-clause-asked g c =
     let given = g.S.Store.given in
     let p = err_from_is_err_and c.from_residual.result c.from_residual.ensures.1 in
     rw p.1 (λ bytes.
@@ -42,10 +41,10 @@ returns-in_err-submit_file-clause-err g c =
     (given c.args.store.now) (given c.loop-place.store) (given c.submit_file.new.store)
     (omega (arith, c.files-place-end.ensures, c.requires.files))
     (omega (arith, c.files-place-end.ensures)) (c.file_at-file.ensures 0) c.pieces_of.ensures
-    c.loop-place.invariant.asked c.in_err-submit_file.ensures.err))
+    c.loop-place.invariant.asked c.in_err-submit_file.ensures.asked))
 
-pub returns-clause-ok : goal.returns-clause-ok
-returns-clause-ok g c = λ bytes.
+pub returns-clause-asked : goal.returns-clause-asked
+returns-clause-asked g c = λ bytes.
     asked_files bytes c.args.stage.now c.args.attempt c.loop-place.place (files_of c.args.entry.now)
     (g.S.Store.given c.args.store.now) (g.S.Store.given c.loop-place.store)
     (omega (arith, c.files-place-end.ensures, c.requires.files)) c.loop-place.invariant.asked

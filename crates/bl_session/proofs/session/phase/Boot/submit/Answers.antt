@@ -8,8 +8,8 @@ use Rattle.bl_session.specs.internal.SessionPhases.{facts_of_boot}
 use Rattle.bl_session.proofs.run_lemmas.AskFileLemmas.{asked_in}
 use Rattle.bl_session.proofs.session.phase.Boot.submit.Goals as goal
 
-pub returns-clause-err : goal.returns-clause-err
-returns-clause-err g c =
+pub returns-clause-asked : goal.returns-clause-asked
+returns-clause-asked g c =
     let w = c.in-Waits.waiting in
     let attempts = c.args.self.now.menu.now.attempts in
     let files = files_of c.entry-entry.result.now in
@@ -21,7 +21,7 @@ returns-clause-err g c =
     (given c.submit_files.new.store)
     (ap (phase_facts attempts) c.in-Waits.is) number
     (ap (λ (e : EntryFacts). e.files) c.entry-entry.ensures.entry)
-    c.submit_files.ensures.err
+    c.submit_files.ensures.asked
 
 pub submit_files-requires-clause-few : goal.submit_files-requires-clause-few
 submit_files-requires-clause-few g c =

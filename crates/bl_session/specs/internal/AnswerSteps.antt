@@ -1,0 +1,120 @@
+-- What a session comes to as a run takes answers: by one of them, by those that an attempt awaits,
+-- by those of all attempts, by the whole run.
+use Rattle.std.specs.Prelude.{◌≡◌, ◌≢◌, ◌<◌, ℕ, List, length, map, true, false}
+use Rattle.bl_map.specs.MachineFacts.{MachineFacts}
+use Rattle.bl_mem.specs.Memory.{HasRoom}
+use Rattle.bl_stage.specs.Files.{File, size_of}
+use Rattle.bl_session.specs.declared.session.outcome.Progress.{Progress}
+use Rattle.bl_session.specs.declared.session.outcome.Progress.TheVariants.{Waiting}
+use Rattle.bl_session.specs.session.BootSteps.{BootFacts, attempt_number, is_running}
+use Rattle.bl_session.specs.session.BootSteps as boot
+use Rattle.bl_session.specs.store.History.{HistoryItem}
+use Rattle.bl_session.specs.menu.Menu.{MenuFacts}
+use Rattle.bl_session.specs.session.BootMemory.{IsMemoryAt}
+use Rattle.bl_session.specs.session.Phases.{SessionFacts, boot_facts, state_at, is_waiting}
+use Rattle.bl_session.specs.session.Phases.{not_started}
+use Rattle.bl_session.specs.runs.Run.{RunState, run_state_of, IsRun}
+use Rattle.bl_session.specs.internal.RunParts.{HistoryLeadsOn, all_asked, attempts_left}
+
+-- an attempt of a session waits, in memory of these bytes, where these addresses have room
+pub record WaitsInMemory (session : SessionFacts) (bytes : List ℕ) (has_room : ℕ → Type 0)
+    : Type 0 where
+  -- it waits for a piece
+  pub waiting : is_waiting session.phase ≡ true
+  -- memory has the machine's size
+  pub size : length bytes ≡ session.boot.machine.size
+  -- the pool has room
+  pub room : HasRoom has_room session.boot.machine.pool.start session.boot.machine.pool.end
+
+-- a boot that was started goes on in memory of these bytes, where these addresses have room
+pub record GoesOnInMemory (session : SessionFacts) (bytes : List ℕ) (has_room : ℕ → Type 0)
+    : Type 0 where
+  -- it was started
+  pub started : session.phase ≢ not_started
+  -- memory has the machine's size
+  pub size : length bytes ≡ session.boot.machine.size
+  -- while an attempt waits, the pool has room
+  pub room :
+      is_waiting session.phase ≡ true
+      → HasRoom has_room session.boot.machine.pool.start session.boot.machine.pool.end
+
+-- an attempt that waited took an event: it waits on, or it ended for good. Memory had the bytes
+-- `before`, and has those of `after`
+pub record WaitsOnOrEnds (old new : SessionFacts) (before after : List ℕ) (told : Progress)
+    : Type 0 where
+  -- what is told is how far the boot came
+  pub progress :
+      told ≡ boot.progress (attempt_number (state_at before old.phase)) (state_at after new.phase)
+  -- the attempt waits on
+  pub goes_on : told ≡ Waiting → is_waiting new.phase ≡ true
+  -- then as many attempts are left
+  pub as_many :
+      told ≡ Waiting → attempts_left (state_at after new.phase)
+      ≡ attempts_left (state_at before old.phase)
+  -- else fewer are
+  pub fewer :
+      told ≢ Waiting → attempts_left (state_at after new.phase)
+      < attempts_left (state_at before old.phase)
+  -- the boot is not back before its start
+  pub started : new.phase ≢ not_started
+  -- memory holds what it is to hold where the boot stands
+  pub memory : IsMemoryAt old.boot.machine.pool (state_at after new.phase) before after
+
+-- the answers to an attempt that asked for all its pieces led to its end
+pub record EndsAttempt (old new : SessionFacts) (files : List File)
+    (given given_after : List HistoryItem) (before after : List ℕ) : Type 0 where
+  -- the history leads from the attempt to what follows it
+  pub heard :
+      HistoryLeadsOn old.boot files given given_after (all_asked (state_at before old.phase))
+      (run_state_of old.boot (state_at after new.phase))
+  -- fewer attempts are left
+  pub fewer :
+      attempts_left (state_at after new.phase) < attempts_left (state_at before old.phase)
+  -- the boot is not back before its start
+  pub started : new.phase ≢ not_started
+  -- memory holds what it is to hold where the boot stands
+  pub memory : IsMemoryAt old.boot.machine.pool (state_at after new.phase) before after
+
+-- the orders and answers of all attempts led to the end of the boot
+pub record EndsAllAttempts (old new : SessionFacts) (files : List File)
+    (given given_after : List HistoryItem) (before after : List ℕ) : Type 0 where
+  -- the history leads from where the boot stood to its end
+  pub heard :
+      HistoryLeadsOn old.boot files given given_after
+      (run_state_of old.boot (state_at before old.phase))
+      (run_state_of old.boot (state_at after new.phase))
+  -- no attempt waits
+  pub ended : is_waiting new.phase ≡ false
+  -- the boot is not back before its start
+  pub started : new.phase ≢ not_started
+  -- memory holds what it is to hold where the boot stands, if it did before
+  pub memory :
+      (first : List ℕ) → IsMemoryAt old.boot.machine.pool (state_at before old.phase) first before
+      → IsMemoryAt old.boot.machine.pool (state_at after new.phase) first after
+
+-- memory ran out while an attempt ran, to which the history leads from a state
+pub record StopsInAttempt (facts : BootFacts) (files : List File)
+    (given given_after : List HistoryItem) (start : RunState) : Type 0 where
+  -- where the boot stood then
+  pub stopped : RunState
+  -- the history leads there
+  pub heard : HistoryLeadsOn facts files given given_after start stopped
+  -- an attempt ran
+  pub running : is_running stopped.state ≡ true
+
+-- a boot of this menu over a store of these files has ended, with this session
+pub record HasRun (machine : MachineFacts) (menu : MenuFacts) (session : SessionFacts)
+    (files : List File) (given given_after : List HistoryItem) (before after : List ℕ)
+    : Type 0 where
+  -- what the store was asked and answered led to its end
+  pub run :
+      IsRun (boot_facts machine menu (map size_of files)) files given given_after
+      (state_at after session.phase)
+  -- its machine is this one
+  pub on_machine : session.boot.machine ≡ machine
+  -- it was started
+  pub started : session.phase ≢ not_started
+  -- no attempt waits
+  pub ended : is_waiting session.phase ≡ false
+  -- memory holds what it is to hold at the end
+  pub memory : IsMemoryAt machine.pool (state_at after session.phase) before after
