@@ -1,6 +1,6 @@
 -- A fault of the information or of the boot parameters, as it is answered.
 use Rattle.std.proofs.Common.{◌≡◌, ℕ, List, Ok, Err, Result, sym, subst}
-use Rattle.std.specs.Prelude.{IsErrAnd, IfErr}
+use Rattle.std.specs.Prelude.{IsErrAnd}
 use Rattle.bl_mbi.specs.declared.fault.InfoFault.{InfoFault}
 use Rattle.bl_mbi.specs.declared.fault.InfoFault.TheVariants as info_fault
 use Rattle.bl_mbi.specs.ReadingSteps.{MatchesFault}
@@ -11,7 +11,7 @@ use Rattle.bl_params.specs.Reading.{HasFirstParamFault}
 use Rattle.bl_load.specs.Handover.{Handover}
 use Rattle.bl_walk.specs.declared.fault.WalkFault.{WalkFault}
 use Rattle.bl_walk.specs.Faults.{HasWalkFault, other_information, other_parameters}
-use Rattle.bl_walk.specs.internal.Walking.{information_refusal, parameters_refusal}
+use Rattle.bl_walk.specs.internal.Walking.{FindsOrFaults, information_refusal, parameters_refusal}
 use Rattle.bl_walk.specs.Seen.{IsInformation, AreParameters}
 
 pub refused_information : (h : Handover) (bytes : List ℕ) (fault : InfoFault)
@@ -37,7 +37,9 @@ refused_parameters h bytes (param_fault.BadParams at) are first =
 refused_parameters h bytes param_fault.NoMemory are first = tt
 
 -- where a fault of the reader is answered
-pub answered : {A : Type 0} (result : Result A WalkFault) (h : Handover) (refusal : WalkFault)
-    → IsErrAnd result (λ fault. fault ≡ refusal) → HasWalkFault h refusal → IfErr result (HasWalkFault h)
-answered (Ok x) h refusal is stands = tt
-answered (Err fault) h refusal is stands = subst (HasWalkFault h) (sym is) stands
+pub answered : {X : Type 0} (h : Handover) (is_so : X → Type 0) (result : Result X WalkFault)
+    (refusal : WalkFault) → IsErrAnd result (λ fault. fault ≡ refusal) → HasWalkFault h refusal
+    → FindsOrFaults h is_so result
+answered h is_so (Ok x) refusal is stands = absurd is
+answered h is_so (Err fault) refusal is stands =
+    record { ok = tt; fault = subst (HasWalkFault h) (sym is) stands }

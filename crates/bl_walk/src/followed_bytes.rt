@@ -1,9 +1,10 @@
 //! What a kernel follows.
-ghost use Rattle.std.specs.Prelude.{◌≡◌, ◌==◌, length, Some, IfOk, IfErr, option_copied};
+ghost use Rattle.std.specs.Prelude.{◌≡◌, ◌==◌, length, Some, IfOk, option_copied};
 ghost use Rattle.std.specs.List.{position};
-ghost use Rattle.bl_walk.specs.Faults.{IsFollowed, HasWalkFault};
+ghost use Rattle.bl_walk.specs.Faults.{IsFollowed};
 ghost use Rattle.bl_walk.specs.PartBytes.{bytes_in};
 ghost use Rattle.bl_walk.specs.Seen as seen;
+ghost use Rattle.bl_walk.specs.internal.Walking.{FindsOrFaults};
 
 use crate::fault::WalkFault;
 use crate::part_bytes::bytes_at;
@@ -17,10 +18,9 @@ pub(crate) fn follow<A: Allocator>(
     count: u32,
 ) -> Result<&[u8], WalkFault>
     requires { IsFollowed image.now address count }
-    ensures ok { IfOk result
-        (λ bytes. bytes_in image.now.parts address count ≡ Some bytes.now) }
+    ensures bytes { FindsOrFaults image.now
+        (λ bytes. bytes_in image.now.parts address count ≡ Some bytes.now) result }
     ensures long { IfOk result (λ bytes. length bytes.now ≡ count) }
-    ensures fault { IfErr result (HasWalkFault image.now) }
 {
     match bytes_at(image, address, count) {
         Some(bytes) => Ok(bytes),

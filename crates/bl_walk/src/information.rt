@@ -1,8 +1,8 @@
 //! What boot information shows a Multiboot2 kernel.
-ghost use Rattle.std.specs.Prelude.{◌≡◌, ◌-◌, ◌≤◌, IfOk, IfErr};
+ghost use Rattle.std.specs.Prelude.{◌≡◌, ◌-◌, ◌≤◌, IfOk};
 ghost use Rattle.bl_plan.specs.declared.protocol.Protocol.TheVariants as protocol;
-ghost use Rattle.bl_walk.specs.Faults.{HasWalkFault};
 ghost use Rattle.bl_walk.specs.Seen.{HasTotalSize, HasInformation, IsSeen};
+ghost use Rattle.bl_walk.specs.internal.Walking.{FindsOrFaults};
 ghost use Rattle.bl_mbi.specs.Size.{min_info_size};
 
 use crate::fault::WalkFault;
@@ -20,9 +20,8 @@ const SIZE_WORD: u32 = 4;
 /// The total_size.
 fn total_size<A: Allocator>(image: &Image<A>) -> Result<u32, WalkFault>
     requires { image.now.protocol ≡ protocol.Multiboot2 }
-    ensures ok { IfOk result (HasTotalSize image.now) }
+    ensures size { FindsOrFaults image.now (HasTotalSize image.now) result }
     ensures least { IfOk result (λ size. min_info_size ≤ size) }
-    ensures fault { IfErr result (HasWalkFault image.now) }
 {
     let word = follow(image, image.registers().information(), SIZE_WORD)?;
     let size = u32_at(&SliceView::new(word), 0);
@@ -35,8 +34,7 @@ fn total_size<A: Allocator>(image: &Image<A>) -> Result<u32, WalkFault>
 /// What the information says.
 fn information<A: Allocator + Copy>(alloc: A, image: &Image<A>) -> Result<Info<A>, WalkFault>
     requires { image.now.protocol ≡ protocol.Multiboot2 }
-    ensures ok { IfOk result (HasInformation image.now) }
-    ensures fault { IfErr result (HasWalkFault image.now) }
+    ensures { FindsOrFaults image.now (HasInformation image.now) result }
 {
     let size = total_size(image)?;
     let bytes = follow(image, image.registers().information(), size)?;
@@ -49,8 +47,7 @@ pub(crate) fn shown_by_information<'a, A: Allocator + Copy>(
     image: &'a Image<A>,
 ) -> Result<Seen<'a, A>, WalkFault>
     requires { image.now.protocol ≡ protocol.Multiboot2 }
-    ensures ok { IfOk result (IsSeen image.now) }
-    ensures fault { IfErr result (HasWalkFault image.now) }
+    ensures { FindsOrFaults image.now (IsSeen image.now) result }
 {
     let info = information(alloc, image)?;
     let modules = modules_at(alloc, image, info.modules.as_slice())?;

@@ -1,8 +1,8 @@
 //! What boot parameters show a Linux kernel.
-ghost use Rattle.std.specs.Prelude.{◌≡◌, ◌-◌, true, IfOk, IfErr};
+ghost use Rattle.std.specs.Prelude.{◌≡◌, ◌-◌, true};
 ghost use Rattle.bl_load.specs.Protocols.{has_params};
-ghost use Rattle.bl_walk.specs.Faults.{HasWalkFault};
 ghost use Rattle.bl_walk.specs.Seen.{HasParameters, IsLine, IsInitrd, IsSeen};
+ghost use Rattle.bl_walk.specs.internal.Walking.{FindsOrFaults};
 
 use crate::fault::WalkFault;
 use crate::followed_bytes::{follow, text_to_zero};
@@ -16,8 +16,7 @@ use std::alloc::Allocator;
 /// What the boot parameters say.
 fn parameters<A: Allocator + Copy>(alloc: A, image: &Image<A>) -> Result<Params<A>, WalkFault>
     requires { has_params image.now.protocol ≡ true }
-    ensures ok { IfOk result (HasParameters image.now) }
-    ensures fault { IfErr result (HasWalkFault image.now) }
+    ensures { FindsOrFaults image.now (HasParameters image.now) result }
 {
     let bytes = follow(image, image.registers().params(), PARAMS_SIZE as u32)?;
     Ok(read_params(alloc, bytes)?)
@@ -30,8 +29,7 @@ fn line<A: Allocator + Copy>(
     params: &Params<A>,
 ) -> Result<Bytes<A>, WalkFault>
     requires { HasParameters image.now params.now }
-    ensures ok { IfOk result (IsLine image.now.parts params.now.cmd_line_ptr) }
-    ensures fault { IfErr result (HasWalkFault image.now) }
+    ensures { FindsOrFaults image.now (IsLine image.now.parts params.now.cmd_line_ptr) result }
 {
     let Some(rest) = rest_at(image, params.cmd_line_ptr as u64) else {
         return Err(WalkFault::OutsideImage);
@@ -48,8 +46,7 @@ fn initrd<'a, A: Allocator>(
     params: &Params<A>,
 ) -> Result<Option<SeenFile<'a>>, WalkFault>
     requires { HasParameters image.now params.now }
-    ensures ok { IfOk result (IsInitrd image.now.parts params.now) }
-    ensures fault { IfErr result (HasWalkFault image.now) }
+    ensures { FindsOrFaults image.now (IsInitrd image.now.parts params.now) result }
 {
     if params.ramdisk_size == 0 {
         return Ok(None);
@@ -67,8 +64,7 @@ pub(crate) fn shown_by_parameters<'a, A: Allocator + Copy>(
     image: &'a Image<A>,
 ) -> Result<Seen<'a, A>, WalkFault>
     requires { has_params image.now.protocol ≡ true }
-    ensures ok { IfOk result (IsSeen image.now) }
-    ensures fault { IfErr result (HasWalkFault image.now) }
+    ensures { FindsOrFaults image.now (IsSeen image.now) result }
 {
     let params = parameters(alloc, image)?;
     let line = line(alloc, image, &params)?;

@@ -1,8 +1,8 @@
 //! The modules of a Multiboot2 kernel.
-ghost use Rattle.std.specs.Prelude.{◌-◌, ◌≤◌, IfOk, IfErr, All};
+ghost use Rattle.std.specs.Prelude.{◌≤◌, All};
 ghost use Rattle.bl_mbi.specs.InfoToWriteFacts.{IsModule};
-ghost use Rattle.bl_walk.specs.Faults.{IsFollowed, HasWalkFault};
 ghost use Rattle.bl_walk.specs.Seen.{IsSeenModule, AreSeenModules};
+ghost use Rattle.bl_walk.specs.internal.Walking.{FindsOrFaults, IsModuleFollowed};
 
 use crate::fault::WalkFault;
 use crate::followed_bytes::follow;
@@ -19,10 +19,8 @@ fn module_at<'a, A: Allocator + Copy>(
     told: &Module<A>,
 ) -> Result<SeenModule<'a, A>, WalkFault>
     requires forward { told.now.mod_start ≤ told.now.mod_end }
-    requires followed { let m = told.now in
-        IsFollowed image.now m.mod_start (m.mod_end - m.mod_start) }
-    ensures ok { IfOk result (IsSeenModule image.now.parts told.now) }
-    ensures fault { IfErr result (HasWalkFault image.now) }
+    requires followed { IsModuleFollowed image.now told.now }
+    ensures { FindsOrFaults image.now (IsSeenModule image.now.parts told.now) result }
 {
     let bytes = follow(image, told.mod_start as u64, told.mod_end - told.mod_start)?;
     Ok(SeenModule {
@@ -39,10 +37,9 @@ pub(crate) fn modules_at<'a, A: Allocator + Copy>(
     modules: &[Module<A>],
 ) -> Result<Vec<SeenModule<'a, A>, A>, WalkFault>
     requires forward { All IsModule modules.now }
-    requires followed { All (λ m. IsFollowed image.now m.mod_start (m.mod_end - m.mod_start))
-        modules.now }
-    ensures ok { IfOk result (λ seen. AreSeenModules image.now.parts modules.now seen.items) }
-    ensures fault { IfErr result (HasWalkFault image.now) }
+    requires followed { All (IsModuleFollowed image.now) modules.now }
+    ensures { FindsOrFaults image.now
+        (λ seen. AreSeenModules image.now.parts modules.now seen.items) result }
 {
     let mut seen = Vec::with_capacity(alloc, modules.len())?;
     for told in modules {

@@ -1,13 +1,13 @@
 //! The state that a kernel is entered in.
-ghost use Rattle.std.specs.Prelude.{◌≡◌, ◌==◌, ◌<◌, ◌*◌, ◌↔◌, ℕ, List, Some, true, IsTrue, OnOk};
-ghost use Rattle.std.specs.Prelude.{IfErr, MatchOption, length};
+ghost use Rattle.std.specs.Prelude.{◌≡◌, ◌==◌, ◌<◌, ◌*◌, ◌↔◌, ℕ, List, Some, true, IsTrue};
+ghost use Rattle.std.specs.Prelude.{MatchOption, length};
 ghost use Rattle.bl_params.specs.Translation.{translation};
 ghost use Rattle.bl_load.specs.Protocols as protocols;
 ghost use Rattle.bl_load.specs.Registers.{entry_in, gdt_in, page_tables_in};
-ghost use Rattle.bl_walk.specs.Faults.{HasWalkFault};
 ghost use Rattle.bl_walk.specs.PartBytes.{bytes_in};
 ghost use Rattle.bl_walk.specs.State as state;
 ghost use Rattle.bl_walk.specs.State.{IsEntered};
+ghost use Rattle.bl_walk.specs.internal.Walking.{FindsOrFaults};
 ghost use Rattle.bl_params.specs.SizesAndOffsets.{page_tables_size, page_size, mapped_page_count};
 
 use crate::fault::WalkFault;
@@ -39,9 +39,8 @@ fn are_entered(protocol: Protocol, registers: Registers) -> bool
 
 /// The registers are those of the protocol.
 fn check_registers<A: Allocator>(image: &Image<A>) -> Result<(), WalkFault>
-    ensures ok { OnOk result
-        (image.now.registers ≡ state.entry_registers image.now.protocol image.now.registers) }
-    ensures fault { IfErr result (HasWalkFault image.now) }
+    ensures { FindsOrFaults image.now (λ _. image.now.registers
+        ≡ state.entry_registers image.now.protocol image.now.registers) result }
 {
     if !are_entered(image.protocol(), image.registers()) {
         return Err(WalkFault::BadState);
@@ -68,9 +67,8 @@ fn is_in_kernel<A: Allocator>(image: &Image<A>, address: u64) -> bool
 
 /// The kernel is entered in one of its parts.
 fn check_entry<A: Allocator>(image: &Image<A>) -> Result<(), WalkFault>
-    ensures ok { OnOk result
-        (state.is_in_kernel image.now.parts (entry_in image.now.registers) ≡ true) }
-    ensures fault { IfErr result (HasWalkFault image.now) }
+    ensures { FindsOrFaults image.now
+        (λ _. state.is_in_kernel image.now.parts (entry_in image.now.registers) ≡ true) result }
 {
     if !is_in_kernel(image, image.registers().entry_point()) {
         return Err(WalkFault::OutsideImage);
@@ -91,9 +89,8 @@ fn check_descriptors<A: Allocator>(
     descriptors: &[u8; 32],
 ) -> Result<(), WalkFault>
     requires { protocols.descriptors_of image.now.protocol ≡ Some descriptors.now }
-    ensures ok { OnOk result (bytes_in image.now.parts (gdt_in image.now.registers)
-        (length descriptors.now) ≡ Some descriptors.now) }
-    ensures fault { IfErr result (HasWalkFault image.now) }
+    ensures { FindsOrFaults image.now (λ _. bytes_in image.now.parts (gdt_in image.now.registers)
+        (length descriptors.now) ≡ Some descriptors.now) result }
 {
     let found = follow(image, image.registers().gdt(), descriptors.len() as u32)?;
     if !are_descriptors(found, descriptors) {
@@ -119,11 +116,10 @@ fn moved_page(base: u64, tables: &[u8]) -> Option<u64>
 /// A kernel that is entered with paging finds page tables where its registers say.
 fn check_tables<A: Allocator>(image: &Image<A>) -> Result<(), WalkFault>
     requires { protocols.is_wide image.now.protocol ≡ true }
-    ensures ok { OnOk result ((tables : List ℕ)
+    ensures { FindsOrFaults image.now (λ _. (tables : List ℕ)
         × (bytes_in image.now.parts (page_tables_in image.now.registers) page_tables_size
         ≡ Some tables)
-        × state.IsIdentityMapping (page_tables_in image.now.registers) tables) }
-    ensures fault { IfErr result (HasWalkFault image.now) }
+        × state.IsIdentityMapping (page_tables_in image.now.registers) tables) result }
 {
     let base = image.registers().tables();
     let tables = follow(image, base, TABLES_SIZE)?;
@@ -135,8 +131,7 @@ fn check_tables<A: Allocator>(image: &Image<A>) -> Result<(), WalkFault>
 
 /// The kernel is entered as its protocol says.
 pub(crate) fn check_state<A: Allocator>(image: &Image<A>) -> Result<(), WalkFault>
-    ensures ok { OnOk result (IsEntered image.now) }
-    ensures fault { IfErr result (HasWalkFault image.now) }
+    ensures { FindsOrFaults image.now (λ _. IsEntered image.now) result }
 {
     check_registers(image)?;
     check_entry(image)?;

@@ -1,17 +1,29 @@
 -- What the code keeps as it looks for a part and tells what is seen, and the faults of others as it
 -- answers them.
-use Rattle.std.specs.Prelude.{ℕ, nat_le, Bool, List, [], None}
+use Rattle.std.specs.Prelude.{ℕ, ◌-◌, nat_le, Bool, List, [], None, Result, IfOk, IfErr}
 use Rattle.bl_map.specs.declared.region.Region.{Region}
+use Rattle.bl_mbi.specs.InfoToWriteFacts.{ModuleInfo}
 use Rattle.bl_mbi.specs.declared.fault.InfoFault.{InfoFault}
 use Rattle.bl_mbi.specs.declared.fault.InfoFault.TheVariants as info_fault
 use Rattle.bl_params.specs.declared.fault.ParamFault.{ParamFault}
 use Rattle.bl_params.specs.declared.fault.ParamFault.TheVariants as param_fault
 use Rattle.bl_load.specs.Handover.{Part, Handover}
 use Rattle.bl_load.specs.Registers.{entry_in}
+use Rattle.bl_walk.specs.Faults.{IsFollowed, HasWalkFault}
 use Rattle.bl_walk.specs.Seen.{kernel_in}
 use Rattle.bl_walk.specs.SeenFacts.{SeenFacts}
 use Rattle.bl_walk.specs.declared.fault.WalkFault.{WalkFault}
 use Rattle.bl_walk.specs.declared.fault.WalkFault.TheVariants.{BadInfo, NoMemory}
+
+-- what was found in an image is so, or a fault of it stands
+pub record FindsOrFaults {X : Type 0} (h : Handover) (is_so : X → Type 0)
+    (result : Result X WalkFault) : Type 0 where
+  pub ok : IfOk result is_so
+  pub fault : IfErr result (HasWalkFault h)
+
+-- a kernel follows the range of a module
+abbrev pub IsModuleFollowed : Handover → ModuleInfo → Type 0
+IsModuleFollowed h m = IsFollowed h m.mod_start (m.mod_end - m.mod_start)
 
 -- whether a part begins at an address or below it
 abbrev pub begins_upto : ℕ → Part → Bool
