@@ -292,6 +292,19 @@ typedef struct bootcore_handoff {
     bootcore_registers registers;
 } bootcore_handoff;
 
+enum {
+    BOOTCORE_IMAGE_HEAD = 272,     /* the bytes of an image's head before the places, */
+    BOOTCORE_IMAGE_PLACE = 24,     /* and of each place there */
+    BOOTCORE_MAX_IMAGE_HEAD = 6416 /* with BOOTCORE_MAX_PARTS places */
+};
+
+/* Writes the head of a handoff image, of version 2: all that stands before the bytes of the parts, which
+ * follow in the order of the places. The answer is its length; where `head` is null or has fewer bytes
+ * nothing is written, and after a null of another argument the answer is 0. */
+BOOTCORE_CALL
+size_t bootcore_image_head(const bootcore_handoff *handoff, const bootcore_place *places,
+                           uint8_t *head, size_t length);
+
 /* What a kernel sees in an image. Its text is its line, the modules' lines in order, the old copy of
  * the RSDP and the new one, one after the other. */
 typedef struct bootcore_seen {

@@ -88,11 +88,8 @@ static int goes_on(const char *what, uint64_t at, const void *wanted, uint64_t c
 /* An image has its head with the registers, the places, and the parts' bytes: docs/FORMATS.md. */
 static int is_image(const bootcore_handoff *h, const bootcore_place *places,
                     const uint8_t *memory) {
-    uint32_t version[2] = {2, h->protocol}, count[2] = {h->places, 0};
-    int same = goes_on("head", 0, "BLIMAGE", 8) && goes_on("head", 8, version, 8) &&
-               goes_on("registers", 0, &h->registers.rip, 31 * 8) &&
-               goes_on("head", 264, count, 8) &&
-               goes_on("places", 0, places, h->places * sizeof *places);
+    static uint8_t head[BOOTCORE_MAX_IMAGE_HEAD];
+    int same = goes_on("head", 0, head, bootcore_image_head(h, places, head, sizeof head));
     for (uint32_t i = 0; same && i < h->places; i++) {
         uint64_t at = places[i].address;
         same = goes_on("memory", at, memory + at, places[i].length);

@@ -53,19 +53,13 @@ static int write_description(void) {
 /* ---- the image */
 
 static int write_image(void) {
-    static bootcore_range ranges[2 + BOOTCORE_MAX_PARTS];
-    struct {
-        char magic[8];
-        uint32_t version, protocol;
-        uint64_t registers[31];
-        uint32_t count, zero;
-    } head = {"BLIMAGE", 2, boot.handoff.protocol, {0}, boot.handoff.places, 0};
-    memcpy(head.registers, &boot.handoff.registers.rip, sizeof head.registers);
-    ranges[0] = (bootcore_range){(UINTN)&head, sizeof head};
-    ranges[1] = (bootcore_range){(UINTN)boot.places, head.count * sizeof boot.places[0]};
-    for (uint32_t i = 0; i < head.count; i++)
-        ranges[2 + i] = (bootcore_range){boot.places[i].address, boot.places[i].length};
-    return write_file("bootcore/handover.image", ranges, 2 + head.count);
+    static bootcore_range ranges[1 + BOOTCORE_MAX_PARTS];
+    static uint8_t head[BOOTCORE_MAX_IMAGE_HEAD];
+    size_t length = bootcore_image_head(&boot.handoff, boot.places, head, sizeof head);
+    ranges[0] = (bootcore_range){(UINTN)head, length};
+    for (uint32_t i = 0; i < boot.handoff.places; i++)
+        ranges[1 + i] = (bootcore_range){boot.places[i].address, boot.places[i].length};
+    return write_file("bootcore/handover.image", ranges, 1 + boot.handoff.places);
 }
 
 /* A free range as the application's own, or given back. Only whole ranges: else the firmware takes

@@ -68,20 +68,17 @@ static void *read_array(uint64_t count, size_t size) {
     return array;
 }
 
-/* An image of version 2, as docs/FORMATS.md has it: the registers and the records lie in the structs in its order. */
 static void write_image(const char *path) {
-    static const uint64_t magic = 0x004547414D494C42; /* BLIMAGE and a zero byte */
-    const uint32_t head[] = {2, handoff.protocol}, counts[] = {handoff.places, 0};
+    static uint8_t head[BOOTCORE_MAX_IMAGE_HEAD];
+    size_t length = bootcore_image_head(&handoff, places, NULL, 0);
     FILE *image = fopen(path, "wb");
     uint32_t i;
-    if (!image) {
+    if (!image || length > sizeof head || bootcore_image_head(&handoff, places, head, length - 1) != length || head[0] ||
+        bootcore_image_head(&handoff, places, head, length) != length) {
         exit(2);
     }
-    fwrite(&magic, 8, 1, image);
-    fwrite(head, 4, 2, image);
-    fwrite(&handoff.registers.rip, 8, 31, image);
-    fwrite(counts, 4, 2, image);
-    fwrite(places, sizeof *places, handoff.places, image);
+    fwrite(head, 1, length, image);
+    memset(head, 0, sizeof head);
     for (i = 0; i < handoff.places; i++) {
         fwrite(memory + places[i].address, 1, places[i].length, image);
     }
