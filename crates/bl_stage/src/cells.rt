@@ -1,8 +1,8 @@
 //! The cells of all frames of the pool, kept so that they take little memory.
-ghost use Rattle.std.specs.Prelude.{◌≡◌, ℕ, ◌<◌, ◌≤◌, IfOk, IfSome, length, replicate, slice_set};
-ghost use Rattle.std.specs.Prelude.{slice_index_or, vec_capacity};
+ghost use Rattle.std.specs.Prelude.{◌≡◌, ◌<◌, ◌≤◌, IfOk, IfSome, length, replicate, slice_set};
+ghost use Rattle.std.specs.Prelude.{vec_capacity};
 ghost use Rattle.bl_stage.specs.internal.Cells.{no_cell, cell_at};
-ghost use Rattle.bl_stage.specs.internal.PackedCells.{no_holder, no_group};
+ghost use Rattle.bl_stage.specs.internal.PackedCells.{no_holder, no_group, ReachTo};
 ghost use Rattle.bl_stage.specs.internal.PackedCells as packed;
 
 use crate::cell::Cell;
@@ -46,9 +46,7 @@ fn empty_group() -> CellGroup
 /// Has so many groups stand in a vector that has room for them. Those that come hold nothing.
 fn reach<A: Allocator>(groups: &mut Vec<CellGroup, A>, count: usize)
     requires { count ≤ vec_capacity groups.old }
-    ensures there { count ≤ length groups.new.items }
-    ensures same { (i : ℕ) → slice_index_or groups.new.items i no_group
-        ≡ slice_index_or groups.old.items i no_group }
+    ensures there { ReachTo groups.old.items groups.new.items count }
     ensures capacity { vec_capacity groups.old ≤ vec_capacity groups.new }
 {
     let mut at = groups.len();

@@ -1,14 +1,13 @@
 //! Files' frames that are to be left are moved into spare ones.
-ghost use Rattle.std.specs.Prelude.{◌≡◌, ◌+◌, ◌*◌, ◌<◌, ◌≤◌, ◌^◌, ◌↔◌, IsTrue, length, drop};
+ghost use Rattle.std.specs.Prelude.{◌≡◌, ◌+◌, ◌*◌, ◌<◌, ◌≤◌, ◌↔◌, IsTrue, length, drop};
 ghost use Rattle.std.specs.Prelude.{slice_range, slice_set, true, false, Some, None};
 ghost use Rattle.std.specs.List.{count_by};
 ghost use Rattle.std.specs.Bool.{OnTrue, OnFalse};
 ghost use Rattle.bl_map.specs.PoolFrames.{open_among};
-ghost use Rattle.bl_mem.specs.Memory.{overwrite, HasRoom, KeepsSizeAndRoom};
-ghost use Rattle.bl_stage.specs.internal.Cells.{is_open_cell, is_spare_cell, cell_at, AreHeld};
-ghost use Rattle.bl_stage.specs.internal.Cells.{Moved};
-ghost use Rattle.bl_stage.specs.internal.Cells.{MadeWay, AreFramesInMemory};
-ghost use Rattle.bl_stage.specs.internal.PackedCells.{no_holder};
+ghost use Rattle.bl_mem.specs.Memory.{overwrite, KeepsSizeAndRoom};
+ghost use Rattle.bl_stage.specs.internal.Cells.{is_open_cell, is_spare_cell, AreHeld, Moved};
+ghost use Rattle.bl_stage.specs.internal.Cells.{MadeWay, IsPoolInMemory, IsNextSpare};
+ghost use Rattle.bl_stage.specs.internal.Cells.{CanCopyFrame, CanMoveSlot};
 
 use crate::cell::Cell;
 use crate::cells::Cells;
@@ -21,11 +20,7 @@ use std::ops::Range;
 /// The first spare cell from `start` on.
 fn next_spare<A: Allocator>(cells: &Cells<A>, start: usize) -> usize
     requires { 0 < count_by is_spare_cell (drop start cells.now) }
-    ensures from { start ≤ result }
-    ensures within { result < length cells.now }
-    ensures spare { is_spare_cell (cell_at cells.now result) ≡ true }
-    ensures rest { count_by is_spare_cell (drop (result + 1) cells.now) + 1
-        ≡ count_by is_spare_cell (drop start cells.now) }
+    ensures { IsNextSpare cells.now start result }
 {
     // For the proof: there are fewer than 2^64 cells.
     let _count = cells.len();
@@ -38,9 +33,7 @@ fn next_spare<A: Allocator>(cells: &Cells<A>, start: usize) -> usize
 
 /// Copies a frame of the pool, by its place in it, over another one.
 fn copy_frame<M: PhysMem>(memory: &mut M, base: u64, from: usize, to: usize)
-    requires from { AreFramesInMemory (M.bytes memory.old) base (from + 1) }
-    requires to { AreFramesInMemory (M.bytes memory.old) base (to + 1) }
-    requires room { HasRoom (M.room memory.old) (4096 * (base + to)) (4096 * (base + to) + 4096) }
+    requires { CanCopyFrame M.bytes M.room memory.old base from to }
     ensures after { M.bytes memory.new
         ≡ overwrite (M.bytes memory.old) (4096 * (base + to))
         (slice_range (M.bytes memory.old) (4096 * (base + from)) (4096 * (base + from) + 4096)) }
@@ -61,11 +54,7 @@ fn move_slot<A: Allocator>(
     to: usize,
     slot: u32,
 )
-    requires slot { slot < length frames.old }
-    requires named { slot < no_holder }
-    requires from { from < length cells.old }
-    requires to { to < length cells.old }
-    requires small { base + to < 2 ^ 64 }
+    requires { CanMoveSlot base frames.old cells.old from to slot }
     ensures frames { frames.new ≡ slice_set frames.old slot (base + to) }
     ensures cells { cells.new
         ≡ slice_set (slice_set cells.old from (record { holder = None; shut = true })) to
@@ -91,11 +80,8 @@ fn move_out<A: Allocator, M: PhysMem>(
     frames: &mut [u64],
     cells: &mut Cells<A>,
 )
-    requires held { AreHeld base frames.old cells.old }
     requires enough { length frames.old ≤ count_by is_open_cell cells.old }
-    requires small { 4096 * (base + length cells.old) < 2 ^ 64 }
-    requires inside { AreFramesInMemory (M.bytes memory.old) base (length cells.old) }
-    requires room { HasRoom (M.room memory.old) (4096 * base) (4096 * (base + length cells.old)) }
+    requires pool { IsPoolInMemory M.bytes M.room memory.old base frames.old cells.old }
     ensures moved { Moved base (M.bytes memory.old) (M.bytes memory.new) frames.old frames.new
         cells.old cells.new (length cells.old) }
     ensures kept { KeepsSizeAndRoom M.lender M.bytes M.room memory.old memory.new }
@@ -123,10 +109,7 @@ pub fn make_way<A: Allocator, M: PhysMem>(
     cells: &mut Cells<A>,
     ranges: &[Range<u64>],
 ) -> bool
-    requires held { AreHeld base frames.old cells.old }
-    requires small { 4096 * (base + length cells.old) < 2 ^ 64 }
-    requires inside { AreFramesInMemory (M.bytes memory.old) base (length cells.old) }
-    requires room { HasRoom (M.room memory.old) (4096 * base) (4096 * (base + length cells.old)) }
+    requires { IsPoolInMemory M.bytes M.room memory.old base frames.old cells.old }
     ensures exact { IsTrue result
         ↔ (length frames.old ≤ open_among ranges.now (4096 * base) (length cells.old)) }
     ensures wide { length cells.new ≡ length cells.old }

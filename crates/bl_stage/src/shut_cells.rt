@@ -2,7 +2,7 @@
 ghost use Rattle.std.specs.Prelude.{◌≡◌, ℕ, ◌+◌, ◌*◌, ◌<◌, ◌^◌, ◌||◌, length, false, not};
 ghost use Rattle.std.specs.List.{count_by};
 ghost use Rattle.bl_map.specs.PoolFrames.{misses_frame};
-ghost use Rattle.bl_stage.specs.internal.Cells.{is_open_cell, cell_at};
+ghost use Rattle.bl_stage.specs.internal.Cells.{is_open_cell, cell_at, KeepsHolders};
 ghost use Rattle.bl_stage.specs.Ranges.{meets};
 
 use crate::cells::Cells;
@@ -12,8 +12,7 @@ use std::ops::Range;
 
 /// Opens each cell.
 fn open_all<A: Allocator>(cells: &mut Cells<A>)
-    ensures wide { length cells.new ≡ length cells.old }
-    ensures holders { (j : ℕ) → (cell_at cells.new j).holder ≡ (cell_at cells.old j).holder }
+    ensures kept { KeepsHolders cells.old cells.new }
     ensures open { (j : ℕ) → (cell_at cells.new j).shut ≡ false }
 {
     for at in 0..cells.len() {
@@ -24,8 +23,7 @@ fn open_all<A: Allocator>(cells: &mut Cells<A>)
 /// Shuts each cell whose frame the range meets.
 fn shut_range<A: Allocator>(cells: &mut Cells<A>, base: u64, range: &Range<u64>)
     requires { 4096 * (base + length cells.old) < 2 ^ 64 }
-    ensures wide { length cells.new ≡ length cells.old }
-    ensures holders { (j : ℕ) → (cell_at cells.new j).holder ≡ (cell_at cells.old j).holder }
+    ensures kept { KeepsHolders cells.old cells.new }
     ensures shut { (j : ℕ) → j < length cells.old → (cell_at cells.new j).shut
         ≡ ((cell_at cells.old j).shut || not (misses_frame range.now (4096 * (base + j)))) }
 {
@@ -41,8 +39,7 @@ fn shut_range<A: Allocator>(cells: &mut Cells<A>, base: u64, range: &Range<u64>)
 /// Shuts the cells whose frames a range meets, and opens all others.
 pub fn mark<A: Allocator>(cells: &mut Cells<A>, base: u64, ranges: &[Range<u64>])
     requires { 4096 * (base + length cells.old) < 2 ^ 64 }
-    ensures wide { length cells.new ≡ length cells.old }
-    ensures holders { (j : ℕ) → (cell_at cells.new j).holder ≡ (cell_at cells.old j).holder }
+    ensures kept { KeepsHolders cells.old cells.new }
     ensures shut { (j : ℕ) → j < length cells.old
         → (cell_at cells.new j).shut ≡ meets ranges.now (base + j) }
 {

@@ -1,8 +1,8 @@
 //! The tables that a stage keeps.
-ghost use Rattle.std.specs.Prelude.{◌≡◌, ℕ, ◌+◌, ◌/◌, ◌<◌, ◌≤◌, ◌^◌, ◌↔◌, IfOk, IfSome, IsNone};
-ghost use Rattle.std.specs.Prelude.{length, slice_index, None, map};
-ghost use Rattle.bl_stage.specs.internal.Cells.{cell_at, AreHeld};
-ghost use Rattle.bl_stage.specs.Staged.{frames_before, AreApart};
+ghost use Rattle.std.specs.Prelude.{◌≡◌, ◌+◌, ◌/◌, ◌<◌, ◌^◌, ◌↔◌, IfOk, IfSome, IsNone};
+ghost use Rattle.std.specs.Prelude.{length, map};
+ghost use Rattle.bl_stage.specs.internal.Cells.{AreHeld, CanHold};
+ghost use Rattle.bl_stage.specs.internal.StageTables.{AreStarts, AreNumbersFrom};
 ghost use Rattle.bl_map.specs.PoolFrames.{frames_for};
 
 use crate::cell::Cell;
@@ -29,9 +29,7 @@ pub fn frames_within(sizes: &[u64], most: u64) -> Option<u64>
 /// How many frames stand before each file's own.
 pub fn starts_of<A: Allocator>(alloc: A, sizes: &[u64]) -> Result<Vec<u64, A>, AllocError>
     requires { frames_for sizes.now < 2 ^ 64 }
-    ensures len { IfOk result (λ starts. length starts.items ≡ length sizes.now) }
-    ensures each { IfOk result (λ starts. (file : ℕ) → file < length sizes.now
-        → slice_index starts.items file ≡ frames_before sizes.now file) }
+    ensures { IfOk result (λ starts. AreStarts sizes.now starts.items) }
 {
     let mut starts = Vec::with_capacity(alloc, sizes.len())?;
     let mut all = 0;
@@ -44,12 +42,7 @@ pub fn starts_of<A: Allocator>(alloc: A, sizes: &[u64]) -> Result<Vec<u64, A>, A
 
 /// Notes each of these frames in its cell, by its place in their list.
 pub fn hold_all<A: Allocator>(cells: &mut Cells<A>, base: u64, frames: &[u64])
-    requires empty { (j : ℕ) → (cell_at cells.old j).holder ≡ None }
-    requires few { length cells.old < 2 ^ 32 }
-    requires low { (k : ℕ) → k < length frames.now → base ≤ slice_index frames.now k }
-    requires high { (k : ℕ) → k < length frames.now
-        → slice_index frames.now k < base + length cells.old }
-    requires apart { AreApart frames.now }
+    requires { CanHold base frames.now cells.old }
     ensures wide { length cells.new ≡ length cells.old }
     ensures held { AreHeld base frames.now cells.new }
 {
@@ -70,9 +63,7 @@ pub fn first_frames<A: Allocator>(
     count: u64,
 ) -> Result<Vec<u64, A>, AllocError>
     requires { start + count < 2 ^ 64 }
-    ensures long { IfOk result (λ frames. length frames.items ≡ count) }
-    ensures each { IfOk result (λ frames. (k : ℕ) → k < count
-        → slice_index frames.items k ≡ start + k) }
+    ensures { IfOk result (λ frames. AreNumbersFrom start count frames.items) }
 {
     let mut frames = Vec::with_capacity(alloc, count as usize)?;
     for frame in start..start + count {

@@ -1,10 +1,13 @@
 -- What the code keeps of each frame of the pool, and what moving frames leaves.
-use Rattle.std.specs.Prelude.{◌≡◌, ℕ, ◌+◌, ◌*◌, ◌-◌, ◌<◌, ◌≤◌, List, length, slice_index}
+use Rattle.std.specs.Prelude.{◌≡◌, ℕ, ◌+◌, ◌*◌, ◌-◌, ◌^◌, ◌<◌, ◌≤◌, List, length, slice_index, drop}
 use Rattle.std.specs.Prelude.{slice_index_or, Bool, true, false, not, ◌&&◌, is_some, Some, None}
 use Rattle.std.specs.List.{count_by}
 use Rattle.std.specs.declared.ops.Range.{Range}
 use Rattle.bl_stage.specs.declared.cell.Cell.{Cell}
+use Rattle.bl_mem.specs.Memory.{HasRoom}
+use Rattle.bl_stage.specs.internal.PackedCells.{no_holder}
 use Rattle.bl_stage.specs.Ranges.{meets, IsSameOutside}
+use Rattle.bl_stage.specs.Staged.{AreApart}
 
 -- no range meets the frame
 abbrev pub is_open_cell : Cell → Bool
@@ -80,3 +83,49 @@ pub record MadeWay (base count : ℕ) (ranges : List (Range ℕ))
 -- memory has these frames, if there are any
 abbrev pub AreFramesInMemory : List ℕ → ℕ → ℕ → Type 0
 AreFramesInMemory bytes base count = 0 < count → 4096 * (base + count) ≤ length bytes
+
+-- the cells of the pool's frames hold these frames of files, the pool lies in memory, and each
+-- address of it has room
+pub record IsPoolInMemory {M : Type 0} (bytes_in : M → List ℕ) (room_in : M → ℕ → Type 0)
+    (memory : M) (base : ℕ) (frames : List ℕ) (cells : List Cell) : Type 0 where
+  pub held : AreHeld base frames cells
+  pub small : 4096 * (base + length cells) < 2 ^ 64
+  pub inside : AreFramesInMemory (bytes_in memory) base (length cells)
+  pub room : HasRoom (room_in memory) (4096 * base) (4096 * (base + length cells))
+
+-- memory has two frames of the pool, of which the second one has room
+pub record CanCopyFrame {M : Type 0} (bytes_in : M → List ℕ) (room_in : M → ℕ → Type 0)
+    (memory : M) (base : ℕ) (source : ℕ) (target : ℕ) : Type 0 where
+  pub from : AreFramesInMemory (bytes_in memory) base (source + 1)
+  pub to : AreFramesInMemory (bytes_in memory) base (target + 1)
+  pub room : HasRoom (room_in memory) (4096 * (base + target)) (4096 * (base + target) + 4096)
+
+-- there are these two cells and this slot, which has a name
+pub record CanMoveSlot (base : ℕ) (frames : List ℕ) (cells : List Cell) (left : ℕ) (taken : ℕ)
+    (number : ℕ) : Type 0 where
+  pub slot : number < length frames
+  pub named : number < no_holder
+  pub from : left < length cells
+  pub to : taken < length cells
+  pub small : base + taken < 2 ^ 64
+
+-- the first spare cell from `start` on
+pub record IsNextSpare (cells : List Cell) (start : ℕ) (found : ℕ) : Type 0 where
+  pub from : start ≤ found
+  pub within : found < length cells
+  pub spare : is_spare_cell (cell_at cells found) ≡ true
+  pub rest : count_by is_spare_cell (drop (found + 1) cells) + 1
+      ≡ count_by is_spare_cell (drop start cells)
+
+-- each cell has the holder that it had
+pub record KeepsHolders (old : List Cell) (new : List Cell) : Type 0 where
+  pub wide : length new ≡ length old
+  pub holders : (j : ℕ) → (cell_at new j).holder ≡ (cell_at old j).holder
+
+-- these frames can be held: no cell has a holder, and each frame is one of the cells', named once
+pub record CanHold (base : ℕ) (frames : List ℕ) (cells : List Cell) : Type 0 where
+  pub empty : (j : ℕ) → (cell_at cells j).holder ≡ None
+  pub few : length cells < 2 ^ 32
+  pub low : (k : ℕ) → k < length frames → base ≤ slice_index frames k
+  pub high : (k : ℕ) → k < length frames → slice_index frames k < base + length cells
+  pub apart : AreApart frames

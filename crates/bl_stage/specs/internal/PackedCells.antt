@@ -1,5 +1,6 @@
 -- The cells that groups of four stand for, as a stage keeps them in memory.
-use Rattle.std.specs.Prelude.{ℕ, ◌/◌, ◌%◌, ◌==◌, List, map, slice_index, slice_index_or, false}
+use Rattle.std.specs.Prelude.{◌≡◌, ℕ, ◌/◌, ◌%◌, ◌≤◌, ◌==◌, List, length, map, slice_index}
+use Rattle.std.specs.Prelude.{slice_index_or, false}
 use Rattle.std.specs.Prelude.{Option, Some, None, if◌then◌else◌, replicate}
 use Rattle.std.specs.List.{range_with_len}
 use Rattle.bl_stage.specs.declared.cell.Cell.{Cell}
@@ -27,3 +28,8 @@ cell_in group place = record {
 abbrev pub cells_of : List CellGroup → ℕ → List Cell
 cells_of groups count =
     map (λ at. cell_in (slice_index_or groups (at / 4) no_group) (at % 4)) (range_with_len 0 count)
+
+-- so many groups stand there, and each reads as before
+pub record ReachTo (old : List CellGroup) (new : List CellGroup) (count : ℕ) : Type 0 where
+  pub there : count ≤ length new
+  pub same : (i : ℕ) → slice_index_or new i no_group ≡ slice_index_or old i no_group

@@ -1,8 +1,9 @@
 //! A stage is begun: its tables, and the frames of its files.
-ghost use Rattle.std.specs.Prelude.{◌≡◌, ℕ, ◌+◌, ◌*◌, ◌<◌, ◌≤◌, ◌↔◌, length, slice_index, IfErr};
-ghost use Rattle.std.specs.Prelude.{◌/◌, ◌%◌, ◌^◌, IfOk, All, List, Err, map};
+ghost use Rattle.std.specs.Prelude.{◌≡◌, ℕ, ◌<◌, ◌≤◌, ◌↔◌, length, IfErr};
+ghost use Rattle.std.specs.Prelude.{◌/◌, ◌%◌, IfOk, All, List, Err, map};
 ghost use Rattle.bl_map.specs.PoolFrames as room;
 ghost use Rattle.bl_stage.specs.Staged.{AreStaged, empty_stage, AreApart};
+ghost use Rattle.bl_stage.specs.internal.StageTables.{AreFramesOf};
 ghost use Rattle.bl_map.specs.PoolFrames.{frames_for};
 
 use crate::cells::Cells;
@@ -21,16 +22,7 @@ impl<A: Allocator + Copy> Stage<A> {
         sizes: &[u64],
         frames: Vec<u64, A>,
     ) -> Result<Stage<A>, StageFault>
-        requires start { pool.start % 4096 ≡ 0 }
-        requires end { pool.end % 4096 ≡ 0 }
-        requires forward { pool.start ≤ pool.end }
-        requires few { pool.end < pool.start + 4096 * 2 ^ 32 }
-        requires all { length frames.items ≡ frames_for sizes.now }
-        requires low { (k : ℕ) → k < length frames.items
-            → pool.start / 4096 ≤ slice_index frames.items k }
-        requires high { (k : ℕ) → k < length frames.items
-            → slice_index frames.items k < pool.end / 4096 }
-        requires apart { AreApart frames.items }
+        requires { AreFramesOf pool sizes.now frames.items }
         ensures ok { IfOk result (λ stage. stage ≡ empty_stage pool sizes.now frames.items) }
         ensures err { IfErr result (λ fault. fault ≡ StageFault.NoMemory) }
     {

@@ -1,9 +1,9 @@
 //! A piece is put into its frame.
 ghost use Rattle.std.specs.Prelude.{◌≡◌, ◌≢◌, ℕ, ◌+◌, ◌*◌, ◌<◌, ◌≤◌, IfSome, length, slice_index};
-ghost use Rattle.std.specs.Prelude.{if◌then◌else◌, Some, None};
 ghost use Rattle.bl_mem.specs.Memory.{overwrite, HasRoom, KeepsSizeAndRoom};
 ghost use Rattle.bl_stage.specs.Staged.{staged_file, AreStaged, HasPool};
-ghost use Rattle.bl_stage.specs.Pieces.{is_piece, slot_in, put_answer, stage_with};
+ghost use Rattle.bl_stage.specs.Pieces.{put_answer, stage_with};
+ghost use Rattle.bl_stage.specs.internal.StageTables.{slot_of_piece};
 ghost use Rattle.bl_stage.specs.PieceStates.{piece_states, piece_states_after_put};
 ghost use Rattle.bl_stage.specs.Ranges.{IsSameOutside};
 
@@ -26,10 +26,7 @@ pub enum Put {
 impl<A: Allocator> Stage<A> {
     /// The place of a piece of this length in the list of all frames, if it is a piece of a file.
     fn slot_of(&self, file: u32, index: u32, len: usize) -> Option<usize>
-        ensures value { result
-            ≡ (if is_piece self.now file index len
-            then Some (slot_in self.now file index)
-            else None) }
+        ensures value { result ≡ slot_of_piece self.now file index len }
         ensures within { IfSome result (λ slot. slot < length self.now.frames) }
         ensures short { IfSome result (λ _. len ≤ 4096) }
     {

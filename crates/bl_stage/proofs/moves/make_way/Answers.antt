@@ -23,12 +23,19 @@ returns-then-count_open-frames-clause-exact g c =
 pub returns-then-count_open-frames-clause-held : goal.returns-then-count_open-frames-clause-held
 returns-then-count_open-frames-clause-held g c =
     held_marked c.args.base c.args.frames.now c.args.cells.now c.mark.new.cells c.requires.held
-    (search rules) c.mark.ensures.holders
+    (search rules) c.mark.ensures.kept.holders
 
-pub move_out-requires-clause-held : goal.move_out-requires-clause-held
-move_out-requires-clause-held g c =
-    held_marked c.args.base c.args.frames.now c.args.cells.now c.mark.new.cells c.requires.held
-    (search rules) c.mark.ensures.holders
+pub move_out-requires-clause-pool : goal.move_out-requires-clause-pool
+move_out-requires-clause-pool g c =
+    let wide = c.mark.ensures.kept.wide in
+    record {
+      held =
+          held_marked c.args.base c.args.frames.now c.args.cells.now c.mark.new.cells
+          c.requires.held (search rules) c.mark.ensures.kept.holders;
+      small = rw wide c.requires.small;
+      inside = rw wide c.requires.inside;
+      room = rw wide c.requires.room;
+    }
 
 pub returns-clause-exact : goal.returns-clause-exact
 returns-clause-exact g c =

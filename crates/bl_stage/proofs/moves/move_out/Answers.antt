@@ -13,9 +13,9 @@ pub loop-from-init : goal.loop-from-init
 loop-from-init g c = record {
   moved =
       none_moved c.args.base (g.M.PhysMem.bytes c.args.memory.now) c.args.frames.now
-      c.args.cells.now c.requires.held;
+      c.args.cells.now c.requires.pool.held;
   enough =
-      enough_first c.args.base c.args.frames.now c.args.cells.now c.requires.held c.requires.enough;
+      enough_first c.args.base c.args.frames.now c.args.cells.now c.requires.pool.held c.requires.enough;
   kept = record { lender = refl; size = refl; room = λ a had. had };
 }
 
@@ -36,7 +36,7 @@ loop-from-preserved g c =
           let shut : (cell_at cells from).shut ≡ true = search rules in
           let inside : 4096 * (c.args.base + length cells) ≤ length (bytes loop.memory) =
           let e = done.wide in
-          let i = c.requires.inside (omega arith) in let s = done.size in rw (e, s) i in
+          let i = c.requires.pool.inside (omega arith) in let s = done.size in rw (e, s) i in
           let step =
           one_more c.args.base loop.frames cells from to slot done.held here
           w.next_spare-to.ensures.within goes shut spare.1 spare.0 (bytes loop.memory)
@@ -97,7 +97,14 @@ loop-from-preserved g c =
           }
     ]
 
-pub move_slot-requires-clause-small : goal.move_slot-requires-clause-small
-move_slot-requires-clause-small g c =
+pub move_slot-requires : goal.move_slot-requires
+move_slot-requires g c =
     let wide = c.loop-from.invariant.moved.wide in
-    omega (arith, wide, c.next_spare-to.ensures.within, c.requires.small)
+    let within = c.next_spare-to.ensures.within in
+    record {
+      slot = search rules;
+      named = search rules;
+      from = search rules;
+      to = within;
+      small = omega (arith, wide, within, c.requires.pool.small);
+    }

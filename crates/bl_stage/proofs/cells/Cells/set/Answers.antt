@@ -23,8 +23,8 @@ returns g c =
     let at = c.args.at in
     let long = sym (cells_length before fields.count) ∙ ap length c.self.view_is in
     let below : at < fields.count = omega (arith, long, c.requires.at) in
-    let within : at / 4 < length groups = omega (arith, c.reach.ensures.there) in
-    let alike = cells_alike groups before fields.count c.reach.ensures.same in
+    let within : at / 4 < length groups = omega (arith, c.reach.ensures.there.there) in
+    let alike = cells_alike groups before fields.count c.reach.ensures.there.same in
     let is : group ≡ get_or groups (at / 4) no_group =
     c.index_mut-group.ensures.value ∙ get_or_default groups (at / 4) group no_group within in
     let holders : length group.holders ≡ 4 = search rules in

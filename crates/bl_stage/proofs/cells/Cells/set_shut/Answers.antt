@@ -28,8 +28,8 @@ returns g c =
     let flag = c.args.shut in
     let long = sym (cells_length before fields.count) ∙ ap length c.self.view_is in
     let below : at < fields.count = omega (arith, long, c.requires) in
-    let within : at / 4 < length groups = omega (arith, c.reach.ensures.there) in
-    let alike = cells_alike groups before fields.count c.reach.ensures.same in
+    let within : at / 4 < length groups = omega (arith, c.reach.ensures.there.there) in
+    let alike = cells_alike groups before fields.count c.reach.ensures.there.same in
     let is : group ≡ get_or groups (at / 4) no_group =
     c.index_mut.ensures.value ∙ get_or_default groups (at / 4) group no_group within in
     let inside : at % 4 < length group.shut = search rules in
