@@ -10,7 +10,7 @@ use Rattle.bl_mem.specs.declared.frame_state.FrameState.{FrameState}
 use Rattle.bl_mem.specs.declared.frame_state.FrameState.TheVariants.{Bare, Plain, Kept, Wiped, Lent}
 use Rattle.bl_mem.specs.declared.frame_state.FrameState.TheVariants.{Borrowed}
 use Rattle.bl_mem.specs.FrameState.{has_room}
-use Rattle.bl_mem.specs.internal.FrameSlots.{slot_of, owed_slots, partner, AreSoundSlots}
+use Rattle.bl_mem.specs.internal.FrameSlots.{slot_of, owed_slots, partner, AreSoundSlots, max_kept}
 use Rattle.bl_mem.specs.internal.FrameSlots.{AreGivenRoom}
 use Rattle.bl_mem.proofs.PairLemmas.{pairs_set}
 use Rattle.bl_mem.proofs.FrameLemmas.{set_room}
@@ -103,7 +103,7 @@ sound_appended table len owed capacity more i slot sound within fits owing alone
 -- frames got room, after there was memory for them
 pub sound_opened : (table new : List FrameState) (len owed capacity more first end fill opened : ℕ)
     → AreSoundSlots table len owed capacity → AreGivenRoom table new first end fill opened
-    → len + 4096 * (owed + opened) ≤ more → len + 4096 * (owed + opened) ≤ 17592186044416
+    → len + 4096 * (owed + opened) ≤ more → len + 4096 * (owed + opened) ≤ max_kept
     → AreSoundSlots new len (owed + opened) more
 sound_opened table new len owed capacity more first end fill opened sound is fits few = record {
   whole = sound.whole;

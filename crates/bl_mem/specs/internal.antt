@@ -1,2 +1,4 @@
+pub mod FrameRoom
 pub mod FrameSlots
 pub mod SliceWrites
+pub mod SparseWrites

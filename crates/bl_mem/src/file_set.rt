@@ -51,8 +51,7 @@ pub trait FileSet {
         requires file { file < length (texts self.now (M.bytes memory.now)) }
         requires inside { at + count
             ≤ length (nth_file (texts self.now (M.bytes memory.now)) file) }
-        ensures within { IfSome result
-            (λ address. address + count ≤ length (M.bytes memory.now)) }
+        ensures within { IfSome result (λ address. address + count ≤ length (M.bytes memory.now)) }
         ensures same { IfSome result (λ address.
             slice_range (M.bytes memory.now) address (address + count)
             ≡ slice_range (nth_file (texts self.now (M.bytes memory.now)) file) at

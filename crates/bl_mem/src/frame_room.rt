@@ -38,12 +38,10 @@ pub fn give_room<A: Allocator>(
     opened
 }
 
-/// The bytes of a frame, of which a part is put over those from a place on.
-pub fn frame_over(frame: [u8; 4096], place: usize, part: &[u8]) -> [u8; 4096]
+/// Puts a part over the bytes of a frame, from a place on.
+pub fn put_over(frame: &mut [u8; 4096], place: usize, part: &[u8])
     requires { place + length part.now ≤ 4096 }
-    ensures { result ≡ overwrite frame place part.now }
+    ensures { frame.new ≡ overwrite frame.old place part.now }
 {
-    let mut whole = frame;
-    whole[place..place + part.len()].copy_from_slice(part);
-    whole
+    frame[place..place + part.len()].copy_from_slice(part);
 }

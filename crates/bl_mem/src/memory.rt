@@ -35,8 +35,7 @@ pub trait PhysMem {
     /// none. A memory in which they don't lie together lends nothing; `read` gives them always.
     fn lend(&self, at: u64, count: usize) -> Option<&[u8]>
         requires { at + count ≤ length (bytes self.now) }
-        ensures { IfSome result
-            (λ part. part.now ≡ slice_range (bytes self.now) at (at + count)) }
+        ensures { IfSome result (λ part. part.now ≡ slice_range (bytes self.now) at (at + count)) }
     {
         None
     }

@@ -2,9 +2,11 @@
 ghost use Rattle.std.specs.Prelude.{◌≡◌, ◌+◌, ◌%◌, ◌≤◌, length, replicate, slice_range};
 ghost use Rattle.std.specs.Prelude.{true, false};
 ghost use Rattle.std.specs.Prelude.{IfOk, OnOk, IsOk};
-ghost use Rattle.bl_mem.specs.Memory.{overwrite, HasRoom, KeepsRoom};
+ghost use Rattle.bl_mem.specs.Memory.{HasRoom};
 ghost use Rattle.bl_mem.specs.SparseFrames.{HasRoomAt};
 ghost use Rattle.bl_mem.specs.Sparse.{bytes_of};
+ghost use Rattle.bl_mem.specs.internal.SparseWrites.{CanWriteFrame, IsWrittenOver};
+ghost use Rattle.bl_mem.specs.internal.SparseWrites.{KeepsBytesAndRoom, AreWholeFrames};
 
 use crate::frame_state::FRAME_SIZE;
 use crate::memory::PhysMem;
@@ -55,10 +57,7 @@ impl<A: Allocator + Copy> Sparse<A> {
 
     /// Gives room to each frame that has an address from `start` on and below `end`.
     fn hold(&mut self, start: u64, end: u64) -> Result<(), AllocError>
-        ensures same { bytes_of self.new.frames self.new.size
-            ≡ bytes_of self.old.frames self.old.size }
-        ensures size { self.new.size ≡ self.old.size }
-        ensures kept { KeepsRoom (HasRoomAt self.old.frames) (HasRoomAt self.new.frames) }
+        ensures kept { KeepsBytesAndRoom self.old self.new }
         ensures made { OnOk result (HasRoom (HasRoomAt self.new.frames) start end) }
     {
         if start < end {
@@ -80,13 +79,8 @@ impl<A: Allocator + Copy> Sparse<A> {
 
     /// Writes bytes of one frame.
     fn write_frame(&mut self, at: u64, part: &[u8])
-        requires inside { at + length part.now ≤ self.old.size }
-        requires one { at % 4096 + length part.now ≤ 4096 }
-        requires held { HasRoomAt self.old.frames at }
-        ensures after { bytes_of self.new.frames self.new.size
-            ≡ overwrite (bytes_of self.old.frames self.old.size) at part.now }
-        ensures kept { KeepsRoom (HasRoomAt self.old.frames) (HasRoomAt self.new.frames) }
-        ensures size { self.new.size ≡ self.old.size }
+        requires { CanWriteFrame self.old at (length part.now) }
+        ensures { IsWrittenOver self.old self.new at part.now }
     {
         self.frames.write(at, part);
     }
@@ -94,28 +88,18 @@ impl<A: Allocator + Copy> Sparse<A> {
     /// Has a frame read as another one does, if no copy is needed for it. The answer is whether it
     /// does; if not, nothing changed.
     fn share_frame(&mut self, from: u64, to: u64) -> bool
-        requires source { from + 4096 ≤ self.old.size }
-        requires inside { to + 4096 ≤ self.old.size }
-        requires frames { (from % 4096 ≡ 0) × (to % 4096 ≡ 0) }
-        ensures shared { result ≡ true → bytes_of self.new.frames self.new.size
-            ≡ overwrite (bytes_of self.old.frames self.old.size) to
+        requires { AreWholeFrames self.old from to }
+        ensures shared { result ≡ true → IsWrittenOver self.old self.new to
             (slice_range (bytes_of self.old.frames self.old.size) from (from + 4096)) }
         ensures same { result ≡ false → self.new ≡ self.old }
-        ensures kept { KeepsRoom (HasRoomAt self.old.frames) (HasRoomAt self.new.frames) }
-        ensures size { self.new.size ≡ self.old.size }
     {
         self.frames.share(from / FRAME_SIZE, to / FRAME_SIZE)
     }
 
     /// Clears `count` bytes of one frame.
     fn zero_frame(&mut self, at: u64, count: usize)
-        requires inside { at + count ≤ self.old.size }
-        requires one { at % 4096 + count ≤ 4096 }
-        requires held { HasRoomAt self.old.frames at }
-        ensures after { bytes_of self.new.frames self.new.size
-            ≡ overwrite (bytes_of self.old.frames self.old.size) at (replicate count 0) }
-        ensures kept { KeepsRoom (HasRoomAt self.old.frames) (HasRoomAt self.new.frames) }
-        ensures size { self.new.size ≡ self.old.size }
+        requires { CanWriteFrame self.old at count }
+        ensures { IsWrittenOver self.old self.new at (replicate count 0) }
     {
         self.frames.zero(at, count);
     }

@@ -1,6 +1,6 @@
 -- What only the code of frames keeps: whose each slot is, and that there is room for more. Own.
-use Rattle.std.specs.Prelude.{◌≡◌, ◌⊎◌, ℕ, ◌+◌, ◌-◌, ◌*◌, ◌/◌, ◌%◌, ◌<◌, ◌≤◌, true, List, length}
-use Rattle.std.specs.Prelude.{Option, Some, None, slice_index_or}
+use Rattle.std.specs.Prelude.{◌≡◌, ◌⊎◌, ℕ, ◌+◌, ◌-◌, ◌*◌, ◌/◌, ◌%◌, ◌^◌, ◌<◌, ◌≤◌, true, List}
+use Rattle.std.specs.Prelude.{length, Option, Some, None, slice_index_or}
 use Rattle.std.specs.List.{sum_by}
 use Rattle.bl_mem.specs.declared.frame_state.FrameState.{FrameState}
 use Rattle.bl_mem.specs.declared.frame_state.FrameState.TheVariants.{Bare, Plain, Kept, Wiped, Lent}
@@ -36,6 +36,31 @@ partner (Wiped slot) = None
 partner (Lent slot to) = Some to
 partner (Borrowed slot from) = Some from
 
+-- a frame has room, and shares no slot
+pub record HasRoomAlone (frame : FrameState) : Type 0 where
+  pub held : has_room frame ≡ true
+  pub alone : partner frame ≡ None
+
+-- a frame has this slot, and shares it with none
+pub record HasSlotAlone (frame : FrameState) (slot : ℕ) : Type 0 where
+  pub own : slot_of frame ≡ Some slot
+  pub alone : partner frame ≡ None
+
+-- a frame has room and no slot of its own, shares none, and this is a whole frame's part
+pub record CanAppend (frame : FrameState) (part : List ℕ) : Type 0 where
+  pub plain : owed_slots frame ≡ 1
+  pub alone : partner frame ≡ None
+  pub whole : length part ≡ 4096
+
+-- so many bytes from `at` on lie in one frame, and that has room
+pub record CanWriteAt (facts : SparseFramesFacts) (at : ℕ) (count : ℕ) : Type 0 where
+  pub one : at % 4096 + count ≤ 4096
+  pub held : HasRoomAt facts at
+
+-- the bytes of as many frames as a slot's number can tell apart, which are 2^32
+abbrev pub max_kept : ℕ
+max_kept = 4096 * 2 ^ 32
+
 -- who lends lends to one that borrows from it, and the other way round
 pub record ArePaired (table : List FrameState) : Type 0 where
   pub lends : (i j s : ℕ) → slice_index_or table i Bare ≡ Lent s j
@@ -50,7 +75,7 @@ pub record AreSoundSlots (table : List FrameState) (len : ℕ) (owed : ℕ) (cap
   pub whole : len % 4096 ≡ 0
   pub counted : owed ≡ sum_by owed_slots table
   pub room : len + 4096 * owed ≤ capacity
-  pub few : len + 4096 * owed ≤ 17592186044416
+  pub few : len + 4096 * owed ≤ max_kept
   pub inside : (i s : ℕ) → slot_of (slice_index_or table i Bare) ≡ Some s → 4096 * s + 4096 ≤ len
   pub own : (i j s : ℕ) → slot_of (slice_index_or table i Bare) ≡ Some s
       → slot_of (slice_index_or table j Bare) ≡ Some s → i ≡ j

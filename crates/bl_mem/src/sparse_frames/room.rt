@@ -1,7 +1,7 @@
 //! Frames get room.
 ghost use Rattle.std.specs.Prelude.{◌≡◌, ◌<◌, ◌≤◌, length, OnOk, IfOk};
-ghost use Rattle.bl_mem.specs.Memory.{KeepsRoom};
-ghost use Rattle.bl_mem.specs.SparseFrames.{HasRoomAt, FramesHaveRoom, SameBytes};
+ghost use Rattle.bl_mem.specs.SparseFrames.{FramesHaveRoom};
+ghost use Rattle.bl_mem.specs.internal.FrameRoom.{OnlyGainsRoom, HasRoomUpTo};
 
 use super::{SparseFrames, WIDTH};
 use crate::frame_room::give_room;
@@ -14,8 +14,7 @@ const MAX_KEPT: usize = 17592186044416;
 impl<A: Allocator + Copy> SparseFrames<A> {
     /// Has an entry for each frame below `end`.
     fn reach(&mut self, end: u64) -> Result<(), AllocError>
-        ensures same { SameBytes self.old self.new }
-        ensures kept { KeepsRoom (HasRoomAt self.old) (HasRoomAt self.new) }
+        ensures kept { OnlyGainsRoom self.old self.new }
         ensures made { OnOk result (end ≤ length self.new.table) }
     {
         if (self.table.len() as u64) < end {
@@ -28,8 +27,7 @@ impl<A: Allocator + Copy> SparseFrames<A> {
     fn open(&mut self, first: u64, end: u64) -> Result<(), AllocError>
         requires forward { first ≤ end }
         requires inside { end ≤ length self.old.table }
-        ensures same { SameBytes self.old self.new }
-        ensures kept { KeepsRoom (HasRoomAt self.old) (HasRoomAt self.new) }
+        ensures kept { OnlyGainsRoom self.old self.new }
         ensures made { OnOk result (FramesHaveRoom self.new first end) }
         ensures size { length self.new.table ≡ length self.old.table }
     {
@@ -59,12 +57,9 @@ impl<A: Allocator + Copy> SparseFrames<A> {
     fn hold_next(&mut self, at: u64, end: u64) -> Result<u64, AllocError>
         requires before { at < end }
         requires inside { end ≤ length self.old.table }
-        ensures same { SameBytes self.old self.new }
-        ensures kept { KeepsRoom (HasRoomAt self.old) (HasRoomAt self.new) }
+        ensures kept { OnlyGainsRoom self.old self.new }
         ensures size { length self.new.table ≡ length self.old.table }
-        ensures made { IfOk result (λ next. FramesHaveRoom self.new at next) }
-        ensures more { IfOk result (λ next. at < next) }
-        ensures within { IfOk result (λ next. next ≤ end) }
+        ensures made { IfOk result (HasRoomUpTo self.new at end) }
     {
         if self.frame(at).has_room() {
             return Ok(at + 1);
@@ -78,8 +73,7 @@ impl<A: Allocator + Copy> SparseFrames<A> {
     /// nothing is asked for where all have it.
     pub fn hold(&mut self, first: u64, end: u64) -> Result<(), AllocError>
         requires { first ≤ end }
-        ensures same { SameBytes self.old self.new }
-        ensures kept { KeepsRoom (HasRoomAt self.old) (HasRoomAt self.new) }
+        ensures kept { OnlyGainsRoom self.old self.new }
         ensures made { OnOk result (FramesHaveRoom self.new first end) }
     {
         self.reach(end)?;

@@ -1,27 +1,25 @@
 //! Frames are written and cleared.
-ghost use Rattle.std.specs.Prelude.{◌≡◌, ◌+◌, ◌*◌, ◌%◌, ◌/◌, ◌≤◌, length, true, None, Some};
+ghost use Rattle.std.specs.Prelude.{◌≡◌, ◌+◌, ◌*◌, ◌/◌, ◌≤◌, length, true};
 ghost use Rattle.std.specs.Prelude.{replicate};
 ghost use Rattle.bl_mem.specs.Memory.{overwrite};
 ghost use Rattle.bl_mem.specs.FrameState.{has_room};
-ghost use Rattle.bl_mem.specs.SparseFrames.{frame_numbered, HasRoomAt, IsWritten};
-ghost use Rattle.bl_mem.specs.SparseFrames.{IsStored};
-ghost use Rattle.bl_mem.specs.internal.FrameSlots.{slot_of, owed_slots, partner, IsKeptIn, IsPutAt};
+ghost use Rattle.bl_mem.specs.SparseFrames.{frame_numbered, IsWritten, IsStored};
+ghost use Rattle.bl_mem.specs.internal.FrameSlots.{IsKeptIn, IsPutAt, HasRoomAlone, HasSlotAlone};
+ghost use Rattle.bl_mem.specs.internal.FrameSlots.{CanAppend, CanWriteAt};
 
 use super::{SparseFrames, WIDTH};
 use crate::byte_writer::{put_at, put_bytes};
-use crate::frame_room::frame_over;
+use crate::frame_room::put_over;
 use crate::frame_state::{FRAME_SIZE, FrameState};
 use std::alloc::Allocator;
 
 impl<A: Allocator + Copy> SparseFrames<A> {
     /// Puts bytes into the slot that a frame has, which is kept from then on.
     fn rewrite(&mut self, number: u64, slot: u32, place: usize, part: &[u8])
-        requires own { slot_of (frame_numbered self.old number) ≡ Some slot }
-        requires alone { partner (frame_numbered self.old number) ≡ None }
+        requires slot { HasSlotAlone (frame_numbered self.old number) slot }
         requires inside { place + length part.now ≤ 4096 }
         ensures after { IsKeptIn self.old self.new number slot }
-        ensures bytes { self.new.kept
-            ≡ overwrite self.old.kept (4096 * slot + place) part.now }
+        ensures bytes { self.new.kept ≡ overwrite self.old.kept (4096 * slot + place) part.now }
         ensures within { 4096 * slot + 4096 ≤ length self.old.kept }
     {
         put_at(&mut self.kept, WIDTH * slot as usize + place, part);
@@ -30,9 +28,7 @@ impl<A: Allocator + Copy> SparseFrames<A> {
 
     /// Gives a frame its slot.
     fn append(&mut self, number: u64, part: &[u8])
-        requires plain { owed_slots (frame_numbered self.old number) ≡ 1 }
-        requires alone { partner (frame_numbered self.old number) ≡ None }
-        requires whole { length part.now ≡ 4096 }
+        requires { CanAppend (frame_numbered self.old number) part.now }
         ensures after { IsKeptIn self.old self.new number (length self.old.kept / 4096) }
         ensures bytes { IsPutAt self.new.kept (length self.old.kept / 4096) part.now }
     {
@@ -44,8 +40,7 @@ impl<A: Allocator + Copy> SparseFrames<A> {
 
     /// Keeps a whole frame that shares no slot.
     fn store_alone(&mut self, number: u64, part: &[u8])
-        requires held { has_room (frame_numbered self.old number) ≡ true }
-        requires alone { partner (frame_numbered self.old number) ≡ None }
+        requires frame { HasRoomAlone (frame_numbered self.old number) }
         requires whole { length part.now ≡ 4096 }
         ensures { IsStored self.old self.new number part.now }
     {
@@ -69,20 +64,19 @@ impl<A: Allocator + Copy> SparseFrames<A> {
 
     /// Keeps a frame whose bytes stay but for those of a part.
     fn store_over(&mut self, at: u64, part: &[u8])
-        requires one { at % 4096 + length part.now ≤ 4096 }
-        requires held { HasRoomAt self.old at }
+        requires { CanWriteAt self.old at (length part.now) }
         ensures { IsWritten self.old self.new at part.now }
     {
         let place = at % FRAME_SIZE;
         let mut frame = [0; WIDTH];
         self.read(at - place, &mut frame);
-        self.store(at / FRAME_SIZE, &frame_over(frame, place as usize, part));
+        put_over(&mut frame, place as usize, part);
+        self.store(at / FRAME_SIZE, &frame);
     }
 
     /// Writes bytes of one frame.
     pub fn write(&mut self, at: u64, part: &[u8])
-        requires one { at % 4096 + length part.now ≤ 4096 }
-        requires held { HasRoomAt self.old at }
+        requires { CanWriteAt self.old at (length part.now) }
         ensures { IsWritten self.old self.new at part.now }
     {
         if part.len() == WIDTH {
@@ -106,8 +100,7 @@ impl<A: Allocator + Copy> SparseFrames<A> {
 
     /// Clears a whole frame that shares no slot to 0.
     fn clear_alone(&mut self, number: u64)
-        requires held { has_room (frame_numbered self.old number) ≡ true }
-        requires alone { partner (frame_numbered self.old number) ≡ None }
+        requires { HasRoomAlone (frame_numbered self.old number) }
         ensures { IsStored self.old self.new number (replicate 4096 0) }
     {
         let cleared = self.frame(number).cleared();
@@ -125,8 +118,7 @@ impl<A: Allocator + Copy> SparseFrames<A> {
 
     /// Clears `count` bytes of one frame to 0.
     pub fn zero(&mut self, at: u64, count: usize)
-        requires one { at % 4096 + count ≤ 4096 }
-        requires held { HasRoomAt self.old at }
+        requires { CanWriteAt self.old at count }
         ensures { IsWritten self.old self.new at (replicate count 0) }
     {
         if count == WIDTH {

@@ -1,4 +1,4 @@
-use Rattle.std.proofs.Common.{◌≡◌, ◌-◌, ◌∙◌, arith}
+use Rattle.std.proofs.Common.{◌-◌, ◌∙◌, arith}
 use Rattle.bl_mem.proofs.BaseLemmas.{zeros_first}
 use Rattle.bl_mem.proofs.slice_memory.SliceMemory.copy_from_below.Goals as goal
 

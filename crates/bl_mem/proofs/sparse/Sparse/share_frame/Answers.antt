@@ -11,6 +11,11 @@ returns-clause-shared g c = λ yes.
     subst (λ (facts : SparseFacts). IsShared facts.frames c.share.new.self (c.args.from / 4096)
     (c.args.to / 4096)) c.self.view_is (c.share.ensures.shared yes) in
     let size = ap (λ (facts : SparseFacts). facts.size) c.self.view_is in
-    rw size
-    (shared_bytes this.frames c.share.new.self this.size c.args.from c.args.to
-    c.requires.source c.requires.inside c.requires.frames.0 c.requires.frames.1 is)
+    record {
+      after =
+          rw size
+          (shared_bytes this.frames c.share.new.self this.size c.args.from c.args.to
+          c.requires.source c.requires.inside c.requires.frames.0 c.requires.frames.1 is);
+      kept = is.room;
+      size = size;
+    }

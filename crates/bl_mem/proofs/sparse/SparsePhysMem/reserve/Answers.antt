@@ -21,15 +21,15 @@ loop-range-preserved g c =
     let new = c.hold.new.self.frames in
     let none : Range ℕ = record { start = 0; end = 0 } in
     record {
-      same = c.hold.ensures.same ∙ before.same;
-      size = c.hold.ensures.size ∙ before.size;
-      kept = λ a had. c.hold.ensures.kept a (before.kept a had);
+      same = c.hold.ensures.kept.same ∙ before.same;
+      size = c.hold.ensures.kept.size ∙ before.size;
+      kept = λ a had. c.hold.ensures.kept.kept a (before.kept a had);
       made =
           All-more (λ (range : Range ℕ). HasRoom (HasRoomAt new) range.start range.end)
           c.args.ranges.now c.loop-range.range-index none c.loop-range-test.true
           (All-weaker (λ (range : Range ℕ). HasRoom (HasRoomAt old) range.start range.end)
           (λ (range : Range ℕ). HasRoom (HasRoomAt new) range.start range.end)
-          (λ range had a low high. c.hold.ensures.kept a (had a low high))
+          (λ range had a low high. c.hold.ensures.kept.kept a (had a low high))
           (take c.loop-range.range-index c.args.ranges.now) before.made)
           c.in_ok-hold.ensures.made;
     }

@@ -15,10 +15,10 @@ invariant_of-self g c =
     let slot = c.args.slot in
     let own : slot_of (get_or table number Bare) ≡ Some slot =
     subst (λ (facts : SparseFramesFacts). slot_of (frame_numbered facts number) ≡ Some slot)
-    (sym c.self.view_is) c.requires.own in
+    (sym c.self.view_is) c.requires.slot.own in
     let alone : partner (get_or table number Bare) ≡ None =
     subst (λ (facts : SparseFramesFacts). partner (frame_numbered facts number) ≡ None)
-    (sym c.self.view_is) c.requires.alone in
+    (sym c.self.view_is) c.requires.slot.alone in
     sound_set table _ c.self.inside.owed _ _ number (Kept slot)
     (subst (λ n. AreSoundSlots table n c.self.inside.owed c.self.inside.kept.cap)
     (sym c.put_at.ensures.len) c.self.invariant)
@@ -36,10 +36,10 @@ returns-clause-after g c =
     let sound = c.self.invariant in
     let own : slot_of (get_or table number Bare) ≡ Some slot =
     subst (λ (facts : SparseFramesFacts). slot_of (frame_numbered facts number) ≡ Some slot)
-    (sym c.self.view_is) c.requires.own in
+    (sym c.self.view_is) c.requires.slot.own in
     let alone : partner (get_or table number Bare) ≡ None =
     subst (λ (facts : SparseFramesFacts). partner (frame_numbered facts number) ≡ None)
-    (sym c.self.view_is) c.requires.alone in
+    (sym c.self.view_is) c.requires.slot.alone in
     let fits = sound.inside number slot own in
     rw (← c.self.view_is)
     (kept_set c.self.inside.fill table kept c.put_at.new.out.items number slot

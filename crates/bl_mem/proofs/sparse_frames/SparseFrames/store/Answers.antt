@@ -3,10 +3,14 @@ use Rattle.bl_mem.specs.FrameState.{has_room}
 use Rattle.bl_mem.specs.SparseFrames.{frame_numbered}
 use Rattle.bl_mem.proofs.sparse_frames.SparseFrames.store.Goals as goal
 
-pub store_alone-requires-clause-held : goal.store_alone-requires-clause-held
-store_alone-requires-clause-held g c =
+pub store_alone-requires-clause-frame : goal.store_alone-requires-clause-frame
+store_alone-requires-clause-frame g c =
     let number : (4096 * c.args.number) / 4096 ≡ c.args.number = omega arith in
-    subst (λ n. has_room (frame_numbered c.unshare.new.self n) ≡ true) number
-    (c.unshare.ensures.room (4096 * c.args.number)
-    (subst (λ n. has_room (frame_numbered c.args.self.now n) ≡ true) (sym number)
-    c.requires.held))
+    record {
+      held =
+          subst (λ n. has_room (frame_numbered c.unshare.new.self n) ≡ true) number
+          (c.unshare.ensures.room (4096 * c.args.number)
+          (subst (λ n. has_room (frame_numbered c.args.self.now n) ≡ true) (sym number)
+          c.requires.held));
+      alone = c.unshare.ensures.alone;
+    }

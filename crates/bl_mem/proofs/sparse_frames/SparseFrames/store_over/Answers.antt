@@ -6,4 +6,4 @@ pub returns : goal.returns
 returns g c =
     over c.args.self.now c.store.new.self c.args.at _ c.args.part.now _ _ refl (search rules)
     c.read.ensures
-    c.frame_over.ensures c.store.ensures c.requires.one
+    c.put_over.ensures c.store.ensures c.requires.one
