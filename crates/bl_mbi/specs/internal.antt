@@ -1,3 +1,4 @@
+pub mod Appending
 pub mod GroupSizes
 pub mod TagGroups
 pub mod BytesLeft

@@ -1,7 +1,7 @@
 //! Each tag of boot information, read where it stands.
 ghost use Rattle.std.specs.Prelude.{◌≡◌, ◌≤◌, ◌+◌, length, IfOk};
 ghost use Rattle.bl_mbi.specs.ReadingSteps.{MatchesReading};
-ghost use Rattle.bl_mbi.specs.internal.BytesLeft.{rest_facts};
+ghost use Rattle.bl_mbi.specs.internal.BytesLeft.{rest_facts, with_rest};
 ghost use Rattle.bl_mbi.specs.ReadingSteps as fields;
 ghost use Rattle.bl_mbi.specs.Reading as spec;
 
@@ -62,8 +62,7 @@ pub(crate) fn text_tag_at<'a, A: Allocator>(
     kind: u32,
     rest: Rest<'a>,
 ) -> Result<(Bytes<A>, Rest<'a>), InfoFault>
-    ensures { MatchesReading (λ x. (x.0, rest_facts x.1)) result (spec.text_tag_at kind
-        (rest_facts rest.entry)) }
+    ensures { MatchesReading with_rest result (spec.text_tag_at kind (rest_facts rest.entry)) }
 {
     let (body, after) = tag_at(kind, rest)?;
     let Some(text) = text_of(body) else {
@@ -75,8 +74,7 @@ pub(crate) fn text_tag_at<'a, A: Allocator>(
 /// The module in the tag there.
 #[tactic(auto, unfolding(crate::specs::Reading::module_at))]
 fn module_at<'a, A: Allocator>(alloc: A, rest: Rest<'a>) -> Result<(Module<A>, Rest<'a>), InfoFault>
-    ensures read { MatchesReading (λ x. (x.0, rest_facts x.1)) result (spec.module_at
-        (rest_facts rest.entry)) }
+    ensures read { MatchesReading with_rest result (spec.module_at (rest_facts rest.entry)) }
     ensures shorter { IfOk result (λ x. length x.1.bytes.now + 8 ≤ length rest.entry.bytes.now) }
 {
     let (body, after) = tag_at(TAG_MODULE, rest)?;
@@ -104,8 +102,7 @@ pub(crate) fn modules_at<'a, A: Allocator + Copy>(
 /// The sizes of memory in the tag there.
 #[tactic(auto, unfolding(crate::specs::Reading::memory_at))]
 pub(crate) fn memory_at<'a>(rest: Rest<'a>) -> Result<((u32, u32), Rest<'a>), InfoFault>
-    ensures { MatchesReading (λ x. (x.0, rest_facts x.1)) result (spec.memory_at
-        (rest_facts rest.entry)) }
+    ensures { MatchesReading with_rest result (spec.memory_at (rest_facts rest.entry)) }
 {
     let (body, after) = tag_at(TAG_BASIC_MEMORY, rest)?;
     let Some(sizes) = memory_of(body) else {
@@ -134,8 +131,7 @@ pub(crate) fn copy_at<'a, A: Allocator>(
     kind: u32,
     rest: Rest<'a>,
 ) -> Result<(Option<Bytes<A>>, Rest<'a>), InfoFault>
-    ensures { MatchesReading (λ x. (x.0, rest_facts x.1)) result (spec.copy_at kind
-        (rest_facts rest.entry)) }
+    ensures { MatchesReading with_rest result (spec.copy_at kind (rest_facts rest.entry)) }
 {
     if !is_next(kind, rest) {
         return Ok((None, rest));
@@ -147,8 +143,7 @@ pub(crate) fn copy_at<'a, A: Allocator>(
 /// The load base in the tag there, which may be missing.
 #[tactic(auto, unfolding(crate::specs::Reading::load_base_at))]
 pub(crate) fn load_base_at<'a>(rest: Rest<'a>) -> Result<(Option<u32>, Rest<'a>), InfoFault>
-    ensures { MatchesReading (λ x. (x.0, rest_facts x.1)) result (spec.load_base_at
-        (rest_facts rest.entry)) }
+    ensures { MatchesReading with_rest result (spec.load_base_at (rest_facts rest.entry)) }
 {
     if !is_next(TAG_LOAD_BASE, rest) {
         return Ok((None, rest));

@@ -1,12 +1,13 @@
 //! Each tag of boot information, appended where there is room for it.
-ghost use Rattle.std.specs.Prelude.{◌≡◌, ◌≤◌, ◌+◌, ◌-◌, ◌*◌, ◌%◌, ◌^◌, ◌<◌, ◌++◌, [], length};
-ghost use Rattle.std.specs.Prelude.{is_some, sum_by};
-ghost use Rattle.std.specs.Prelude.{option_map, option_copied, vec_len, vec_capacity};
+ghost use Rattle.std.specs.Prelude.{◌≡◌, ◌+◌, ◌-◌, ◌*◌, ◌%◌, ◌^◌, ◌<◌, ◌++◌, [], length, is_some};
+ghost use Rattle.std.specs.Prelude.{option_map, option_copied};
 ghost use Rattle.std.specs.List.{flat_map};
 ghost use Rattle.bl_mbi.specs.Size.{tag_size, copy_size, load_base_size, map_entry_size};
 ghost use Rattle.bl_mbi.specs.Tags.{padding, tag, text_body, module_tag, memory_body, run_bytes};
 ghost use Rattle.bl_mbi.specs.Tags.{map_body};
 ghost use Rattle.bl_mbi.specs.Tags.{copy_tag, load_base_tag};
+ghost use Rattle.bl_mbi.specs.internal.Appending.{HasRoomFor, Appends};
+ghost use Rattle.bl_mbi.specs.internal.GroupSizes.{modules_size};
 
 use crate::fields::{
     ENTRY_SIZE, TAG_BASIC_MEMORY, TAG_END, TAG_LOAD_BASE, TAG_MEMORY_MAP, TAG_MODULE,
@@ -18,10 +19,8 @@ use std::alloc::Allocator;
 
 /// Appends zeros after `len` bytes of a body, up to the next multiple of 8.
 fn put_padding<A: Allocator>(out: &mut Vec<u8, A>, len: u64)
-    requires { vec_len out.old + (8 - len % 8) % 8 ≤ vec_capacity out.old }
-    ensures items { out.new.items ≡ out.old.items ++ padding len }
-    ensures len { vec_len out.new ≡ vec_len out.old + (8 - len % 8) % 8 }
-    ensures capacity { vec_capacity out.old ≤ vec_capacity out.new }
+    requires { HasRoomFor out.old ((8 - len % 8) % 8) }
+    ensures { Appends out.old out.new (padding len) ((8 - len % 8) % 8) }
 {
     let zeros = [0u8; 8];
     let count = ((8 - len % 8) % 8) as usize;
@@ -31,11 +30,10 @@ fn put_padding<A: Allocator>(out: &mut Vec<u8, A>, len: u64)
 /// Appends a tag whose body is a text and its zero (3.6.5 "Boot command line", 3.6.9 "Boot loader
 /// name").
 pub(crate) fn put_text<A: Allocator>(out: &mut Vec<u8, A>, kind: u32, text: &[u8])
-    requires room { vec_len out.old + tag_size (length text.now + 1) ≤ vec_capacity out.old }
+    requires room { HasRoomFor out.old (tag_size (length text.now + 1)) }
     requires small { tag_size (length text.now + 1) < 2 ^ 32 }
-    ensures items { out.new.items ≡ out.old.items ++ tag kind (text_body text.now) }
-    ensures len { vec_len out.new ≡ vec_len out.old + tag_size (length text.now + 1) }
-    ensures capacity { vec_capacity out.old ≤ vec_capacity out.new }
+    ensures { Appends out.old out.new (tag kind (text_body text.now))
+        (tag_size (length text.now + 1)) }
 {
     put_u32(out, kind);
     put_u32(out, text.len() as u32 + 9);
@@ -46,11 +44,10 @@ pub(crate) fn put_text<A: Allocator>(out: &mut Vec<u8, A>, kind: u32, text: &[u8
 
 /// Appends a module's tag.
 fn put_module<A: Allocator>(out: &mut Vec<u8, A>, loaded: &ModuleToWrite<'_>)
-    requires room { vec_len out.old + tag_size (length loaded.now.line + 9) ≤ vec_capacity out.old }
+    requires room { HasRoomFor out.old (tag_size (length loaded.now.line + 9)) }
     requires small { tag_size (length loaded.now.line + 9) < 2 ^ 32 }
-    ensures items { out.new.items ≡ out.old.items ++ module_tag loaded.now }
-    ensures len { vec_len out.new ≡ vec_len out.old + tag_size (length loaded.now.line + 9) }
-    ensures capacity { vec_capacity out.old ≤ vec_capacity out.new }
+    ensures { Appends out.old out.new (module_tag loaded.now)
+        (tag_size (length loaded.now.line + 9)) }
 {
     let line = loaded.line;
     put_u32(out, TAG_MODULE);
@@ -64,13 +61,10 @@ fn put_module<A: Allocator>(out: &mut Vec<u8, A>, loaded: &ModuleToWrite<'_>)
 
 /// Appends the tags of modules, in their order.
 pub(crate) fn put_modules<A: Allocator>(out: &mut Vec<u8, A>, modules: &[ModuleToWrite<'_>])
-    requires room { vec_len out.old + sum_by (λ m. tag_size (length m.line + 9)) modules.now
-        ≤ vec_capacity out.old }
-    requires small { sum_by (λ m. tag_size (length m.line + 9)) modules.now < 2 ^ 32 }
-    ensures items { out.new.items ≡ out.old.items ++ flat_map module_tag modules.now }
-    ensures len { vec_len out.new
-        ≡ vec_len out.old + sum_by (λ m. tag_size (length m.line + 9)) modules.now }
-    ensures capacity { vec_capacity out.old ≤ vec_capacity out.new }
+    requires room { HasRoomFor out.old (modules_size modules.now) }
+    requires small { modules_size modules.now < 2 ^ 32 }
+    ensures { Appends out.old out.new (flat_map module_tag modules.now)
+        (modules_size modules.now) }
 {
     for module in modules {
         put_module(out, module);
@@ -79,10 +73,8 @@ pub(crate) fn put_modules<A: Allocator>(out: &mut Vec<u8, A>, modules: &[ModuleT
 
 /// Appends the sizes of memory.
 pub(crate) fn put_memory<A: Allocator>(out: &mut Vec<u8, A>, mem_lower: u32, mem_upper: u32)
-    requires { vec_len out.old + 16 ≤ vec_capacity out.old }
-    ensures items { out.new.items ≡ out.old.items ++ tag 4 (memory_body mem_lower mem_upper) }
-    ensures len { vec_len out.new ≡ vec_len out.old + 16 }
-    ensures capacity { vec_capacity out.old ≤ vec_capacity out.new }
+    requires { HasRoomFor out.old 16 }
+    ensures { Appends out.old out.new (tag 4 (memory_body mem_lower mem_upper)) 16 }
 {
     put_u32(out, TAG_BASIC_MEMORY);
     put_u32(out, 16);
@@ -91,10 +83,8 @@ pub(crate) fn put_memory<A: Allocator>(out: &mut Vec<u8, A>, mem_lower: u32, mem
 }
 
 fn put_run<A: Allocator>(out: &mut Vec<u8, A>, run: &Region)
-    requires { vec_len out.old + map_entry_size ≤ vec_capacity out.old }
-    ensures items { out.new.items ≡ out.old.items ++ run_bytes run.now }
-    ensures len { vec_len out.new ≡ vec_len out.old + map_entry_size }
-    ensures capacity { vec_capacity out.old ≤ vec_capacity out.new }
+    requires { HasRoomFor out.old map_entry_size }
+    ensures { Appends out.old out.new (run_bytes run.now) map_entry_size }
 {
     put_u64(out, run.base);
     put_u64(out, run.length);
@@ -103,10 +93,9 @@ fn put_run<A: Allocator>(out: &mut Vec<u8, A>, run: &Region)
 }
 
 fn put_runs<A: Allocator>(out: &mut Vec<u8, A>, runs: &[Region])
-    requires { vec_len out.old + map_entry_size * length runs.now ≤ vec_capacity out.old }
-    ensures items { out.new.items ≡ out.old.items ++ flat_map run_bytes runs.now }
-    ensures len { vec_len out.new ≡ vec_len out.old + map_entry_size * length runs.now }
-    ensures capacity { vec_capacity out.old ≤ vec_capacity out.new }
+    requires { HasRoomFor out.old (map_entry_size * length runs.now) }
+    ensures { Appends out.old out.new (flat_map run_bytes runs.now)
+        (map_entry_size * length runs.now) }
 {
     for run in runs {
         put_run(out, run);
@@ -115,12 +104,10 @@ fn put_runs<A: Allocator>(out: &mut Vec<u8, A>, runs: &[Region])
 
 /// Appends the memory map.
 pub(crate) fn put_map<A: Allocator>(out: &mut Vec<u8, A>, runs: &[Region])
-    requires room { vec_len out.old + (16 + map_entry_size * length runs.now)
-        ≤ vec_capacity out.old }
+    requires room { HasRoomFor out.old (16 + map_entry_size * length runs.now) }
     requires small { 16 + map_entry_size * length runs.now < 2 ^ 32 }
-    ensures items { out.new.items ≡ out.old.items ++ tag 6 (map_body runs.now) }
-    ensures len { vec_len out.new ≡ vec_len out.old + (16 + map_entry_size * length runs.now) }
-    ensures capacity { vec_capacity out.old ≤ vec_capacity out.new }
+    ensures { Appends out.old out.new (tag 6 (map_body runs.now))
+        (16 + map_entry_size * length runs.now) }
 {
     put_u32(out, TAG_MEMORY_MAP);
     put_u32(out, 16 + ENTRY_SIZE * runs.len() as u32);
@@ -131,13 +118,10 @@ pub(crate) fn put_map<A: Allocator>(out: &mut Vec<u8, A>, runs: &[Region])
 
 /// Appends the tag of a copy, where there is one.
 pub(crate) fn put_copy<A: Allocator>(out: &mut Vec<u8, A>, kind: u32, copy: Option<&[u8]>)
-    requires room { vec_len out.old + copy_size (option_map length (option_copied copy))
-        ≤ vec_capacity out.old }
+    requires room { HasRoomFor out.old (copy_size (option_map length (option_copied copy))) }
     requires small { copy_size (option_map length (option_copied copy)) < 2 ^ 32 }
-    ensures items { out.new.items ≡ out.old.items ++ copy_tag kind (option_copied copy.entry) }
-    ensures len { vec_len out.new
-        ≡ vec_len out.old + copy_size (option_map length (option_copied copy.entry)) }
-    ensures capacity { vec_capacity out.old ≤ vec_capacity out.new }
+    ensures { Appends out.old out.new (copy_tag kind (option_copied copy.entry))
+        (copy_size (option_map length (option_copied copy.entry))) }
 {
     if let Some(copy) = copy {
         put_u32(out, kind);
@@ -149,10 +133,9 @@ pub(crate) fn put_copy<A: Allocator>(out: &mut Vec<u8, A>, kind: u32, copy: Opti
 
 /// Appends the tag of a load base, where there is one.
 pub(crate) fn put_load_base<A: Allocator>(out: &mut Vec<u8, A>, load_base: Option<u32>)
-    requires { vec_len out.old + load_base_size (is_some load_base) ≤ vec_capacity out.old }
-    ensures items { out.new.items ≡ out.old.items ++ load_base_tag load_base }
-    ensures len { vec_len out.new ≡ vec_len out.old + load_base_size (is_some load_base) }
-    ensures capacity { vec_capacity out.old ≤ vec_capacity out.new }
+    requires { HasRoomFor out.old (load_base_size (is_some load_base)) }
+    ensures { Appends out.old out.new (load_base_tag load_base)
+        (load_base_size (is_some load_base)) }
 {
     if let Some(load_base_addr) = load_base {
         put_u32(out, TAG_LOAD_BASE);
@@ -164,7 +147,7 @@ pub(crate) fn put_load_base<A: Allocator>(out: &mut Vec<u8, A>, load_base: Optio
 
 /// Appends the tag that ends the information.
 pub(crate) fn put_end<A: Allocator>(out: &mut Vec<u8, A>)
-    requires { vec_len out.old + 8 ≤ vec_capacity out.old }
+    requires { HasRoomFor out.old 8 }
     ensures { out.new.items ≡ out.old.items ++ tag 0 [] }
 {
     put_u32(out, TAG_END);

@@ -1,14 +1,16 @@
 //! Boot information as bytes.
-ghost use Rattle.std.specs.Prelude.{◌≡◌, ◌≤◌, ◌+◌, ◌^◌, ◌<◌, ◌++◌, [], codes, length, sum_by};
+ghost use Rattle.std.specs.Prelude.{◌≡◌, ◌≤◌, ◌+◌, ◌^◌, ◌<◌, ◌++◌, [], codes, length};
 ghost use Rattle.std.specs.Prelude.{option_map, option_copied, vec_len, vec_capacity, IsOk, OnOk};
 ghost use Rattle.std.specs.Prelude.{OnErr};
 ghost use Rattle.std.specs.List.{flat_map};
-ghost use Rattle.bl_mbi.specs.Size.{tag_size, copy_size};
+ghost use Rattle.bl_mbi.specs.Size.{copy_size};
 ghost use Rattle.bl_mbi.specs.InfoToWriteFacts.{info_size as size_of_info};
 ghost use Rattle.bl_mbi.specs.Spelling.{info_spelling};
 ghost use Rattle.bl_mbi.specs.Tags.{tag, text_body, module_tag, memory_body, map_body, copy_tag};
 ghost use Rattle.bl_mbi.specs.Tags.{load_base_tag};
+ghost use Rattle.bl_mbi.specs.internal.Appending.{HasRoomFor, Appends};
 ghost use Rattle.bl_mbi.specs.internal.GroupSizes.{texts_size, map_tags_size, closing_tags_size};
+ghost use Rattle.bl_mbi.specs.internal.GroupSizes.{modules_size};
 
 use crate::fields::{
     ENTRY_SIZE, TAG_ACPI_NEW, TAG_ACPI_OLD, TAG_BOOT_LOADER_NAME, TAG_COMMAND_LINE,
@@ -24,8 +26,8 @@ use std::alloc::{AllocError, Allocator};
 
 /// How many bytes the tags of modules take.
 fn modules_len(modules: &[ModuleToWrite<'_>]) -> u64
-    requires { sum_by (λ m. tag_size (length m.line + 9)) modules.now < 2 ^ 32 }
-    ensures { result ≡ sum_by (λ m. tag_size (length m.line + 9)) modules.now }
+    requires { modules_size modules.now < 2 ^ 32 }
+    ensures { result ≡ modules_size modules.now }
 {
     let mut sum = 0;
     for loaded in modules {
@@ -77,11 +79,10 @@ pub fn info_size(facts: &InfoToWrite<'_>) -> u64
 
 /// Appends the tags of texts: the line, the loader's name, the modules.
 fn put_texts<A: Allocator>(facts: &InfoToWrite<'_>, out: &mut Vec<u8, A>)
-    requires { vec_len out.old + texts_size facts.now ≤ vec_capacity out.old }
-    ensures items { out.new.items ≡ out.old.items ++ (tag 1 (text_body facts.now.line)
-        ++ (tag 2 (text_body (codes "bootcore")) ++ flat_map module_tag facts.now.modules)) }
-    ensures len { vec_len out.new ≡ vec_len out.old + texts_size facts.now }
-    ensures capacity { vec_capacity out.old ≤ vec_capacity out.new }
+    requires { HasRoomFor out.old (texts_size facts.now) }
+    ensures { Appends out.old out.new (tag 1 (text_body facts.now.line)
+        ++ (tag 2 (text_body (codes "bootcore")) ++ flat_map module_tag facts.now.modules))
+        (texts_size facts.now) }
 {
     put_text(out, TAG_COMMAND_LINE, facts.line);
     put_text(out, TAG_BOOT_LOADER_NAME, b"bootcore");
@@ -90,12 +91,9 @@ fn put_texts<A: Allocator>(facts: &InfoToWrite<'_>, out: &mut Vec<u8, A>)
 
 /// Appends the tags of memory: its sizes, its map.
 fn put_map_tags<A: Allocator>(facts: &InfoToWrite<'_>, out: &mut Vec<u8, A>)
-    requires { vec_len out.old + map_tags_size facts.now ≤ vec_capacity out.old }
-    ensures items { out.new.items ≡ out.old.items
-        ++ (tag 4 (memory_body facts.now.mem_lower facts.now.mem_upper)
-        ++ tag 6 (map_body facts.now.runs)) }
-    ensures len { vec_len out.new ≡ vec_len out.old + map_tags_size facts.now }
-    ensures capacity { vec_capacity out.old ≤ vec_capacity out.new }
+    requires { HasRoomFor out.old (map_tags_size facts.now) }
+    ensures { Appends out.old out.new (tag 4 (memory_body facts.now.mem_lower facts.now.mem_upper)
+        ++ tag 6 (map_body facts.now.runs)) (map_tags_size facts.now) }
 {
     put_memory(out, facts.mem_lower, facts.mem_upper);
     put_map(out, facts.runs);
@@ -103,7 +101,7 @@ fn put_map_tags<A: Allocator>(facts: &InfoToWrite<'_>, out: &mut Vec<u8, A>)
 
 /// Appends the tags that do not always stand, and the one that ends the information.
 fn put_last<A: Allocator>(facts: &InfoToWrite<'_>, out: &mut Vec<u8, A>)
-    requires { vec_len out.old + closing_tags_size facts.now ≤ vec_capacity out.old }
+    requires { HasRoomFor out.old (closing_tags_size facts.now) }
     ensures { out.new.items ≡ out.old.items ++ (copy_tag 14 facts.now.rsdp_old
         ++ (copy_tag 15 facts.now.rsdp_new ++ (load_base_tag facts.now.load_base ++ tag 0 []))) }
 {

@@ -1,1 +1,2 @@
 pub mod CheckedForm
+pub mod FieldWriting

@@ -5,7 +5,7 @@ ghost use Rattle.bl_bzimage.specs.Setup.{header_end};
 ghost use Rattle.bl_params.specs.BootParamsForm.{breaks_at, is_nonzero_at, e820_entry_count};
 ghost use Rattle.bl_params.specs.Reading.{HasFirstParamFault};
 ghost use Rattle.bl_params.specs.ParamsToWriteFacts.{max_e820_entries};
-ghost use Rattle.bl_params.specs.internal.CheckedForm.{HasFormBelow, HasFormBetween};
+ghost use Rattle.bl_params.specs.internal.CheckedForm.{HasFormBelow, HasFormBetween, GoesOnTo};
 ghost use Rattle.bl_params.specs.SizesAndOffsets.{params_size};
 
 use crate::fault::ParamFault;
@@ -23,9 +23,7 @@ pub fn check_field(bytes: &[u8], at: usize, next: usize, is_broken: bool) -> Res
     requires upto { HasFormBelow bytes.now at }
     requires here { is_broken ≡ breaks_at bytes.now at }
     requires quiet { HasFormBetween bytes.now (at + 1) next }
-    ensures { MatchResult result
-        (λ _. HasFormBelow bytes.now next × (is_broken ≡ false))
-        (HasFirstParamFault bytes.now) }
+    ensures { GoesOnTo bytes.now next (is_broken ≡ false) result }
 {
     if is_broken {
         return Err(ParamFault::BadParams(at as u64));
@@ -62,9 +60,7 @@ pub fn end_of_header(bytes: &[u8]) -> usize
 /// The bytes before the header.
 pub fn pass_front(bytes: &[u8]) -> Result<(), ParamFault>
     requires { length bytes.now ≡ params_size }
-    ensures { MatchResult result
-        (λ _. HasFormBelow bytes.now 0x1F1 × (e820_entry_count bytes.now ≤ max_e820_entries))
-        (HasFirstParamFault bytes.now) }
+    ensures { GoesOnTo bytes.now 0x1F1 (e820_entry_count bytes.now ≤ max_e820_entries) result }
 {
     pass_zeros(bytes, 0, E820_ENTRIES)?;
     check_field(
@@ -81,9 +77,7 @@ pub fn pass_front(bytes: &[u8]) -> Result<(), ParamFault>
 fn pass_magic(bytes: &[u8]) -> Result<(), ParamFault>
     requires whole { length bytes.now ≡ params_size }
     requires upto { HasFormBelow bytes.now 0x1F1 }
-    ensures { MatchResult result
-        (λ _. HasFormBelow bytes.now 0x206 × (0x264 ≤ header_end bytes.now))
-        (HasFirstParamFault bytes.now) }
+    ensures { GoesOnTo bytes.now 0x206 (0x264 ≤ header_end bytes.now) result }
 {
     check_field(
         bytes,
@@ -141,10 +135,7 @@ fn pass_loader(bytes: &[u8]) -> Result<(), ParamFault>
 pub fn pass_header(bytes: &[u8]) -> Result<(), ParamFault>
     requires whole { length bytes.now ≡ params_size }
     requires upto { HasFormBelow bytes.now 0x1F1 }
-    ensures { MatchResult result
-        (λ _. HasFormBelow bytes.now (header_end bytes.now)
-        × (0x264 ≤ header_end bytes.now))
-        (HasFirstParamFault bytes.now) }
+    ensures { GoesOnTo bytes.now (header_end bytes.now) (0x264 ≤ header_end bytes.now) result }
 {
     pass_magic(bytes)?;
     pass_loader(bytes)?;

@@ -1,6 +1,7 @@
 //! Fields written at their offsets.
-ghost use Rattle.std.specs.Prelude.{◌≡◌, ◌≤◌, ◌+◌, ℕ, length, slice_index};
-ghost use Rattle.bl_params.specs.FieldBytes.{byte_over, number_bytes};
+ghost use Rattle.std.specs.Prelude.{◌≤◌, ◌+◌, length};
+ghost use Rattle.bl_params.specs.FieldBytes.{number_bytes};
+ghost use Rattle.bl_params.specs.internal.FieldWriting.{IsWrittenAt};
 ghost use Rattle.bl_params.specs.SizesAndOffsets.{params_size};
 
 use byteorder::{ByteOrder, LittleEndian};
@@ -9,8 +10,7 @@ use byteorder::{ByteOrder, LittleEndian};
 #[tactic(auto, unfolding(crate::specs::FieldBytes::byte_over))]
 pub fn write_field(out: &mut [u8; 4096], at: usize, field: &[u8])
     requires { at + length field.now ≤ params_size }
-    ensures { (k : ℕ) → slice_index out.new k
-        ≡ byte_over at field.now (λ j. slice_index out.old j) k }
+    ensures { IsWrittenAt at field.now out.old out.new }
 {
     out[at..at + field.len()].copy_from_slice(field);
 }
@@ -19,8 +19,7 @@ pub fn write_field(out: &mut [u8; 4096], at: usize, field: &[u8])
 #[tactic(auto, unfolding(crate::specs::FieldBytes::number_bytes))]
 pub fn write_u16(out: &mut [u8; 4096], at: usize, n: u16)
     requires { at + 2 ≤ params_size }
-    ensures { (k : ℕ) → slice_index out.new k
-        ≡ byte_over at (number_bytes 2 n) (λ j. slice_index out.old j) k }
+    ensures { IsWrittenAt at (number_bytes 2 n) out.old out.new }
 {
     let mut field = [0u8; 2];
     LittleEndian::write_u16(&mut field, n);
@@ -31,8 +30,7 @@ pub fn write_u16(out: &mut [u8; 4096], at: usize, n: u16)
 #[tactic(auto, unfolding(crate::specs::FieldBytes::number_bytes))]
 pub fn write_u32(out: &mut [u8; 4096], at: usize, n: u32)
     requires { at + 4 ≤ params_size }
-    ensures { (k : ℕ) → slice_index out.new k
-        ≡ byte_over at (number_bytes 4 n) (λ j. slice_index out.old j) k }
+    ensures { IsWrittenAt at (number_bytes 4 n) out.old out.new }
 {
     let mut field = [0u8; 4];
     LittleEndian::write_u32(&mut field, n);
@@ -43,8 +41,7 @@ pub fn write_u32(out: &mut [u8; 4096], at: usize, n: u32)
 #[tactic(auto, unfolding(crate::specs::FieldBytes::number_bytes))]
 pub fn write_u64(out: &mut [u8; 4096], at: usize, n: u64)
     requires { at + 8 ≤ params_size }
-    ensures { (k : ℕ) → slice_index out.new k
-        ≡ byte_over at (number_bytes 8 n) (λ j. slice_index out.old j) k }
+    ensures { IsWrittenAt at (number_bytes 8 n) out.old out.new }
 {
     let mut field = [0u8; 8];
     LittleEndian::write_u64(&mut field, n);

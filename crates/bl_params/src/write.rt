@@ -1,9 +1,9 @@
 //! Boot parameters as bytes.
-ghost use Rattle.std.specs.Prelude.{◌≡◌, ◌≤◌, ◌+◌, ℕ, length, replicate, slice_index};
+ghost use Rattle.std.specs.Prelude.{◌≡◌, ◌≤◌, ◌+◌, length, replicate};
 ghost use Rattle.std.specs.List.{flat_map};
 ghost use Rattle.bl_params.specs.BootParams.{boot_params, e820_entry_bytes};
-ghost use Rattle.bl_params.specs.FieldBytes.{byte_over};
 ghost use Rattle.bl_params.specs.ParamsToWriteFacts.{max_e820_entries};
+ghost use Rattle.bl_params.specs.internal.FieldWriting.{IsWrittenAt};
 ghost use Rattle.bl_params.specs.SizesAndOffsets.{e820_entry_size, e820_table_at, params_size};
 
 use crate::field_writer::{write_field, write_u16, write_u32, write_u64};
@@ -25,8 +25,7 @@ fn clear(out: &mut [u8])
 /// Writes an entry of the memory map.
 fn put_entry(out: &mut [u8; 4096], at: usize, run: &Region)
     requires { at + e820_entry_size ≤ params_size }
-    ensures { (k : ℕ) → slice_index out.new k
-        ≡ byte_over at (e820_entry_bytes run.now) (λ j. slice_index out.old j) k }
+    ensures { IsWrittenAt at (e820_entry_bytes run.now) out.old out.new }
 {
     write_u64(out, at, run.base);
     write_u64(out, at + ENTRY_LENGTH, run.length);
@@ -36,9 +35,7 @@ fn put_entry(out: &mut [u8; 4096], at: usize, run: &Region)
 /// Writes the memory map.
 fn put_entries(out: &mut [u8; 4096], runs: &[Region])
     requires { length runs.now ≤ max_e820_entries }
-    ensures { (k : ℕ) → slice_index out.new k
-        ≡ byte_over e820_table_at (flat_map e820_entry_bytes runs.now)
-        (λ j. slice_index out.old j) k }
+    ensures { IsWrittenAt e820_table_at (flat_map e820_entry_bytes runs.now) out.old out.new }
 {
     let mut at = E820_TABLE;
     for run in runs {
