@@ -19,9 +19,16 @@ use Rattle.bl_image.specs.Fields.{Field, fields_fault, record_fields, role_field
 use Rattle.bl_image.specs.Fields.{address_field, length_field}
 use Rattle.bl_image.specs.ImageFaults.{fault_or, record_fault, RecordsBefore, with_record}
 use Rattle.bl_image.specs.ImageFaults.{parts_fault}
-use Rattle.bl_image.specs.Source.{SourceFacts, ShowsFault, IsInputFault}
+use Rattle.bl_image.specs.Source.{SourceFacts, Comes, ShowsFault, IsInputFault}
+use Rattle.bl_image.specs.internal.SourceReading.{Passes}
 use Rattle.bl_image.proofs.NumbersAgain.{role_fits, role_between}
 use Rattle.bl_image.proofs.FieldLemmas.{field_passes, word_tells, long_tells}
+
+-- an index may be anything
+pub index_passes : {old new : SourceFacts} (part n : ℕ) → Comes old new (u32_bytes n)
+    → Passes (index_field part) old new (u32_bytes n)
+unfolding index_field
+index_passes part n comes = record { comes = comes; size = length-u32_bytes n; passes = refl }
 
 shows_as : (fault_in other : List ℕ → Option ImageFault) (old new : SourceFacts) (fault : ImageFault)
     → ((bytes : List ℕ) → fault_in bytes ≡ Some fault → other bytes ≡ Some fault)

@@ -1,2 +1,3 @@
 pub mod PlaceRecords
+pub mod SinkWriting
 pub mod SourceReading

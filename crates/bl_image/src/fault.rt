@@ -19,8 +19,8 @@ pub enum ImageFault {
     #[error("bad version")]
     BadVersion,
 
-    /// The protocol is none of the version, which has 1 and 2, and from version 2 on 3; in version 2
-    /// under protocol 1 or 2, a register that the protocol does not give is not 0, or another one
+    /// The protocol is none of the version, which has 1 and 2, and in version 2 also 3; in version
+    /// 2 under protocol 1 or 2, a register that the protocol does not give is not 0, or another one
     /// is 2^32 or more; there are more than 256 parts; or the word after their number is not 0.
     #[error("bad header")]
     BadHeader,

@@ -1,9 +1,8 @@
 //! Fields of an image, read one after the other.
-ghost use Rattle.std.specs.Prelude.{◌≡◌, ◌+◌, ◌*◌, ◌<◌, ◌^◌, length, All, IfOk, OnOk, IfErr};
+ghost use Rattle.std.specs.Prelude.{◌≡◌, ◌*◌, ◌<◌, ◌^◌, length, All, IfOk, OnOk};
 ghost use Rattle.std.specs.List.{flat_map};
 ghost use Rattle.bl_mem.specs.LittleEndian.{u32_bytes, u64_bytes};
-ghost use Rattle.bl_image.specs.Source.{Comes, faults_met};
-ghost use Rattle.bl_image.specs.internal.SourceReading.{IsCut};
+ghost use Rattle.bl_image.specs.internal.SourceReading.{ReadsBytes};
 
 use crate::fault::ImageFault;
 use crate::source::{Source, fill};
@@ -11,10 +10,8 @@ use crate::source::{Source, fill};
 /// Fills `out`; an input that ends before has the wrong length.
 pub(crate) fn read_exact<S: Source>(source: &mut S, out: &mut [u8]) -> Result<(), ImageFault>
     requires { S.faults source.old < 2 ^ 63 }
-    ensures ok { OnOk result (Comes (S.input source.old) (S.input source.new) out.new) }
-    ensures cut { IfErr result
-        (IsCut (S.input source.old) (S.input source.new) (length out.new)) }
-    ensures faults { S.faults source.new ≡ S.faults source.old + faults_met result }
+    ensures { ReadsBytes S.input S.faults source.old source.new (length out.new)
+        (λ _. out.new) result }
 {
     if fill(source, out)? < out.len() {
         return Err(ImageFault::WrongLength);
@@ -41,11 +38,8 @@ fn u64_of(field: [u8; 8]) -> u64
 /// Reads a number of 32 bits.
 pub(crate) fn read_u32<S: Source>(source: &mut S) -> Result<u32, ImageFault>
     requires { S.faults source.old < 2 ^ 63 }
-    ensures ok { IfOk result
-        (λ n. Comes (S.input source.old) (S.input source.new) (u32_bytes n)) }
+    ensures read { ReadsBytes S.input S.faults source.old source.new 4 u32_bytes result }
     ensures fits { IfOk result (λ n. n < 2 ^ 32) }
-    ensures cut { IfErr result (IsCut (S.input source.old) (S.input source.new) 4) }
-    ensures faults { S.faults source.new ≡ S.faults source.old + faults_met result }
 {
     let mut field = [0u8; 4];
     read_exact(source, &mut field)?;
@@ -55,11 +49,8 @@ pub(crate) fn read_u32<S: Source>(source: &mut S) -> Result<u32, ImageFault>
 /// Reads a number of 64 bits.
 pub(crate) fn read_u64<S: Source>(source: &mut S) -> Result<u64, ImageFault>
     requires { S.faults source.old < 2 ^ 63 }
-    ensures ok { IfOk result
-        (λ n. Comes (S.input source.old) (S.input source.new) (u64_bytes n)) }
+    ensures read { ReadsBytes S.input S.faults source.old source.new 8 u64_bytes result }
     ensures fits { IfOk result (λ n. n < 2 ^ 64) }
-    ensures cut { IfErr result (IsCut (S.input source.old) (S.input source.new) 8) }
-    ensures faults { S.faults source.new ≡ S.faults source.old + faults_met result }
 {
     let mut field = [0u8; 8];
     read_exact(source, &mut field)?;
@@ -69,12 +60,9 @@ pub(crate) fn read_u64<S: Source>(source: &mut S) -> Result<u64, ImageFault>
 /// Reads as many numbers of 32 bits as `out` holds.
 pub(crate) fn read_u32s<S: Source>(source: &mut S, out: &mut [u32]) -> Result<(), ImageFault>
     requires { S.faults source.old < 2 ^ 63 }
-    ensures ok { OnOk result
-        (Comes (S.input source.old) (S.input source.new) (flat_map u32_bytes out.new)) }
+    ensures read { ReadsBytes S.input S.faults source.old source.new (4 * length out.new)
+        (λ _. flat_map u32_bytes out.new) result }
     ensures fit { OnOk result (All (λ n. n < 2 ^ 32) out.new) }
-    ensures cut { IfErr result
-        (IsCut (S.input source.old) (S.input source.new) (4 * length out.new)) }
-    ensures faults { S.faults source.new ≡ S.faults source.old + faults_met result }
 {
     for i in 0..out.len() {
         out[i] = read_u32(source)?;
@@ -85,12 +73,9 @@ pub(crate) fn read_u32s<S: Source>(source: &mut S, out: &mut [u32]) -> Result<()
 /// Reads as many numbers of 64 bits as `out` holds.
 pub(crate) fn read_u64s<S: Source>(source: &mut S, out: &mut [u64]) -> Result<(), ImageFault>
     requires { S.faults source.old < 2 ^ 63 }
-    ensures ok { OnOk result
-        (Comes (S.input source.old) (S.input source.new) (flat_map u64_bytes out.new)) }
+    ensures read { ReadsBytes S.input S.faults source.old source.new (8 * length out.new)
+        (λ _. flat_map u64_bytes out.new) result }
     ensures fit { OnOk result (All (λ n. n < 2 ^ 64) out.new) }
-    ensures cut { IfErr result
-        (IsCut (S.input source.old) (S.input source.new) (8 * length out.new)) }
-    ensures faults { S.faults source.new ≡ S.faults source.old + faults_met result }
 {
     for i in 0..out.len() {
         out[i] = read_u64(source)?;

@@ -1,11 +1,9 @@
 //! The head of an image, and its records.
-ghost use Rattle.std.specs.Prelude.{◌≡◌, ◌+◌, ◌*◌, ◌<◌, ◌≤◌, ◌^◌, ◌++◌, length, take, OnOk};
-ghost use Rattle.std.specs.Prelude.{OnErr};
-ghost use Rattle.std.specs.List.{flat_map};
-ghost use Rattle.bl_load.specs.HandoffFacts.{IsWellFormedHandoff};
-ghost use Rattle.bl_image.specs.SinkFacts.{TookBeginning};
+ghost use Rattle.std.specs.Prelude.{◌≡◌, ◌+◌, ◌*◌, ◌<◌, ◌≤◌, ◌^◌, ◌++◌, length, take};
 ghost use Rattle.bl_image.specs.Image.{head};
-ghost use Rattle.bl_image.specs.internal.PlaceRecords.{place_record, AreSpellable};
+ghost use Rattle.bl_image.specs.internal.PlaceRecords.{place_record, image_front, AreOfHandoff};
+ghost use Rattle.bl_image.specs.internal.PlaceRecords.{AreSpellable};
+ghost use Rattle.bl_image.specs.internal.SinkWriting.{Writes};
 ghost use Rattle.bl_image.specs.Spellable.{AreFit};
 ghost use Rattle.bl_image.specs.Versions.{written_version};
 
@@ -93,15 +91,10 @@ fn put_front<P: Places>(
     places: &P,
 ) -> usize
     requires room { MAX_FRONT ≤ length buffer.old }
-    requires kept { IsWellFormedHandoff (record {
-      protocol = protocol;
-      registers = registers.now;
-      places = P.places places.now;
-    }) }
+    requires kept { AreOfHandoff protocol registers.now (P.places places.now) }
     ensures within { result ≤ length buffer.new }
     ensures front { take result buffer.new
-        ≡ head written_version protocol registers.now (length (P.places places.now))
-        ++ flat_map place_record (P.places places.now) }
+        ≡ image_front protocol registers.now (P.places places.now) }
     ensures fit { AreSpellable registers.now (P.places places.now) }
 {
     let count = places.count();
@@ -124,20 +117,10 @@ pub(crate) fn write_front<S: Sink, P: Places>(
     buffer: &mut [u8],
 ) -> Result<(), DeviceFault>
     requires room { MAX_FRONT ≤ length buffer.old }
-    requires kept { IsWellFormedHandoff (record {
-      protocol = protocol;
-      registers = registers.now;
-      places = P.places places.now;
-    }) }
+    requires kept { AreOfHandoff protocol registers.now (P.places places.now) }
     requires faults { S.faults sink.old < 2 ^ 63 }
-    ensures ok { OnOk result (S.contents sink.new ≡ S.contents sink.old
-        ++ (head written_version protocol registers.now (length (P.places places.now))
-        ++ flat_map place_record (P.places places.now))) }
-    ensures sound { OnOk result (S.faults sink.new ≡ S.faults sink.old) }
-    ensures begun { OnErr result (TookBeginning (S.contents sink.old) (S.contents sink.new)
-        (head written_version protocol registers.now (length (P.places places.now))
-        ++ flat_map place_record (P.places places.now))) }
-    ensures fault { OnErr result (S.faults sink.new ≡ S.faults sink.old + 1) }
+    ensures written { Writes S.contents S.faults sink.old sink.new
+        (image_front protocol registers.now (P.places places.now)) result }
     ensures fit { AreSpellable registers.now (P.places places.now) }
 {
     let count = put_front(buffer, protocol, registers, places);

@@ -1,13 +1,14 @@
 //! The head of an image, read.
-ghost use Rattle.std.specs.Prelude.{◌≡◌, ◌+◌, ◌≤◌, ◌<◌, ◌^◌, MatchOption, IfOk, IfErr, IfSome};
+ghost use Rattle.std.specs.Prelude.{◌≤◌, ◌<◌, ◌^◌, IfOk, IfSome};
 ghost use Rattle.bl_mem.specs.LittleEndian.{u32_bytes};
 ghost use Rattle.bl_plan.specs.Protocols as protocols;
 ghost use Rattle.bl_load.specs.HandoffFacts.{max_parts};
-ghost use Rattle.bl_image.specs.Fields as fields;
+ghost use Rattle.bl_image.specs.Fields.{magic_field, version_field, protocol_field, count_field};
+ghost use Rattle.bl_image.specs.Fields.{zero_field};
 ghost use Rattle.bl_image.specs.Image.{magic, head};
 ghost use Rattle.bl_image.specs.ImageFaults.{head_fault};
-ghost use Rattle.bl_image.specs.Source.{Comes, IsInputFault, faults_met};
-ghost use Rattle.bl_image.specs.internal.SourceReading.{ReadsField};
+ghost use Rattle.bl_image.specs.internal.SourceReading.{ReadsField, ReadsOrRefuses};
+ghost use Rattle.bl_image.specs.internal.SourceReading.{IsFoundByNumber};
 ghost use Rattle.bl_image.specs.Spellable.{AreRegistersOf};
 ghost use Rattle.bl_image.specs.Versions.{version_number, max_protocol, HasProtocol};
 
@@ -30,9 +31,7 @@ pub(crate) struct Head {
 
 fn read_magic<S: Source>(source: &mut S) -> Result<(), ImageFault>
     requires { S.faults source.old < 2 ^ 63 }
-    ensures field { ReadsField fields.magic_field (S.input source.old) (S.input source.new)
-        (λ _. magic) result }
-    ensures faults { S.faults source.new ≡ S.faults source.old + faults_met result }
+    ensures { ReadsField S.input S.faults source.old source.new magic_field (λ _. magic) result }
 {
     let mut field = [0u8; 8];
     read_exact(source, &mut field)?;
@@ -43,9 +42,7 @@ fn read_magic<S: Source>(source: &mut S) -> Result<(), ImageFault>
 }
 
 fn version_of(number: u32) -> Option<Version>
-    ensures { MatchOption result
-        ((1 ≤ number) × (number ≤ 2) → ⊥)
-        (λ version. version_number version ≡ number) }
+    ensures { IsFoundByNumber version_number 2 number result }
 {
     match number {
         1 => Some(Version::One),
@@ -56,9 +53,8 @@ fn version_of(number: u32) -> Option<Version>
 
 fn read_version<S: Source>(source: &mut S) -> Result<Version, ImageFault>
     requires { S.faults source.old < 2 ^ 63 }
-    ensures field { ReadsField fields.version_field (S.input source.old) (S.input source.new)
+    ensures { ReadsField S.input S.faults source.old source.new version_field
         (λ version. u32_bytes (version_number version)) result }
-    ensures faults { S.faults source.new ≡ S.faults source.old + faults_met result }
 {
     let number = read_u32(source)?;
     let Some(version) = version_of(number) else {
@@ -68,9 +64,8 @@ fn read_version<S: Source>(source: &mut S) -> Result<Version, ImageFault>
 }
 
 fn protocol_of(version: Version, number: u32) -> Option<Protocol>
-    ensures number { MatchOption result
-        ((1 ≤ number) × (number ≤ max_protocol (version_number version)) → ⊥)
-        (λ protocol. protocols.protocol_number protocol ≡ number) }
+    ensures number { IsFoundByNumber protocols.protocol_number
+        (max_protocol (version_number version)) number result }
     ensures has { IfSome result (HasProtocol version) }
 {
     match (version, number) {
@@ -84,11 +79,10 @@ fn protocol_of(version: Version, number: u32) -> Option<Protocol>
 /// Reads the protocol, which is one of the version.
 fn read_protocol<S: Source>(source: &mut S, version: Version) -> Result<Protocol, ImageFault>
     requires { S.faults source.old < 2 ^ 63 }
-    ensures field { ReadsField (fields.protocol_field (version_number version))
-        (S.input source.old) (S.input source.new)
+    ensures read { ReadsField S.input S.faults source.old source.new
+        (protocol_field (version_number version))
         (λ protocol. u32_bytes (protocols.protocol_number protocol)) result }
     ensures has { IfOk result (HasProtocol version) }
-    ensures faults { S.faults source.new ≡ S.faults source.old + faults_met result }
 {
     let number = read_u32(source)?;
     let Some(protocol) = protocol_of(version, number) else {
@@ -99,10 +93,8 @@ fn read_protocol<S: Source>(source: &mut S, version: Version) -> Result<Protocol
 
 fn read_count<S: Source>(source: &mut S) -> Result<u32, ImageFault>
     requires { S.faults source.old < 2 ^ 63 }
-    ensures field { ReadsField fields.count_field (S.input source.old) (S.input source.new)
-        u32_bytes result }
+    ensures read { ReadsField S.input S.faults source.old source.new count_field u32_bytes result }
     ensures few { IfOk result (λ count. count ≤ max_parts) }
-    ensures faults { S.faults source.new ≡ S.faults source.old + faults_met result }
 {
     let count = read_u32(source)?;
     if count > MAX_COUNT {
@@ -113,9 +105,8 @@ fn read_count<S: Source>(source: &mut S) -> Result<u32, ImageFault>
 
 fn read_zero<S: Source>(source: &mut S) -> Result<(), ImageFault>
     requires { S.faults source.old < 2 ^ 63 }
-    ensures field { ReadsField fields.zero_field (S.input source.old) (S.input source.new)
+    ensures { ReadsField S.input S.faults source.old source.new zero_field
         (λ _. u32_bytes 0) result }
-    ensures faults { S.faults source.new ≡ S.faults source.old + faults_met result }
 {
     if read_u32(source)? != 0 {
         return Err(ImageFault::BadHeader);
@@ -126,14 +117,11 @@ fn read_zero<S: Source>(source: &mut S) -> Result<(), ImageFault>
 /// Reads the head of an image, field by field: first what tells how it goes on.
 pub(crate) fn read_head<S: Source>(source: &mut S) -> Result<Head, ImageFault>
     requires { S.faults source.old < 2 ^ 63 }
-    ensures ok { IfOk result (λ h. Comes (S.input source.old) (S.input source.new)
-        (head h.version h.protocol h.registers h.count)) }
+    ensures read { ReadsOrRefuses S.input S.faults source.old source.new head_fault
+        (λ h. head h.version h.protocol h.registers h.count) result }
     ensures fit { IfOk result (λ h. AreRegistersOf h.protocol h.registers) }
     ensures has { IfOk result (λ h. HasProtocol h.version h.protocol) }
     ensures few { IfOk result (λ h. h.count ≤ max_parts) }
-    ensures refused { IfErr result
-        (IsInputFault head_fault (S.input source.old) (S.input source.new)) }
-    ensures faults { S.faults source.new ≡ S.faults source.old + faults_met result }
 {
     read_magic(source)?;
     let version = read_version(source)?;

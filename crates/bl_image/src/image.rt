@@ -112,16 +112,10 @@ impl<A: Allocator> Image<A> {
         registers: Registers,
         parts: Vec<ImagePart<A>, A>,
     ) -> Image<A>
-        requires { IsWellFormedHandoff (handoff_of (record {
-          protocol = protocol;
-          registers = registers;
-          parts = parts.items;
-        })) }
-        ensures { result ≡ record {
-          protocol = protocol;
-          registers = registers;
-          parts = parts.items;
-        } }
+        requires { IsWellFormedHandoff (handoff_of
+            (record { protocol = protocol; registers = registers; parts = parts.items })) }
+        ensures { result
+            ≡ record { protocol = protocol; registers = registers; parts = parts.items } }
     {
         Image {
             protocol,

@@ -37,10 +37,8 @@ impl<R: Read + Drop> IoSource<R> {
 
     /// A source that reads from `reader`. Nothing came yet.
     pub fn new(reader: R) -> IoSource<R>
-        ensures { result ≡ record {
-          input = record { given = []; rest = R.remaining reader };
-          faults = 0;
-        } }
+        ensures { result
+            ≡ record { input = record { given = []; rest = R.remaining reader }; faults = 0 } }
     {
         // A history begins with what a writer holds: this one, nothing.
         let history = History::of(&io::sink());

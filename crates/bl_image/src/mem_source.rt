@@ -39,13 +39,8 @@ impl<A: Allocator> MemSource<A> {
     /// more than there are reads.
     pub fn new(bytes: Vec<u8, A>, step: usize, fail: u64) -> MemSource<A>
         requires { 1 ≤ step }
-        ensures { result ≡ record {
-          bytes = bytes.items;
-          at = 0;
-          step = step;
-          fail = fail;
-          faults = 0;
-        } }
+        ensures { result
+            ≡ record { bytes = bytes.items; at = 0; step = step; fail = fail; faults = 0 } }
     {
         MemSource {
             held: bytes,

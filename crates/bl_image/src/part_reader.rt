@@ -1,11 +1,9 @@
 //! The bytes of an image's parts, read.
-ghost use Rattle.std.specs.Prelude.{◌≡◌, ◌+◌, ◌≤◌, ◌<◌, ◌^◌, length, map, All, IfOk};
-ghost use Rattle.std.specs.Prelude.{OnOk, IfErr};
+ghost use Rattle.std.specs.Prelude.{◌≡◌, ◌≤◌, ◌<◌, ◌^◌, length, map, All, IfOk};
 ghost use Rattle.std.specs.List.{flat_map};
 ghost use Rattle.bl_image.specs.ImageHandover.{part_place};
 ghost use Rattle.bl_image.specs.internal.PlaceRecords.{total_length};
-ghost use Rattle.bl_image.specs.Source.{Comes, faults_met};
-ghost use Rattle.bl_image.specs.internal.SourceReading.{IsCut, IsReadBehind};
+ghost use Rattle.bl_image.specs.internal.SourceReading.{ReadsBytes, AppendsBytes};
 
 use crate::fault::ImageFault;
 use crate::fields::read_exact;
@@ -30,11 +28,8 @@ fn read_small<S: Source, A: Allocator>(
 ) -> Result<(), ImageFault>
     requires faults { S.faults source.old < 2 ^ 63 }
     requires small { count ≤ 4096 }
-    ensures ok { OnOk result
-        (IsReadBehind (S.input source.old) (S.input source.new) bytes.old.items bytes.new.items
-        count) }
-    ensures cut { IfErr result (IsCut (S.input source.old) (S.input source.new) count) }
-    ensures faults { S.faults source.new ≡ S.faults source.old + faults_met result }
+    ensures { AppendsBytes S.input S.faults source.old source.new bytes.old.items bytes.new.items
+        count result }
 {
     let mut buffer = [0u8; SMALL_READ];
     let piece = &mut buffer[..count];
@@ -51,11 +46,8 @@ fn read_large<S: Source, A: Allocator>(
 ) -> Result<(), ImageFault>
     requires faults { S.faults source.old < 2 ^ 63 }
     requires few { count ≤ 65536 }
-    ensures ok { OnOk result
-        (IsReadBehind (S.input source.old) (S.input source.new) bytes.old.items bytes.new.items
-        count) }
-    ensures cut { IfErr result (IsCut (S.input source.old) (S.input source.new) count) }
-    ensures faults { S.faults source.new ≡ S.faults source.old + faults_met result }
+    ensures { AppendsBytes S.input S.faults source.old source.new bytes.old.items bytes.new.items
+        count result }
 {
     let from = bytes.len();
     bytes.resize(from + count, 0)?;
@@ -72,11 +64,8 @@ fn read_piece<S: Source, A: Allocator>(
 ) -> Result<(), ImageFault>
     requires faults { S.faults source.old < 2 ^ 63 }
     requires few { count ≤ 65536 }
-    ensures ok { OnOk result
-        (IsReadBehind (S.input source.old) (S.input source.new) bytes.old.items bytes.new.items
-        count) }
-    ensures cut { IfErr result (IsCut (S.input source.old) (S.input source.new) count) }
-    ensures faults { S.faults source.new ≡ S.faults source.old + faults_met result }
+    ensures { AppendsBytes S.input S.faults source.old source.new bytes.old.items bytes.new.items
+        count result }
 {
     if count <= SMALL_READ {
         read_small(source, bytes, count)
@@ -104,11 +93,9 @@ fn read_bytes<S: Source, A: Allocator>(
 ) -> Result<Vec<u8, A>, ImageFault>
     requires faults { S.faults source.old < 2 ^ 63 }
     requires few { count ≤ 2 ^ 32 }
-    ensures ok { IfOk result
-        (λ bytes. Comes (S.input source.old) (S.input source.new) bytes.items) }
+    ensures read { ReadsBytes S.input S.faults source.old source.new count
+        (λ bytes. bytes.items) result }
     ensures count { IfOk result (λ bytes. length bytes.items ≡ count) }
-    ensures cut { IfErr result (IsCut (S.input source.old) (S.input source.new) count) }
-    ensures faults { S.faults source.new ≡ S.faults source.old + faults_met result }
 {
     let mut bytes = Vec::new(alloc);
     let mut done = 0u64;
@@ -128,12 +115,9 @@ fn read_part<S: Source, A: Allocator>(
 ) -> Result<ImagePart<A>, ImageFault>
     requires faults { S.faults source.old < 2 ^ 63 }
     requires few { place.now.length ≤ 2 ^ 32 }
-    ensures ok { IfOk result
-        (λ part. Comes (S.input source.old) (S.input source.new) part.bytes) }
+    ensures read { ReadsBytes S.input S.faults source.old source.new place.now.length
+        (λ part. part.bytes) result }
     ensures place { IfOk result (λ part. part_place part ≡ place.now) }
-    ensures cut { IfErr result
-        (IsCut (S.input source.old) (S.input source.new) place.now.length) }
-    ensures faults { S.faults source.new ≡ S.faults source.old + faults_met result }
 {
     let held = read_bytes(alloc, source, place.length)?;
     let bytes = Bytes::from(held);
@@ -148,12 +132,9 @@ pub(crate) fn read_parts<S: Source, A: Allocator + Copy>(
 ) -> Result<Vec<ImagePart<A>, A>, ImageFault>
     requires faults { S.faults source.old < 2 ^ 63 }
     requires few { All (λ place. place.length ≤ 2 ^ 32) places.now }
-    ensures ok { IfOk result (λ parts. Comes (S.input source.old) (S.input source.new)
-        (flat_map (λ part. part.bytes) parts.items)) }
+    ensures read { ReadsBytes S.input S.faults source.old source.new (total_length places.now)
+        (λ parts. flat_map (λ part. part.bytes) parts.items) result }
     ensures places { IfOk result (λ parts. map part_place parts.items ≡ places.now) }
-    ensures cut { IfErr result
-        (IsCut (S.input source.old) (S.input source.new) (total_length places.now)) }
-    ensures faults { S.faults source.new ≡ S.faults source.old + faults_met result }
 {
     let mut parts = Vec::new(alloc);
     for i in 0..places.len() {

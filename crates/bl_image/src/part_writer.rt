@@ -4,6 +4,7 @@ ghost use Rattle.std.specs.Prelude.{OnErr, IfOk};
 ghost use Rattle.std.specs.List.{flat_map};
 ghost use Rattle.bl_image.specs.SinkFacts.{TookBeginning};
 ghost use Rattle.bl_image.specs.internal.PlaceRecords.{place_bytes};
+ghost use Rattle.bl_image.specs.internal.SinkWriting.{Writes};
 
 use crate::sink::{DeviceFault, Sink, write_all};
 use bl_load::Handoff;
@@ -28,12 +29,8 @@ fn write_copy<M: PhysMem, S: Sink>(
 ) -> Result<(), DeviceFault>
     requires inside { at + length buffer.old ≤ length (M.bytes memory.now) }
     requires faults { S.faults sink.old < 2 ^ 63 }
-    ensures ok { OnOk result (S.contents sink.new ≡ S.contents sink.old
-        ++ slice_range (M.bytes memory.now) at (at + length buffer.old)) }
-    ensures sound { OnOk result (S.faults sink.new ≡ S.faults sink.old) }
-    ensures begun { OnErr result (TookBeginning (S.contents sink.old) (S.contents sink.new)
-        (slice_range (M.bytes memory.now) at (at + length buffer.old))) }
-    ensures fault { OnErr result (S.faults sink.new ≡ S.faults sink.old + 1) }
+    ensures { Writes S.contents S.faults sink.old sink.new
+        (slice_range (M.bytes memory.now) at (at + length buffer.old)) result }
 {
     memory.read(at, buffer);
     write_all(sink, buffer)
@@ -84,12 +81,8 @@ fn write_part<M: PhysMem, S: Sink>(
     requires inside { place.now.address + place.now.length ≤ length (M.bytes memory.now) }
     requires room { 1 ≤ length buffer.old }
     requires faults { S.faults sink.old < 2 ^ 63 }
-    ensures ok { OnOk result (S.contents sink.new ≡ S.contents sink.old
-        ++ place_bytes (M.bytes memory.now) place.now) }
-    ensures sound { OnOk result (S.faults sink.new ≡ S.faults sink.old) }
-    ensures begun { OnErr result (TookBeginning (S.contents sink.old) (S.contents sink.new)
-        (place_bytes (M.bytes memory.now) place.now)) }
-    ensures fault { OnErr result (S.faults sink.new ≡ S.faults sink.old + 1) }
+    ensures { Writes S.contents S.faults sink.old sink.new
+        (place_bytes (M.bytes memory.now) place.now) result }
 {
     // For the proof: each address lies below 2^64.
     let _size = memory.size();
@@ -114,12 +107,8 @@ pub(crate) fn write_parts<M: PhysMem, S: Sink, A: Allocator>(
         handoff.now.places }
     requires room { 1 ≤ length buffer.old }
     requires faults { S.faults sink.old < 2 ^ 63 }
-    ensures ok { OnOk result (S.contents sink.new ≡ S.contents sink.old
-        ++ flat_map (place_bytes (M.bytes memory.now)) handoff.now.places) }
-    ensures sound { OnOk result (S.faults sink.new ≡ S.faults sink.old) }
-    ensures begun { OnErr result (TookBeginning (S.contents sink.old) (S.contents sink.new)
-        (flat_map (place_bytes (M.bytes memory.now)) handoff.now.places)) }
-    ensures fault { OnErr result (S.faults sink.new ≡ S.faults sink.old + 1) }
+    ensures { Writes S.contents S.faults sink.old sink.new
+        (flat_map (place_bytes (M.bytes memory.now)) handoff.now.places) result }
 {
     for i in 0..handoff.len() {
         let place = handoff.place(i);

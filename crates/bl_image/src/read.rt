@@ -7,6 +7,7 @@ ghost use Rattle.bl_image.specs.ImageFaults.{image_fault, end_fault};
 ghost use Rattle.bl_image.specs.ImageHandover.{IsKeptByImages, IsImage};
 ghost use Rattle.bl_image.specs.Source.{Comes, IsEnded, IsInputFault, IsBytesFault, faults_met};
 ghost use Rattle.bl_image.specs.Source.{IsTransient};
+ghost use Rattle.bl_image.specs.internal.SourceReading.{ReadsOrRefuses};
 ghost use Rattle.bl_image.specs.Versions.{HasProtocol};
 ghost use Rattle.bl_image.specs.declared.version.Version.{Version};
 
@@ -21,11 +22,9 @@ use std::alloc::Allocator;
 /// Sees that nothing follows.
 fn read_end<S: Source>(source: &mut S) -> Result<(), ImageFault>
     requires { S.faults source.old < 2 ^ 63 }
-    ensures ok { OnOk result (Comes (S.input source.old) (S.input source.new) []) }
+    ensures read { ReadsOrRefuses S.input S.faults source.old source.new (end_fault 0)
+        (λ _. []) result }
     ensures ended { OnOk result (IsEnded (S.input source.new)) }
-    ensures refused { IfErr result
-        (IsInputFault (end_fault 0) (S.input source.old) (S.input source.new)) }
-    ensures faults { S.faults source.new ≡ S.faults source.old + faults_met result }
 {
     let mut next = [0u8; 1];
     if fill(source, &mut next)? != 0 {

@@ -1,17 +1,15 @@
 //! The records of an image, read.
-ghost use Rattle.std.specs.Prelude.{◌≡◌, ◌+◌, ◌≤◌, ◌<◌, ◌^◌, List, ℕ, ◌++◌, length, nat_le};
-ghost use Rattle.std.specs.Prelude.{◌&&◌, All, IfOk, IfErr, IfSome, MatchOption};
+ghost use Rattle.std.specs.Prelude.{◌≡◌, ◌+◌, ◌≤◌, ◌<◌, ◌^◌, nat_le, ◌&&◌, IfOk, IfSome};
 ghost use Rattle.std.specs.List.{flat_map};
 ghost use Rattle.bl_mem.specs.LittleEndian.{u32_bytes, u64_bytes};
 ghost use Rattle.bl_plan.specs.RoleNumbers as roles;
 ghost use Rattle.bl_load.specs.HandoffFacts.{max_parts, IsRoleAllowed};
 ghost use Rattle.bl_image.specs.Fields as fields;
 ghost use Rattle.bl_image.specs.Layouts.{max_role};
-ghost use Rattle.bl_image.specs.internal.PlaceRecords.{place_record, IsNext, AreSound};
-ghost use Rattle.bl_image.specs.internal.PlaceRecords.{total_length};
-ghost use Rattle.bl_image.specs.ImageFaults.{record_fault, parts_fault, end_fault, no_records};
-ghost use Rattle.bl_image.specs.Source.{Comes, IsInputFault, faults_met};
-ghost use Rattle.bl_image.specs.internal.SourceReading.{ReadsField};
+ghost use Rattle.bl_image.specs.internal.PlaceRecords.{place_record, IsNext, AreRecords};
+ghost use Rattle.bl_image.specs.ImageFaults.{record_fault, parts_fault, no_records};
+ghost use Rattle.bl_image.specs.internal.SourceReading.{ReadsField, ReadsOrRefuses};
+ghost use Rattle.bl_image.specs.internal.SourceReading.{IsFoundByNumber};
 
 use crate::fault::ImageFault;
 use crate::fields::{read_u32, read_u64};
@@ -24,9 +22,7 @@ const MAX_END: u64 = 0x1_0000_0000;
 
 fn role_of(number: u32, wide: bool) -> Option<Role>
     ensures may { IfSome result (IsRoleAllowed wide) }
-    ensures number { MatchOption result
-        ((1 ≤ number) × (number ≤ max_role wide) → ⊥)
-        (λ role. roles.role_number role ≡ number) }
+    ensures number { IsFoundByNumber roles.role_number (max_role wide) number result }
 {
     match number {
         1 => Some(Role::Kernel),
@@ -45,10 +41,9 @@ fn role_of(number: u32, wide: bool) -> Option<Role>
 fn read_role<S: Source>(source: &mut S, wide: bool, part: u32) -> Result<Role, ImageFault>
     requires { S.faults source.old < 2 ^ 63 }
     ensures may { IfOk result (IsRoleAllowed wide) }
-    ensures field { ReadsField (fields.role_field (max_role wide) part)
-        (S.input source.old) (S.input source.new)
+    ensures read { ReadsField S.input S.faults source.old source.new
+        (fields.role_field (max_role wide) part)
         (λ role. u32_bytes (roles.role_number role)) result }
-    ensures faults { S.faults source.new ≡ S.faults source.old + faults_met result }
 {
     let number = read_u32(source)?;
     let Some(role) = role_of(number, wide) else {
@@ -57,25 +52,13 @@ fn read_role<S: Source>(source: &mut S, wide: bool, part: u32) -> Result<Role, I
     Ok(role)
 }
 
-fn read_index<S: Source>(source: &mut S) -> Result<u32, ImageFault>
-    requires { S.faults source.old < 2 ^ 63 }
-    ensures field { (part : ℕ) → ReadsField (fields.index_field part)
-        (S.input source.old) (S.input source.new) u32_bytes result }
-    ensures fits { IfOk result (λ index. index < 2 ^ 32) }
-    ensures faults { S.faults source.new ≡ S.faults source.old + faults_met result }
-{
-    let index = read_u32(source)?;
-    Ok(index)
-}
-
 /// Reads an address, which is not below the end of the part before.
 fn read_address<S: Source>(source: &mut S, part: u32, before: u64) -> Result<u64, ImageFault>
     requires { S.faults source.old < 2 ^ 63 }
-    ensures field { ReadsField (fields.address_field part before)
-        (S.input source.old) (S.input source.new) u64_bytes result }
+    ensures read { ReadsField S.input S.faults source.old source.new
+        (fields.address_field part before) u64_bytes result }
     ensures fits { IfOk result (λ address. address < 2 ^ 64) }
     ensures above { IfOk result (λ address. before ≤ address) }
-    ensures faults { S.faults source.new ≡ S.faults source.old + faults_met result }
 {
     let address = read_u64(source)?;
     if address < before {
@@ -87,11 +70,10 @@ fn read_address<S: Source>(source: &mut S, part: u32, before: u64) -> Result<u64
 /// Reads the length of a part at this address.
 fn read_length<S: Source>(source: &mut S, part: u32, address: u64) -> Result<u64, ImageFault>
     requires { S.faults source.old < 2 ^ 63 }
-    ensures field { ReadsField (fields.length_field part address)
-        (S.input source.old) (S.input source.new) u64_bytes result }
+    ensures read { ReadsField S.input S.faults source.old source.new
+        (fields.length_field part address) u64_bytes result }
     ensures filled { IfOk result (λ count. 1 ≤ count) }
     ensures below { IfOk result (λ count. address + count ≤ 2 ^ 32) }
-    ensures faults { S.faults source.new ≡ S.faults source.old + faults_met result }
 {
     let count = read_u64(source)?;
     if !may_have(address, count) {
@@ -121,17 +103,13 @@ fn read_record<S: Source>(
     before: u64,
 ) -> Result<Place, ImageFault>
     requires { S.faults source.old < 2 ^ 63 }
-    ensures ok { IfOk result
-        (λ place. Comes (S.input source.old) (S.input source.new) (place_record place)) }
+    ensures read { ReadsOrRefuses S.input S.faults source.old source.new
+        (record_fault (max_role wide) part before) place_record result }
     ensures next { IfOk result (IsNext before) }
     ensures may { IfOk result (λ place. IsRoleAllowed wide place.role) }
-    ensures refused { IfErr result
-        (IsInputFault (record_fault (max_role wide) part before)
-        (S.input source.old) (S.input source.new)) }
-    ensures faults { S.faults source.new ≡ S.faults source.old + faults_met result }
 {
     let role = read_role(source, wide, part)?;
-    let index = read_index(source)?;
+    let index = read_u32(source)?;
     let address = read_address(source, part, before)?;
     let length = read_length(source, part, address)?;
     Ok(Place {
@@ -151,19 +129,10 @@ pub(crate) fn read_records<S: Source, A: Allocator>(
 ) -> Result<Vec<Place, A>, ImageFault>
     requires faults { S.faults source.old < 2 ^ 63 }
     requires few { count ≤ max_parts }
-    ensures ok { IfOk result (λ places. Comes (S.input source.old) (S.input source.new)
-        (flat_map place_record places.items)) }
-    ensures count { IfOk result (λ places. length places.items ≡ count) }
-    ensures sound { IfOk result (λ places. AreSound places.items (2 ^ 32)) }
-    ensures may { IfOk result
-        (λ places. All (λ place. IsRoleAllowed wide place.role) places.items) }
-    ensures judged { IfOk result (λ places. (bytes : List ℕ)
-        → parts_fault (max_role wide) count no_records
-        (flat_map place_record places.items ++ bytes)
-        ≡ end_fault (total_length places.items) bytes) }
-    ensures refused { IfErr result (IsInputFault (parts_fault (max_role wide) count no_records)
-        (S.input source.old) (S.input source.new)) }
-    ensures faults { S.faults source.new ≡ S.faults source.old + faults_met result }
+    ensures read { ReadsOrRefuses S.input S.faults source.old source.new
+        (parts_fault (max_role wide) count no_records)
+        (λ places. flat_map place_record places.items) result }
+    ensures are { IfOk result (λ places. AreRecords wide count places.items) }
 {
     let mut places = Vec::new(alloc);
     let mut before = 0u64;

@@ -1,16 +1,15 @@
 //! The registers of an image, read.
-ghost use Rattle.std.specs.Prelude.{◌≡◌, ◌+◌, ◌<◌, ◌^◌, All, IfOk, OnOk, length};
+ghost use Rattle.std.specs.Prelude.{◌<◌, ◌^◌, All, IfOk, OnOk, length};
 ghost use Rattle.std.specs.Prelude.{replicate};
 ghost use Rattle.std.specs.List.{flat_map};
 ghost use Rattle.bl_mem.specs.LittleEndian.{u64_bytes};
 ghost use Rattle.bl_plan.specs.Protocols as protocols;
 ghost use Rattle.bl_load.specs.declared.registers.Registers.TheVariants.{Bits32, Bits64};
-ghost use Rattle.bl_image.specs.Image.{narrow_values, spelled_registers, wide_values};
+ghost use Rattle.bl_image.specs.Image.{spelled_registers};
 ghost use Rattle.bl_image.specs.Fields as fields;
 ghost use Rattle.bl_image.specs.Layouts.{layout, layout_1, layout_2_narrow, layout_2_wide};
-ghost use Rattle.bl_image.specs.Source.{faults_met};
 ghost use Rattle.bl_image.specs.internal.SourceReading.{ReadsField, ReadsFields};
-ghost use Rattle.bl_image.specs.Spellable.{AreRegistersOf};
+ghost use Rattle.bl_image.specs.Spellable.{AreFit, AreRegistersOf};
 ghost use Rattle.bl_image.specs.Versions.{version_number, HasProtocol};
 ghost use Rattle.bl_image.specs.declared.version.Version.TheVariants as version;
 
@@ -41,11 +40,9 @@ const PAGING: usize = 3;
 /// Reads the registers of version 1, of which each may be anything.
 fn read_any_registers<S: Source>(source: &mut S) -> Result<Registers32, ImageFault>
     requires { S.faults source.old < 2 ^ 63 }
-    ensures fields { ReadsFields layout_1.registers (S.input source.old) (S.input source.new)
+    ensures read { ReadsFields S.input S.faults source.old source.new layout_1.registers
         (λ r. spelled_registers version.One (Bits32 r)) result }
-    ensures fit { IfOk result
-        (λ registers. All (λ n. n < 2 ^ 32) (narrow_values registers)) }
-    ensures faults { S.faults source.new ≡ S.faults source.old + faults_met result }
+    ensures fit { IfOk result (λ r. AreFit (Bits32 r)) }
 {
     let mut numbers = [0u32; REGISTERS];
     read_u32s(source, &mut numbers)?;
@@ -59,10 +56,9 @@ fn read_any_registers<S: Source>(source: &mut S) -> Result<Registers32, ImageFau
 /// Reads a register of 64 bits, of which the protocol gives 32.
 fn read_narrow<S: Source>(source: &mut S) -> Result<u32, ImageFault>
     requires { S.faults source.old < 2 ^ 63 }
-    ensures field { ReadsField fields.zero_extended_field (S.input source.old) (S.input source.new)
-        u64_bytes result }
+    ensures read { ReadsField S.input S.faults source.old source.new
+        fields.zero_extended_field u64_bytes result }
     ensures fits { IfOk result (λ n. n < 2 ^ 32) }
-    ensures faults { S.faults source.new ≡ S.faults source.old + faults_met result }
 {
     let number = read_u64(source)?;
     if number > u32::MAX as u64 {
@@ -74,9 +70,8 @@ fn read_narrow<S: Source>(source: &mut S) -> Result<u32, ImageFault>
 /// Reads a register that the protocol does not give.
 fn read_absent<S: Source>(source: &mut S) -> Result<(), ImageFault>
     requires { S.faults source.old < 2 ^ 63 }
-    ensures field { ReadsField fields.absent_field (S.input source.old) (S.input source.new)
+    ensures { ReadsField S.input S.faults source.old source.new fields.absent_field
         (λ _. u64_bytes 0) result }
-    ensures faults { S.faults source.new ≡ S.faults source.old + faults_met result }
 {
     if read_u64(source)? != 0 {
         return Err(ImageFault::BadHeader);
@@ -87,10 +82,10 @@ fn read_absent<S: Source>(source: &mut S) -> Result<(), ImageFault>
 /// Reads as many registers of 64 bits as `out` holds, of which the protocol gives 32.
 fn read_narrows<S: Source>(source: &mut S, out: &mut [u32]) -> Result<(), ImageFault>
     requires { S.faults source.old < 2 ^ 63 }
-    ensures fields { ReadsFields (replicate (length out.new) fields.zero_extended_field)
-        (S.input source.old) (S.input source.new) (λ _. flat_map u64_bytes out.new) result }
+    ensures read { ReadsFields S.input S.faults source.old source.new
+        (replicate (length out.new) fields.zero_extended_field)
+        (λ _. flat_map u64_bytes out.new) result }
     ensures fit { OnOk result (All (λ n. n < 2 ^ 32) out.new) }
-    ensures faults { S.faults source.new ≡ S.faults source.old + faults_met result }
 {
     for i in 0..out.len() {
         out[i] = read_narrow(source)?;
@@ -101,10 +96,8 @@ fn read_narrows<S: Source>(source: &mut S, out: &mut [u32]) -> Result<(), ImageF
 /// Reads so many registers that the protocol does not give.
 fn read_absents<S: Source>(source: &mut S, count: usize) -> Result<(), ImageFault>
     requires { S.faults source.old < 2 ^ 63 }
-    ensures fields { ReadsFields (replicate count fields.absent_field)
-        (S.input source.old) (S.input source.new)
-        (λ _. flat_map u64_bytes (replicate count 0)) result }
-    ensures faults { S.faults source.new ≡ S.faults source.old + faults_met result }
+    ensures { ReadsFields S.input S.faults source.old source.new
+        (replicate count fields.absent_field) (λ _. flat_map u64_bytes (replicate count 0)) result }
 {
     for _i in 0..count {
         read_absent(source)?;
@@ -115,11 +108,9 @@ fn read_absents<S: Source>(source: &mut S, count: usize) -> Result<(), ImageFaul
 /// Reads the registers of version 2 under a protocol of 32 bits.
 fn read_narrow_registers<S: Source>(source: &mut S) -> Result<Registers32, ImageFault>
     requires { S.faults source.old < 2 ^ 63 }
-    ensures fields { ReadsFields layout_2_narrow.registers (S.input source.old) (S.input source.new)
-        (λ r. spelled_registers version.Two (Bits32 r)) result }
-    ensures fit { IfOk result
-        (λ registers. All (λ n. n < 2 ^ 32) (narrow_values registers)) }
-    ensures faults { S.faults source.new ≡ S.faults source.old + faults_met result }
+    ensures read { ReadsFields S.input S.faults source.old source.new
+        layout_2_narrow.registers (λ r. spelled_registers version.Two (Bits32 r)) result }
+    ensures fit { IfOk result (λ r. AreFit (Bits32 r)) }
 {
     let mut first = [0u32; LOW];
     read_narrows(source, &mut first)?;
@@ -135,10 +126,9 @@ fn read_narrow_registers<S: Source>(source: &mut S) -> Result<Registers32, Image
 /// Reads the registers of version 2 under a protocol of 64 bits, of which each may be anything.
 fn read_wide_registers<S: Source>(source: &mut S) -> Result<Registers64, ImageFault>
     requires { S.faults source.old < 2 ^ 63 }
-    ensures fields { ReadsFields layout_2_wide.registers (S.input source.old) (S.input source.new)
-        (λ r. spelled_registers version.Two (Bits64 r)) result }
-    ensures fit { IfOk result (λ r. All (λ n. n < 2 ^ 64) (wide_values (Bits64 r))) }
-    ensures faults { S.faults source.new ≡ S.faults source.old + faults_met result }
+    ensures read { ReadsFields S.input S.faults source.old source.new
+        layout_2_wide.registers (λ r. spelled_registers version.Two (Bits64 r)) result }
+    ensures fit { IfOk result (λ r. AreFit (Bits64 r)) }
 {
     let mut numbers = [0u64; WIDE];
     read_u64s(source, &mut numbers)?;
@@ -153,11 +143,10 @@ pub(crate) fn read_registers<S: Source>(
 ) -> Result<Registers, ImageFault>
     requires faults { S.faults source.old < 2 ^ 63 }
     requires has { HasProtocol version protocol }
-    ensures fields { ReadsFields
+    ensures read { ReadsFields S.input S.faults source.old source.new
         (layout (version_number version) (protocols.protocol_number protocol)).registers
-        (S.input source.old) (S.input source.new) (spelled_registers version) result }
+        (spelled_registers version) result }
     ensures fit { IfOk result (AreRegistersOf protocol) }
-    ensures faults { S.faults source.new ≡ S.faults source.old + faults_met result }
 {
     match (version, protocol) {
         (Version::One, _) => Ok(Registers::Bits32(read_any_registers(source)?)),

@@ -4,6 +4,7 @@ ghost use Rattle.std.specs.List.{flat_map};
 ghost use Rattle.bl_image.specs.SinkFacts.{TookBeginning};
 ghost use Rattle.bl_image.specs.Image.{spelling};
 ghost use Rattle.bl_image.specs.ImageHandover.{IsKeptByImages};
+ghost use Rattle.bl_image.specs.internal.SinkWriting.{Writes};
 ghost use Rattle.bl_image.specs.Versions.{written_version};
 
 use crate::fault::ImageFault;
@@ -18,12 +19,8 @@ fn write_bytes<S: Sink, A: Allocator>(
     sink: &mut S,
 ) -> Result<(), DeviceFault>
     requires { S.faults sink.old < 2 ^ 63 }
-    ensures ok { OnOk result (S.contents sink.new ≡ S.contents sink.old
-        ++ flat_map (λ part. part.bytes) parts.now) }
-    ensures sound { OnOk result (S.faults sink.new ≡ S.faults sink.old) }
-    ensures begun { OnErr result (TookBeginning (S.contents sink.old) (S.contents sink.new)
-        (flat_map (λ part. part.bytes) parts.now)) }
-    ensures fault { OnErr result (S.faults sink.new ≡ S.faults sink.old + 1) }
+    ensures { Writes S.contents S.faults sink.old sink.new
+        (flat_map (λ part. part.bytes) parts.now) result }
 {
     for part in parts {
         write_all(sink, part.bytes())?;

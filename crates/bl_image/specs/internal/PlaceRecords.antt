@@ -1,15 +1,31 @@
 -- What the code keeps as it writes and reads records. Own.
-use Rattle.std.specs.Prelude.{ℕ, ◌+◌, ◌<◌, ◌≤◌, ◌^◌, List, [], ◌∷◌, length, All, AllPairs}
-use Rattle.std.specs.Prelude.{slice_range}
+use Rattle.std.specs.Prelude.{◌≡◌, ℕ, ◌+◌, ◌<◌, ◌≤◌, ◌^◌, Bool, List, [], ◌∷◌, ◌++◌, length}
+use Rattle.std.specs.Prelude.{All, AllPairs, slice_range}
+use Rattle.std.specs.List.{flat_map}
 use Rattle.bl_plan.specs.declared.part.Place.{Place}
-use Rattle.bl_load.specs.HandoffFacts.{Ascends}
-use Rattle.bl_image.specs.Image.{record_of}
-use Rattle.bl_image.specs.Spellable.{AreFit}
+use Rattle.bl_plan.specs.declared.protocol.Protocol.{Protocol}
+use Rattle.bl_load.specs.HandoffFacts.{Ascends, IsWellFormedHandoff, IsRoleAllowed}
 use Rattle.bl_load.specs.declared.registers.Registers.{Registers}
+use Rattle.bl_image.specs.Image.{head, record_of}
+use Rattle.bl_image.specs.ImageFaults.{parts_fault, end_fault, no_records}
+use Rattle.bl_image.specs.Layouts.{max_role}
+use Rattle.bl_image.specs.Spellable.{AreFit}
+use Rattle.bl_image.specs.Versions.{written_version}
 
 -- the record of a place
 abbrev pub place_record : Place → List ℕ
 place_record place = record_of place.role place.index place.address place.length
+
+-- what an image has before the bytes of its parts: the head, and the record of each place
+abbrev pub image_front : Protocol → Registers → List Place → List ℕ
+image_front protocol registers places =
+    head written_version protocol registers (length places) ++ flat_map place_record places
+
+-- these may be what a handoff has
+abbrev pub AreOfHandoff : Protocol → Registers → List Place → Type 0
+AreOfHandoff protocol registers places =
+    IsWellFormedHandoff
+    (record { protocol = protocol; registers = registers; places = places })
 
 -- the bytes at a place in memory
 abbrev pub place_bytes : List ℕ → Place → List ℕ
@@ -46,3 +62,13 @@ pub record AreSound (places : List Place) (end : ℕ) : Type 0 where
 abbrev pub total_length : List Place → ℕ
 total_length [] = 0
 total_length (place ∷ places) = place.length + total_length places
+
+-- so many records that were read, with page tables or without: no fault is among them, so that the
+-- bytes of their parts, and what follows these, are left to be judged
+pub record AreRecords (wide : Bool) (number : ℕ) (places : List Place) : Type 0 where
+  pub count : length places ≡ number
+  pub sound : AreSound places (2 ^ 32)
+  pub may : All (λ place. IsRoleAllowed wide place.role) places
+  pub judged : (bytes : List ℕ)
+      → parts_fault (max_role wide) number no_records (flat_map place_record places ++ bytes)
+      ≡ end_fault (total_length places) bytes

@@ -9,8 +9,8 @@ use Rattle.bl_image.proofs.Listed.{spelled_more, fit_more}
 use Rattle.bl_image.proofs.FieldLemmas.{cut_behind}
 use Rattle.bl_image.proofs.fields.read_u64s.Goals as goal
 
-pub returns-in_err-out-clause-cut : goal.returns-in_err-out-clause-cut
-returns-in_err-out-clause-cut g c =
+pub returns-in_err-out-clause-read : goal.returns-in_err-out-clause-read
+returns-in_err-out-clause-read g c =
     let p = err_from_is_err_and c.from_residual.result c.from_residual.ensures.1 in
     let out = c.loop-i.out in
     let i = c.loop-i.i in
@@ -20,7 +20,11 @@ returns-in_err-out-clause-cut g c =
     length-u64s (take i out) in
     let few : length (flat_map u64_bytes (take i out)) + 8 ≤ 8 * length out = omega arith in
     rw (p.1, p.2)
-    (cut_behind 8 (8 * length out) c.loop-i.invariant.came few _ _ c.in_err-out.ensures.cut)
+    (record {
+      ok = tt;
+      cut = (cut_behind 8 (8 * length out) c.loop-i.invariant.came few _ _ c.in_err-out.ensures.read.cut);
+      faults = omega (arith, c.in_err-out.ensures.read.faults, c.loop-i.invariant.sound);
+    })
 
 pub loop-i-preserved : goal.loop-i-preserved
 loop-i-preserved g c =
@@ -31,7 +35,7 @@ loop-i-preserved g c =
     record {
       came =
           comes_as (sym (spelled_more u64_bytes out i v inside))
-          (comes_more c.loop-i.invariant.came c.in_ok-out.ensures.ok);
+          (comes_more c.loop-i.invariant.came c.in_ok-out.ensures.read.ok);
       fit = fit_more (2 ^ 64) out i v inside c.loop-i.invariant.fit c.in_ok-out.ensures.fits;
-      sound = omega (arith, c.in_ok-out.ensures.faults, c.loop-i.invariant.sound);
+      sound = omega (arith, c.in_ok-out.ensures.read.faults, c.loop-i.invariant.sound);
     }

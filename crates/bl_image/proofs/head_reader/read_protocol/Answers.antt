@@ -13,34 +13,41 @@ use Rattle.bl_image.proofs.FieldTests.{not_between}
 use Rattle.bl_image.proofs.HeadLemmas.{protocol_passes}
 use Rattle.bl_image.proofs.head_reader.read_protocol.Goals as goal
 
-pub returns-in_err-number-clause-field : goal.returns-in_err-number-clause-field
+pub returns-in_err-number-clause-read : goal.returns-in_err-number-clause-read
 unfolding protocol_field
-returns-in_err-number-clause-field g c =
+returns-in_err-number-clause-read g c =
     let p = err_from_is_err_and c.from_residual.result c.from_residual.ensures.1 in
     let version = version_number c.args.version in
     rw (p.1, p.2)
-    (λ fields. field_cut (protocol_field version) fields _ _ _ c.in_err-number.ensures.cut)
+    (record {
+      field = λ fields. field_cut (protocol_field version) fields _ _ _ c.in_err-number.ensures.read.cut;
+      faults = c.in_err-number.ensures.read.faults;
+    })
 
-pub returns-in_default-clause-field : goal.returns-in_default-clause-field
+pub returns-in_default-clause-read : goal.returns-in_default-clause-read
 unfolding protocol_field
-returns-in_default-clause-field g c =
+returns-in_default-clause-read g c =
     let n = c.in_ok-number.number in
     let version = version_number c.args.version in
     let fails =
     word_tells (λ k. nat_le 1 k && nat_le k (max_protocol version)) BadHeader n false
     c.in_ok-number.ensures.fits
     (not_between 1 n (max_protocol version) c.in_default.ensures.number) in
-    λ fields.
-    field_shows (protocol_field version) fields _ _ (u32_bytes n) c.in_ok-number.ensures.ok
-    (length-u32_bytes n) fails
+    record {
+      field = λ fields. field_shows (protocol_field version) fields _ _ (u32_bytes n) c.in_ok-number.ensures.read.ok (length-u32_bytes n) fails;
+      faults = c.in_ok-number.ensures.read.faults;
+    }
 
-pub returns-clause-field : goal.returns-clause-field
+pub returns-clause-read : goal.returns-clause-read
 unfolding protocol_field
-returns-clause-field g c =
+returns-clause-read g c =
     let n = c.in_ok-number.number in
     let is : protocols.protocol_number c.in-Some.protocol ≡ n = c.in-Some.ensures.number in
     record {
-      comes = comes_as (ap u32_bytes (sym is)) c.in_ok-number.ensures.ok;
-      size = length-u32_bytes _;
-      passes = protocol_passes c.args.version c.in-Some.protocol c.in-Some.ensures.has;
+      field = record {
+        comes = comes_as (ap u32_bytes (sym is)) c.in_ok-number.ensures.read.ok;
+        size = length-u32_bytes _;
+        passes = protocol_passes c.args.version c.in-Some.protocol c.in-Some.ensures.has;
+      };
+      faults = c.in_ok-number.ensures.read.faults;
     }

@@ -12,30 +12,38 @@ use Rattle.bl_image.proofs.FieldTests.{not_between}
 use Rattle.bl_image.proofs.HeadLemmas.{version_passes}
 use Rattle.bl_image.proofs.head_reader.read_version.Goals as goal
 
-pub returns-in_err-number-clause-field : goal.returns-in_err-number-clause-field
+pub returns-in_err-number : goal.returns-in_err-number
 unfolding version_field
-returns-in_err-number-clause-field g c =
+returns-in_err-number g c =
     let p = err_from_is_err_and c.from_residual.result c.from_residual.ensures.1 in
-    rw (p.1, p.2) (λ fields. field_cut version_field fields _ _ _ c.in_err-number.ensures.cut)
+    rw (p.1, p.2)
+    (record {
+      field = λ fields. field_cut version_field fields _ _ _ c.in_err-number.ensures.read.cut;
+      faults = c.in_err-number.ensures.read.faults;
+    })
 
-pub returns-in_default-clause-field : goal.returns-in_default-clause-field
+pub returns-in_default : goal.returns-in_default
 unfolding version_field
-returns-in_default-clause-field g c =
+returns-in_default g c =
     let n = c.in_ok-number.number in
     let fails =
     word_tells (λ k. nat_le 1 k && nat_le k 2) BadVersion n false c.in_ok-number.ensures.fits
     (not_between 1 n 2 c.in_default.ensures) in
-    λ fields.
-    field_shows version_field fields _ _ (u32_bytes n) c.in_ok-number.ensures.ok
-    (length-u32_bytes n) fails
+    record {
+      field = λ fields. field_shows version_field fields _ _ (u32_bytes n) c.in_ok-number.ensures.read.ok (length-u32_bytes n) fails;
+      faults = c.in_ok-number.ensures.read.faults;
+    }
 
-pub returns-clause-field : goal.returns-clause-field
+pub returns : goal.returns
 unfolding version_field
-returns-clause-field g c =
+returns g c =
     let n = c.in_ok-number.number in
     let is : version_number c.in-Some.version ≡ n = c.in-Some.ensures in
     record {
-      comes = comes_as (ap u32_bytes (sym is)) c.in_ok-number.ensures.ok;
-      size = length-u32_bytes _;
-      passes = version_passes c.in-Some.version;
+      field = record {
+        comes = comes_as (ap u32_bytes (sym is)) c.in_ok-number.ensures.read.ok;
+        size = length-u32_bytes _;
+        passes = version_passes c.in-Some.version;
+      };
+      faults = c.in_ok-number.ensures.read.faults;
     }

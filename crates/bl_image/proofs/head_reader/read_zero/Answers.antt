@@ -10,28 +10,36 @@ use Rattle.bl_image.proofs.Inputs.{comes_as}
 use Rattle.bl_image.proofs.FieldLemmas.{field_cut, field_shows, word_tells}
 use Rattle.bl_image.proofs.head_reader.read_zero.Goals as goal
 
-pub returns-in_err-read_u32-clause-field : goal.returns-in_err-read_u32-clause-field
+pub returns-in_err-read_u32 : goal.returns-in_err-read_u32
 unfolding zero_field
-returns-in_err-read_u32-clause-field g c =
+returns-in_err-read_u32 g c =
     let p = err_from_is_err_and c.from_residual.result c.from_residual.ensures.1 in
-    rw (p.1, p.2) (λ fields. field_cut zero_field fields _ _ _ c.in_err-read_u32.ensures.cut)
+    rw (p.1, p.2)
+    (record {
+      field = λ fields. field_cut zero_field fields _ _ _ c.in_err-read_u32.ensures.read.cut;
+      faults = c.in_err-read_u32.ensures.read.faults;
+    })
 
-pub returns-then-branch-ne0-clause-field : goal.returns-then-branch-ne0-clause-field
+pub returns-then-branch-ne0 : goal.returns-then-branch-ne0
 unfolding zero_field
-returns-then-branch-ne0-clause-field g c =
+returns-then-branch-ne0 g c =
     let n = c.in_ok-read_u32.field-0 in
     let other : n ≡ 0 → ⊥ = c.if-branch-ne0.true in
     let fails =
     word_tells (λ k. k == 0) BadHeader n false c.in_ok-read_u32.ensures.fits
     (grind (arith, nat_tests)) in
-    λ fields.
-    field_shows zero_field fields _ _ (u32_bytes n) c.in_ok-read_u32.ensures.ok
-    (length-u32_bytes n) fails
+    record {
+      field = λ fields. field_shows zero_field fields _ _ (u32_bytes n) c.in_ok-read_u32.ensures.read.ok (length-u32_bytes n) fails;
+      faults = c.in_ok-read_u32.ensures.read.faults;
+    }
 
-pub returns-clause-field : goal.returns-clause-field
+pub returns : goal.returns
 unfolding zero_field
-returns-clause-field g c = record {
-  comes = comes_as (ap u32_bytes c.if-branch-ne0.false) c.in_ok-read_u32.ensures.ok;
-  size = length-u32_bytes 0;
-  passes = word_tells (λ k. k == 0) BadHeader 0 true (omega arith) refl;
+returns g c = record {
+  field = record {
+    comes = comes_as (ap u32_bytes c.if-branch-ne0.false) c.in_ok-read_u32.ensures.read.ok;
+    size = length-u32_bytes 0;
+    passes = word_tells (λ k. k == 0) BadHeader 0 true (omega arith) refl;
+  };
+  faults = c.in_ok-read_u32.ensures.read.faults;
 }

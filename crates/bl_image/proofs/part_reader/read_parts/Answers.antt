@@ -5,13 +5,16 @@ use Rattle.bl_image.proofs.Inputs.{comes_more, comes_as}
 use Rattle.bl_image.proofs.PartLemmas.{all_bytes, part_cut, places_more, bytes_more}
 use Rattle.bl_image.proofs.part_reader.read_parts.Goals as goal
 
-pub returns-in_err-part-clause-cut : goal.returns-in_err-part-clause-cut
-returns-in_err-part-clause-cut g c =
+pub returns-in_err-part-clause-read : goal.returns-in_err-part-clause-read
+returns-in_err-part-clause-read g c =
     let p = err_from_is_err_and c.from_residual.result c.from_residual.ensures.1 in
     let inside : c.loop-i.i < length c.args.places.now = omega arith in
     rw (p.1, p.2)
-    (part_cut c.args.places.now c.loop-i.parts.items c.loop-i.i _ c.loop-i.invariant.are inside
-    c.loop-i.invariant.came _ _ c.in_err-part.ensures.cut)
+    (record {
+      ok = tt;
+      cut = (part_cut c.args.places.now c.loop-i.parts.items c.loop-i.i _ c.loop-i.invariant.are inside c.loop-i.invariant.came _ _ c.in_err-part.ensures.read.cut);
+      faults = omega (arith, c.in_err-part.ensures.read.faults, c.loop-i.invariant.faults);
+    })
 
 pub loop-i-preserved : goal.loop-i-preserved
 loop-i-preserved g c =
@@ -22,10 +25,10 @@ loop-i-preserved g c =
     record {
       came =
           comes_as (sym (ap all_bytes e ∙ bytes_more old part))
-          (comes_more c.loop-i.invariant.came c.in_ok-part.ensures.ok);
+          (comes_more c.loop-i.invariant.came c.in_ok-part.ensures.read.ok);
       are =
           ap (map part_place) e
           ∙ places_more c.args.places.now old c.loop-i.i _ part c.loop-i.invariant.are
           inside c.in_ok-part.ensures.place;
-      faults = omega (arith, c.in_ok-part.ensures.faults, c.loop-i.invariant.faults);
+      faults = omega (arith, c.in_ok-part.ensures.read.faults, c.loop-i.invariant.faults);
     }

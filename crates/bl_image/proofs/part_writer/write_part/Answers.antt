@@ -1,10 +1,11 @@
 use Rattle.std.proofs.Common.{◌+◌, ◌≤◌, arith, ◌∙◌}
-use Rattle.bl_image.proofs.Ways.{way_as, way_goes_on, way_stops, on_err}
+use Rattle.std.proofs.lemmas.Result.{err_from_is_err_and}
+use Rattle.bl_image.proofs.Ways.{way_as, way_goes_on, way_stops}
 use Rattle.bl_image.proofs.Spelled.{range-more}
 use Rattle.bl_image.proofs.part_writer.write_part.Goals as goal
 
-pub returns-in_err-count-clause-begun : goal.returns-in_err-count-clause-begun
-returns-in_err-count-clause-begun g c =
+pub returns-in_err-count : goal.returns-in_err-count
+returns-in_err-count g c =
     let place = c.args.place.now in
     let next = c.min-next.result in
     let within : c.loop-done.done + next ≤ place.length =
@@ -12,8 +13,14 @@ returns-in_err-count-clause-begun g c =
     let more =
     range-more (g.M.PhysMem.bytes c.args.memory.now) place.address c.loop-done.done next
     place.length within c.requires.inside in
-    on_err
-    _ (way_stops _ (way_as more c.loop-done.invariant.way) c.in_err-count.ensures.begun)
+    let p = err_from_is_err_and c.from_residual.result c.from_residual.ensures.1 in
+    rw p.1
+    (record {
+      ok = tt;
+      sound = tt;
+      begun = way_stops _ (way_as more c.loop-done.invariant.way) c.in_err-count.ensures.begun;
+      fault = omega (arith, c.in_err-count.ensures.fault, c.loop-done.invariant.sound);
+    })
 
 pub loop-done-preserved : goal.loop-done-preserved
 loop-done-preserved g c =

@@ -43,7 +43,7 @@ fronted v p r count wide comes has fit few same = record {
 pub returns-in_err-head-clause-refused : goal.returns-in_err-head-clause-refused
 returns-in_err-head-clause-refused g c =
     let p = err_from_is_err_and c.from_residual.result c.from_residual.ensures.1 in
-    rw (p.1, p.2) (head_refuses _ _ _ c.in_err-head.ensures.refused)
+    rw (p.1, p.2) (head_refuses _ _ _ c.in_err-head.ensures.read.refused)
 
 pub returns-in_err-places-clause-refused : goal.returns-in_err-places-clause-refused
 returns-in_err-places-clause-refused g c =
@@ -55,9 +55,9 @@ returns-in_err-places-clause-refused g c =
     let front : Passed image_fault _ _
     (parts_fault (max_role c.are_wide.result) head.count no_records) =
     fronted head.version head.protocol head.registers head.count c.are_wide.result
-    c.in_ok-head.ensures.ok c.in_ok-head.ensures.has c.in_ok-head.ensures.fit
+    c.in_ok-head.ensures.read.ok c.in_ok-head.ensures.has c.in_ok-head.ensures.fit
     c.in_ok-head.ensures.few wide in
-    rw (p.1, p.2) (passed_refuses front _ _ c.in_err-places.ensures.refused)
+    rw (p.1, p.2) (passed_refuses front _ _ c.in_err-places.ensures.read.refused)
 
 pub returns-in_err-parts-clause-refused : goal.returns-in_err-parts-clause-refused
 returns-in_err-parts-clause-refused g c =
@@ -70,11 +70,11 @@ returns-in_err-parts-clause-refused g c =
     let front : Passed image_fault _ _
     (parts_fault (max_role c.are_wide.result) head.count no_records) =
     fronted head.version head.protocol head.registers head.count c.are_wide.result
-    c.in_ok-head.ensures.ok c.in_ok-head.ensures.has c.in_ok-head.ensures.fit
+    c.in_ok-head.ensures.read.ok c.in_ok-head.ensures.has c.in_ok-head.ensures.fit
     c.in_ok-head.ensures.few wide in
     let passed : Passed image_fault _ _ (end_fault (total_length places)) =
-    passed_more _ front c.in_ok-places.ensures.ok c.in_ok-places.ensures.judged in
-    let cut = rw c.deref.ensures.value at c.in_err-parts.ensures.cut in
+    passed_more _ front c.in_ok-places.ensures.read.ok c.in_ok-places.ensures.are.judged in
+    let cut = rw c.deref.ensures.value at c.in_err-parts.ensures.read.cut in
     rw (p.1, p.2)
     (passed_refuses passed
     _ _ (cut_refuses (end_fault (total_length places)) _ _ (total_length places)
@@ -92,50 +92,50 @@ returns-in_err-read_end-clause-refused g c =
     let front : Passed image_fault _ _
     (parts_fault (max_role c.are_wide.result) head.count no_records) =
     fronted head.version head.protocol head.registers head.count c.are_wide.result
-    c.in_ok-head.ensures.ok c.in_ok-head.ensures.has c.in_ok-head.ensures.fit
+    c.in_ok-head.ensures.read.ok c.in_ok-head.ensures.has c.in_ok-head.ensures.fit
     c.in_ok-head.ensures.few wide in
     let passed : Passed image_fault _ _ (end_fault (total_length places)) =
-    passed_more _ front c.in_ok-places.ensures.ok c.in_ok-places.ensures.judged in
+    passed_more _ front c.in_ok-places.ensures.read.ok c.in_ok-places.ensures.are.judged in
     let size : length (all_bytes parts) ≡ total_length places =
     parts_size parts ∙ ap total_length (c.in_ok-parts.ensures.places ∙ c.deref.ensures.value) in
     let left : Passed image_fault _ _ (end_fault 0) =
-    passed_more _ passed c.in_ok-parts.ensures.ok
+    passed_more _ passed c.in_ok-parts.ensures.read.ok
     (λ bytes. end_more (total_length places) (all_bytes parts) bytes size) in
-    rw (p.1, p.2) (passed_refuses left _ _ c.in_err-read_end.ensures.refused)
+    rw (p.1, p.2) (passed_refuses left _ _ c.in_err-read_end.ensures.read.refused)
 
 pub read_parts-requires-clause-few : goal.read_parts-requires-clause-few
 read_parts-requires-clause-few g c =
     rw c.deref.ensures.value
-    (λ k d within. let low = c.in_ok-places.ensures.sound.below k d within in omega arith)
+    (λ k d within. let low = c.in_ok-places.ensures.are.sound.below k d within in omega arith)
 
 pub new-requires : goal.new-requires
 new-requires g c =
     let head = c.in_ok-head.head in
     let places = c.in_ok-places.places.items in
     let few : length places ≤ 256 =
-    omega (arith, c.in_ok-places.ensures.count, c.in_ok-head.ensures.few) in
+    omega (arith, c.in_ok-places.ensures.are.count, c.in_ok-head.ensures.few) in
     let roles : All (λ (p : Place). IsRoleAllowed (is_wide head.protocol) p.role) places =
     subst (λ (b : Bool). All (λ (p : Place). IsRoleAllowed b p.role) places)
-    (c.are_wide.ensures ∙ c.in_ok-head.ensures.fit.0) c.in_ok-places.ensures.may in
+    (c.are_wide.ensures ∙ c.in_ok-head.ensures.fit.0) c.in_ok-places.ensures.are.may in
     parts_kept head.protocol head.registers places c.in_ok-parts.parts.items
     (c.in_ok-parts.ensures.places ∙ c.deref.ensures.value)
     (sound_kept head.protocol head.registers places (2 ^ 32) c.in_ok-head.ensures.fit.0 roles few
-    c.in_ok-places.ensures.sound)
+    c.in_ok-places.ensures.are.sound)
 
 pub returns-clause-ok : goal.returns-clause-ok
 returns-clause-ok g c =
     let head = c.in_ok-head.head in
     let came =
     comes_more
-    (comes_more (comes_more c.in_ok-head.ensures.ok c.in_ok-places.ensures.ok)
-    c.in_ok-parts.ensures.ok) c.in_ok-read_end.ensures.ok in (
+    (comes_more (comes_more c.in_ok-head.ensures.read.ok c.in_ok-places.ensures.read.ok)
+    c.in_ok-parts.ensures.read.ok) c.in_ok-read_end.ensures.read.ok in (
       head.version,
       subst (λ (p : Protocol). HasProtocol head.version p)
           (ap (λ (h : Handover). h.protocol) (sym c.new.ensures)) c.in_ok-head.ensures.has,
       comes_as
           (spelled_by head.version head.protocol head.registers head.count
           c.in_ok-places.places.items c.in_ok-parts.parts.items
-          (c.in_ok-parts.ensures.places ∙ c.deref.ensures.value) c.in_ok-places.ensures.count
+          (c.in_ok-parts.ensures.places ∙ c.deref.ensures.value) c.in_ok-places.ensures.are.count
           ∙ ap (spelling head.version) (sym c.new.ensures)) came,
     )
 
@@ -144,16 +144,16 @@ returns-clause-kept g c =
     let head = c.in_ok-head.head in
     let places = c.in_ok-places.places.items in
     let few : length places ≤ 256 =
-    omega (arith, c.in_ok-places.ensures.count, c.in_ok-head.ensures.few) in
+    omega (arith, c.in_ok-places.ensures.are.count, c.in_ok-head.ensures.few) in
     let roles : All (λ (p : Place). IsRoleAllowed (is_wide head.protocol) p.role) places =
     subst (λ (b : Bool). All (λ (p : Place). IsRoleAllowed b p.role) places)
-    (c.are_wide.ensures ∙ c.in_ok-head.ensures.fit.0) c.in_ok-places.ensures.may in
+    (c.are_wide.ensures ∙ c.in_ok-head.ensures.fit.0) c.in_ok-places.ensures.are.may in
     subst IsKeptByImages (sym c.new.ensures)
     (image_kept head.protocol head.registers places
     c.in_ok-parts.parts.items (c.in_ok-parts.ensures.places ∙ c.deref.ensures.value)
     (sound_kept head.protocol head.registers places (2 ^ 32) c.in_ok-head.ensures.fit.0 roles few
-    c.in_ok-places.ensures.sound)
-    c.in_ok-places.ensures.sound.fit c.in_ok-head.ensures.fit.1)
+    c.in_ok-places.ensures.are.sound)
+    c.in_ok-places.ensures.are.sound.fit c.in_ok-head.ensures.fit.1)
 
 pub returns-in_err-head-clause-known : goal.returns-in_err-head-clause-known
 returns-in_err-head-clause-known g c =

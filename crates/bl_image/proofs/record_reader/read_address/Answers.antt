@@ -9,36 +9,41 @@ use Rattle.bl_image.specs.Fields.{address_field}
 use Rattle.bl_image.proofs.FieldLemmas.{field_cut, field_shows, long_tells}
 use Rattle.bl_image.proofs.record_reader.read_address.Goals as goal
 
-pub returns-in_err-address-clause-field : goal.returns-in_err-address-clause-field
+pub returns-in_err-address-clause-read : goal.returns-in_err-address-clause-read
 unfolding address_field
-returns-in_err-address-clause-field g c =
+returns-in_err-address-clause-read g c =
     let p = err_from_is_err_and c.from_residual.result c.from_residual.ensures.1 in
     rw (p.1, p.2)
-    (λ fields.
-    field_cut (address_field c.args.part c.args.before) fields
-    _ _ _ c.in_err-address.ensures.cut)
+    (record {
+      field = λ fields. field_cut (address_field c.args.part c.args.before) fields _ _ _ c.in_err-address.ensures.read.cut;
+      faults = c.in_err-address.ensures.read.faults;
+    })
 
-pub returns-then-address-before-clause-field : goal.returns-then-address-before-clause-field
+pub returns-then-address-before-clause-read : goal.returns-then-address-before-clause-read
 unfolding address_field
-returns-then-address-before-clause-field g c =
+returns-then-address-before-clause-read g c =
     let n = c.in_ok-address.address in
     let low : n < c.args.before = c.if-address-before.true in
     let fails =
     long_tells (nat_le c.args.before) (BadPart c.args.part) n false c.in_ok-address.ensures.fits
     (grind (arith, nat_tests)) in
-    λ fields.
-    field_shows (address_field c.args.part c.args.before) fields _ _ (u64_bytes n)
-    c.in_ok-address.ensures.ok (length-u64_bytes n) fails
+    record {
+      field = λ fields. field_shows (address_field c.args.part c.args.before) fields _ _ (u64_bytes n) c.in_ok-address.ensures.read.ok (length-u64_bytes n) fails;
+      faults = c.in_ok-address.ensures.read.faults;
+    }
 
-pub returns-clause-field : goal.returns-clause-field
+pub returns-clause-read : goal.returns-clause-read
 unfolding address_field
-returns-clause-field g c =
+returns-clause-read g c =
     let n = c.in_ok-address.address in
     let above : c.args.before ≤ n = omega arith in
     record {
-      comes = c.in_ok-address.ensures.ok;
-      size = length-u64_bytes n;
-      passes =
-          long_tells (nat_le c.args.before) (BadPart c.args.part) n true
-          c.in_ok-address.ensures.fits (grind (arith, nat_tests));
+      field = record {
+        comes = c.in_ok-address.ensures.read.ok;
+        size = length-u64_bytes n;
+        passes =
+            long_tells (nat_le c.args.before) (BadPart c.args.part) n true
+            c.in_ok-address.ensures.fits (grind (arith, nat_tests));
+      };
+      faults = c.in_ok-address.ensures.read.faults;
     }

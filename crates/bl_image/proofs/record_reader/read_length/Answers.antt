@@ -8,34 +8,39 @@ use Rattle.bl_image.specs.Fields.{length_field}
 use Rattle.bl_image.proofs.FieldLemmas.{field_cut, field_shows, long_tells}
 use Rattle.bl_image.proofs.record_reader.read_length.Goals as goal
 
-pub returns-in_err-count-clause-field : goal.returns-in_err-count-clause-field
+pub returns-in_err-count-clause-read : goal.returns-in_err-count-clause-read
 unfolding length_field
-returns-in_err-count-clause-field g c =
+returns-in_err-count-clause-read g c =
     let p = err_from_is_err_and c.from_residual.result c.from_residual.ensures.1 in
     rw (p.1, p.2)
-    (λ fields.
-    field_cut (length_field c.args.part c.args.address) fields
-    _ _ _ c.in_err-count.ensures.cut)
+    (record {
+      field = λ fields. field_cut (length_field c.args.part c.args.address) fields _ _ _ c.in_err-count.ensures.read.cut;
+      faults = c.in_err-count.ensures.read.faults;
+    })
 
-pub returns-then-not-may_have-clause-field : goal.returns-then-not-may_have-clause-field
+pub returns-then-not-may_have-clause-read : goal.returns-then-not-may_have-clause-read
 unfolding length_field
-returns-then-not-may_have-clause-field g c =
+returns-then-not-may_have-clause-read g c =
     let n = c.in_ok-count.count in
     let fails =
     long_tells (λ k. nat_le 1 k && nat_le (c.args.address + k) (2 ^ 32)) (BadPart c.args.part) n
     false c.in_ok-count.ensures.fits (sym c.if-not-may_have.ensures) in
-    λ fields.
-    field_shows (length_field c.args.part c.args.address) fields _ _ (u64_bytes n)
-    c.in_ok-count.ensures.ok (length-u64_bytes n) fails
+    record {
+      field = λ fields. field_shows (length_field c.args.part c.args.address) fields _ _ (u64_bytes n) c.in_ok-count.ensures.read.ok (length-u64_bytes n) fails;
+      faults = c.in_ok-count.ensures.read.faults;
+    }
 
-pub returns-clause-field : goal.returns-clause-field
+pub returns-clause-read : goal.returns-clause-read
 unfolding length_field
-returns-clause-field g c =
+returns-clause-read g c =
     let n = c.in_ok-count.count in
     record {
-      comes = c.in_ok-count.ensures.ok;
-      size = length-u64_bytes n;
-      passes =
-          long_tells (λ k. nat_le 1 k && nat_le (c.args.address + k) (2 ^ 32)) (BadPart c.args.part)
-          n true c.in_ok-count.ensures.fits (sym c.if-not-may_have.ensures);
+      field = record {
+        comes = c.in_ok-count.ensures.read.ok;
+        size = length-u64_bytes n;
+        passes =
+            long_tells (λ k. nat_le 1 k && nat_le (c.args.address + k) (2 ^ 32)) (BadPart c.args.part)
+            n true c.in_ok-count.ensures.fits (sym c.if-not-may_have.ensures);
+      };
+      faults = c.in_ok-count.ensures.read.faults;
     }

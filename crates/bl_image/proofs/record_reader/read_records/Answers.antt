@@ -14,8 +14,8 @@ use Rattle.bl_image.proofs.SoundLemmas.{so_far, judged_more, came_more, sound_mo
 use Rattle.bl_image.proofs.SoundLemmas.{sound_low, one_more}
 use Rattle.bl_image.proofs.record_reader.read_records.Goals as goal
 
-pub returns-in_err-place-clause-refused : goal.returns-in_err-place-clause-refused
-returns-in_err-place-clause-refused g c =
+pub returns-in_err-place-clause-read : goal.returns-in_err-place-clause-read
+returns-in_err-place-clause-read g c =
     let p = err_from_is_err_and c.from_residual.result c.from_residual.ensures.1 in
     let count = c.args.count in
     let part = c.loop-part.part in
@@ -35,10 +35,11 @@ returns-in_err-place-clause-refused g c =
       on = c.loop-part.invariant.judged;
     } in
     rw (p.1, p.2)
-    (passed_refuses passed
-    _ _ (rw left
-    (record_refuses (max_role c.args.wide) (count - (part + 1))
-    before _ _ _ c.in_err-place.ensures.refused)))
+    (record {
+      ok = tt;
+      refused = (passed_refuses passed _ _ (rw left (record_refuses (max_role c.args.wide) (count - (part + 1)) before _ _ _ c.in_err-place.ensures.read.refused)));
+      faults = omega (arith, c.in_err-place.ensures.read.faults, c.loop-part.invariant.faults);
+    })
 
 pub loop-part-preserved : goal.loop-part-preserved
 loop-part-preserved g c =
@@ -61,7 +62,7 @@ loop-part-preserved g c =
     record {
       came =
           comes_as (sym (ap (flat_map place_record) e ∙ came_more old place))
-          (comes_more c.loop-part.invariant.came c.in_ok-place.ensures.ok);
+          (comes_more c.loop-part.invariant.came c.in_ok-place.ensures.read.ok);
       size = ap length e ∙ omega (arith, longer, c.loop-part.invariant.size);
       sound =
           subst (λ (ps : List Place). AreSound ps end) (sym e)
@@ -79,9 +80,26 @@ loop-part-preserved g c =
           subst (All (λ (p : Place). IsRoleAllowed c.args.wide p.role)) (sym e)
           (one_more (λ (p : Place). IsRoleAllowed c.args.wide p.role) old place
           c.loop-part.invariant.may c.in_ok-place.ensures.may);
-      faults = omega (arith, c.in_ok-place.ensures.faults, c.loop-part.invariant.faults);
+      faults = omega (arith, c.in_ok-place.ensures.read.faults, c.loop-part.invariant.faults);
     }
 
-pub returns-clause-sound : goal.returns-clause-sound
-returns-clause-sound g c =
-    sound_low c.loop-part.places.items c.loop-part.before c.loop-part.invariant.sound
+pub returns-clause-are : goal.returns-clause-are
+returns-clause-are g c =
+    let count = c.args.count in
+    let part = c.loop-part.part in
+    let before : RecordsBefore =
+    record {
+      count = part;
+      end = c.loop-part.before;
+      bytes = total_length c.loop-part.places.items;
+    } in
+    let none : count - part ≡ 0 = omega arith in
+    record {
+      count = omega (arith, c.loop-part.invariant.size);
+      sound = sound_low c.loop-part.places.items c.loop-part.before c.loop-part.invariant.sound;
+      may = c.loop-part.invariant.may;
+      judged =
+          λ bytes.
+          c.loop-part.invariant.judged bytes
+          ∙ ap (λ (k : ℕ). parts_fault (max_role c.args.wide) k before bytes) none;
+    }

@@ -13,38 +13,43 @@ use Rattle.bl_image.proofs.FieldLemmas.{field_cut, field_shows, word_tells}
 use Rattle.bl_image.proofs.FieldTests.{not_between}
 use Rattle.bl_image.proofs.record_reader.read_role.Goals as goal
 
-pub returns-in_err-number-clause-field : goal.returns-in_err-number-clause-field
+pub returns-in_err-number-clause-read : goal.returns-in_err-number-clause-read
 unfolding role_field
-returns-in_err-number-clause-field g c =
+returns-in_err-number-clause-read g c =
     let p = err_from_is_err_and c.from_residual.result c.from_residual.ensures.1 in
     rw (p.1, p.2)
-    (λ fields.
-    field_cut (role_field (max_role c.args.wide) c.args.part) fields _ _ _ c.in_err-number.ensures.cut)
+    (record {
+      field = λ fields. field_cut (role_field (max_role c.args.wide) c.args.part) fields _ _ _ c.in_err-number.ensures.read.cut;
+      faults = c.in_err-number.ensures.read.faults;
+    })
 
-pub returns-in_default-clause-field : goal.returns-in_default-clause-field
+pub returns-in_default-clause-read : goal.returns-in_default-clause-read
 unfolding role_field
-returns-in_default-clause-field g c =
+returns-in_default-clause-read g c =
     let n = c.in_ok-number.number in
     let fails =
     word_tells (λ k. nat_le 1 k && nat_le k (max_role c.args.wide)) (BadPart c.args.part) n false
     c.in_ok-number.ensures.fits
     (not_between 1 n (max_role c.args.wide) c.in_default.ensures.number) in
-    λ fields.
-    field_shows (role_field (max_role c.args.wide) c.args.part) fields _ _ (u32_bytes n)
-    c.in_ok-number.ensures.ok
-    (length-u32_bytes n) fails
+    record {
+      field = λ fields. field_shows (role_field (max_role c.args.wide) c.args.part) fields _ _ (u32_bytes n) c.in_ok-number.ensures.read.ok (length-u32_bytes n) fails;
+      faults = c.in_ok-number.ensures.read.faults;
+    }
 
-pub returns-clause-field : goal.returns-clause-field
+pub returns-clause-read : goal.returns-clause-read
 unfolding role_field
-returns-clause-field g c =
+returns-clause-read g c =
     let n = c.in_ok-number.number in
     let is : roles.role_number c.in-Some.role ≡ n = c.in-Some.ensures.number in
     record {
-      comes = comes_as (ap u32_bytes (sym is)) c.in_ok-number.ensures.ok;
-      size = length-u32_bytes _;
-      passes =
-          word_tells (λ k. nat_le 1 k && nat_le k (max_role c.args.wide))
-          (BadPart c.args.part) _ true
-          (role_fits c.in-Some.role)
-          (role_between c.args.wide c.in-Some.role c.in-Some.ensures.may);
+      field = record {
+        comes = comes_as (ap u32_bytes (sym is)) c.in_ok-number.ensures.read.ok;
+        size = length-u32_bytes _;
+        passes =
+            word_tells (λ k. nat_le 1 k && nat_le k (max_role c.args.wide))
+            (BadPart c.args.part) _ true
+            (role_fits c.in-Some.role)
+            (role_between c.args.wide c.in-Some.role c.in-Some.ensures.may);
+      };
+      faults = c.in_ok-number.ensures.read.faults;
     }

@@ -10,13 +10,15 @@ use Rattle.bl_image.proofs.register_reader.read_absents.Goals as goal
 pub loop-i-init : goal.loop-i-init
 loop-i-init g c = record { passed = pass_none _; sound = refl }
 
-pub returns-in_err-read_absent-clause-fields : goal.returns-in_err-read_absent-clause-fields
-returns-in_err-read_absent-clause-fields g c =
+pub returns-in_err-read_absent : goal.returns-in_err-read_absent
+returns-in_err-read_absent g c =
     let p = err_from_is_err_and c.from_residual.result c.from_residual.ensures.1 in
     let inside : c.loop-i._i < c.args.count = omega arith in
     rw (p.1, p.2)
-    (refused_among absent_field c.loop-i._i c.args.count _ inside
-    c.loop-i.invariant.passed _ _ c.in_err-read_absent.ensures.field)
+    (record {
+      fields = (refused_among absent_field c.loop-i._i c.args.count _ inside c.loop-i.invariant.passed _ _ c.in_err-read_absent.ensures.field);
+      faults = omega (arith, c.in_err-read_absent.ensures.faults, c.loop-i.invariant.sound);
+    })
 
 pub loop-i-preserved : goal.loop-i-preserved
 loop-i-preserved g c =

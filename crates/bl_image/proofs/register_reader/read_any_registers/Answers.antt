@@ -14,24 +14,28 @@ use Rattle.bl_image.proofs.register_reader.read_any_registers.Goals as goal
 all_fit : {xs ys : List ℕ} → All (λ n. n < 2 ^ 32) xs → xs ≡ ys → All (λ n. n < 2 ^ 32) ys
 all_fit fit e = subst (All (λ n. n < 2 ^ 32)) e fit
 
-pub returns-in_err-read_u32s-clause-fields : goal.returns-in_err-read_u32s-clause-fields
+pub returns-in_err-read_u32s-clause-read : goal.returns-in_err-read_u32s-clause-read
 unfolding registers_1 register_field
-returns-in_err-read_u32s-clause-fields g c =
+returns-in_err-read_u32s-clause-read g c =
     let p = err_from_is_err_and c.from_residual.result c.from_residual.ensures.1 in
     let size : length c.read_u32s.new.out ≡ 20 = search (rules, places) in
-    let cut = rw size at c.in_err-read_u32s.ensures.cut in
+    let cut = rw size at c.in_err-read_u32s.ensures.read.cut in
     rw (p.1, p.2)
-    (λ others.
-    cut_refuses (fields_fault (registers_1 ++ others)) _ _ 80 _
-    (any_short register_field register_any 20 others) cut)
+    (record {
+      fields = (λ others. cut_refuses (fields_fault (registers_1 ++ others)) _ _ 80 _ (any_short register_field register_any 20 others) cut);
+      faults = c.in_err-read_u32s.ensures.read.faults;
+    })
 
-pub returns-clause-fields : goal.returns-clause-fields
-returns-clause-fields g c =
+pub returns-clause-read : goal.returns-clause-read
+returns-clause-read g c =
     let size : length c.read_u32s.new.out ≡ 20 = search (rules, places) in
     let numbers = c.registers_of.ensures ∙ three_parts c.read_u32s.new.out size in
     record {
-      comes = comes_as (ap (flat_map u32_bytes) (sym numbers)) c.in_ok-read_u32s.ensures.ok;
-      on = narrow_pass c.registers_of.result;
+      fields = record {
+        comes = comes_as (ap (flat_map u32_bytes) (sym numbers)) c.in_ok-read_u32s.ensures.read.ok;
+        on = narrow_pass c.registers_of.result;
+      };
+      faults = c.in_ok-read_u32s.ensures.read.faults;
     }
 
 pub returns-clause-fit : goal.returns-clause-fit

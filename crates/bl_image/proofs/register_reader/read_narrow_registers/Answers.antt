@@ -1,4 +1,4 @@
-use Rattle.std.proofs.Common.{◌≡◌, ◌<◌, ◌^◌, ◌++◌, ℕ, List, All, length, sym, ap, ◌∙◌, subst, rules}
+use Rattle.std.proofs.Common.{◌≡◌, ◌<◌, ◌^◌, ◌++◌, ℕ, List, All, length, sym, ap, ◌∙◌, subst, rules, arith}
 use Rattle.std.specs.Prelude.{replicate}
 use Rattle.std.specs.List.{flat_map}
 use Rattle.std.proofs.lemmas.List.{places}
@@ -47,14 +47,16 @@ same_bytes r first flags last nine two numbers =
     (ap (flat_map u64_bytes) (wide_by r first flags last nine two numbers)
     ∙ spelled_wide first flags last)
 
-pub returns-in_err-read_narrows-clause-fields : goal.returns-in_err-read_narrows-clause-fields
+pub returns-in_err-read_narrows-clause-read : goal.returns-in_err-read_narrows-clause-read
 unfolding registers_2_narrow
-returns-in_err-read_narrows-clause-fields g c =
+returns-in_err-read_narrows-clause-read g c =
     let p = err_from_is_err_and c.from_residual.result c.from_residual.ensures.1 in
     let nine : length c.read_narrows.new.out ≡ 9 = search (rules, places) in
     rw (p.1, p.2)
-    (refused_before _ (narrow 9) after_first _ _
-    (rw nine at c.in_err-read_narrows.ensures.fields))
+    (record {
+      fields = (refused_before _ (narrow 9) after_first _ _ (rw nine at c.in_err-read_narrows.ensures.read.fields));
+      faults = omega (arith, c.in_err-read_narrows.ensures.read.faults);
+    })
 
 pub returns-clause-fit : goal.returns-clause-fit
 returns-clause-fit g c =
@@ -63,9 +65,9 @@ returns-clause-fit g c =
     (All-append fits _ _ c.in_ok-read_narrows.ensures.fit
     (All-append fits _ _ c.in_ok-read_narrows-2.ensures.fit c.in_ok-read_narrows-3.ensures.fit))
 
-pub returns-clause-fields : goal.returns-clause-fields
+pub returns-clause-read : goal.returns-clause-read
 unfolding registers_2_narrow
-returns-clause-fields g c =
+returns-clause-read g c =
     let first = c.read_narrows.new.out in
     let flags = c.read_narrows-2.new.out in
     let last = c.read_narrows-3.new.out in
@@ -73,30 +75,33 @@ returns-clause-fields g c =
     let two : length flags ≡ 2 = search (rules, places) in
     let others : length last ≡ 9 = search (rules, places) in
     let all =
-    pass_both (narrow 9) after_first _ _ (sized first 9 nine c.in_ok-read_narrows.ensures.fields)
+    pass_both (narrow 9) after_first _ _ (sized first 9 nine c.in_ok-read_narrows.ensures.read.fields)
     (pass_both (absent 8) after_second _ _ c.in_ok-read_absents.ensures.fields
-    (pass_both (narrow 2) after_third _ _ (sized flags 2 two c.in_ok-read_narrows-2.ensures.fields)
+    (pass_both (narrow 2) after_third _ _ (sized flags 2 two c.in_ok-read_narrows-2.ensures.read.fields)
     (pass_both (absent 3) (narrow 9) _ _ c.in_ok-read_absents-2.ensures.fields
-    (sized last 9 others c.in_ok-read_narrows-3.ensures.fields)))) in
-    pass_as registers_2_narrow _ _
-    (same_bytes c.registers_of.result first flags last nine two c.registers_of.ensures) all
+    (sized last 9 others c.in_ok-read_narrows-3.ensures.read.fields)))) in
+    record {
+      fields = pass_as registers_2_narrow _ _ (same_bytes c.registers_of.result first flags last nine two c.registers_of.ensures) all;
+      faults = omega (arith, c.in_ok-read_narrows.ensures.read.faults, c.in_ok-read_absents.ensures.faults, c.in_ok-read_narrows-2.ensures.read.faults, c.in_ok-read_absents-2.ensures.faults, c.in_ok-read_narrows-3.ensures.read.faults);
+    }
 
-pub returns-in_err-read_absents-clause-fields : goal.returns-in_err-read_absents-clause-fields
+pub returns-in_err-read_absents-clause-read : goal.returns-in_err-read_absents-clause-read
 unfolding registers_2_narrow
-returns-in_err-read_absents-clause-fields g c =
+returns-in_err-read_absents-clause-read g c =
     let p =
     err_from_is_err_and c.from_residual-in_err-read_absents.result
     c.from_residual-in_err-read_absents.ensures.1 in
     let first = c.read_narrows.new.out in
     let nine : length first ≡ 9 = search (rules, places) in
     rw (p.1, p.2)
-    (refused_behind (narrow 9) after_first _
-    (sized first 9 nine c.in_ok-read_narrows.ensures.fields) _ _
-    (refused_before _ (absent 8) after_second _ _ c.in_err-read_absents.ensures.fields))
+    (record {
+      fields = (refused_behind (narrow 9) after_first _ (sized first 9 nine c.in_ok-read_narrows.ensures.read.fields) _ _ (refused_before _ (absent 8) after_second _ _ c.in_err-read_absents.ensures.fields));
+      faults = omega (arith, c.in_ok-read_narrows.ensures.read.faults, c.in_err-read_absents.ensures.faults);
+    })
 
-pub returns-in_err-read_narrows-2-clause-fields : goal.returns-in_err-read_narrows-2-clause-fields
+pub returns-in_err-read_narrows-2-clause-read : goal.returns-in_err-read_narrows-2-clause-read
 unfolding registers_2_narrow
-returns-in_err-read_narrows-2-clause-fields g c =
+returns-in_err-read_narrows-2-clause-read g c =
     let p =
     err_from_is_err_and c.from_residual-in_err-read_narrows-2.result
     c.from_residual-in_err-read_narrows-2.ensures.1 in
@@ -104,15 +109,14 @@ returns-in_err-read_narrows-2-clause-fields g c =
     let nine : length first ≡ 9 = search (rules, places) in
     let two : length c.read_narrows-2.new.out ≡ 2 = search (rules, places) in
     rw (p.1, p.2)
-    (refused_behind (narrow 9) after_first _
-    (sized first 9 nine c.in_ok-read_narrows.ensures.fields) _ _
-    (refused_behind (absent 8) after_second _ c.in_ok-read_absents.ensures.fields _ _
-    (refused_before _ (narrow 2) after_third _ _
-    (rw two at c.in_err-read_narrows-2.ensures.fields))))
+    (record {
+      fields = (refused_behind (narrow 9) after_first _ (sized first 9 nine c.in_ok-read_narrows.ensures.read.fields) _ _ (refused_behind (absent 8) after_second _ c.in_ok-read_absents.ensures.fields _ _ (refused_before _ (narrow 2) after_third _ _ (rw two at c.in_err-read_narrows-2.ensures.read.fields))));
+      faults = omega (arith, c.in_ok-read_narrows.ensures.read.faults, c.in_ok-read_absents.ensures.faults, c.in_err-read_narrows-2.ensures.read.faults);
+    })
 
-pub returns-in_err-read_absents-2-clause-fields : goal.returns-in_err-read_absents-2-clause-fields
+pub returns-in_err-read_absents-2-clause-read : goal.returns-in_err-read_absents-2-clause-read
 unfolding registers_2_narrow
-returns-in_err-read_absents-2-clause-fields g c =
+returns-in_err-read_absents-2-clause-read g c =
     let p =
     err_from_is_err_and c.from_residual-in_err-read_absents-2.result
     c.from_residual-in_err-read_absents-2.ensures.1 in
@@ -121,16 +125,14 @@ returns-in_err-read_absents-2-clause-fields g c =
     let nine : length first ≡ 9 = search (rules, places) in
     let two : length flags ≡ 2 = search (rules, places) in
     rw (p.1, p.2)
-    (refused_behind (narrow 9) after_first _
-    (sized first 9 nine c.in_ok-read_narrows.ensures.fields) _ _
-    (refused_behind (absent 8) after_second _ c.in_ok-read_absents.ensures.fields _ _
-    (refused_behind (narrow 2) after_third _
-    (sized flags 2 two c.in_ok-read_narrows-2.ensures.fields) _ _
-    (refused_before _ (absent 3) (narrow 9) _ _ c.in_err-read_absents-2.ensures.fields))))
+    (record {
+      fields = (refused_behind (narrow 9) after_first _ (sized first 9 nine c.in_ok-read_narrows.ensures.read.fields) _ _ (refused_behind (absent 8) after_second _ c.in_ok-read_absents.ensures.fields _ _ (refused_behind (narrow 2) after_third _ (sized flags 2 two c.in_ok-read_narrows-2.ensures.read.fields) _ _ (refused_before _ (absent 3) (narrow 9) _ _ c.in_err-read_absents-2.ensures.fields))));
+      faults = omega (arith, c.in_ok-read_narrows.ensures.read.faults, c.in_ok-read_absents.ensures.faults, c.in_ok-read_narrows-2.ensures.read.faults, c.in_err-read_absents-2.ensures.faults);
+    })
 
-pub returns-in_err-read_narrows-3-clause-fields : goal.returns-in_err-read_narrows-3-clause-fields
+pub returns-in_err-read_narrows-3-clause-read : goal.returns-in_err-read_narrows-3-clause-read
 unfolding registers_2_narrow
-returns-in_err-read_narrows-3-clause-fields g c =
+returns-in_err-read_narrows-3-clause-read g c =
     let p =
     err_from_is_err_and c.from_residual-in_err-read_narrows-3.result
     c.from_residual-in_err-read_narrows-3.ensures.1 in
@@ -140,10 +142,7 @@ returns-in_err-read_narrows-3-clause-fields g c =
     let two : length flags ≡ 2 = search (rules, places) in
     let others : length c.read_narrows-3.new.out ≡ 9 = search (rules, places) in
     rw (p.1, p.2)
-    (refused_behind (narrow 9) after_first _
-    (sized first 9 nine c.in_ok-read_narrows.ensures.fields) _ _
-    (refused_behind (absent 8) after_second _ c.in_ok-read_absents.ensures.fields _ _
-    (refused_behind (narrow 2) after_third _
-    (sized flags 2 two c.in_ok-read_narrows-2.ensures.fields) _ _
-    (refused_behind (absent 3) (narrow 9) _ c.in_ok-read_absents-2.ensures.fields _ _
-    (rw others at c.in_err-read_narrows-3.ensures.fields)))))
+    (record {
+      fields = (refused_behind (narrow 9) after_first _ (sized first 9 nine c.in_ok-read_narrows.ensures.read.fields) _ _ (refused_behind (absent 8) after_second _ c.in_ok-read_absents.ensures.fields _ _ (refused_behind (narrow 2) after_third _ (sized flags 2 two c.in_ok-read_narrows-2.ensures.read.fields) _ _ (refused_behind (absent 3) (narrow 9) _ c.in_ok-read_absents-2.ensures.fields _ _ (rw others at c.in_err-read_narrows-3.ensures.read.fields)))));
+      faults = omega (arith, c.in_ok-read_narrows.ensures.read.faults, c.in_ok-read_absents.ensures.faults, c.in_ok-read_narrows-2.ensures.read.faults, c.in_ok-read_absents-2.ensures.faults, c.in_err-read_narrows-3.ensures.read.faults);
+    })

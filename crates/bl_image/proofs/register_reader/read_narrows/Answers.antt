@@ -11,13 +11,15 @@ pub loop-i-init : goal.loop-i-init
 loop-i-init g c =
     record { passed = pass_none _; fit = λ k d within. absurd (omega arith); sound = refl }
 
-pub returns-in_err-out-clause-fields : goal.returns-in_err-out-clause-fields
-returns-in_err-out-clause-fields g c =
+pub returns-in_err-out-clause-read : goal.returns-in_err-out-clause-read
+returns-in_err-out-clause-read g c =
     let p = err_from_is_err_and c.from_residual.result c.from_residual.ensures.1 in
     let inside : c.loop-i.i < length c.loop-i.out = omega arith in
     rw (p.1, p.2)
-    (refused_among zero_extended_field c.loop-i.i (length c.loop-i.out) _ inside
-    c.loop-i.invariant.passed _ _ c.in_err-out.ensures.field)
+    (record {
+      fields = (refused_among zero_extended_field c.loop-i.i (length c.loop-i.out) _ inside c.loop-i.invariant.passed _ _ c.in_err-out.ensures.read.field);
+      faults = omega (arith, c.in_err-out.ensures.read.faults, c.loop-i.invariant.sound);
+    })
 
 pub loop-i-preserved : goal.loop-i-preserved
 loop-i-preserved g c =
@@ -27,10 +29,10 @@ loop-i-preserved g c =
     let inside : i < length out = omega arith in
     let both =
     pass_both (replicate i zero_extended_field) (zero_extended_field ∷ []) _ (u64_bytes v)
-    c.loop-i.invariant.passed (pass_one zero_extended_field (u64_bytes v) c.in_ok-out.ensures.field) in
+    c.loop-i.invariant.passed (pass_one zero_extended_field (u64_bytes v) c.in_ok-out.ensures.read.field) in
     record {
       passed =
           rw (replicate_more i zero_extended_field, spelled_more u64_bytes out i v inside) both;
       fit = fit_more (2 ^ 32) out i v inside c.loop-i.invariant.fit c.in_ok-out.ensures.fits;
-      sound = omega (arith, c.in_ok-out.ensures.faults, c.loop-i.invariant.sound);
+      sound = omega (arith, c.in_ok-out.ensures.read.faults, c.loop-i.invariant.sound);
     }

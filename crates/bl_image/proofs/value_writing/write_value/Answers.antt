@@ -10,7 +10,7 @@ returns-in_err-write_front-clause-begun g c =
     let whole = value_in written_version c.args.image.now in
     on_err
     _ (way_stops _ (way_as whole (way_begins _ _))
-    (rw (c.protocol.ensures, c.registers.ensures) at c.in_err-write_front.ensures.begun))
+    (rw (c.protocol.ensures, c.registers.ensures) at c.in_err-write_front.ensures.written.begun))
 
 pub returns-in_err-write_front-clause-kept : goal.returns-in_err-write_front-clause-kept
 returns-in_err-write_front-clause-kept g c =
@@ -21,7 +21,7 @@ pub returns-in_err-write_bytes-clause-begun : goal.returns-in_err-write_bytes-cl
 returns-in_err-write_bytes-clause-begun g c =
     let whole = value_in written_version c.args.image.now in
     let way = way_goes_on _ (way_as whole (way_begins _ _))
-    (rw (c.protocol.ensures, c.registers.ensures) at c.in_ok-write_front.ensures.ok) in
+    (rw (c.protocol.ensures, c.registers.ensures) at c.in_ok-write_front.ensures.written.ok) in
     on_err
     _ (way_stops _ (way_as (sym (append-nil (all_bytes c.args.image.now.parts))) way)
     (rw c.parts-parts.ensures.parts at c.in_err-write_bytes.ensures.begun))
@@ -35,7 +35,7 @@ pub returns-clause-ok : goal.returns-clause-ok
 returns-clause-ok g c =
     let whole = value_in written_version c.args.image.now in
     let way = way_goes_on _ (way_as whole (way_begins _ _))
-    (rw (c.protocol.ensures, c.registers.ensures) at c.in_ok-write_front.ensures.ok) in
+    (rw (c.protocol.ensures, c.registers.ensures) at c.in_ok-write_front.ensures.written.ok) in
     way_ends
     (way_goes_on _ (way_as (sym (append-nil (all_bytes c.args.image.now.parts))) way)
     (rw c.parts-parts.ensures.parts at c.in_ok-write_bytes.ensures.ok))

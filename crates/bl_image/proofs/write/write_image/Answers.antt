@@ -13,7 +13,7 @@ returns-in_err-write_front-clause-begun g c =
     let bytes = g.M.PhysMem.bytes c.args.memory.now in
     let h = c.args.handoff.now in
     let whole = image_in written_version bytes h.protocol h.registers h.places c.requires.inside in
-    on_err _ (way_stops _ (way_as whole (way_begins _ _)) (rw (c.protocol.ensures, c.registers.ensures) at c.in_err-write_front.ensures.begun))
+    on_err _ (way_stops _ (way_as whole (way_begins _ _)) (rw (c.protocol.ensures, c.registers.ensures) at c.in_err-write_front.ensures.written.begun))
 
 pub returns-in_err-write_front-clause-kept : goal.returns-in_err-write_front-clause-kept
 returns-in_err-write_front-clause-kept g c =
@@ -28,7 +28,7 @@ returns-in_err-write_parts-clause-begun g c =
     let h = c.args.handoff.now in
     let whole = image_in written_version bytes h.protocol h.registers h.places c.requires.inside in
     let way = way_goes_on _ (way_as whole (way_begins _ _))
-    (rw (c.protocol.ensures, c.registers.ensures) at c.in_ok-write_front.ensures.ok) in
+    (rw (c.protocol.ensures, c.registers.ensures) at c.in_ok-write_front.ensures.written.ok) in
     on_err
     _ (way_stops _ (way_as (sym (append-nil (flat_map (place_bytes bytes) h.places))) way)
     c.in_err-write_parts.ensures.begun)
@@ -46,7 +46,7 @@ returns-clause-ok g c =
     let h = c.args.handoff.now in
     let whole = image_in written_version bytes h.protocol h.registers h.places c.requires.inside in
     let way = way_goes_on _ (way_as whole (way_begins _ _))
-    (rw (c.protocol.ensures, c.registers.ensures) at c.in_ok-write_front.ensures.ok) in
+    (rw (c.protocol.ensures, c.registers.ensures) at c.in_ok-write_front.ensures.written.ok) in
     way_ends
     (way_goes_on _ (way_as (sym (append-nil (flat_map (place_bytes bytes) h.places))) way)
     c.in_ok-write_parts.ensures.ok)
