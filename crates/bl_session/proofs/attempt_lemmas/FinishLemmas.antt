@@ -1,5 +1,6 @@
 -- What an attempt ends in, by its plan and the room beside it.
 use Rattle.std.proofs.Common.{◌≡◌, ℕ, List, map, refl, inl, inr, All}
+use Rattle.std.proofs.Common.{Result, Ok, Err, IfOk}
 use Rattle.bl_map.specs.MachineFacts.{MachineFacts}
 use Rattle.bl_map.specs.PoolFrames.{HasFramesFor}
 use Rattle.bl_plan.specs.Placed.{place_range}
@@ -9,14 +10,27 @@ use Rattle.bl_load.specs.declared.plan.Plan.{Plan}
 use Rattle.bl_load.specs.declared.refusal.PrepFault.{PrepFault}
 use Rattle.bl_load.specs.declared.refusal.PrepFault.TheVariants.{Refused, NoMemory}
 use Rattle.bl_load.specs.declared.refusal.Refusal.TheVariants.{NoPool}
-use Rattle.bl_load.specs.Loadable.{lengths_of, IsBacked}
+use Rattle.bl_load.specs.Loadable.{lengths_of, IsBacked, IsLoadable}
 use Rattle.bl_load.specs.Parts.{IsHandover, IsPrepFault}
 use Rattle.bl_load.specs.PlanContents.{handover_by, places_of}
 use Rattle.bl_load.specs.EntryValue.{EntryValue, value_of}
 use Rattle.bl_session.specs.attempt.AttemptResult.{HasWholeFilesResult, HasFramesBeside, refused}
 use Rattle.bl_stage.specs.Staged.{Staging}
 use Rattle.bl_session.specs.attempt.FinishedAttempt.{IsNotHandedOver, IsStageAfterFault}
+use Rattle.bl_session.specs.internal.HandoverSteps.{IsPlanFor}
 use Rattle.bl_session.proofs.attempt_lemmas.AfterLemmas.{ranges_are}
+
+-- what preparing ensures of a plan
+pub plan_for : {A : Type 0} (facts : MachineFacts) (entry : Entry A) (texts : List (List ℕ))
+    (result : Result (Plan A) PrepFault)
+    → IfOk result (λ plan. IsHandover facts (value_of texts entry) (handover_by texts plan))
+    → IfOk result (λ plan. IsLoadable (lengths_of texts) facts.size plan)
+    → IfOk result (IsPlanFor facts entry texts)
+plan_for facts entry texts (Ok plan) handover loadable = record {
+  handover = handover;
+  loadable = loadable;
+}
+plan_for facts entry texts (Err fault) handover loadable = tt
 
 -- a fault of preparing changed nothing
 pub unprepared : (facts : MachineFacts) (value : EntryValue) (fault : PrepFault) (old : List ℕ)

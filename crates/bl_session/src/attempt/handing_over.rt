@@ -1,20 +1,15 @@
 //! An attempt ends, once each piece of its files came.
-ghost use Rattle.std.specs.Prelude.{◌≡◌, ◌+◌, ◌<◌, ◌^◌, IfErr, IfOk, OnErr, OnOk};
-ghost use Rattle.std.specs.Prelude.{length, map};
+ghost use Rattle.std.specs.Prelude.{◌≡◌, ◌<◌, ◌^◌, IfErr, IfOk, OnErr, OnOk, length, map};
 ghost use Rattle.bl_map.specs.PoolFrames.{HasFramesFor};
-ghost use Rattle.bl_mem.specs.Files.{AreAddressesBelow, AllApartFrom};
-ghost use Rattle.bl_mem.specs.Memory.{HasRoom, AllHaveRoom, KeepsSizeAndRoom};
-ghost use Rattle.bl_plan.specs.Placed.{place_range};
+ghost use Rattle.bl_mem.specs.Memory.{HasRoom, KeepsSizeAndRoom};
 ghost use Rattle.bl_stage.specs.Ranges.{IsSameOutside};
-ghost use Rattle.bl_stage.specs.Staged.{AllCame, HasPool, IsStagedOn, staged_texts, with_frames};
-ghost use Rattle.bl_stage.specs.Staged.{staged};
-ghost use Rattle.bl_load.specs.MemoryAfter.{IsMemoryAfter};
-ghost use Rattle.bl_load.specs.Loadable.{lengths_of, IsLoadable};
-ghost use Rattle.bl_load.specs.Parts.{IsHandover, IsPrepFault};
-ghost use Rattle.bl_load.specs.PlanContents.{handover_by, handover_in, places_of};
+ghost use Rattle.bl_stage.specs.Staged.{AllCame, HasPool, staged, staged_texts, with_frames};
+ghost use Rattle.bl_load.specs.Parts.{IsPrepFault};
 ghost use Rattle.bl_load.specs.EntryValue.{value_of, file_count, IsWithinLimits};
 ghost use Rattle.bl_session.specs.attempt.FinishedAttempt.{IsHandedOver, IsNotHandedOver};
 ghost use Rattle.bl_session.specs.attempt.FinishedAttempt.{IsStageAfterFault};
+ghost use Rattle.bl_session.specs.internal.HandoverSteps.{IsPlanFor, HasMadeWay, CanHandOver};
+ghost use Rattle.bl_session.specs.internal.HandoverSteps.{HasLoadedPlan};
 
 use bl_load::{Entry, Handoff, Plan, PrepFault, Refusal, load, prepare};
 use bl_map::Machine;
@@ -56,11 +51,8 @@ fn prepare_staged<M: PhysMem, A: Allocator + Copy>(
     requires limits { IsWithinLimits entry.now }
     requires complete { AllCame stage.now }
     requires inside { HasPool (M.bytes memory.now) stage.now.pool }
-    ensures handover { IfOk result (λ plan. IsHandover machine.now
-        (value_of (staged_texts (M.bytes memory.now) stage.now) entry.now)
-        (handover_by (staged_texts (M.bytes memory.now) stage.now) plan)) }
-    ensures loadable { IfOk result (λ plan. IsLoadable
-        (lengths_of (staged_texts (M.bytes memory.now) stage.now)) machine.now.size plan) }
+    ensures ok { IfOk result
+        (IsPlanFor machine.now entry.now (staged_texts (M.bytes memory.now) stage.now)) }
     ensures fault { IfErr result (λ fault. IsPrepFault machine.now
         (value_of (staged_texts (M.bytes memory.now) stage.now) entry.now) fault) }
 {
@@ -77,19 +69,13 @@ fn evacuate_ranges<M: PhysMem, A: Allocator>(
 ) -> Result<(), Refusal>
     requires inside { HasPool (M.bytes memory.old) stage.old.pool }
     requires room { HasRoom (M.room memory.old) stage.old.pool.start stage.old.pool.end }
-    ensures room { OnOk result
-        (HasFramesFor stage.old.pool ranges.now (staged_texts (M.bytes memory.old) stage.old)) }
+    ensures ok { OnOk result (HasMadeWay stage.old stage.new ranges.now
+        (M.bytes memory.old) (M.bytes memory.new)) }
     ensures refused { IfErr result (λ refusal. (refusal ≡ Refusal.NoPool)
         × ¬ HasFramesFor stage.old.pool ranges.now (staged_texts (M.bytes memory.old) stage.old)) }
     ensures unchanged { OnErr result
         ((stage.new ≡ stage.old) × (M.bytes memory.new ≡ M.bytes memory.old)) }
     ensures stage { stage.new ≡ with_frames stage.old stage.new.frames }
-    ensures texts { OnOk result
-        (staged_texts (M.bytes memory.new) stage.new
-        ≡ staged_texts (M.bytes memory.old) stage.old) }
-    ensures held { OnOk result
-        (AreAddressesBelow (λ a. IsStagedOn stage.new a) (length (M.bytes memory.new))) }
-    ensures beside { OnOk result (AllApartFrom (λ a. IsStagedOn stage.new a) ranges.now) }
     ensures outside { IsSameOutside stage.old.pool (M.bytes memory.old) (M.bytes memory.new) }
     ensures kept { KeepsSizeAndRoom M.lender M.bytes M.room memory.old memory.new }
 {
@@ -106,19 +92,8 @@ fn hand_over<M: PhysMem, A: Allocator>(
     stage: &Stage<A>,
     plan: Plan<A>,
 ) -> Handoff<A>
-    requires held { AreAddressesBelow (λ a. IsStagedOn stage.now a) (length (M.bytes memory.old)) }
-    requires loadable { IsLoadable (lengths_of (staged_texts (M.bytes memory.old) stage.now))
-        (length (M.bytes memory.old)) plan }
-    requires room { AllHaveRoom (M.room memory.old) (map place_range (places_of plan)) }
-    requires beside { AllApartFrom (λ a. IsStagedOn stage.now a)
-        (map place_range (places_of plan)) }
-    requires inside { HasPool (M.bytes memory.old) machine.now.pool }
-    requires pool_room { HasRoom (M.room memory.old) machine.now.pool.start machine.now.pool.end }
-    ensures places { result.places ≡ places_of plan }
-    ensures held { handover_in (M.bytes memory.new) result.protocol result.registers result.places
-        ≡ handover_by (staged_texts (M.bytes memory.old) stage.now) plan }
-    ensures after { IsMemoryAfter machine.now.pool
-        (handover_by (staged_texts (M.bytes memory.old) stage.now) plan).parts
+    requires { CanHandOver machine.now stage.now plan (M.bytes memory.old) (M.room memory.old) }
+    ensures loaded { HasLoadedPlan machine.now stage.now plan result
         (M.bytes memory.old) (M.bytes memory.new) }
     ensures kept { KeepsSizeAndRoom M.lender M.bytes M.room memory.old memory.new }
 {

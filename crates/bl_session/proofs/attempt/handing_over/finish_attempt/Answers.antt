@@ -1,4 +1,4 @@
-use Rattle.std.proofs.Common.{◌≡◌, ◌≤◌, ◌∙◌, ℕ, List, length, ap, arith}
+use Rattle.std.proofs.Common.{◌≡◌, ◌≤◌, ◌∙◌, ℕ, List, length, ap, arith, rules}
 use Rattle.std.proofs.lemmas.List.Elements.{All-map}
 use Rattle.std.proofs.lemmas.Result.{err_from_is_err_and}
 use Rattle.std.specs.declared.ops.Range.{Range}
@@ -36,7 +36,7 @@ returns-in_err-evacuate_ranges-clause-err g c =
     let full = rw (c.requires.pool, c.ranges-2.ensures) at refused.1 in
     rw (p.1, p.2, refused.0) (
       lacks_room c.args.machine.now texts c.args.entry.now c.in_ok-plan.plan
-          c.in_ok-plan.ensures.handover c.in_ok-plan.ensures.loadable.backed full,
+          c.in_ok-plan.ensures.ok.handover c.in_ok-plan.ensures.ok.loadable.backed full,
       c.in_err-evacuate_ranges.ensures.unchanged.1,
     )
 
@@ -49,24 +49,24 @@ pub reserve-requires-clause-inside : goal.reserve-requires-clause-inside
 reserve-requires-clause-inside g c = rw c.ranges-3.ensures
     (All-map (λ (r : Range ℕ). r.end ≤ length (g.M.PhysMem.bytes c.evacuate_ranges.new.memory))
     place_range (places_of c.in_ok-plan.plan)
-    (λ k d h. let i = c.in_ok-plan.ensures.loadable.inside k d h in
+    (λ k d h. let i = c.in_ok-plan.ensures.ok.loadable.inside k d h in
     omega (arith, i, c.requires.size, c.evacuate_ranges.ensures.kept.size)))
 
-pub hand_over-requires-clause-held : goal.hand_over-requires-clause-held
-hand_over-requires-clause-held g c = rw c.reserve.ensures.same c.in_ok-evacuate_ranges.ensures.held
-
-pub hand_over-requires-clause-room : goal.hand_over-requires-clause-room
-hand_over-requires-clause-room g c = rw (← c.ranges-3.ensures) c.in_ok-reserve.ensures.made
-
-pub hand_over-requires-clause-beside : goal.hand_over-requires-clause-beside
-hand_over-requires-clause-beside g c =
-    rw (← c.ranges-2.ensures) c.in_ok-evacuate_ranges.ensures.beside
-
-pub hand_over-requires-clause-inside : goal.hand_over-requires-clause-inside
-hand_over-requires-clause-inside g c = λ some.
-    let end = pool_in_memory c.args.machine.now c.pool.ensures.facts some in
+pub hand_over-requires : goal.hand_over-requires
+hand_over-requires g c =
     let size = ap (λ (m : List ℕ). length m) c.reserve.ensures.same in
-    omega (arith, end, size, c.requires.size, c.evacuate_ranges.ensures.kept.size)
+    record {
+      held = rw c.reserve.ensures.same c.in_ok-evacuate_ranges.ensures.ok.held;
+      loadable = search rules;
+      room = rw (← c.ranges-3.ensures) c.in_ok-reserve.ensures.made;
+      beside = rw (← c.ranges-2.ensures) c.in_ok-evacuate_ranges.ensures.ok.beside;
+      inside = λ some.
+          let end = pool_in_memory c.args.machine.now c.pool.ensures.facts some in
+          omega (arith, end, size, c.requires.size, c.evacuate_ranges.ensures.kept.size);
+      pool_room =
+          λ a low high. c.reserve.ensures.kept.room a
+          (c.evacuate_ranges.ensures.kept.room a (c.requires.room a low high));
+    }
 
 pub returns-clause-ok : goal.returns-clause-ok
 returns-clause-ok g c =
@@ -75,26 +75,26 @@ returns-clause-ok g c =
     let texts = staged_texts old c.args.stage.now in
     let plan = c.in_ok-plan.plan in
     let handover = handover_by texts plan in
-    let beside = rw (c.requires.pool, c.ranges-2.ensures) at c.in_ok-evacuate_ranges.ensures.room in
+    let beside = rw (c.requires.pool, c.ranges-2.ensures) at c.in_ok-evacuate_ranges.ensures.ok.room in
     let read : staged_texts (g.M.PhysMem.bytes c.reserve.new.self) c.evacuate_ranges.new.stage
     ≡ texts =
     ap (λ m. staged_texts m c.evacuate_ranges.new.stage) c.reserve.ensures.same
-    ∙ c.in_ok-evacuate_ranges.ensures.texts in
+    ∙ c.in_ok-evacuate_ranges.ensures.ok.texts in
     let outside =
     rw (c.requires.pool, ← c.reserve.ensures.same) at c.evacuate_ranges.ensures.outside in
-    let after = rw read at c.hand_over.ensures.after in
+    let after = rw read at c.hand_over.ensures.loaded.memory in
     let size = ap (λ (m : List ℕ). length m) c.reserve.ensures.same in
     record {
       handover = handover;
       ends = (
-        c.in_ok-plan.ensures.handover,
+        c.in_ok-plan.ensures.ok.handover,
         has_room facts texts c.args.entry.now plan
-            c.in_ok-plan.ensures.handover c.in_ok-plan.ensures.loadable.backed beside,
+            c.in_ok-plan.ensures.ok.handover c.in_ok-plan.ensures.ok.loadable.backed beside,
       );
-      held = rw read at c.hand_over.ensures.held;
+      held = rw read at c.hand_over.ensures.loaded.held;
       inside =
-          rw c.hand_over.ensures.places
-          (λ k d h. let i = c.in_ok-plan.ensures.loadable.inside k d h in
+          rw c.hand_over.ensures.loaded.places
+          (λ k d h. let i = c.in_ok-plan.ensures.ok.loadable.inside k d h in
           omega (
             arith,
             i,
@@ -116,8 +116,3 @@ returns-clause-kept g c =
 pub returns-in_err-reserve-clause-kept : goal.returns-in_err-reserve-clause-kept
 returns-in_err-reserve-clause-kept g c =
     keeps_on c.evacuate_ranges.ensures.kept c.reserve.ensures.kept
-
-pub hand_over-requires-clause-pool_room : goal.hand_over-requires-clause-pool_room
-hand_over-requires-clause-pool_room g c =
-    λ a low high. c.reserve.ensures.kept.room a
-    (c.evacuate_ranges.ensures.kept.room a (c.requires.room a low high))

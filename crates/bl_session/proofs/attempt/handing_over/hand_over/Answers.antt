@@ -9,40 +9,40 @@ use Rattle.bl_session.proofs.session_lemmas.KeptMemoryLemmas.{keeps_on}
 use Rattle.std.proofs.lemmas.Grind.{common_steps}
 use Rattle.bl_session.proofs.attempt.handing_over.hand_over.Goals as goal
 
-pub returns-clause-held : goal.returns-clause-held
-returns-clause-held g c =
+pub returns-clause-loaded : goal.returns-clause-loaded
+returns-clause-loaded g c =
+    let old = g.M.PhysMem.bytes c.args.memory.now in
     let loaded = g.M.PhysMem.bytes c.load-handoff.new.memory in
     let new = g.M.PhysMem.bytes c.scrub.new.memory in
     let handoff = c.load-handoff.result in
-    let cleared = rw (c.ranges-2.ensures) at c.scrub.ensures.after in
-    let inside = c.requires.loadable.inside in
-    let same =
-    held_on c.args.machine.now.pool handoff.places loaded new c.scrub.ensures.kept.size cleared
-    (rw (c.load-handoff.ensures.places, c.load-handoff.ensures.kept.size) inside) in
-    ap (λ (ps : List Part).
-    let h : Handover =
-    record { protocol = handoff.protocol; registers = handoff.registers; parts = ps } in h)
-    same
-    ∙ c.load-handoff.ensures.handed
-
-pub returns-clause-after : goal.returns-clause-after
-returns-clause-after g c =
-    let old = g.M.PhysMem.bytes c.args.memory.now in
+    let pool = c.args.machine.now.pool in
     let texts = staged_texts old c.args.stage.now in
     let plan = c.args.plan in
     let loadable = c.requires.loadable in
     let parts = (handover_by texts plan).parts in
+    let at_places = rw (c.ranges-2.ensures) at c.scrub.ensures.after in
+    let same =
+    held_on pool handoff.places loaded new c.scrub.ensures.kept.size at_places
+    (rw (c.load-handoff.ensures.places, c.load-handoff.ensures.kept.size) loadable.inside) in
     let ranges = ranges_are texts plan.parts.items loadable.backed in
     let kept = c.ranges-2.ensures ∙ ap (map _) c.load-handoff.ensures.places ∙ sym ranges in
-    let cleared = rw kept at c.scrub.ensures.after in
-    after_scrub c.args.machine.now.pool parts old (g.M.PhysMem.bytes c.load-handoff.new.memory)
-    (g.M.PhysMem.bytes c.scrub.new.memory)
-    c.load-handoff.ensures.in_parts
-    (λ a out.
-    ap (λ m. slice_index m a) c.load-handoff.ensures.after
-    ∙ written_elsewhere (length old) parts old a refl
-    (all_end_within texts (length old) plan loadable) out)
-    cleared
+    let at_parts = rw kept at c.scrub.ensures.after in
+    record {
+      places = c.load-handoff.ensures.places;
+      held =
+          ap (λ (ps : List Part).
+          let h : Handover =
+          record { protocol = handoff.protocol; registers = handoff.registers; parts = ps } in h)
+          same
+          ∙ c.load-handoff.ensures.handed;
+      memory =
+          after_scrub pool parts old loaded new c.load-handoff.ensures.in_parts
+          (λ a out.
+          ap (λ m. slice_index m a) c.load-handoff.ensures.after
+          ∙ written_elsewhere (length old) parts old a refl
+          (all_end_within texts (length old) plan loadable) out)
+          at_parts;
+    }
 
 pub returns-clause-kept : goal.returns-clause-kept
 returns-clause-kept g c = keeps_on c.load-handoff.ensures.kept c.scrub.ensures.kept

@@ -5,6 +5,7 @@ use Rattle.std.proofs.lemmas.List.{length-map}
 use Rattle.std.proofs.lemmas.List.FromFn.{length-map-range_with_len}
 use Rattle.bl_stage.specs.Staged.{staged, staged_file}
 use Rattle.bl_session.proofs.attempt_lemmas.EarlyReturnLemmas.{no_value}
+use Rattle.bl_session.proofs.attempt_lemmas.FinishLemmas.{plan_for}
 use Rattle.bl_session.proofs.attempt.handing_over.prepare_staged.Goals as goal
 
 pub views_of-requires-clause-complete : goal.views_of-requires-clause-complete
@@ -13,24 +14,17 @@ views_of-requires-clause-complete g c = c.requires.complete
 pub views_of-requires-clause-inside : goal.views_of-requires-clause-inside
 views_of-requires-clause-inside g c = c.requires.inside
 
-pub returns-in_err-views-clause-handover : goal.returns-in_err-views-clause-handover
-returns-in_err-views-clause-handover g c =
-    no_value _ _ c.from_residual.result c.from_residual.ensures.1
-
-pub returns-in_err-views-clause-loadable : goal.returns-in_err-views-clause-loadable
-returns-in_err-views-clause-loadable g c =
-    no_value _ _ c.from_residual.result c.from_residual.ensures.1
+pub returns-in_err-views-clause-ok : goal.returns-in_err-views-clause-ok
+returns-in_err-views-clause-ok g c = no_value _ _ c.from_residual.result c.from_residual.ensures.1
 
 pub prepare-requires-clause-limits : goal.prepare-requires-clause-limits
 prepare-requires-clause-limits g c = c.requires.limits
 
-pub returns-clause-handover : goal.returns-clause-handover
-returns-clause-handover g c =
-    rw (← c.in_ok-views.ensures, ← c.deref.ensures.value) c.prepare.ensures.handover
-
-pub returns-clause-loadable : goal.returns-clause-loadable
-returns-clause-loadable g c =
-    rw (← c.in_ok-views.ensures, ← c.deref.ensures.value) c.prepare.ensures.loadable
+pub returns-clause-ok : goal.returns-clause-ok
+returns-clause-ok g c =
+    rw (← c.in_ok-views.ensures, ← c.deref.ensures.value)
+    (plan_for c.args.machine.now c.args.entry.now _ c.prepare.result c.prepare.ensures.handover
+    c.prepare.ensures.loadable)
 
 pub prepare-requires-clause-files : goal.prepare-requires-clause-files
 prepare-requires-clause-files g c =
