@@ -75,7 +75,7 @@ pub record EndsAttempt (old new : SessionFacts) (files : List File)
   -- memory holds what it is to hold where the boot stands
   pub memory : IsMemoryAt old.boot.machine.pool (state_at after new.phase) before after
 
--- the orders and answers of all attempts led to the end of the boot
+-- the submissions and answers of all attempts led to the end of the boot
 pub record EndsAllAttempts (old new : SessionFacts) (files : List File)
     (given given_after : List HistoryItem) (before after : List ℕ) : Type 0 where
   -- the history leads from where the boot stood to its end

@@ -22,7 +22,7 @@ pub record AreAskedButRest (attempt_submissions rest old new : List HistoryItem)
   pub all : attempt_submissions ≡ asked ++ rest
   pub given : new ≡ old ++ asked
 
--- these orders were asked for, in order; if that ended in an error, all but the rest
+-- these submissions were asked for, in order; if that ended in an error, all but the rest
 abbrev pub AreSubmitted :
     {T E : Type 0} → Result T E → (attempt_submissions old new : List HistoryItem) → Type 0
 AreSubmitted (Ok done) attempt_submissions old new = new ≡ old ++ attempt_submissions
