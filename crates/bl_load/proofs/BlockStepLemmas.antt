@@ -1,8 +1,8 @@
 -- A block, segment after segment.
 use Rattle.std.proofs.Common.{◌≡◌, ℕ, ◌+◌, ◌-◌, ◌<◌, ◌≤◌, List, [], ◌∷◌, ◌++◌, length, get_or}
 use Rattle.std.proofs.Common.{replicate, suc, arith, refl, sym, ap, ◌∙◌, All, AllPairs}
-use Rattle.std.proofs.Common.{length-append}
-use Rattle.std.proofs.lemmas.List.{same_lists, length-replicate}
+use Rattle.std.proofs.Common.{length-append, drop, rules}
+use Rattle.std.proofs.lemmas.List.{same_lists, length-replicate, drop_all, places}
 use Rattle.std.proofs.lemmas.List.Elements.{All-cons}
 use Rattle.bl_mem.specs.Memory.{overwrite}
 use Rattle.bl_mem.specs.Files.{IsApartFrom, Agree}
@@ -13,6 +13,12 @@ use Rattle.bl_load.specs.KernelBlock.{low_of, span_of, block_byte, first_values,
 use Rattle.bl_load.specs.Loadable.{IsCopyable, SegmentsAscend}
 use Rattle.bl_load.proofs.BlockLemmas.{block_from, length-contents_of, length-first_values}
 use Rattle.bl_load.proofs.BlockLemmas.{get_or-first_values, length-block_from, get_or-block_from}
+
+-- once no segment is left, nothing is left to write
+pub none_left : (text m : List ℕ) (at start : ℕ) (segments : List Segment) (i : ℕ)
+    → length segments ≤ i → m ≡ overwrite m at (block_from text start (drop i segments))
+none_left text m at start segments i all =
+    rw (drop_all i segments all) (same_lists _ _ (search (rules, places)) (λ k d h. grind (arith, places)))
 
 -- the first segment is the lowest
 low_first : (s : Segment) (segments : List Segment) → AllPairs SegmentsAscend (s ∷ segments)

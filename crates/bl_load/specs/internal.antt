@@ -1,5 +1,9 @@
+pub mod Copying
 pub mod Loading
 pub mod ReadMultiboot2Kernels
 pub mod Placing
 pub mod ReadKernels
 pub mod CheckedEntries
+pub mod Contents
+pub mod Told
+pub mod Checks

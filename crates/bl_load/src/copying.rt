@@ -1,46 +1,86 @@
 //! A file's bytes come into memory, which may hold the file.
-ghost use Rattle.std.specs.Prelude.{◌≡◌, ◌+◌, ◌<◌, ◌≤◌, length, slice_range};
-ghost use Rattle.bl_mem.specs.Files.{nth_file, AreAddressesBelow, IsApartFrom};
-ghost use Rattle.bl_mem.specs.Memory.{overwrite, HasRoom, KeepsSizeAndRoom};
+//!
+//! They are copied through no buffer where the files lend them, or where they lie in memory and
+//! memory moves bytes by itself; else through one of 4096 bytes.
+ghost use Rattle.std.specs.Prelude.{◌+◌, ◌≤◌, length, slice_range};
+ghost use Rattle.bl_mem.specs.Files.{nth_file};
+ghost use Rattle.bl_load.specs.internal.Copying.{IsVacant, IsPutBesideFiles};
+ghost use Rattle.bl_load.specs.internal.Copying.{IsRangeOfFile, IsSmallRangeOfFile};
 
+use bl_map::FRAME_SIZE;
 use bl_mem::{FileSet, PhysMem};
 
-/// Copies from `offset` of the file to `at` as many bytes as the buffer has: within memory where
-/// they lie there together, else through the buffer.
+/// Writes bytes where no file lies, so that each file reads as before.
+pub(crate) fn write_beside<M: PhysMem, F: FileSet>(memory: &mut M, at: u64, files: &F, part: &[u8])
+    requires { IsVacant M.bytes M.room F.holds memory.old files.now at (length part.now) }
+    ensures { IsPutBesideFiles M.lender M.bytes M.room F.texts files.now memory.old memory.new at
+        part.now }
+{
+    memory.write(at, part);
+}
+
+/// Copies bytes of the file that lie in memory from `from` on.
+fn copy_beside<M: PhysMem, F: FileSet>(memory: &mut M, at: u64, files: &F, from: u64, count: usize)
+    requires few { count ≤ 4096 }
+    requires source { from + count ≤ length (M.bytes memory.old) }
+    requires free { IsVacant M.bytes M.room F.holds memory.old files.now at count }
+    ensures { IsPutBesideFiles M.lender M.bytes M.room F.texts files.now memory.old memory.new at
+        (slice_range (M.bytes memory.old) from (from + count)) }
+{
+    memory.copy(from, at, count);
+}
+
+/// Copies a piece of the file through a buffer. It is a function of its own, so that no other call
+/// has the buffer on its stack.
+#[inline(never)]
+fn copy_through_buffer<M: PhysMem, F: FileSet>(
+    memory: &mut M,
+    at: u64,
+    files: &F,
+    file: usize,
+    offset: u64,
+    count: usize,
+)
+    requires free { IsVacant M.bytes M.room F.holds memory.old files.now at count }
+    requires piece { IsSmallRangeOfFile (F.texts files.now (M.bytes memory.old)) file offset count }
+    ensures { IsPutBesideFiles M.lender M.bytes M.room F.texts files.now memory.old memory.new at
+        (slice_range (nth_file (F.texts files.now (M.bytes memory.old)) file) offset
+        (offset + count)) }
+{
+    let mut frame = [0u8; 4096];
+    let buffer = &mut frame[..count];
+    files.read(memory, file, offset, buffer);
+    write_beside(memory, at, files, buffer);
+}
+
+/// Copies a piece of the file: as it is lent, within memory where it lies there, else through a
+/// buffer.
 fn copy_piece<M: PhysMem, F: FileSet>(
     memory: &mut M,
     at: u64,
     files: &F,
     file: usize,
     offset: u64,
-    buffer: &mut [u8],
+    count: usize,
 )
-    requires few { length buffer.old ≤ 4096 }
-    requires held { AreAddressesBelow (F.holds files.now) (length (M.bytes memory.old)) }
-    requires file { file < length (F.texts files.now (M.bytes memory.old)) }
-    requires source { offset + length buffer.old
-        ≤ length (nth_file (F.texts files.now (M.bytes memory.old)) file) }
-    requires inside { at + length buffer.old ≤ length (M.bytes memory.old) }
-    requires room { HasRoom (M.room memory.old) at (at + length buffer.old) }
-    requires beside { IsApartFrom (F.holds files.now) at (at + length buffer.old) }
-    ensures after { M.bytes memory.new ≡ overwrite (M.bytes memory.old) at (slice_range
-        (nth_file (F.texts files.now (M.bytes memory.old)) file)
-        offset (offset + length buffer.old)) }
-    ensures texts { F.texts files.now (M.bytes memory.new)
-        ≡ F.texts files.now (M.bytes memory.old) }
-    ensures kept { KeepsSizeAndRoom M.lender M.bytes M.room memory.old memory.new }
+    requires free { IsVacant M.bytes M.room F.holds memory.old files.now at count }
+    requires piece { IsSmallRangeOfFile (F.texts files.now (M.bytes memory.old)) file offset count }
+    ensures { IsPutBesideFiles M.lender M.bytes M.room F.texts files.now memory.old memory.new at
+        (slice_range (nth_file (F.texts files.now (M.bytes memory.old)) file) offset
+        (offset + count)) }
 {
-    match files.address(memory, file, offset, buffer.len()) {
-        Some(from) => memory.copy(from, at, buffer.len()),
-        None => {
-            files.read(memory, file, offset, buffer);
-            memory.write(at, buffer);
-        }
+    if let Some(lent) = files.lend(memory, file, offset, count) {
+        write_beside(memory, at, files, lent);
+        return;
+    }
+    match files.address(memory, file, offset, count) {
+        Some(from) => copy_beside(memory, at, files, from, count),
+        None => copy_through_buffer(memory, at, files, file, offset, count),
     }
 }
 
-/// Copies `count` bytes of the file, from `offset` on, to `at`, piece by piece. The one buffer
-/// stays in the processor's cache.
+/// Copies `count` bytes of the file, from `offset` on, to `at`, piece by piece. A piece ends where
+/// a frame of the file does, so that one of a file in frames of memory lies in one of them.
 fn copy_by_pieces<M: PhysMem, F: FileSet>(
     memory: &mut M,
     at: u64,
@@ -49,50 +89,22 @@ fn copy_by_pieces<M: PhysMem, F: FileSet>(
     offset: u64,
     count: u64,
 )
-    requires held { AreAddressesBelow (F.holds files.now) (length (M.bytes memory.old)) }
-    requires file { file < length (F.texts files.now (M.bytes memory.old)) }
-    requires source { 1 ≤ count → offset + count
-        ≤ length (nth_file (F.texts files.now (M.bytes memory.old)) file) }
-    requires inside { at + count ≤ length (M.bytes memory.old) }
-    requires room { HasRoom (M.room memory.old) at (at + count) }
-    requires beside { IsApartFrom (F.holds files.now) at (at + count) }
-    ensures after { M.bytes memory.new ≡ overwrite (M.bytes memory.old) at (slice_range
-        (nth_file (F.texts files.now (M.bytes memory.old)) file) offset (offset + count)) }
-    ensures texts { F.texts files.now (M.bytes memory.new)
-        ≡ F.texts files.now (M.bytes memory.old) }
-    ensures kept { KeepsSizeAndRoom M.lender M.bytes M.room memory.old memory.new }
+    requires free { IsVacant M.bytes M.room F.holds memory.old files.now at count }
+    requires piece { IsRangeOfFile (F.texts files.now (M.bytes memory.old)) file offset count }
+    ensures { IsPutBesideFiles M.lender M.bytes M.room F.texts files.now memory.old memory.new at
+        (slice_range (nth_file (F.texts files.now (M.bytes memory.old)) file) offset
+        (offset + count)) }
 {
     // For the proof: both lengths are below 2^64, so no sum here wraps.
     let _source = files.len(memory, file);
     let _target = memory.size();
-    let mut buffer = [0u8; 4096];
     let mut done = 0u64;
     while done < count {
-        let next = (count - done).min(4096);
-        copy_piece(
-            memory,
-            at + done,
-            files,
-            file,
-            offset + done,
-            &mut buffer[..next as usize],
-        );
+        let from = offset + done;
+        let next = (count - done).min(FRAME_SIZE - from % FRAME_SIZE);
+        copy_piece(memory, at + done, files, file, from, next as usize);
         done += next;
     }
-}
-
-/// Writes bytes that the files lent.
-fn write_lent<M: PhysMem, F: FileSet>(memory: &mut M, at: u64, files: &F, lent: &[u8])
-    requires held { AreAddressesBelow (F.holds files.now) (length (M.bytes memory.old)) }
-    requires inside { at + length lent.now ≤ length (M.bytes memory.old) }
-    requires room { HasRoom (M.room memory.old) at (at + length lent.now) }
-    requires beside { IsApartFrom (F.holds files.now) at (at + length lent.now) }
-    ensures after { M.bytes memory.new ≡ overwrite (M.bytes memory.old) at lent.now }
-    ensures texts { F.texts files.now (M.bytes memory.new)
-        ≡ F.texts files.now (M.bytes memory.old) }
-    ensures kept { KeepsSizeAndRoom M.lender M.bytes M.room memory.old memory.new }
-{
-    memory.write(at, lent);
 }
 
 /// Copies `count` bytes of the file, from `offset` on, to `at`: at once where the files lend them,
@@ -105,18 +117,11 @@ pub(crate) fn copy<M: PhysMem, F: FileSet>(
     offset: u64,
     count: u64,
 )
-    requires held { AreAddressesBelow (F.holds files.now) (length (M.bytes memory.old)) }
-    requires file { file < length (F.texts files.now (M.bytes memory.old)) }
-    requires source { 1 ≤ count → offset + count
-        ≤ length (nth_file (F.texts files.now (M.bytes memory.old)) file) }
-    requires inside { at + count ≤ length (M.bytes memory.old) }
-    requires room { HasRoom (M.room memory.old) at (at + count) }
-    requires beside { IsApartFrom (F.holds files.now) at (at + count) }
-    ensures after { M.bytes memory.new ≡ overwrite (M.bytes memory.old) at (slice_range
-        (nth_file (F.texts files.now (M.bytes memory.old)) file) offset (offset + count)) }
-    ensures texts { F.texts files.now (M.bytes memory.new)
-        ≡ F.texts files.now (M.bytes memory.old) }
-    ensures kept { KeepsSizeAndRoom M.lender M.bytes M.room memory.old memory.new }
+    requires free { IsVacant M.bytes M.room F.holds memory.old files.now at count }
+    requires piece { IsRangeOfFile (F.texts files.now (M.bytes memory.old)) file offset count }
+    ensures { IsPutBesideFiles M.lender M.bytes M.room F.texts files.now memory.old memory.new at
+        (slice_range (nth_file (F.texts files.now (M.bytes memory.old)) file) offset
+        (offset + count)) }
 {
     if count == 0 {
         return;
@@ -124,7 +129,7 @@ pub(crate) fn copy<M: PhysMem, F: FileSet>(
     // For the proof: the file's length is below 2^64.
     let _source = files.len(memory, file);
     match files.lend(memory, file, offset, count as usize) {
-        Some(lent) => write_lent(memory, at, files, lent),
+        Some(lent) => write_beside(memory, at, files, lent),
         None => copy_by_pieces(memory, at, files, file, offset, count),
     }
 }

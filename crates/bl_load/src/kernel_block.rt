@@ -1,8 +1,8 @@
 //! A relocatable kernel's image comes into memory.
-ghost use Rattle.std.specs.Prelude.{◌≡◌, ◌+◌, ◌<◌, ◌≤◌, length, All, AllPairs};
+ghost use Rattle.std.specs.Prelude.{◌≡◌, ◌<◌, ◌≤◌, length, All, AllPairs};
 ghost use Rattle.bl_mem.specs.SegmentContents.{contents_of};
-ghost use Rattle.bl_mem.specs.Files.{nth_file, AreAddressesBelow, IsApartFrom};
-ghost use Rattle.bl_mem.specs.Memory.{overwrite, HasRoom, KeepsSizeAndRoom};
+ghost use Rattle.bl_mem.specs.Files.{nth_file};
+ghost use Rattle.bl_load.specs.internal.Copying.{IsVacant, IsPutBesideFiles};
 ghost use Rattle.bl_load.specs.KernelBlock.{span_of, block_of};
 ghost use Rattle.bl_load.specs.Loadable.{IsCopyable, SegmentsAscend};
 
@@ -17,18 +17,12 @@ fn load_segment<M: PhysMem, F: FileSet>(
     file: usize,
     segment: &Segment,
 )
-    requires held { AreAddressesBelow (F.holds files.now) (length (M.bytes memory.old)) }
     requires file { file < length (F.texts files.now (M.bytes memory.old)) }
     requires copied { IsCopyable
         (length (nth_file (F.texts files.now (M.bytes memory.old)) file)) segment.now }
-    requires inside { at + segment.now.memsz ≤ length (M.bytes memory.old) }
-    requires room { HasRoom (M.room memory.old) at (at + segment.now.memsz) }
-    requires beside { IsApartFrom (F.holds files.now) at (at + segment.now.memsz) }
-    ensures after { M.bytes memory.new ≡ overwrite (M.bytes memory.old) at
+    requires free { IsVacant M.bytes M.room F.holds memory.old files.now at segment.now.memsz }
+    ensures { IsPutBesideFiles M.lender M.bytes M.room F.texts files.now memory.old memory.new at
         (contents_of (nth_file (F.texts files.now (M.bytes memory.old)) file) segment.now) }
-    ensures texts { F.texts files.now (M.bytes memory.new)
-        ≡ F.texts files.now (M.bytes memory.old) }
-    ensures kept { KeepsSizeAndRoom M.lender M.bytes M.room memory.old memory.new }
 {
     // For the proof: memory's size is below 2^64, so no sum here wraps.
     let _size = memory.size();
@@ -45,21 +39,15 @@ pub(crate) fn load_block<M: PhysMem, F: FileSet>(
     file: usize,
     segments: &[Segment],
 ) -> u64
-    requires held { AreAddressesBelow (F.holds files.now) (length (M.bytes memory.old)) }
     requires file { file < length (F.texts files.now (M.bytes memory.old)) }
     requires some { 1 ≤ length segments.now }
     requires copied { All (IsCopyable
         (length (nth_file (F.texts files.now (M.bytes memory.old)) file))) segments.now }
     requires ascending { AllPairs SegmentsAscend segments.now }
-    requires inside { at + span_of segments.now ≤ length (M.bytes memory.old) }
-    requires room { HasRoom (M.room memory.old) at (at + span_of segments.now) }
-    requires beside { IsApartFrom (F.holds files.now) at (at + span_of segments.now) }
+    requires free { IsVacant M.bytes M.room F.holds memory.old files.now at (span_of segments.now) }
     ensures count { result ≡ span_of segments.now }
-    ensures after { M.bytes memory.new ≡ overwrite (M.bytes memory.old) at
-        (block_of (nth_file (F.texts files.now (M.bytes memory.old)) file) segments.now) }
-    ensures texts { F.texts files.now (M.bytes memory.new)
-        ≡ F.texts files.now (M.bytes memory.old) }
-    ensures kept { KeepsSizeAndRoom M.lender M.bytes M.room memory.old memory.new }
+    ensures put { IsPutBesideFiles M.lender M.bytes M.room F.texts files.now memory.old memory.new
+        at (block_of (nth_file (F.texts files.now (M.bytes memory.old)) file) segments.now) }
 {
     // For the proof: memory's size is below 2^64, so no sum here wraps.
     let _size = memory.size();

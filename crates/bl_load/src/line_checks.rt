@@ -1,7 +1,8 @@
 //! The lines of an entry.
-ghost use Rattle.std.specs.Prelude.{◌≡◌, ◌==◌, ◌∷◌, Some, None, MatchResult};
+ghost use Rattle.std.specs.Prelude.{◌≡◌, ◌==◌, ◌∷◌};
 ghost use Rattle.std.specs.List.{list_any};
 ghost use Rattle.bl_load.specs.EntryValue.{line_fault, lines_fault};
+ghost use Rattle.bl_load.specs.internal.Checks.{Tells};
 ghost use Rattle.bl_load.specs.internal.Loading.{lines_by};
 
 use crate::entry::Module;
@@ -19,9 +20,7 @@ fn has_zero(line: &[u8]) -> bool
 /// Checks a line: first for a zero byte, then its length.
 #[tactic(auto, unfolding(crate::specs::EntryValue::line_fault))]
 pub fn check_line(line: &[u8]) -> Result<(), Refusal>
-    ensures { MatchResult result
-        (λ _. line_fault line.now ≡ None)
-        (λ refusal. line_fault line.now ≡ Some refusal) }
+    ensures { Tells result (line_fault line.now) }
 {
     if has_zero(line) {
         return Err(Refusal::LineHasNul);
@@ -34,9 +33,7 @@ pub fn check_line(line: &[u8]) -> Result<(), Refusal>
 
 /// Checks the lines of modules, one after the other.
 fn check_module_lines<A: Allocator>(modules: &[Module<A>]) -> Result<(), Refusal>
-    ensures { MatchResult result
-        (λ _. lines_fault (lines_by modules.now) ≡ None)
-        (λ refusal. lines_fault (lines_by modules.now) ≡ Some refusal) }
+    ensures { Tells result (lines_fault (lines_by modules.now)) }
 {
     for module in modules {
         check_line(module.line.as_slice())?;
@@ -46,9 +43,7 @@ fn check_module_lines<A: Allocator>(modules: &[Module<A>]) -> Result<(), Refusal
 
 /// Checks the lines of an entry: the kernel's, and then those of its modules.
 pub fn check_lines<A: Allocator>(line: &[u8], modules: &[Module<A>]) -> Result<(), Refusal>
-    ensures { MatchResult result
-        (λ _. lines_fault (line.now ∷ lines_by modules.now) ≡ None)
-        (λ refusal. lines_fault (line.now ∷ lines_by modules.now) ≡ Some refusal) }
+    ensures { Tells result (lines_fault (line.now ∷ lines_by modules.now)) }
 {
     check_line(line)?;
     check_module_lines(modules)

@@ -1,11 +1,9 @@
 //! What an entry's parts are by its kernel's file.
-ghost use Rattle.std.specs.Prelude.{◌≡◌, ◌≤◌, ◌^◌, All, IfOk};
+ghost use Rattle.std.specs.Prelude.{◌≡◌, All, IfOk};
 ghost use Rattle.bl_load.specs.Parts.{content_of, registers_of};
-ghost use Rattle.bl_load.specs.PlanContents.{content_by};
-ghost use Rattle.bl_load.specs.Loadable.{lengths_of, content_length, IsInFiles, IsLeanContent};
-ghost use Rattle.bl_load.specs.internal.Placing.{HasRowLength, EndsLow, capped_rows_of};
+ghost use Rattle.bl_load.specs.internal.Contents.{IsPlacedAmong, IsContentOf};
+ghost use Rattle.bl_load.specs.internal.Placing.{EndsLow, capped_rows_of};
 ghost use Rattle.bl_load.specs.internal.ReadKernels.{EntersBy, EntryPointFits32Bits};
-ghost use Rattle.bl_load.specs.internal.ReadKernels.{ToldFits32Bits};
 ghost use Rattle.bl_load.specs.KernelReading.{KernelReading};
 ghost use Rattle.bl_load.specs.internal.CheckedEntries.{texts_in, value_of_files, IsReadWithFiles};
 
@@ -40,20 +38,10 @@ pub trait LoadableKernel {
         places: &[Place],
         place: &Place,
     ) -> Result<Content<A>, AllocError>
-        requires ready { IsReadWithFiles entry.now (reading self.now) }
-        requires fits { ToldFits32Bits (value_of_files entry.now) (reading self.now) places.now }
-        requires low { All EndsLow places.now }
-        requires rowed { HasRowLength entry.now.machine.now (value_of_files entry.now)
-            (reading self.now)
-            place.now }
-        requires small { place.now.length ≤ 2 ^ 32 }
-        ensures content { IfOk result (λ content. content_by (texts_in entry.now) content
-            ≡ content_of entry.now.machine.now (value_of_files entry.now) (reading self.now)
-            places.now place.now.role place.now.index) }
-        ensures there { IfOk result (λ content. IsInFiles (lengths_of (texts_in entry.now))
-            content) }
-        ensures short { IfOk result (λ content. content_length content ≤ place.now.length) }
-        ensures lean { IfOk result (IsLeanContent place.now.role) };
+        requires { IsPlacedAmong entry.now (reading self.now) places.now place.now }
+        ensures { IfOk result (IsContentOf (texts_in entry.now) place.now.role
+            (content_of entry.now.machine.now (value_of_files entry.now) (reading self.now)
+            places.now place.now.role place.now.index) place.now.length) };
 
     /// The registers as a kernel begins that is entered by this protocol, where the parts have
     /// these places.

@@ -1,7 +1,8 @@
 //! The parts of a plan come into memory.
 ghost use Rattle.std.specs.Prelude.{◌≡◌, ℕ, ◌+◌, ◌-◌, ◌<◌, ◌≤◌, length, map, slice_index, All};
-ghost use Rattle.bl_mem.specs.Files.{AreAddressesBelow, IsApartFrom, AllApartFrom};
-ghost use Rattle.bl_mem.specs.Memory.{overwrite, HasRoom, AllHaveRoom, KeepsSizeAndRoom};
+ghost use Rattle.bl_mem.specs.Files.{AreAddressesBelow, AllApartFrom};
+ghost use Rattle.bl_mem.specs.Memory.{AllHaveRoom, KeepsSizeAndRoom};
+ghost use Rattle.bl_load.specs.internal.Copying.{IsVacant, IsPutBesideFiles};
 ghost use Rattle.bl_plan.specs.Placed.{Covers, place_range};
 ghost use Rattle.bl_load.specs.Handover.{overwrite_parts};
 ghost use Rattle.bl_load.specs.PlanContents.{content_by, bytes_by, part_by, handover_by};
@@ -9,7 +10,7 @@ ghost use Rattle.bl_load.specs.PlanContents.{handover_in, places_of};
 ghost use Rattle.bl_load.specs.internal.Loading.{CanLoad};
 ghost use Rattle.bl_load.specs.Loadable.{lengths_of, content_length, IsInFiles, IsLoadable};
 
-use crate::copying::copy;
+use crate::copying::{copy, write_beside};
 use crate::handoff::Handoff;
 use crate::kernel_block::load_block;
 use crate::plan::{Content, Plan, PlannedPart};
@@ -23,21 +24,16 @@ fn load_content<M: PhysMem, F: FileSet, A: Allocator>(
     content: &Content<A>,
     files: &F,
 ) -> u64
-    requires held { AreAddressesBelow (F.holds files.now) (length (M.bytes memory.old)) }
     requires there { IsInFiles (lengths_of (F.texts files.now (M.bytes memory.old))) content.now }
-    requires inside { at + content_length content.now ≤ length (M.bytes memory.old) }
-    requires room { HasRoom (M.room memory.old) at (at + content_length content.now) }
-    requires beside { IsApartFrom (F.holds files.now) at (at + content_length content.now) }
+    requires free { IsVacant M.bytes M.room F.holds memory.old files.now at
+        (content_length content.now) }
     ensures count { result ≡ content_length content.now }
-    ensures after { M.bytes memory.new ≡ overwrite (M.bytes memory.old) at
-        (content_by (F.texts files.now (M.bytes memory.old)) content.now) }
-    ensures texts { F.texts files.now (M.bytes memory.new)
-        ≡ F.texts files.now (M.bytes memory.old) }
-    ensures kept { KeepsSizeAndRoom M.lender M.bytes M.room memory.old memory.new }
+    ensures put { IsPutBesideFiles M.lender M.bytes M.room F.texts files.now memory.old memory.new
+        at (content_by (F.texts files.now (M.bytes memory.old)) content.now) }
 {
     match content {
         Content::Own(bytes) => {
-            memory.write(at, bytes.as_slice());
+            write_beside(memory, at, files, bytes.as_slice());
             bytes.len() as u64
         }
         Content::File {
@@ -59,11 +55,8 @@ fn load_part<M: PhysMem, F: FileSet, A: Allocator>(memory: &mut M, part: &Planne
     requires held { AreAddressesBelow (F.holds files.now) (length (M.bytes memory.old)) }
     requires can { CanLoad (lengths_of (F.texts files.now (M.bytes memory.old)))
         (length (M.bytes memory.old)) (M.room memory.old) (F.holds files.now) part.now }
-    ensures after { M.bytes memory.new ≡ overwrite (M.bytes memory.old) part.now.place.address
-        (bytes_by (F.texts files.now (M.bytes memory.old)) part.now) }
-    ensures texts { F.texts files.now (M.bytes memory.new)
-        ≡ F.texts files.now (M.bytes memory.old) }
-    ensures kept { KeepsSizeAndRoom M.lender M.bytes M.room memory.old memory.new }
+    ensures { IsPutBesideFiles M.lender M.bytes M.room F.texts files.now memory.old memory.new
+        part.now.place.address (bytes_by (F.texts files.now (M.bytes memory.old)) part.now) }
 {
     // For the proof: memory's size is below 2^64, so no sum here wraps.
     let _size = memory.size();

@@ -1,16 +1,14 @@
 //! A Multiboot2 entry.
-ghost use Rattle.std.specs.Prelude.{◌≡◌, ◌≤◌, ◌<◌, ◌+◌, ◌^◌, IfOk, IfErr, IfSome, length, map};
+ghost use Rattle.std.specs.Prelude.{◌≡◌, ◌≤◌, ◌<◌, ◌+◌, ◌^◌, IfOk, IfErr, map};
 ghost use Rattle.bl_load.specs.KernelBlock as blocks;
 ghost use Rattle.bl_load.specs.internal.ReadMultiboot2Kernels.{kernel_by};
 ghost use Rattle.bl_load.specs.KernelReading.{multiboot2};
-ghost use Rattle.bl_load.specs.EntryValue.{multiboot2_value, IsRsdpCopy};
 ghost use Rattle.bl_load.specs.Parts as parts;
 ghost use Rattle.bl_load.specs.Parts.{IsHandover, IsPrepFault};
 ghost use Rattle.bl_load.specs.PlanContents.{handover_by};
-ghost use Rattle.bl_load.specs.internal.Loading.{lines_by};
+ghost use Rattle.bl_load.specs.internal.Loading.{value_by, AreOfMultiboot2};
 ghost use Rattle.bl_load.specs.Loadable.{lengths_of, IsLoadable, IsLean};
 ghost use Rattle.bl_load.specs.Unplaced.{IsUnplaced, IsFaultBeforePlacing};
-ghost use Rattle.bl_plan.specs.MenuLimits.{max_modules};
 
 use crate::addresses::address_of;
 use crate::checked_entry::{CheckedEntry, Rsdps};
@@ -87,20 +85,15 @@ pub fn prepare<A: Allocator + Copy, V: ByteView>(
     rsdps: &Rsdps<'_, A>,
     files: &[V],
 ) -> Result<Plan<A>, PrepFault>
-    requires files { length files.now ≡ 1 + length modules.now }
-    requires few { length modules.now ≤ max_modules }
-    requires old { IfSome rsdps.now.old.now IsRsdpCopy }
-    requires new { IfSome rsdps.now.new.now IsRsdpCopy }
+    requires { AreOfMultiboot2 files.now modules.now rsdps.now }
     ensures handover { IfOk result (λ plan. IsHandover machine.now
-        (multiboot2_value (map V.bytes files.now) line.now (lines_by modules.now) rsdps.now.old.now
-        rsdps.now.new.now)
+        (value_by (map V.bytes files.now) line.now modules.now rsdps.now)
         (handover_by (map V.bytes files.now) plan)) }
     ensures loadable { IfOk result (λ plan. IsLoadable
         (lengths_of (map V.bytes files.now)) machine.now.size plan) }
     ensures lean { IfOk result (λ plan. IsLean plan.parts.items) }
-    ensures fault { IfErr result (λ fault. IsPrepFault machine.now
-        (multiboot2_value (map V.bytes files.now) line.now (lines_by modules.now) rsdps.now.old.now
-        rsdps.now.new.now) fault) }
+    ensures fault { IfErr result (IsPrepFault machine.now
+        (value_by (map V.bytes files.now) line.now modules.now rsdps.now)) }
 {
     check_lines(line, modules)?;
     let kernel = read_kernel(alloc, &files[0])?;
@@ -126,16 +119,11 @@ pub(crate) fn unplaced<A: Allocator + Copy, V: ByteView>(
     rsdps: &Rsdps<'_, A>,
     files: &[V],
 ) -> Result<Option<Row>, PrepFault>
-    requires files { length files.now ≡ 1 + length modules.now }
-    requires few { length modules.now ≤ max_modules }
-    requires old { IfSome rsdps.now.old.now IsRsdpCopy }
-    requires new { IfSome rsdps.now.new.now IsRsdpCopy }
+    requires { AreOfMultiboot2 files.now modules.now rsdps.now }
     ensures which { IfOk result (IsUnplaced machine.now
-        (multiboot2_value (map V.bytes files.now) line.now (lines_by modules.now) rsdps.now.old.now
-        rsdps.now.new.now)) }
+        (value_by (map V.bytes files.now) line.now modules.now rsdps.now)) }
     ensures fault { IfErr result (IsFaultBeforePlacing machine.now
-        (multiboot2_value (map V.bytes files.now) line.now (lines_by modules.now) rsdps.now.old.now
-        rsdps.now.new.now)) }
+        (value_by (map V.bytes files.now) line.now modules.now rsdps.now)) }
 {
     check_lines(line, modules)?;
     let kernel = read_kernel(alloc, &files[0])?;

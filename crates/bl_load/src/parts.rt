@@ -1,12 +1,9 @@
 //! The parts of an entry, at their places.
-ghost use Rattle.std.specs.Prelude.{◌≡◌, ◌≤◌, ◌^◌, All, IfOk, map};
-ghost use Rattle.bl_load.specs.Parts.{part_from};
-ghost use Rattle.bl_load.specs.PlannedPlaces.{planned_place};
-ghost use Rattle.bl_load.specs.PlanContents.{part_by};
-ghost use Rattle.bl_load.specs.Loadable.{lengths_of, IsBacked, IsLean};
+ghost use Rattle.std.specs.Prelude.{◌≤◌, ◌^◌, All, IfOk};
+ghost use Rattle.bl_load.specs.internal.Contents.{ArePartsAt};
 ghost use Rattle.bl_load.specs.internal.Placing.{HasRowLength, EndsLow};
 ghost use Rattle.bl_load.specs.internal.ReadKernels.{ToldFits32Bits};
-ghost use Rattle.bl_load.specs.internal.CheckedEntries.{texts_in, value_of_files, IsReadWithFiles};
+ghost use Rattle.bl_load.specs.internal.CheckedEntries.{value_of_files, IsReadWithFiles};
 
 use crate::checked_entry::CheckedEntry;
 use crate::loadable_kernel::LoadableKernel;
@@ -29,13 +26,8 @@ pub fn parts_at<A: Allocator + Copy, V: ByteView, K: LoadableKernel>(
     requires rowed { All (HasRowLength entry.now.machine.now (value_of_files entry.now)
         (K.reading kernel.now)) sorted.now }
     requires small { All (λ place. place.length ≤ 2 ^ 32) sorted.now }
-    ensures parts { IfOk result (λ parts. map (part_by (texts_in entry.now)) parts.items
-        ≡ map (part_from entry.now.machine.now (value_of_files entry.now) (K.reading kernel.now)
-        places.now) sorted.now) }
-    ensures backed { IfOk result (λ parts. All (IsBacked (lengths_of (texts_in entry.now)))
-        parts.items) }
-    ensures lean { IfOk result (λ parts. IsLean parts.items) }
-    ensures places { IfOk result (λ parts. map planned_place parts.items ≡ sorted.now) }
+    ensures { IfOk result (λ parts. ArePartsAt entry.now (K.reading kernel.now) places.now
+        sorted.now parts.items) }
 {
     let mut parts = Vec::with_capacity(alloc, sorted.len())?;
     for place in sorted {

@@ -115,6 +115,12 @@ capped_multiboot2_rows facts value kernel =
     ++ (capped_module_rows value.files 0 value.module_lines
     ++ information_row facts value kernel.relocation ∷ [])
 
+-- a kernel that can't be moved runs from 1 MiB on, and below 4 GiB
+abbrev pub IsFixedAbove : Setup → Type 0
+IsFixedAbove setup =
+    setup.relocatable_kernel ≡ 0
+    → (high_start ≤ setup.pref_address) × (setup.pref_address < 2 ^ 32)
+
 -- the row of an initrd of so many bytes as the code tells it
 abbrev pub capped_initrd_row : Setup → ℕ → Row
 capped_initrd_row setup size = record {

@@ -10,10 +10,10 @@ ghost use Rattle.bl_load.specs.Protocols as protocols;
 ghost use Rattle.bl_load.specs.KernelReading.{linux};
 ghost use Rattle.bl_load.specs.Parts.{content_of, payload_of};
 ghost use Rattle.bl_bzimage.specs.Setup.{IsSetup};
-ghost use Rattle.bl_load.specs.PlanContents.{content_by};
 ghost use Rattle.bl_mem.specs.Files.{nth_file};
-ghost use Rattle.bl_load.specs.Loadable.{lengths_of, content_length, IsInFiles, IsLeanContent};
-ghost use Rattle.bl_load.specs.internal.Placing.{HasRowLength, EndsLow};
+ghost use Rattle.bl_load.specs.internal.Contents.{IsPlacedAmong, IsContentOf};
+ghost use Rattle.bl_load.specs.internal.Placing.{EndsLow};
+ghost use Rattle.bl_load.specs.internal.Told.{params_facts};
 ghost use Rattle.bl_load.specs.internal.ReadKernels.{TablesFit};
 ghost use Rattle.bl_load.specs.internal.CheckedEntries.{texts_in, value_of_files};
 ghost use Rattle.bl_params.specs.ParamsToWriteFacts.{max_e820_entries};
@@ -39,13 +39,7 @@ fn boot_params_facts<'a, A: Allocator>(
     requires few { length machine.now.runs ≤ max_e820_entries }
     requires size { ramdisk_size < 2 ^ 32 }
     requires low { All EndsLow places.now }
-    ensures { result ≡ record {
-      code32_start = addresses.address_of role.Kernel 0 places.now;
-      ramdisk_image = addresses.address_of role.Initrd 0 places.now;
-      ramdisk_size = ramdisk_size;
-      cmd_line_ptr = addresses.address_of role.CommandLine 0 places.now;
-      runs = machine.now.runs;
-    } }
+    ensures { result ≡ params_facts machine.now ramdisk_size places.now }
 {
     ParamsToWrite {
         code32_start: address_of(Role::Kernel, 0, places),
@@ -56,7 +50,9 @@ fn boot_params_facts<'a, A: Allocator>(
     }
 }
 
-/// The boot parameters, where the parts have these places.
+/// The boot parameters, where the parts have these places. Never inlined, as `page_tables_at`: each
+/// has 4096 bytes on the stack.
+#[inline(never)]
 fn boot_params<A: Allocator, V: ByteView>(
     alloc: A,
     entry: &CheckedEntry<'_, A, V>,
@@ -86,6 +82,7 @@ fn descriptors<A: Allocator>(alloc: A, protocol: Protocol) -> Result<Bytes<A>, A
 }
 
 /// The page tables, where the parts have these places.
+#[inline(never)]
 fn page_tables_at<A: Allocator>(alloc: A, places: &[Place]) -> Result<Bytes<A>, AllocError>
     requires low { All EndsLow places.now }
     requires fits { TablesFit places.now }
@@ -105,11 +102,8 @@ fn page_tables_at<A: Allocator>(alloc: A, places: &[Place]) -> Result<Bytes<A>, 
 /// The content of the initrd's part: its whole file.
 fn initrd_content<A: Allocator, V: ByteView>(files: &[V]) -> Content<A>
     requires some { 1 ≤ length (initrd_file (map V.bytes files.now)) }
-    ensures content { content_by (map V.bytes files.now) result
-        ≡ initrd_file (map V.bytes files.now) }
-    ensures there { IsInFiles (lengths_of (map V.bytes files.now)) result }
-    ensures length { content_length result ≡ length (initrd_file (map V.bytes files.now)) }
-    ensures lean { IsLeanContent role.Initrd result }
+    ensures { IsContentOf (map V.bytes files.now) role.Initrd (initrd_file (map V.bytes files.now))
+        (length (initrd_file (map V.bytes files.now))) result }
 {
     Content::File {
         file: 1,
@@ -122,11 +116,8 @@ fn initrd_content<A: Allocator, V: ByteView>(files: &[V]) -> Content<A>
 fn payload_content<A: Allocator, V: ByteView>(files: &[V], setup: &Setup) -> Content<A>
     requires some { 1 ≤ length files.now }
     requires setup { IsSetup (nth_file (map V.bytes files.now) 0) setup.now }
-    ensures content { content_by (map V.bytes files.now) result
-        ≡ payload_of (nth_file (map V.bytes files.now) 0) setup.now }
-    ensures there { IsInFiles (lengths_of (map V.bytes files.now)) result }
-    ensures length { content_length result ≡ setup.now.payload_size }
-    ensures lean { IsLeanContent role.Kernel result }
+    ensures { IsContentOf (map V.bytes files.now) role.Kernel
+        (payload_of (nth_file (map V.bytes files.now) 0) setup.now) setup.now.payload_size result }
 {
     Content::File {
         file: 0,
@@ -143,20 +134,10 @@ pub fn linux_content<A: Allocator + Copy, V: ByteView>(
     places: &[Place],
     place: &Place,
 ) -> Result<Content<A>, AllocError>
-    requires some { 1 ≤ length entry.now.files.now }
-    requires setup { IsSetup (nth_file (texts_in entry.now) 0) setup.now }
-    requires few { length entry.now.machine.now.runs ≤ max_e820_entries }
-    requires size { length (initrd_file (texts_in entry.now)) < 2 ^ 32 }
-    requires low { All EndsLow places.now }
-    requires tables { TablesFit places.now }
-    requires rowed { HasRowLength entry.now.machine.now (value_of_files entry.now)
-        (linux setup.now) place.now }
-    ensures content { IfOk result (λ content. content_by (texts_in entry.now) content
-        ≡ content_of entry.now.machine.now (value_of_files entry.now)
-        (linux setup.now) places.now place.now.role place.now.index) }
-    ensures there { IfOk result (λ content. IsInFiles (lengths_of (texts_in entry.now)) content) }
-    ensures short { IfOk result (λ content. content_length content ≤ place.now.length) }
-    ensures lean { IfOk result (IsLeanContent place.now.role) }
+    requires { IsPlacedAmong entry.now (linux setup.now) places.now place.now }
+    ensures { IfOk result (IsContentOf (texts_in entry.now) place.now.role
+        (content_of entry.now.machine.now (value_of_files entry.now) (linux setup.now) places.now
+        place.now.role place.now.index) place.now.length) }
 {
     match place.role {
         Role::Kernel => Ok(payload_content(entry.files, setup)),

@@ -1,7 +1,8 @@
 //! A Linux kernel's file.
-ghost use Rattle.std.specs.Prelude.{◌≡◌, Some, None, IfOk, IfErr, MatchResult};
+ghost use Rattle.std.specs.Prelude.{◌≡◌, IfOk, IfErr};
 ghost use Rattle.bl_load.specs.LinuxKernel as linux;
 ghost use Rattle.bl_load.specs.LinuxKernel.{IsLinuxKernel, entering_fault, telling_fault};
+ghost use Rattle.bl_load.specs.internal.Checks.{Tells};
 ghost use Rattle.bl_load.specs.internal.ReadKernels.{IsLinuxFault};
 ghost use Rattle.bl_load.specs.declared.refusal.PrepFault.TheVariants.{Refused};
 
@@ -50,9 +51,7 @@ fn has_64_bit_entry(setup: &Setup) -> bool
 /// Checks that a kernel can be entered by the protocol. Each kernel has the 32-bit entry; the
 /// 64-bit one must be there, and then lie within what is loaded.
 fn check_entering(protocol: Protocol, setup: &Setup) -> Result<(), Refusal>
-    ensures { MatchResult result
-        (λ _. entering_fault protocol setup.now ≡ None)
-        (λ refusal. entering_fault protocol setup.now ≡ Some refusal) }
+    ensures { Tells result (entering_fault protocol setup.now) }
 {
     match protocol {
         Protocol::Multiboot2 => Ok(()),
@@ -72,9 +71,7 @@ fn check_entering(protocol: Protocol, setup: &Setup) -> Result<(), Refusal>
 /// Checks what a kernel is told: first that `cmdline_size` allows the line, then that boot
 /// parameters have room for the memory map.
 fn check_told(setup: &Setup, line: &[u8], runs: &[Region]) -> Result<(), Refusal>
-    ensures { MatchResult result
-        (λ _. telling_fault runs.now line.now setup.now ≡ None)
-        (λ refusal. telling_fault runs.now line.now setup.now ≡ Some refusal) }
+    ensures { Tells result (telling_fault runs.now line.now setup.now) }
 {
     if line.len() > setup.cmdline_size as usize {
         return Err(Refusal::LineTooLong);

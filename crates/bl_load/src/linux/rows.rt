@@ -3,6 +3,7 @@ ghost use Rattle.std.specs.Prelude.{◌≡◌, ◌≤◌, ◌<◌, ◌+◌, ◌^
 ghost use Rattle.bl_plan.specs.declared.part.Role.TheVariants as role;
 ghost use Rattle.bl_load.specs.LinuxRows as table;
 ghost use Rattle.bl_load.specs.internal.Placing as kept;
+ghost use Rattle.bl_load.specs.internal.Placing.{IsFixedAbove};
 ghost use Rattle.bl_load.specs.EntryValue.{initrd_file};
 ghost use Rattle.bl_map.specs.Limits.{high_start};
 
@@ -55,8 +56,7 @@ fn fixed_kernel_row(setup: &Setup) -> Row
 
 /// The kernel's row.
 fn kernel_row(setup: &Setup) -> Row
-    requires { setup.now.relocatable_kernel ≡ 0
-        → (high_start ≤ setup.now.pref_address) × (setup.now.pref_address < 2 ^ 32) }
+    requires { IsFixedAbove setup.now }
     ensures { result ≡ table.linux_kernel_row setup.now }
 {
     if setup.relocatable_kernel == 0 {
@@ -143,8 +143,7 @@ pub fn linux_rows<A: Allocator, V: ByteView>(
     setup: &Setup,
     files: &[V],
 ) -> Result<Vec<Row, A>, AllocError>
-    requires { setup.now.relocatable_kernel ≡ 0
-        → (high_start ≤ setup.now.pref_address) × (setup.now.pref_address < 2 ^ 32) }
+    requires { IsFixedAbove setup.now }
     ensures { IfOk result (λ rows. rows.items
         ≡ kept.capped_linux_rows protocol setup.now (initrd_file (map V.bytes files.now))) }
 {

@@ -1,5 +1,5 @@
 //! The contents of a Multiboot2 entry's parts, at their places.
-ghost use Rattle.std.specs.Prelude.{◌≡◌, ◌≤◌, ◌<◌, ◌^◌, ◌+◌, All, IfOk, length, map};
+ghost use Rattle.std.specs.Prelude.{◌≡◌, ◌≤◌, ◌<◌, ◌^◌, ◌+◌, IfOk, length, map};
 ghost use Rattle.bl_load.specs.EntryValue.{module_file};
 ghost use Rattle.bl_load.specs.KernelReading.{multiboot2};
 ghost use Rattle.bl_load.specs.internal.ReadMultiboot2Kernels.{AreLoadable, kernel_by};
@@ -7,12 +7,10 @@ ghost use Rattle.bl_plan.specs.declared.part.Role.TheVariants as role;
 ghost use Rattle.bl_load.specs.Rows.{module_length};
 ghost use Rattle.bl_load.specs.Parts as parts;
 ghost use Rattle.bl_load.specs.Parts.{content_of};
-ghost use Rattle.bl_load.specs.PlanContents.{content_by};
 ghost use Rattle.bl_mem.specs.Files.{nth_file};
-ghost use Rattle.bl_load.specs.Loadable.{lengths_of, content_length, IsInFiles, IsLeanContent};
 ghost use Rattle.bl_load.specs.internal.CheckedEntries.{texts_in, value_of_files};
-ghost use Rattle.bl_load.specs.internal.Placing.{HasKernelLength, HasRowLength, EndsLow};
-ghost use Rattle.bl_load.specs.internal.Placing.{ModulesEndLow};
+ghost use Rattle.bl_load.specs.internal.Contents.{IsPlacedAmong, IsContentOf};
+ghost use Rattle.bl_load.specs.internal.Placing.{HasKernelLength};
 
 use crate::checked_entry::CheckedEntry;
 use crate::multiboot2::information::information;
@@ -35,13 +33,9 @@ fn kernel_content<A: Allocator + Copy, B: Allocator, V: ByteView>(
     requires length { HasKernelLength (kernel_by kernel.now).segments kernel.now.relocation
         place.now.index place.now.length }
     requires small { place.now.length ≤ 2 ^ 32 }
-    ensures content { IfOk result (λ content. content_by (map V.bytes files.now) content
-        ≡ parts.kernel_content (nth_file (map V.bytes files.now) 0)
-        (kernel_by kernel.now).segments kernel.now.relocation place.now.index) }
-    ensures there { IfOk result
-        (λ content. IsInFiles (lengths_of (map V.bytes files.now)) content) }
-    ensures short { IfOk result (λ content. content_length content ≤ place.now.length) }
-    ensures lean { IfOk result (IsLeanContent Role.Kernel) }
+    ensures { IfOk result (IsContentOf (map V.bytes files.now) role.Kernel
+        (parts.kernel_content (nth_file (map V.bytes files.now) 0) (kernel_by kernel.now).segments
+        kernel.now.relocation place.now.index) place.now.length) }
 {
     let segments = kernel.executable.segments();
     match kernel.relocation {
@@ -65,11 +59,8 @@ fn module_content<A: Allocator, V: ByteView>(files: &[V], place: &Place) -> Cont
     requires within { place.now.index + 1 < length files.now }
     requires length { place.now.length
         ≡ module_length (module_file (map V.bytes files.now) place.now.index) }
-    ensures content { content_by (map V.bytes files.now) result
-        ≡ module_file (map V.bytes files.now) place.now.index }
-    ensures there { IsInFiles (lengths_of (map V.bytes files.now)) result }
-    ensures short { content_length result ≤ place.now.length }
-    ensures lean { IsLeanContent role.Module result }
+    ensures { IsContentOf (map V.bytes files.now) role.Module
+        (module_file (map V.bytes files.now) place.now.index) place.now.length result }
 {
     let file = place.index as usize + 1;
     Content::File {
@@ -87,21 +78,11 @@ pub fn multiboot2_content<A: Allocator + Copy, B: Allocator, V: ByteView>(
     places: &[Place],
     place: &Place,
 ) -> Result<Content<A>, AllocError>
-    requires files { length entry.now.files.now ≡ 1 + length entry.now.modules.now }
-    requires loadable { AreLoadable (nth_file (texts_in entry.now) 0)
-        (kernel_by kernel.now).segments }
-    requires ends { ModulesEndLow (texts_in entry.now) places.now
-        (length entry.now.modules.now) }
-    requires low { All EndsLow places.now }
-    requires rowed { HasRowLength entry.now.machine.now (value_of_files entry.now)
-        (multiboot2 (kernel_by kernel.now)) place.now }
-    requires small { place.now.length ≤ 2 ^ 32 }
-    ensures content { IfOk result (λ content. content_by (texts_in entry.now) content
-        ≡ content_of entry.now.machine.now (value_of_files entry.now)
-        (multiboot2 (kernel_by kernel.now)) places.now place.now.role place.now.index) }
-    ensures there { IfOk result (λ content. IsInFiles (lengths_of (texts_in entry.now)) content) }
-    ensures short { IfOk result (λ content. content_length content ≤ place.now.length) }
-    ensures lean { IfOk result (IsLeanContent place.now.role) }
+    requires { IsPlacedAmong entry.now (multiboot2 (kernel_by kernel.now)) places.now place.now }
+    ensures { IfOk result (IsContentOf (texts_in entry.now) place.now.role
+        (content_of entry.now.machine.now (value_of_files entry.now)
+        (multiboot2 (kernel_by kernel.now)) places.now place.now.role place.now.index)
+        place.now.length) }
 {
     match place.role {
         Role::Kernel => kernel_content(alloc, kernel, entry.files, place),

@@ -1,7 +1,6 @@
 //! The information that a Multiboot2 kernel is handed.
 ghost use Rattle.std.specs.Prelude.{◌≡◌, ◌≤◌, ◌<◌, ◌+◌, ◌^◌, None, All, length, map, sum_by, codes};
 ghost use Rattle.std.specs.Prelude.{option_map, option_copied, IfOk, IfSome};
-ghost use Rattle.bl_map.specs.NormalMap.{low_kib, high_kib};
 ghost use Rattle.bl_mbi.specs.InfoToWriteFacts.{AreBytes, IsModule, IsText};
 ghost use Rattle.bl_mbi.specs.Size.{tag_size};
 ghost use Rattle.bl_mbi.specs.Spelling.{info_spelling};
@@ -11,6 +10,7 @@ ghost use Rattle.bl_load.specs.EntryValue.{line_fault};
 ghost use Rattle.bl_load.specs.Rows.{told_modules, information_of};
 ghost use Rattle.bl_load.specs.internal.Loading.{lines_by};
 ghost use Rattle.bl_load.specs.internal.Placing.{EndsLow, ModulesEndLow};
+ghost use Rattle.bl_load.specs.internal.Told.{info_with, module_info};
 ghost use Rattle.bl_load.specs.internal.CheckedEntries.{texts_in, value_of_files};
 ghost use Rattle.bl_plan.specs.MenuLimits.{max_modules};
 ghost use Rattle.bl_map.specs.Limits.{usable_limit};
@@ -39,11 +39,7 @@ fn module_at<'a>(index: u32, line: &'a [u8], size: u64, places: &[Place]) -> Mod
     requires sound { line_fault line.now ≡ None }
     requires low { All EndsLow places.now }
     requires end { address_of role.Module index places.now + size ≤ usable_limit }
-    ensures told { result ≡ record {
-      mod_start = address_of role.Module index places.now;
-      mod_end = address_of role.Module index places.now + size;
-      line = line.now;
-    } }
+    ensures told { result ≡ module_info index line.now size places.now }
     ensures fits { IsModule result }
 {
     let mod_start = addresses::address_of(Role::Module, index, places);
@@ -104,16 +100,7 @@ fn facts_of<'a, A: Allocator, V: ByteView>(
     requires small { sum_by (λ n. tag_size (n + 9)) (map (λ m. length m.line) modules.now)
         < 2 ^ 20 }
     requires base { IfSome load_base (λ base. base < 2 ^ 32) }
-    ensures { result ≡ record {
-      line = entry.now.line.now;
-      modules = modules.now;
-      mem_lower = low_kib entry.now.machine.now.runs;
-      mem_upper = high_kib entry.now.machine.now.runs;
-      runs = entry.now.machine.now.runs;
-      rsdp_old = entry.now.rsdp_old.now;
-      rsdp_new = entry.now.rsdp_new.now;
-      load_base = load_base;
-    } }
+    ensures { result ≡ info_with entry.now modules.now load_base }
 {
     InfoToWrite {
         line: text_of(entry.line),

@@ -1,5 +1,5 @@
 -- What the code keeps of a memory of frames from one of its calls to the next.
-use Rattle.std.specs.Prelude.{◌≡◌, ◌+◌, ◌%◌, ◌≤◌, ℕ, List, length}
+use Rattle.std.specs.Prelude.{◌≡◌, ◌+◌, ◌%◌, ◌≤◌, ℕ, List}
 use Rattle.bl_mem.specs.Memory.{overwrite, KeepsRoom}
 use Rattle.bl_mem.specs.Sparse.{bytes_of, SparseFacts}
 use Rattle.bl_mem.specs.SparseFrames.{HasRoomAt}

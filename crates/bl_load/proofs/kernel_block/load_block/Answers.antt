@@ -6,7 +6,7 @@ use Rattle.bl_load.specs.KernelBlock.{span_of}
 use Rattle.bl_load.specs.Parts.{no_segment}
 use Rattle.bl_load.proofs.BlockLemmas.{block_from}
 use Rattle.bl_load.proofs.BlockStepLemmas.{block_from_first, first_below, left_behind, gap_beside}
-use Rattle.bl_load.proofs.BlockStepLemmas.{segment_beside, block_step}
+use Rattle.bl_load.proofs.BlockStepLemmas.{segment_beside, block_step, none_left}
 use Rattle.bl_load.proofs.MemoryLemmas.{keeps_all, keeps_on}
 use Rattle.bl_load.proofs.kernel_block.load_block.Goals as goal
 
@@ -52,7 +52,7 @@ files_kept g c =
     let gap =
     gap_beside text old c.args.at low done s rest copied up inside
     (g.F.FileSet.holds c.args.files.now)
-    (λ a from to. c.requires.beside a from (omega arith)) in
+    (λ a from to. c.requires.free.beside a from (omega arith)) in
     let same = g.met.F.FileSet.same c.args.files.now old _ gap ∙ c.loop-segment.invariant.same in
     rw c.zero.ensures.after same
 
@@ -64,29 +64,8 @@ load_segment-requires-clause-copied g c =
     rw (files_kept g c)
     (c.requires.copied c.loop-segment.segment-index no_segment c.loop-segment-test.true)
 
-pub load_segment-requires-clause-beside : goal.load_segment-requires-clause-beside
-load_segment-requires-clause-beside g c =
-    let segments = c.args.segments.now in
-    let i = c.loop-segment.segment-index in
-    let s = get_or segments i no_segment in
-    let low = (get_or segments 0 no_segment).address in
-    let done = c.loop-segment.done in
-    let old = g.M.PhysMem.bytes c.loop-segment.memory in
-    let text =
-    nth_file (g.F.FileSet.texts c.args.files.now (g.M.PhysMem.bytes c.args.memory.now))
-    c.args.file in
-    let here = c.loop-segment-test.true in
-    let rest = drop (i + 1) segments in
-    let copied = c.requires.copied i no_segment here in
-    let up = c.loop-segment.invariant.above i no_segment (omega arith) here in
-    let left = rw (drop_more segments i no_segment here) at c.loop-segment.invariant.count in
-    let inside : c.args.at + (done + length (block_from text (low + done) (s ∷ rest)))
-    ≤ length old = omega arith in
-    segment_beside text old c.args.at low done s rest copied up inside
-    (g.F.FileSet.holds c.args.files.now) (λ a from to. c.requires.beside a from (omega arith))
-
-pub load_segment-requires-clause-room : goal.load_segment-requires-clause-room
-load_segment-requires-clause-room g c =
+pub load_segment-requires-clause-free : goal.load_segment-requires-clause-free
+load_segment-requires-clause-free g c =
     let segments = c.args.segments.now in
     let i = c.loop-segment.segment-index in
     let s = get_or segments i no_segment in
@@ -104,10 +83,19 @@ load_segment-requires-clause-room g c =
     let inside : c.args.at + (done + length (block_from text (low + done) (s ∷ rest)))
     ≤ length old = omega arith in
     let behind = left_behind text old c.args.at low done s rest copied up inside in
-    λ a from to.
-    let bound : a < c.args.at + span_of segments = omega arith in
-    c.zero.ensures.kept.room a
-    (c.loop-segment.invariant.kept.room a (c.requires.room a (omega arith) bound))
+    record {
+      held =
+          rw (c.zero.ensures.kept.size, c.loop-segment.invariant.kept.size) c.requires.free.held;
+      inside = rw c.zero.ensures.kept.size (omega arith);
+      room = λ a from to.
+          let bound : a < c.args.at + span_of segments = omega arith in
+          c.zero.ensures.kept.room a
+          (c.loop-segment.invariant.kept.room a (c.requires.free.room a (omega arith) bound));
+      beside =
+          segment_beside text old c.args.at low done s rest copied up inside
+          (g.F.FileSet.holds c.args.files.now)
+          (λ a from to. c.requires.free.beside a from (omega arith));
+    }
 
 pub loop-segment-preserved : goal.loop-segment-preserved
 loop-segment-preserved g c =
@@ -131,7 +119,7 @@ loop-segment-preserved g c =
     let gap =
     gap_beside text old c.args.at low done s rest copied up inside
     (g.F.FileSet.holds c.args.files.now)
-    (λ a from to. c.requires.beside a from (omega arith)) in
+    (λ a from to. c.requires.free.beside a from (omega arith)) in
     let same = g.met.F.FileSet.same c.args.files.now old _ gap ∙ c.loop-segment.invariant.same in
     let kept : g.F.FileSet.texts c.args.files.now (g.M.PhysMem.bytes c.zero.new.self)
     ≡ g.F.FileSet.texts c.args.files.now (g.M.PhysMem.bytes c.args.memory.now) =
@@ -151,12 +139,19 @@ loop-segment-preserved g c =
           c.load_segment.ensures.kept;
     }
 
-pub load_segment-requires-clause-held : goal.load_segment-requires-clause-held
-load_segment-requires-clause-held g c =
-    rw (c.zero.ensures.kept.size, c.loop-segment.invariant.kept.size) c.requires.held
-
-pub returns-clause-texts : goal.returns-clause-texts
-returns-clause-texts g c = c.loop-segment.invariant.same
-
-pub returns-clause-kept : goal.returns-clause-kept
-returns-clause-kept g c = c.loop-segment.invariant.kept
+pub returns-clause-put : goal.returns-clause-put
+returns-clause-put g c =
+    let segments = c.args.segments.now in
+    let low = (get_or segments 0 no_segment).address in
+    let text =
+    nth_file (g.F.FileSet.texts c.args.files.now (g.M.PhysMem.bytes c.args.memory.now))
+    c.args.file in
+    record {
+      after =
+          none_left text (g.M.PhysMem.bytes c.loop-segment.memory)
+          (c.args.at + c.loop-segment.done) (low + c.loop-segment.done) segments
+          c.loop-segment.segment-index c.loop-segment-test.false
+          ∙ c.loop-segment.invariant.rest;
+      texts = c.loop-segment.invariant.same;
+      kept = c.loop-segment.invariant.kept;
+    }

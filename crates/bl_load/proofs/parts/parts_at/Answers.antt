@@ -13,13 +13,14 @@ use Rattle.bl_load.specs.Loadable.{lengths_of, IsBacked, IsLeanContent}
 use Rattle.bl_load.specs.internal.CheckedEntries.{texts_in, value_of_files}
 use Rattle.bl_load.proofs.parts.parts_at.Goals as goal
 
-pub content-requires-clause-rowed : goal.content-requires-clause-rowed
-content-requires-clause-rowed g c =
-    c.requires.rowed c.loop-place.place-index _ c.loop-place-test.true
-
-pub content-requires-clause-small : goal.content-requires-clause-small
-content-requires-clause-small g c =
-    c.requires.small c.loop-place.place-index _ c.loop-place-test.true
+pub content-requires : goal.content-requires
+content-requires g c = record {
+  ready = c.requires.ready;
+  fits = c.requires.fits;
+  low = c.requires.low;
+  rowed = c.requires.rowed c.loop-place.place-index _ c.loop-place-test.true;
+  small = c.requires.small c.loop-place.place-index _ c.loop-place-test.true;
+}
 
 pub loop-place-preserved : goal.loop-place-preserved
 loop-place-preserved g c =
@@ -45,7 +46,7 @@ loop-place-preserved g c =
       parts = ap (map by) items ∙ map-append by c.loop-place.parts.items (new ∷ [])
           ∙ ap₂ (λ (xs : List Part) (x : Part). xs ++ x ∷ []) i.parts
           (ap (λ (bytes : List ℕ). placed_part place (zero_padded place.length bytes))
-          c.in_ok-content.ensures.content)
+          c.in_ok-content.ensures.is)
           ∙ sym (map-append from (take k all) (place ∷ [])) ∙ ap (map from) (sym more);
       backed =
           rw items
@@ -62,103 +63,34 @@ loop-place-preserved g c =
           ∙ ap (λ (xs : List Place). xs ++ place ∷ []) i.places ∙ sym more;
     }
 
-pub returns-in_err-parts-clause-parts : goal.returns-in_err-parts-clause-parts
-returns-in_err-parts-clause-parts g c =
+pub returns-in_err-parts : goal.returns-in_err-parts
+returns-in_err-parts g c =
     let p = err_from_is_err_and c.from_residual.result c.from_residual.ensures.1 in
     rw p.1 tt
 
-pub returns-in_err-parts-clause-backed : goal.returns-in_err-parts-clause-backed
-returns-in_err-parts-clause-backed g c =
-    let p = err_from_is_err_and c.from_residual.result c.from_residual.ensures.1 in
-    rw p.1 tt
-
-pub returns-in_err-parts-clause-lean : goal.returns-in_err-parts-clause-lean
-returns-in_err-parts-clause-lean g c =
-    let p = err_from_is_err_and c.from_residual.result c.from_residual.ensures.1 in
-    rw p.1 tt
-
-pub returns-in_err-parts-clause-places : goal.returns-in_err-parts-clause-places
-returns-in_err-parts-clause-places g c =
-    let p = err_from_is_err_and c.from_residual.result c.from_residual.ensures.1 in
-    rw p.1 tt
-
-pub returns-in_err-content-clause-parts : goal.returns-in_err-content-clause-parts
-returns-in_err-content-clause-parts g c =
+pub returns-in_err-content : goal.returns-in_err-content
+returns-in_err-content g c =
     let p =
     err_from_is_err_and c.from_residual-in_err-content.result
     c.from_residual-in_err-content.ensures.1 in
     rw p.1 tt
 
-pub returns-in_err-content-clause-backed : goal.returns-in_err-content-clause-backed
-returns-in_err-content-clause-backed g c =
-    let p =
-    err_from_is_err_and c.from_residual-in_err-content.result
-    c.from_residual-in_err-content.ensures.1 in
-    rw p.1 tt
-
-pub returns-in_err-content-clause-lean : goal.returns-in_err-content-clause-lean
-returns-in_err-content-clause-lean g c =
-    let p =
-    err_from_is_err_and c.from_residual-in_err-content.result
-    c.from_residual-in_err-content.ensures.1 in
-    rw p.1 tt
-
-pub returns-in_err-content-clause-places : goal.returns-in_err-content-clause-places
-returns-in_err-content-clause-places g c =
-    let p =
-    err_from_is_err_and c.from_residual-in_err-content.result
-    c.from_residual-in_err-content.ensures.1 in
-    rw p.1 tt
-
-pub returns-in_err-push-clause-parts : goal.returns-in_err-push-clause-parts
-returns-in_err-push-clause-parts g c =
+pub returns-in_err-push : goal.returns-in_err-push
+returns-in_err-push g c =
     let p =
     err_from_is_err_and c.from_residual-in_err-push.result c.from_residual-in_err-push.ensures.1 in
     rw p.1 tt
 
-pub returns-in_err-push-clause-backed : goal.returns-in_err-push-clause-backed
-returns-in_err-push-clause-backed g c =
-    let p =
-    err_from_is_err_and c.from_residual-in_err-push.result c.from_residual-in_err-push.ensures.1 in
-    rw p.1 tt
-
-pub returns-in_err-push-clause-lean : goal.returns-in_err-push-clause-lean
-returns-in_err-push-clause-lean g c =
-    let p =
-    err_from_is_err_and c.from_residual-in_err-push.result c.from_residual-in_err-push.ensures.1 in
-    rw p.1 tt
-
-pub returns-in_err-push-clause-places : goal.returns-in_err-push-clause-places
-returns-in_err-push-clause-places g c =
-    let p =
-    err_from_is_err_and c.from_residual-in_err-push.result c.from_residual-in_err-push.ensures.1 in
-    rw p.1 tt
-
-pub content-requires-clause-ready : goal.content-requires-clause-ready
-content-requires-clause-ready g c = c.requires.ready
-
-pub content-requires-clause-fits : goal.content-requires-clause-fits
-content-requires-clause-fits g c = c.requires.fits
-
-pub content-requires-clause-low : goal.content-requires-clause-low
-content-requires-clause-low g c = c.requires.low
-
-pub returns-clause-backed : goal.returns-clause-backed
-returns-clause-backed g c = c.loop-place.invariant.backed
-
-pub returns-clause-lean : goal.returns-clause-lean
-returns-clause-lean g c = c.loop-place.invariant.lean
-
-pub returns-clause-parts : goal.returns-clause-parts
-returns-clause-parts g c =
+pub returns : goal.returns
+returns g c =
     let entry = c.args.entry.now in
     let from : Place → Part =
     part_from entry.machine.now (value_of_files entry) (g.K.LoadableKernel.reading c.args.kernel.now)
     c.args.places.now in
-    c.loop-place.invariant.parts
-    ∙ ap (map from) (take_all c.loop-place.place-index c.args.sorted.now c.loop-place-test.false)
-
-pub returns-clause-places : goal.returns-clause-places
-returns-clause-places g c =
-    c.loop-place.invariant.places
-    ∙ take_all c.loop-place.place-index c.args.sorted.now c.loop-place-test.false
+    let all = take_all c.loop-place.place-index c.args.sorted.now c.loop-place-test.false in
+    record {
+      parts = c.loop-place.invariant.parts ∙ ap (map from) all;
+      backed = c.loop-place.invariant.backed;
+      lean = c.loop-place.invariant.lean;
+      places = c.loop-place.invariant.places ∙ all;
+    }

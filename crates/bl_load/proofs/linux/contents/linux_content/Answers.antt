@@ -9,10 +9,17 @@ use Rattle.bl_load.specs.LinuxRows.{boot_params_facts}
 use Rattle.bl_load.specs.KernelReading.{linux}
 use Rattle.bl_load.specs.internal.Placing.{HasLength}
 use Rattle.bl_load.specs.internal.CheckedEntries.{value_of_files}
+use Rattle.bl_load.proofs.LinuxKernelLemmas.{setup_is, few_runs}
 use Rattle.bl_load.proofs.linux.contents.linux_content.Goals as goal
 
-pub returns-in_ok-boot_params-in-BootParams-clause-short : goal.returns-in_ok-boot_params-in-BootParams-clause-short
-returns-in_ok-boot_params-in-BootParams-clause-short g c =
+pub payload_content-requires-clause-setup : goal.payload_content-requires-clause-setup
+payload_content-requires-clause-setup g c = setup_is c.requires.ready.read.1
+
+pub boot_params-requires-clause-few : goal.boot_params-requires-clause-few
+boot_params-requires-clause-few g c = few_runs c.requires.ready.read.1
+
+pub returns-in_ok-boot_params-in-BootParams : goal.returns-in_ok-boot_params-in-BootParams
+returns-in_ok-boot_params-in-BootParams g c =
     let facts = c.args.entry.now.machine.now in
     let setup = c.args.setup.now in
     let value = value_of_files c.args.entry.now in
@@ -20,15 +27,23 @@ returns-in_ok-boot_params-in-BootParams-clause-short g c =
     let long : place.length ≡ 4096 =
     subst (λ (role : Role). HasLength facts value (linux setup) role place.index place.length)
     c.in-BootParams.is c.requires.rowed in
-    omega (
-      arith,
-      long,
-      length-boot_params setup.header (boot_params_facts facts value c.args.places.now),
-      ap (λ (bytes : List ℕ). length bytes) c.in_ok-boot_params-in-BootParams.ensures,
-    )
+    let is = c.in_ok-boot_params-in-BootParams.ensures in
+    rw c.in-BootParams.is
+    (record {
+      is = is;
+      there = tt;
+      short =
+          omega (
+            arith,
+            long,
+            length-boot_params setup.header (boot_params_facts facts value c.args.places.now),
+            ap (λ (bytes : List ℕ). length bytes) is,
+          );
+      lean = tt;
+    })
 
-pub returns-in_ok-page_tables_at-in-PageTables-clause-short : goal.returns-in_ok-page_tables_at-in-PageTables-clause-short
-returns-in_ok-page_tables_at-in-PageTables-clause-short g c =
+pub returns-in_ok-page_tables_at-in-PageTables : goal.returns-in_ok-page_tables_at-in-PageTables
+returns-in_ok-page_tables_at-in-PageTables g c =
     let facts = c.args.entry.now.machine.now in
     let setup = c.args.setup.now in
     let value = value_of_files c.args.entry.now in
@@ -37,9 +52,17 @@ returns-in_ok-page_tables_at-in-PageTables-clause-short g c =
     subst (λ (role : Role). HasLength facts value (linux setup) role place.index place.length)
     c.in-PageTables.is c.requires.rowed in
     let long = has.1 in
-    omega (
-      arith,
-      long,
-      length-paging (address_of PageTables 0 c.args.places.now),
-      ap (λ (bytes : List ℕ). length bytes) c.in_ok-page_tables_at-in-PageTables.ensures,
-    )
+    let is = c.in_ok-page_tables_at-in-PageTables.ensures in
+    rw c.in-PageTables.is
+    (record {
+      is = is;
+      there = tt;
+      short =
+          omega (
+            arith,
+            long,
+            length-paging (address_of PageTables 0 c.args.places.now),
+            ap (λ (bytes : List ℕ). length bytes) is,
+          );
+      lean = tt;
+    })

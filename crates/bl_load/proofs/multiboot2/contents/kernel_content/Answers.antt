@@ -7,35 +7,29 @@ use Rattle.bl_load.proofs.ContentLemmas.{block_short}
 use Rattle.bl_load.proofs.HeldLemmas.{length_at}
 use Rattle.bl_load.proofs.multiboot2.contents.kernel_content.Goals as goal
 
-pub returns-in_ok-in_order-in-Some-clause-content : goal.returns-in_ok-in_order-in-Some-clause-content
-returns-in_ok-in_order-in-Some-clause-content g c =
-    block_content _ (executable_facts c.args.kernel.now.executable).segments _ c.in-Some.field-0
-    _ _ c.requires.loadable
-    (c.in_ok-in_order-in-Some.ensures ∙ ap segments_in_order c.segments-segments.ensures) c.in-Some.is
-
-pub returns-in_ok-in_order-in-Some-clause-there : goal.returns-in_ok-in_order-in-Some-clause-there
-returns-in_ok-in_order-in-Some-clause-there g c =
+pub returns-in_ok-in_order-in-Some : goal.returns-in_ok-in_order-in-Some
+returns-in_ok-in_order-in-Some g c =
+    let segments = (executable_facts c.args.kernel.now.executable).segments in
+    let loadable = c.requires.loadable in
     let is = c.in_ok-in_order-in-Some.ensures ∙ ap segments_in_order c.segments-segments.ensures in
     let texts = map g.V.ByteView.bytes c.args.files.now in
-    let some = c.requires.file in (
-      omega (
-        arith,
-        length-map c.args.files.now g.V.ByteView.bytes,
-        length-map texts (λ (text : List ℕ). length text),
-      ),
-      block_some _ (executable_facts c.args.kernel.now.executable).segments
-          _ c.requires.loadable is,
-      rw (length_at texts 0)
-          (block_copied _ (executable_facts c.args.kernel.now.executable).segments
-          _ _ c.in-Some.field-0 _ _ c.requires.loadable is c.in-Some.is c.requires.length
-          c.requires.small),
-      block_ascends _ (executable_facts c.args.kernel.now.executable).segments
-          _ c.requires.loadable is,
-    )
-
-pub returns-in_ok-in_order-in-Some-clause-short : goal.returns-in_ok-in_order-in-Some-clause-short
-returns-in_ok-in_order-in-Some-clause-short g c =
-    block_short _ (executable_facts c.args.kernel.now.executable).segments _ _ c.in-Some.field-0
-    _ _ c.requires.loadable
-    (c.in_ok-in_order-in-Some.ensures ∙ ap segments_in_order c.segments-segments.ensures) c.in-Some.is
-    c.requires.length
+    let some = c.requires.file in
+    record {
+      is = block_content _ segments _ c.in-Some.field-0 _ _ loadable is c.in-Some.is;
+      there = (
+        omega (
+          arith,
+          length-map c.args.files.now g.V.ByteView.bytes,
+          length-map texts (λ (text : List ℕ). length text),
+        ),
+        block_some _ segments _ loadable is,
+        rw (length_at texts 0)
+            (block_copied _ segments _ _ c.in-Some.field-0 _ _ loadable is c.in-Some.is
+            c.requires.length c.requires.small),
+        block_ascends _ segments _ loadable is,
+      );
+      short =
+          block_short _ segments _ _ c.in-Some.field-0 _ _ loadable is c.in-Some.is
+          c.requires.length;
+      lean = tt;
+    }

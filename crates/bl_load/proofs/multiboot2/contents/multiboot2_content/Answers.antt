@@ -6,12 +6,21 @@ use Rattle.bl_load.specs.internal.ReadMultiboot2Kernels.{kernel_by}
 use Rattle.bl_map.specs.PoolFrames.{round_up_to_frames}
 use Rattle.bl_load.specs.Rows.{information_of}
 use Rattle.bl_load.specs.internal.Placing.{HasLength}
-use Rattle.bl_load.specs.internal.CheckedEntries.{value_of_files}
+use Rattle.bl_load.specs.internal.CheckedEntries.{texts_in, value_of_files}
 use Rattle.bl_load.proofs.InformationLemmas.{information_short}
+use Rattle.bl_load.proofs.ReadingLemmas.{modules_fit}
 use Rattle.bl_load.proofs.multiboot2.contents.multiboot2_content.Goals as goal
 
-pub returns-in_ok-bytes-in-Information-clause-short : goal.returns-in_ok-bytes-in-Information-clause-short
-returns-in_ok-bytes-in-Information-clause-short g c =
+pub kernel_content-requires-clause-loadable : goal.kernel_content-requires-clause-loadable
+kernel_content-requires-clause-loadable g c = c.requires.ready.files.1
+
+pub information-requires-clause-ends : goal.information-requires-clause-ends
+information-requires-clause-ends g c =
+    modules_fit c.args.entry.now.modules.now (texts_in c.args.entry.now) c.args.places.now
+    c.requires.fits
+
+pub returns-in_ok-bytes-in-Information : goal.returns-in_ok-bytes-in-Information
+returns-in_ok-bytes-in-Information g c =
     let facts = c.args.entry.now.machine.now in
     let kernel = c.args.kernel.now in
     let value = value_of_files c.args.entry.now in
@@ -24,4 +33,17 @@ returns-in_ok-bytes-in-Information-clause-short g c =
     HasLength facts value (multiboot2 (kernel_by kernel)) role place.index
     place.length) c.in-Information.is c.requires.rowed in
     let short = information_short facts value kernel.relocation places place.length long in
-    omega (arith, short, ap (λ (bytes : List ℕ). length bytes) c.in_ok-bytes-in-Information.ensures)
+    let is = c.in_ok-bytes-in-Information.ensures in
+    rw c.in-Information.is
+    (record {
+      is = is;
+      there = tt;
+      short = omega (arith, short, ap (λ (bytes : List ℕ). length bytes) is);
+      lean = tt;
+    })
+
+pub returns-in-Kernel : goal.returns-in-Kernel
+returns-in-Kernel g c = rw c.in-Kernel.is c.kernel_content.ensures
+
+pub returns-in-Module : goal.returns-in-Module
+returns-in-Module g c = rw c.in-Module.is c.module_content.ensures

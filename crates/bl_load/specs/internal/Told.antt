@@ -1,0 +1,43 @@
+-- What the code tells a kernel, spelled from what its own functions are given.
+use Rattle.std.specs.Prelude.{ℕ, ◌+◌, List, Option}
+use Rattle.bl_map.specs.MachineFacts.{MachineFacts}
+use Rattle.bl_map.specs.NormalMap.{low_kib, high_kib}
+use Rattle.bl_mem.specs.declared.byte_view.ByteView.{Ghosts}
+use Rattle.bl_mbi.specs.InfoToWriteFacts.{InfoToWriteFacts, ModuleInfo}
+use Rattle.bl_params.specs.ParamsToWriteFacts.{ParamsToWriteFacts}
+use Rattle.bl_plan.specs.declared.part.Place.{Place}
+use Rattle.bl_plan.specs.declared.part.Role.TheVariants.{CommandLine, Initrd, Kernel, Module}
+use Rattle.bl_load.specs.declared.checked_entry.CheckedEntry.{CheckedEntry}
+use Rattle.bl_load.specs.Addresses.{address_of}
+
+-- boot parameters, by how long the initrd is
+abbrev pub params_facts : MachineFacts → ℕ → List Place → ParamsToWriteFacts
+params_facts facts size places = record {
+  code32_start = address_of Kernel 0 places;
+  ramdisk_image = address_of Initrd 0 places;
+  ramdisk_size = size;
+  cmd_line_ptr = address_of CommandLine 0 places;
+  runs = facts.runs;
+}
+
+-- a module, by its line and by how long its file is
+abbrev pub module_info : ℕ → List ℕ → ℕ → List Place → ModuleInfo
+module_info k line size places = record {
+  mod_start = address_of Module k places;
+  mod_end = address_of Module k places + size;
+  line = line;
+}
+
+-- the information, by what it tells of the modules and by the load base
+abbrev pub info_with : {A : Type 0} → {V : Type 0} → {view : Ghosts V} → CheckedEntry A V view
+    → List ModuleInfo → Option ℕ → InfoToWriteFacts
+info_with entry modules load_base = record {
+  line = entry.line.now;
+  modules = modules;
+  mem_lower = low_kib entry.machine.now.runs;
+  mem_upper = high_kib entry.machine.now.runs;
+  runs = entry.machine.now.runs;
+  rsdp_old = entry.rsdp_old.now;
+  rsdp_new = entry.rsdp_new.now;
+  load_base = load_base;
+}
