@@ -4,7 +4,8 @@ use Rattle.std.specs.Prelude.{codes, decimal}
 use Rattle.std.specs.Fmt.{signed_decimal}
 use Rattle.toml.specs.Data.{Data, string, integer, float, boolean, datetime, array, table}
 use Rattle.toml.specs.View.{view}
-use Rattle.program_desc.specs.Allowed.{item_count, keys_of_set}
+use Rattle.program_desc.specs.Allowed.{item_count}
+use Rattle.program_desc.specs.Keys.{keys_of_set}
 use Rattle.program_desc.specs.declared.bad_key.Allowed.{Allowed}
 use Rattle.program_desc.specs.declared.bad_key.Allowed.TheVariants.{Number, Byte, IndexBelow}
 use Rattle.program_desc.specs.declared.bad_key.Allowed.TheVariants.{TwoNumbers, Indices, Tables}
@@ -26,17 +27,18 @@ use Rattle.program_blame.specs.ShownNames.{shown_name}
 
 -- ---- where
 
--- an index, in brackets; it counts from 0
+-- the index of an item, in brackets
 abbrev pub index_words : ℕ → List ℕ
 index_words i = codes "[" ++ decimal i ++ codes "]"
 
--- a table, by its path
+-- a table, by its path, in which indices count from 0
 abbrev pub table_words : TablePlace → List ℕ
 table_words Description = []
-table_words (Region i) = codes "region" ++ index_words i
-table_words (File i) = codes "file" ++ index_words i
-table_words (Entry i) = codes "entry" ++ index_words i
-table_words (Module i j) = codes "entry" ++ index_words i ++ codes ".module" ++ index_words j
+table_words (Region i) = codes "region[" ++ decimal i ++ codes "]"
+table_words (File i) = codes "file[" ++ decimal i ++ codes "]"
+table_words (Entry i) = codes "entry[" ++ decimal i ++ codes "]"
+table_words (Module i j) =
+    codes "entry[" ++ decimal i ++ codes "].module[" ++ decimal j ++ codes "]"
 
 -- what joins a table's path to its key
 abbrev pub dot_words : TablePlace → List ℕ
@@ -55,6 +57,9 @@ held_text_words s =
     if nat_le (length s) 64 then codes "\"" ++ shown_name s ++ codes "\""
     else codes "a text of " ++ decimal (length s) ++ codes " bytes"
 
+abbrev pub array_words : ℕ → List ℕ
+array_words count = codes "an array of " ++ decimal count
+
 abbrev pub held_words : Data → List ℕ
 held_words (string s) = held_text_words s
 held_words (integer n) = signed_decimal n
@@ -62,7 +67,7 @@ held_words (float x) = codes "a float"
 held_words (boolean true) = codes "true"
 held_words (boolean false) = codes "false"
 held_words (datetime d) = codes "a date or a time"
-held_words (array ds) = codes "an array of " ++ decimal (item_count ds)
+held_words (array ds) = array_words (item_count ds)
 held_words (table ms) = codes "a table"
 
 -- ---- what is allowed

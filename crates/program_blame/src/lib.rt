@@ -1,6 +1,7 @@
 //! Why a description is refused, told in lines.
 #![tactic(auto)]
 
+mod formatted;
 mod lines;
 mod subjects;
 

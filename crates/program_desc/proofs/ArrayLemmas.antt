@@ -18,8 +18,9 @@ use Rattle.program_desc.specs.Values.{has_only}
 use Rattle.program_desc.specs.Described.{InlineFile, file_in, has_file, names_differ}
 use Rattle.program_desc.specs.Described.{region_in, toml_files, toml_regions}
 use Rattle.program_desc.specs.Entries.{Module, module_in, toml_modules}
-use Rattle.program_desc.specs.Allowed.{allows, count_within, item_count, key_rules, keys_of_set}
-use Rattle.program_desc.specs.Allowed.{required_key}
+use Rattle.program_desc.specs.Allowed.{allows, count_within, item_count}
+use Rattle.program_desc.specs.Keys.{key_rules, keys_of_set}
+use Rattle.program_desc.specs.Keys.{required_key}
 use Rattle.program_desc.specs.internal.BadKeySearch.{all_items, array_items, item_passes, passes_at}
 use Rattle.program_desc.specs.internal.BadKeySearch.{table_passes}
 use Rattle.program_desc.specs.internal.DescriptionSearch.{name_value, name_only_file}

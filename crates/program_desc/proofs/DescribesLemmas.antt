@@ -9,9 +9,10 @@ use Rattle.program_desc.specs.Values.{◌>>=◌, required, optional, if_given, t
 use Rattle.program_desc.specs.Values.{each_item, has_only}
 use Rattle.program_desc.specs.Described.{region_in}
 use Rattle.program_desc.specs.Entries.{module_in}
-use Rattle.program_desc.specs.Allowed.{KeyRule, allows, item_count, key_rules, keys_of_set}
-use Rattle.program_desc.specs.Allowed.{optional_key}
-use Rattle.program_desc.specs.Allowed.{required_key}
+use Rattle.program_desc.specs.Allowed.{allows, item_count}
+use Rattle.program_desc.specs.Keys.{KeyRule, key_rules, keys_of_set}
+use Rattle.program_desc.specs.Keys.{optional_key}
+use Rattle.program_desc.specs.Keys.{required_key}
 use Rattle.program_desc.specs.internal.BadKeySearch.{all_items, all_pass, passes, passes_at}
 use Rattle.program_desc.specs.internal.BadKeySearch.{table_passes}
 use Rattle.program_desc.specs.declared.bad_key.Allowed.{Allowed}

@@ -8,22 +8,20 @@ use Rattle.toml.specs.Data.{Data, string, integer, float, boolean, datetime, arr
 use Rattle.toml.specs.Data.{Members, get_member, get_item, at, as_array}
 use Rattle.toml.specs.Data.{as_table}
 use Rattle.program_desc.specs.Values.{◌>>=◌}
-use Rattle.program_desc.specs.Allowed.{KeyRule, item_count, key_rules, optional_key, required_key}
-use Rattle.program_desc.specs.BadKeys.{BreaksAnyOf, IsBadKey, IsFaultAt, IsItemFault}
+use Rattle.program_desc.specs.Allowed.{item_count}
+use Rattle.program_desc.specs.Keys.{KeyRule, key_rules, optional_key, required_key}
+use Rattle.program_desc.specs.BadKeys.{BreaksAnyOf, BreaksRule, IsBadKey, IsFaultAt, IsItemFault}
 use Rattle.program_desc.specs.BadKeys.{IsKeyFault, count_at, item_count_or_zero, item_at}
-use Rattle.program_desc.specs.BadKeys.{set_of_protocol}
+use Rattle.program_desc.specs.Keys.{set_of_protocol}
+use Rattle.program_desc.specs.internal.DescriptionSearch.{fill_rule, region_rule, file_rule, entry_rule}
+use Rattle.program_desc.specs.internal.EntrySearch.{module_rule, initrd_rule, protocol_rule}
 use Rattle.program_desc.specs.internal.BadKeySearch.{IsListedBad, IsBadItemFault, array_items}
 use Rattle.program_desc.specs.internal.EntrySearch.{IsEntryBad, IsEntryFaultAt, IsEntryItemFaultAt}
 use Rattle.program_desc.specs.internal.EntrySearch.{IsCommonKeyFault, IsMenuBad, IsModulesBad}
 use Rattle.program_desc.specs.internal.EntrySearch.{IsModulesFaultAt}
 use Rattle.program_desc.specs.internal.EntrySearch.{copy_rules, entry_set_in, common_rules}
-use Rattle.program_desc.specs.internal.EntrySearch.{initrd_rules}
 use Rattle.program_desc.specs.internal.EntrySearch.{entry_passes, passes_by, protocol_in}
-use Rattle.program_desc.specs.internal.EntrySearch.{module_array_rules, protocol_rules}
-use Rattle.program_desc.specs.internal.DescriptionSearch.{machine_rules, fill_rules}
-use Rattle.program_desc.specs.internal.DescriptionSearch.{region_array_rules, file_array_rules}
-use Rattle.program_desc.specs.internal.DescriptionSearch.{entry_array_rules}
-use Rattle.program_desc.specs.internal.DescriptionSearch.{index_rules}
+use Rattle.program_desc.specs.internal.DescriptionSearch.{index_rules, machine_rules}
 use Rattle.program_desc.specs.declared.bad_key.Allowed.TheVariants.{Number, IndexBelow}
 use Rattle.program_desc.specs.declared.bad_key.Allowed.TheVariants.{TwoNumbers, Indices}
 use Rattle.program_desc.specs.declared.bad_key.BadKey.{BadKey}
@@ -87,13 +85,14 @@ front-Linux ms fault h = rule_fault 0 keys.LinuxEntry ms fault (among h)
     among (inr (inr (inl line))) = inr (inr (inr (inl line)))
     among (inr (inr (inr none))) = absurd none
 
-pub module-Multiboot2 : AreAmong module_array_rules keys.Multiboot2Entry
-module-Multiboot2 ms fault h = rule_fault 0 keys.Multiboot2Entry ms fault (among h)
-  where
-    among : BreaksAnyOf module_array_rules ms fault
-        → BreaksAnyOf (key_rules 0 keys.Multiboot2Entry) ms fault
-    among (inl modules) = inr (inr (inr (inr (inl modules))))
-    among (inr none) = absurd none
+-- the same of one rule
+abbrev IsAmong : KeyRule → KeySet → Type 0
+IsAmong rule set =
+    (ms : Members) (fault : KeyFault) → BreaksRule rule ms fault → IsKeyFault 0 set ms fault
+
+pub module-Multiboot2 : IsAmong module_rule keys.Multiboot2Entry
+module-Multiboot2 ms fault h =
+    rule_fault 0 keys.Multiboot2Entry ms fault (inr (inr (inr (inr (inl h)))))
 
 pub copies-Multiboot2 : AreAmong copy_rules keys.Multiboot2Entry
 copies-Multiboot2 ms fault h = rule_fault 0 keys.Multiboot2Entry ms fault (among h)
@@ -104,19 +103,11 @@ copies-Multiboot2 ms fault h = rule_fault 0 keys.Multiboot2Entry ms fault (among
     among (inr (inl new)) = inr (inr (inr (inr (inr (inr (inl new))))))
     among (inr (inr none)) = absurd none
 
-pub initrd-Linux : AreAmong initrd_rules keys.LinuxEntry
-initrd-Linux ms fault h = rule_fault 0 keys.LinuxEntry ms fault (among h)
-  where
-    among : BreaksAnyOf initrd_rules ms fault → BreaksAnyOf (key_rules 0 keys.LinuxEntry) ms fault
-    among (inl initrd) = inr (inr (inr (inr (inl initrd))))
-    among (inr none) = absurd none
+pub initrd-Linux : IsAmong initrd_rule keys.LinuxEntry
+initrd-Linux ms fault h = rule_fault 0 keys.LinuxEntry ms fault (inr (inr (inr (inr (inl h)))))
 
-pub protocol-Entry : AreAmong protocol_rules keys.Entry
-protocol-Entry ms fault h = rule_fault 0 keys.Entry ms fault (among h)
-  where
-    among : BreaksAnyOf protocol_rules ms fault → BreaksAnyOf (key_rules 0 keys.Entry) ms fault
-    among (inl protocol) = inr (inl protocol)
-    among (inr none) = absurd none
+pub protocol-Entry : IsAmong protocol_rule keys.Entry
+protocol-Entry ms fault h = rule_fault 0 keys.Entry ms fault (inr (inl h))
 
 -- a fault of a table with these keys, or a broken rule of each entry's
 pub front_fault : (set : KeySet) → AreAmong common_rules set → (ms : Members) (fault : KeyFault)
@@ -132,7 +123,7 @@ pub at_entry : (set : KeySet) (i : ℕ) (ms : Members) (place : TablePlace) (fau
 at_entry set i ms place fault is h = rw is (refl, h)
 
 pub at_modules_key : (i : ℕ) (ms : Members) (place : TablePlace) (fault : KeyFault)
-    → place ≡ places.Entry i → BreaksAnyOf module_array_rules ms fault
+    → place ≡ places.Entry i → BreaksRule module_rule ms fault
     → IsModulesFaultAt i ms place fault
 at_modules_key i ms place fault is h = rw is (refl, h)
 
@@ -193,13 +184,27 @@ front_whole count ms fault h = rule_fault count keys.Description ms fault (among
         pool))
     among (inr (inr none)) = absurd none
 
-pub fill_whole : (count : ℕ) → AreAmongWhole count fill_rules
-fill_whole count ms fault h = rule_fault count keys.Description ms fault (among h)
-  where
-    among : BreaksAnyOf fill_rules ms fault
-        → BreaksAnyOf (key_rules count keys.Description) ms fault
-    among (inl fill) = inr (inr (inl fill))
-    among (inr none) = absurd none
+-- the same of one rule
+abbrev IsAmongWhole : ℕ → KeyRule → Type 0
+IsAmongWhole count rule =
+    (ms : Members) (fault : KeyFault) → BreaksRule rule ms fault
+    → IsKeyFault count keys.Description ms fault
+
+pub fill_whole : (count : ℕ) → IsAmongWhole count fill_rule
+fill_whole count ms fault h =
+    rule_fault count keys.Description ms fault (inr (inr (inl h)))
+
+pub region_whole : (count : ℕ) → IsAmongWhole count region_rule
+region_whole count ms fault h =
+    rule_fault count keys.Description ms fault (inr (inr (inr (inr (inr (inl h))))))
+
+pub file_whole : (count : ℕ) → IsAmongWhole count file_rule
+file_whole count ms fault h =
+    rule_fault count keys.Description ms fault (inr (inr (inr (inr (inr (inr (inl h)))))))
+
+pub entry_whole : (count : ℕ) → IsAmongWhole count entry_rule
+entry_whole count ms fault h =
+    rule_fault count keys.Description ms fault (inr (inr (inr (inr (inr (inr (inr (inl h))))))))
 
 pub indices_whole : (count : ℕ)
     → AreAmongWhole count
@@ -214,30 +219,6 @@ indices_whole count ms fault h = rule_fault count keys.Description ms fault (amo
         inr (inr (inr (inr (inl (with_items-broken (optional_key (codes "fallback") Indices)
         (IndexBelow count) ms fault refl fallback)))))
     among (inr (inr none)) = absurd none
-
-pub region_whole : (count : ℕ) → AreAmongWhole count region_array_rules
-region_whole count ms fault h = rule_fault count keys.Description ms fault (among h)
-  where
-    among : BreaksAnyOf region_array_rules ms fault
-        → BreaksAnyOf (key_rules count keys.Description) ms fault
-    among (inl region) = inr (inr (inr (inr (inr (inl region)))))
-    among (inr none) = absurd none
-
-pub file_whole : (count : ℕ) → AreAmongWhole count file_array_rules
-file_whole count ms fault h = rule_fault count keys.Description ms fault (among h)
-  where
-    among : BreaksAnyOf file_array_rules ms fault
-        → BreaksAnyOf (key_rules count keys.Description) ms fault
-    among (inl file) = inr (inr (inr (inr (inr (inr (inl file))))))
-    among (inr none) = absurd none
-
-pub entry_whole : (count : ℕ) → AreAmongWhole count entry_array_rules
-entry_whole count ms fault h = rule_fault count keys.Description ms fault (among h)
-  where
-    among : BreaksAnyOf entry_array_rules ms fault
-        → BreaksAnyOf (key_rules count keys.Description) ms fault
-    among (inl entry) = inr (inr (inr (inr (inr (inr (inr (inl entry)))))))
-    among (inr none) = absurd none
 
 -- an item of an array of numbers
 pub pool_item : (ms : Members) (fault : KeyFault)

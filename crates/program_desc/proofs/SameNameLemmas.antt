@@ -13,9 +13,10 @@ use Rattle.toml.specs.View.{view, items_view}
 use Rattle.toml.specs.declared.value.Value.{Value}
 use Rattle.program_desc.specs.Described.{has_file}
 use Rattle.program_desc.specs.BadKeys.{file_name_at, item_at}
-use Rattle.program_desc.specs.internal.BadKeySearch.{all_items, all_pass, array_items, item_passes}
+use Rattle.program_desc.specs.internal.DescriptionSearch.{file_rule}
+use Rattle.program_desc.specs.internal.BadKeySearch.{all_items, array_items, item_passes, passes}
 use Rattle.program_desc.specs.internal.BadKeySearch.{passes_at}
-use Rattle.program_desc.specs.internal.DescriptionSearch.{IsSameName, file_array_rules, files_pass}
+use Rattle.program_desc.specs.internal.DescriptionSearch.{IsSameName, files_pass}
 use Rattle.program_desc.specs.internal.DescriptionSearch.{name_value}
 use Rattle.program_desc.specs.internal.DescriptionSearch.{name_only_file}
 use Rattle.program_desc.specs.internal.DescriptionSearch.{value_text_or_empty, value_or}
@@ -23,7 +24,7 @@ use Rattle.program_desc.specs.declared.bad_key.Allowed.TheVariants.{AnyText}
 use Rattle.program_desc.specs.declared.bad_key.KeySet.TheVariants as keys
 use Rattle.program_desc.proofs.DescribesLemmas.{rule_passes, table_parts}
 use Rattle.program_desc.proofs.PlaceLemmas.{item_of}
-use Rattle.program_desc.specs.Allowed.{key_rules, required_key}
+use Rattle.program_desc.specs.Keys.{key_rules, required_key}
 use Rattle.std.proofs.lemmas.Option.{slice_get_read}
 
 -- the first values, and one more
@@ -112,11 +113,11 @@ pub same_name_fault : (ms : Members) (vs : List Value) (i : ℕ) (v : Value) (va
     → IsSameName vs i → v ≡ get_or vs i v → value ≡ name_value (view v)
     → (name : List ℕ) × (value ≡ string name) × (file_name_at i ms ≡ Some name)
     × ((j : ℕ) × (j ≢ i) × (file_name_at j ms ≡ Some name))
-same_name_fault ms vs i v value same passes named at_v is =
+same_name_fault ms vs i v value same files named at_v is =
     let at_i : slice_get vs i ≡ Some v = slice_get_read vs (length vs) i v refl named.1 at_v in
     let items =
-    and_parts (all_pass file_array_rules ms)
-    (all_items (item_passes keys.File) (array_items (get_member (codes "file") ms))) passes in
+    and_parts (passes file_rule ms)
+    (all_items (item_passes keys.File) (array_items (get_member (codes "file") ms))) files in
     let all : all_items (item_passes keys.File) (items_view vs) ≡ true = rw same items.1 in
     let has : has_file (name_only_file v).name (map name_only_file (take i vs)) ≡ true =
     rw at_i at named.0 in

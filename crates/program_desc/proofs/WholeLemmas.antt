@@ -17,25 +17,25 @@ use Rattle.program_desc.specs.Described.{InlineFile, described_in, toml_files, t
 use Rattle.program_desc.specs.Entries.{Entry, Module, entry_by, menu_entry_in, toml_rsdp_copy}
 use Rattle.program_desc.specs.Entries.{toml_entries}
 use Rattle.program_desc.specs.Entries.{toml_modules, toml_protocol, toml_title}
-use Rattle.program_desc.specs.Allowed.{allows, count_within, item_count, keys_of_set, optional_key}
-use Rattle.program_desc.specs.Allowed.{required_key}
+use Rattle.program_desc.specs.Allowed.{allows, count_within, item_count}
+use Rattle.program_desc.specs.Keys.{keys_of_set, optional_key}
+use Rattle.program_desc.specs.Keys.{required_key}
+use Rattle.program_desc.specs.internal.DescriptionSearch.{fill_rule, region_rule, file_rule, entry_rule}
+use Rattle.program_desc.specs.internal.EntrySearch.{module_rule, initrd_rule}
 use Rattle.program_desc.specs.internal.BadKeySearch.{all_items, all_pass, array_items, item_passes}
-use Rattle.program_desc.specs.internal.BadKeySearch.{passes_at}
+use Rattle.program_desc.specs.internal.BadKeySearch.{passes, passes_at}
 use Rattle.program_desc.specs.internal.EntrySearch.{copy_rules, entry_item_passes}
 use Rattle.program_desc.specs.internal.DescriptionSearch.{HasDistinctFileNames}
-use Rattle.program_desc.specs.internal.DescriptionSearch.{entry_array_rules}
 use Rattle.program_desc.specs.internal.EntrySearch.{common_keys_pass}
-use Rattle.program_desc.specs.internal.DescriptionSearch.{file_array_rules, files_pass, fill_rules}
+use Rattle.program_desc.specs.internal.DescriptionSearch.{files_pass}
 use Rattle.program_desc.specs.internal.EntrySearch.{common_rules}
-use Rattle.program_desc.specs.internal.EntrySearch.{initrd_rules, linux_passes}
+use Rattle.program_desc.specs.internal.EntrySearch.{linux_passes}
 use Rattle.program_desc.specs.internal.DescriptionSearch.{index_rules, indices_pass}
-use Rattle.program_desc.specs.internal.EntrySearch.{module_array_rules}
 use Rattle.program_desc.specs.internal.DescriptionSearch.{machine_passes, machine_rules}
 use Rattle.program_desc.specs.internal.DescriptionSearch.{menu_passes}
 use Rattle.program_desc.specs.internal.EntrySearch.{modules_pass, multiboot2_passes, passes_by}
 use Rattle.program_desc.specs.internal.EntrySearch.{protocol_in}
-use Rattle.program_desc.specs.internal.EntrySearch.{protocol_rules}
-use Rattle.program_desc.specs.internal.DescriptionSearch.{region_array_rules, regions_pass}
+use Rattle.program_desc.specs.internal.DescriptionSearch.{regions_pass}
 use Rattle.program_desc.specs.declared.bad_key.Allowed.TheVariants.{Number, Byte, IndexBelow}
 use Rattle.program_desc.specs.declared.bad_key.Allowed.TheVariants.{TwoNumbers, Indices, Tables}
 use Rattle.program_desc.specs.declared.bad_key.Allowed.TheVariants.{EntryTables, ModuleTables}
@@ -98,13 +98,11 @@ multiboot2_reads ms h =
     and_parts (has_only (keys_of_set keys.Multiboot2Entry) ms) (all_pass common_rules ms) whole.0 in
     let rest = and_parts (modules_pass ms) (all_pass copy_rules ms) whole.1 in
     let modules =
-    and_parts (all_pass module_array_rules ms)
+    and_parts (passes module_rule ms)
     (all_items (item_passes keys.Module) (array_items (get_member (codes "module") ms))) rest.0 in
-    let rule =
-    rule_passes module_array_rules ms 0 (optional_key (codes "module") ModuleTables) modules.0 refl in
     let old = rule_passes copy_rules ms 0 (optional_key (codes "rsdp_old") CopyText) rest.1 refl in
     let new = rule_passes copy_rules ms 1 (optional_key (codes "rsdp_new") CopyText) rest.1 refl in
-    let m = modules_given (get_member (codes "module") ms) rule modules.1 in
+    let m = modules_given (get_member (codes "module") ms) modules.0 modules.1 in
     let o = given_reads CopyText toml_rsdp_copy (get_member (codes "rsdp_old") ms) (λ d can. can) old in
     let n = given_reads CopyText toml_rsdp_copy (get_member (codes "rsdp_new") ms) (λ d can. can) new in
     multiboot2_by ms (front_reads ms front.1) m.0 o.0 n.0 front.0 m.1 o.1 n.1
@@ -122,12 +120,10 @@ linux_by ms f initrd known i = (
 linux_reads : (ms : Members) → linux_passes ms ≡ true
     → IsSome (entry_by ms Linux) × IsSome (entry_by ms Linux64)
 linux_reads ms h =
-    let whole = and_parts (common_keys_pass keys.LinuxEntry ms) (all_pass initrd_rules ms) h in
+    let whole = and_parts (common_keys_pass keys.LinuxEntry ms) (passes initrd_rule ms) h in
     let front =
     and_parts (has_only (keys_of_set keys.LinuxEntry) ms) (all_pass common_rules ms) whole.0 in
-    let initrd =
-    rule_passes initrd_rules ms 0 (optional_key (codes "initrd") AnyText) whole.1 refl in
-    let i = given_reads AnyText toml_text (get_member (codes "initrd") ms) (λ d can. can) initrd in
+    let i = given_reads AnyText toml_text (get_member (codes "initrd") ms) (λ d can. can) whole.1 in
     linux_by ms (front_reads ms front.1) i.0 front.0 i.1
 
 must_stand : {A : Type 0} (read : Data → Option A) (o : Option Data)
@@ -139,11 +135,9 @@ by_protocol : (ms : Members) (protocol : Option Protocol) → protocol_in ms ≡
     → passes_by protocol ms ≡ true → IsSome (menu_entry_in ms)
 unfolding menu_entry_in
 by_protocol ms None is h =
-    let named =
-    rule_passes protocol_rules ms 0 (required_key (codes "protocol") ProtocolName) h refl in
     let p =
     required_reads ProtocolName toml_protocol (get_member (codes "protocol") ms) (λ d can. can)
-    named in
+    h in
     let odd : Some p.0 ≡ None =
     sym p.1 ∙ must_stand toml_protocol (get_member (codes "protocol") ms) ∙ is in
     absurd (cc odd)
@@ -233,22 +227,22 @@ describes ms machine regions files named menu indices =
     and_parts (has_only (keys_of_set keys.Description) ms)
     (all_pass machine_rules ms
     && (all_items (allows Number) (array_items (get_member (codes "pool") ms))
-    && all_pass fill_rules ms)) machine in
+    && passes fill_rule ms)) machine in
     let n =
     and_parts (all_pass machine_rules ms)
     (all_items (allows Number) (array_items (get_member (codes "pool") ms))
-    && all_pass fill_rules ms) m.1 in
+    && passes fill_rule ms) m.1 in
     let l =
     and_parts (all_items (allows Number) (array_items (get_member (codes "pool") ms)))
-    (all_pass fill_rules ms) n.1 in
+    (passes fill_rule ms) n.1 in
     let regioned =
-    and_parts (all_pass region_array_rules ms)
+    and_parts (passes region_rule ms)
     (all_items (item_passes keys.Region) (array_items (get_member (codes "region") ms))) regions in
     let filed =
-    and_parts (all_pass file_array_rules ms)
+    and_parts (passes file_rule ms)
     (all_items (item_passes keys.File) (array_items (get_member (codes "file") ms))) files in
     let entered =
-    and_parts (all_pass entry_array_rules ms)
+    and_parts (passes entry_rule ms)
     (all_items entry_item_passes (array_items (get_member (codes "entry") ms))) menu in
     let indexed =
     and_parts (all_pass (index_rules count) ms)
@@ -256,12 +250,6 @@ describes ms machine regions files named menu indices =
     indices in
     let size = rule_passes machine_rules ms 0 (required_key (codes "size") Number) n.0 refl in
     let pool = rule_passes machine_rules ms 1 (required_key (codes "pool") TwoNumbers) n.0 refl in
-    let fill = rule_passes fill_rules ms 0 (optional_key (codes "fill") Byte) l.1 refl in
-    let region =
-    rule_passes region_array_rules ms 0 (optional_key (codes "region") Tables) regioned.0 refl in
-    let file = rule_passes file_array_rules ms 0 (optional_key (codes "file") Tables) filed.0 refl in
-    let entry =
-    rule_passes entry_array_rules ms 0 (required_key (codes "entry") EntryTables) entered.0 refl in
     let default =
     rule_passes (index_rules count) ms 0 (optional_key (codes "default") (IndexBelow count))
     indexed.0 refl
@@ -272,10 +260,10 @@ describes ms machine regions files named menu indices =
     required_reads Number toml_number (get_member (codes "size") ms) (λ d can. can) size in
     let p = pool_given (get_member (codes "pool") ms) pool l.0 in
     let b =
-    optional_reads Byte toml_byte 0 (get_member (codes "fill") ms) (λ d can. can) fill in
-    let r = regions_given (get_member (codes "region") ms) region regioned.1 in
-    let f = files_given (get_member (codes "file") ms) named.0 file filed.1 named.1 named.2 in
-    let e = menu_given (get_member (codes "entry") ms) entry entered.1 in
+    optional_reads Byte toml_byte 0 (get_member (codes "fill") ms) (λ d can. can) l.1 in
+    let r = regions_given (get_member (codes "region") ms) regioned.0 regioned.1 in
+    let f = files_given (get_member (codes "file") ms) named.0 filed.0 filed.1 named.1 named.2 in
+    let e = menu_given (get_member (codes "entry") ms) entered.0 entered.1 in
     let d =
     optional_reads (IndexBelow count) (toml_index count) 0 (get_member (codes "default") ms)
     (λ d can. can) default in

@@ -7,11 +7,10 @@ use Rattle.std.specs.Str.{bytes_eq}
 use Rattle.std.specs.List.{list_any}
 use Rattle.toml.specs.Data.{Data, string, Items, Members, get_member, get, at, as_array, as_table}
 use Rattle.toml.specs.View.{view}
-use Rattle.bl_plan.specs.declared.protocol.Protocol.{Protocol}
-use Rattle.bl_plan.specs.declared.protocol.Protocol.TheVariants.{Multiboot2, Linux, Linux64}
 use Rattle.program_desc.specs.Values.{◌>>=◌, toml_text}
 use Rattle.program_desc.specs.Entries.{toml_protocol}
-use Rattle.program_desc.specs.Allowed.{allows, item_count, KeyRule, key_rules, keys_of_set}
+use Rattle.program_desc.specs.Allowed.{allows, item_count}
+use Rattle.program_desc.specs.Keys.{KeyRule, key_rules, keys_of_set, set_of_protocol}
 use Rattle.program_desc.specs.declared.bad_key.BadKey.{BadKey}
 use Rattle.program_desc.specs.declared.bad_key.KeyFault.{KeyFault}
 use Rattle.program_desc.specs.declared.bad_key.KeyFault.TheVariants.{NoTable, Unknown, Missing}
@@ -69,12 +68,6 @@ abbrev pub count_at : List ℕ → Members → ℕ
 count_at key ms = item_count_or_zero (get_member key ms >>= as_array)
 
 -- the keys that an entry may have
-abbrev pub set_of_protocol : Option Protocol → KeySet
-set_of_protocol None = keys.Entry
-set_of_protocol (Some Multiboot2) = keys.Multiboot2Entry
-set_of_protocol (Some Linux) = keys.LinuxEntry
-set_of_protocol (Some Linux64) = keys.LinuxEntry
-
 abbrev pub entry_set : Data → KeySet
 entry_set d = set_of_protocol (get (codes "protocol") d >>= toml_protocol)
 

@@ -13,7 +13,9 @@ use Rattle.program_desc.specs.Values.{◌>>=◌, some_when, toml_number, toml_by
 use Rattle.program_desc.specs.Values.{toml_bytes}
 use Rattle.program_desc.specs.Values.{toml_range, toml_index, toml_indices, has_only, at_key}
 use Rattle.program_desc.specs.Values.{at_key_or, in_tables}
+use Rattle.program_desc.specs.Keys.{keys_of_set}
 use Rattle.program_desc.specs.Entries.{Entry, toml_entries}
+use Rattle.program_desc.specs.declared.bad_key.KeySet.TheVariants as keys
 
 -- a file that stands in the description
 pub record InlineFile : Type 0 where
@@ -40,7 +42,7 @@ pub record DescriptionFacts : Type 0 where
 
 unfoldable pub region_in : Members → Option Region
 region_in ms =
-    if has_only (codes "base" ∷ codes "length" ∷ codes "kind" ∷ []) ms then (do
+    if has_only (keys_of_set keys.Region) ms then (do
       base ← at_key toml_number (codes "base") ms
       length ← at_key toml_number (codes "length") ms
       name ← at_key toml_text (codes "kind") ms
@@ -55,7 +57,7 @@ toml_regions d = in_tables region_in d
 
 unfoldable pub file_in : Members → Option InlineFile
 file_in ms =
-    if has_only (codes "name" ∷ codes "hex" ∷ []) ms then (do
+    if has_only (keys_of_set keys.File) ms then (do
       name ← at_key toml_text (codes "name") ms
       bytes ← at_key toml_bytes (codes "hex") ms
       Some record { name = name; bytes = bytes })
@@ -77,9 +79,7 @@ toml_files d = in_tables file_in d >>= some_when names_differ
 
 unfoldable pub described_in : Members → Option DescriptionFacts
 described_in ms =
-    if has_only (codes "size" ∷ codes "pool" ∷ codes "fill" ∷ codes "default" ∷ codes "fallback"
-    ∷ codes "region" ∷ codes "file" ∷ codes "entry" ∷ []) ms
-    then (do
+    if has_only (keys_of_set keys.Description) ms then (do
       size ← at_key toml_number (codes "size") ms
       pool ← at_key toml_range (codes "pool") ms
       fill ← at_key_or 0 toml_byte (codes "fill") ms

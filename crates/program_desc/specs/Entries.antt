@@ -1,12 +1,14 @@
 -- What a boot description says of its menu: for each table of an entry or a module a function from
 -- the table's keys to a record, or to none if the table is a bad one. Own.
-use Rattle.std.specs.Prelude.{ℕ, Bool, ◌&&◌, if◌then◌else◌, nat_le, List, [], ◌∷◌, ◌++◌, length}
+use Rattle.std.specs.Prelude.{ℕ, Bool, ◌&&◌, if◌then◌else◌, nat_le, List, [], length}
 use Rattle.std.specs.Prelude.{Option, Some, None, codes}
 use Rattle.std.specs.List.{list_all}
 use Rattle.toml.specs.Data.{Data, Members}
 use Rattle.program_desc.specs.Values.{◌>>=◌, some_when, toml_text, toml_bytes, has_only, at_key}
 use Rattle.program_desc.specs.Values.{at_key_or}
 use Rattle.program_desc.specs.Values.{at_key_if, in_tables}
+use Rattle.program_desc.specs.Keys.{keys_of_set, set_of_protocol}
+use Rattle.program_desc.specs.declared.bad_key.KeySet.TheVariants as keys
 use Rattle.bl_plan.specs.MenuLimits.{max_rsdp_length, max_entries, max_modules}
 use Rattle.bl_plan.specs.Protocols.{protocol_named}
 use Rattle.bl_plan.specs.declared.protocol.Protocol.{Protocol}
@@ -48,7 +50,7 @@ pub record Entry : Type 0 where
 
 unfoldable pub module_in : Members → Option Module
 module_in ms =
-    if has_only (codes "file" ∷ codes "line" ∷ []) ms then (do
+    if has_only (keys_of_set keys.Module) ms then (do
       file ← at_key toml_text (codes "file") ms
       line ← at_key_or [] toml_text (codes "line") ms
       Some record { file = file; line = line })
@@ -82,16 +84,6 @@ toml_rsdp_copy d = toml_bytes d >>= some_when is_rsdp_copy
 
 -- ---- protocol
 
--- under which keys a protocol's entries say what they have beside their kernel, and what is read
--- from these
-pub record ProtocolRow : Type 0 where
-  pub keys : List (List ℕ)
-  pub form : Members → Option Form
-
--- the keys of a multiboot2 entry alone
-abbrev pub multiboot2_keys : List (List ℕ)
-multiboot2_keys = codes "module" ∷ codes "rsdp_old" ∷ codes "rsdp_new" ∷ []
-
 -- with multiboot2 an entry may have modules and copies of RSDPs
 abbrev pub multiboot2_form : Members → Option Form
 multiboot2_form ms = do
@@ -110,30 +102,24 @@ linux_form protocol ms = do
   initrd ← at_key_if toml_text (codes "initrd") ms
   Some (record (bare_form protocol) { initrd = initrd })
 
-abbrev pub protocol_row : Protocol → ProtocolRow
-protocol_row Multiboot2 =
-    record { keys = multiboot2_keys; form = multiboot2_form }
-protocol_row Linux =
-    record { keys = codes "initrd" ∷ []; form = linux_form Linux }
-protocol_row Linux64 =
-    record { keys = codes "initrd" ∷ []; form = linux_form Linux64 }
+-- what an entry of this protocol has beside its kernel
+abbrev pub form_in : Protocol → Members → Option Form
+form_in Multiboot2 ms = multiboot2_form ms
+form_in Linux ms = linux_form Linux ms
+form_in Linux64 ms = linux_form Linux64 ms
 
 abbrev pub toml_protocol : Data → Option Protocol
 toml_protocol d = toml_text d >>= protocol_named
 
 -- ---- entry
 
--- the keys that an entry of each protocol has
-abbrev pub common_entry_keys : List (List ℕ)
-common_entry_keys = codes "title" ∷ codes "protocol" ∷ codes "kernel" ∷ codes "line" ∷ []
-
 unfoldable pub entry_by : Members → Protocol → Option Entry
 entry_by ms protocol =
-    if has_only (common_entry_keys ++ (protocol_row protocol).keys) ms then (do
+    if has_only (keys_of_set (set_of_protocol (Some protocol))) ms then (do
       title ← at_key toml_title (codes "title") ms
       kernel ← at_key toml_text (codes "kernel") ms
       line ← at_key_or [] toml_text (codes "line") ms
-      form ← (protocol_row protocol).form ms
+      form ← form_in protocol ms
       Some record { title = title; kernel = kernel; line = line; form = form })
     else None
 

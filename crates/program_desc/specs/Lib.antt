@@ -1,4 +1,5 @@
 pub mod Values
+pub mod Keys
 pub mod Entries
 pub mod EntryNames
 pub mod Described

@@ -5,6 +5,7 @@ ghost use Rattle.program_desc.specs.Values as values;
 ghost use Rattle.program_desc.specs.Described as spec;
 ghost use Rattle.program_desc.specs.Views.{AnswersAs, HasMenu, view};
 
+use crate::bad_key::KeySet;
 use crate::default_and_fallbacks::{default_at, fallbacks_at};
 use crate::desc::Description;
 use crate::entries::entries_at;
@@ -46,10 +47,7 @@ fn described_in<A: Allocator + Copy>(
     ensures given { AnswersAs view result (spec.described_in (table_view table.now)) }
     ensures menu { IfOk result HasMenu }
 {
-    let known = [
-        "size", "pool", "fill", "default", "fallback", "region", "file", "entry",
-    ];
-    if !has_only(table, &known) {
+    if !has_only(table, KeySet::Description) {
         return Err(DescFault::BadDescription);
     }
     let size = number_at(table, "size")?;

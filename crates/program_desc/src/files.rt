@@ -5,6 +5,7 @@ ghost use Rattle.program_desc.specs.Values as values;
 ghost use Rattle.program_desc.specs.Described as spec;
 ghost use Rattle.program_desc.specs.Views.{AnswersAs, file_view};
 
+use crate::bad_key::KeySet;
 use crate::fault::DescFault;
 use crate::file_row::FileRow;
 use crate::keys::{at_key, has_only, text_at};
@@ -29,7 +30,7 @@ fn hex_in<A: Allocator>(alloc: A, table: &Table) -> Result<Bytes<A>, DescFault>
 fn file_in<A: Allocator + Copy>(alloc: A, table: &Table) -> Result<FileRow<A>, DescFault>
     ensures { AnswersAs file_view result (spec.file_in (table_view table.now)) }
 {
-    if !has_only(table, &["name", "hex"]) {
+    if !has_only(table, KeySet::File) {
         return Err(DescFault::BadDescription);
     }
     let name = text_at(table, "name")?;

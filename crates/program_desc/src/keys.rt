@@ -1,13 +1,14 @@
-//! The keys of a description's tables.
-ghost use Rattle.std.specs.Prelude.{◌≡◌, [], map, option_map};
-ghost use Rattle.std.specs.List.{list_any};
-ghost use Rattle.std.specs.Str.{bytes_eq};
+//! What stands at the keys of a description's tables.
+ghost use Rattle.std.specs.Prelude.{◌≡◌, [], option_map};
 ghost use Rattle.toml.specs.View.{view, table_view};
 ghost use Rattle.toml.specs.Data.{get_member};
+ghost use Rattle.program_desc.specs.Keys.{keys_of_set};
 ghost use Rattle.program_desc.specs.Values as spec;
 ghost use Rattle.program_desc.specs.Views.{AnswersAs};
 
+use crate::bad_key::KeySet;
 use crate::fault::DescFault;
+use crate::key_table::is_key;
 use crate::values::toml_number;
 use toml::{Table, Value};
 
@@ -65,16 +66,9 @@ pub fn text_if<'a>(table: &'a Table, key: &str) -> Result<Option<&'a str>, DescF
     }
 }
 
-/// Whether a key is one of these.
-pub fn is_among(key: &str, known: &[&str]) -> bool
-    ensures { result ≡ list_any (λ k. bytes_eq k.now key.now) known.now }
+/// Whether a table has no key but those that it may have.
+pub fn has_only(table: &Table, set: KeySet) -> bool
+    ensures { result ≡ spec.has_only (keys_of_set set) (table_view table.now) }
 {
-    known.iter().any(|k| *k == key)
-}
-
-/// Whether a table has no key but these.
-pub fn has_only(table: &Table, known: &[&str]) -> bool
-    ensures { result ≡ spec.has_only (map (λ k. k.now) known.now) (table_view table.now) }
-{
-    table.keys().all(|key| is_among(key.as_str(), known))
+    table.keys().all(|key| is_key(set, key.as_str()))
 }

@@ -5,6 +5,7 @@ ghost use Rattle.program_desc.specs.Values as values;
 ghost use Rattle.program_desc.specs.Entries as spec;
 ghost use Rattle.program_desc.specs.Views.{AnswersAs, module_view};
 
+use crate::bad_key::KeySet;
 use crate::entry_form::{ModuleRow, Modules};
 use crate::fault::DescFault;
 use crate::keys::{at_key, has_only, text_at, text_or_empty};
@@ -17,7 +18,7 @@ use toml::{Table, Value};
 fn module_in<A: Allocator + Copy>(alloc: A, table: &Table) -> Result<ModuleRow<A>, DescFault>
     ensures { AnswersAs module_view result (spec.module_in (table_view table.now)) }
 {
-    if !has_only(table, &["file", "line"]) {
+    if !has_only(table, KeySet::Module) {
         return Err(DescFault::BadDescription);
     }
     let file = text_at(table, "file")?;

@@ -1,13 +1,14 @@
 //! The protocols of entries: what each is called, and what its entries have beside their kernel.
-ghost use Rattle.std.specs.Prelude.{◌≡◌, ◌++◌, codes, option_map, None, IfOk, IfSome};
+ghost use Rattle.std.specs.Prelude.{◌≡◌, codes, option_map, None, Some, IfOk, IfSome};
 ghost use Rattle.toml.specs.View.{table_view};
 ghost use Rattle.bl_plan.specs.Protocols.{of_linux};
 ghost use Rattle.program_desc.specs.Values as values;
 ghost use Rattle.program_desc.specs.Entries as spec;
-ghost use Rattle.program_desc.specs.Entries.{common_entry_keys, protocol_row};
+ghost use Rattle.program_desc.specs.Keys.{keys_of_set, set_of_protocol};
 ghost use Rattle.program_desc.specs.EntryFormViews.{HasCopyLength};
 ghost use Rattle.program_desc.specs.Views.{AnswersAs, form_view};
 
+use crate::bad_key::KeySet;
 use crate::entry_form::EntryForm;
 use crate::fault::DescFault;
 use crate::keys::{has_only, text_at, text_if};
@@ -29,20 +30,12 @@ pub fn protocol_in(table: &Table) -> Result<Protocol, DescFault>
 
 /// Whether an entry has no key but those of each entry and of its protocol.
 pub fn has_only_entry_keys(table: &Table, protocol: Protocol) -> bool
-    ensures { result
-        ≡ values.has_only (common_entry_keys ++ (protocol_row protocol).keys)
+    ensures { result ≡ values.has_only (keys_of_set (set_of_protocol (Some protocol)))
         (table_view table.now) }
 {
     match protocol {
-        Protocol::Multiboot2 => {
-            let known = [
-                "title", "protocol", "kernel", "line", "module", "rsdp_old", "rsdp_new",
-            ];
-            has_only(table, &known)
-        }
-        Protocol::Linux | Protocol::Linux64 => {
-            has_only(table, &["title", "protocol", "kernel", "line", "initrd"])
-        }
+        Protocol::Multiboot2 => has_only(table, KeySet::Multiboot2Entry),
+        Protocol::Linux | Protocol::Linux64 => has_only(table, KeySet::LinuxEntry),
     }
 }
 
@@ -91,7 +84,7 @@ pub fn form_in<A: Allocator + Copy>(
     protocol: Protocol,
 ) -> Result<EntryForm<A>, DescFault>
     ensures given { AnswersAs form_view result
-        ((protocol_row protocol).form (table_view table.now)) }
+        (spec.form_in protocol (table_view table.now)) }
     ensures old { IfOk result (λ form. IfSome (form_view form).rsdp_old HasCopyLength) }
     ensures new { IfOk result (λ form. IfSome (form_view form).rsdp_new HasCopyLength) }
 {

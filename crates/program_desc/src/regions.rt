@@ -5,6 +5,7 @@ ghost use Rattle.program_desc.specs.Values as values;
 ghost use Rattle.program_desc.specs.Described as spec;
 ghost use Rattle.program_desc.specs.Views.{AnswersAs};
 
+use crate::bad_key::KeySet;
 use crate::fault::DescFault;
 use crate::keys::{at_key, has_only, number_at, text_at};
 use bl_map::{Kind, Region};
@@ -15,7 +16,7 @@ use toml::{Table, Value};
 fn region_in(table: &Table) -> Result<Region, DescFault>
     ensures { AnswersAs (λ r. r) result (spec.region_in (table_view table.now)) }
 {
-    if !has_only(table, &["base", "length", "kind"]) {
+    if !has_only(table, KeySet::Region) {
         return Err(DescFault::BadDescription);
     }
     let base = number_at(table, "base")?;

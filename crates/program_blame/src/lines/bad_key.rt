@@ -1,21 +1,12 @@
 //! A bad key of a description, in words.
-ghost use Rattle.std.specs.Prelude.{◌≡◌, ◌++◌, OnOk};
-ghost use Rattle.program_desc.specs.Allowed.{keys_of_set};
+ghost use Rattle.std.specs.Prelude.{◌≡◌, ◌++◌, OnOk, map};
 ghost use Rattle.program_blame.specs.BadKeyWords as words;
 
 use crate::lines::key_values::{say_bad_value, say_instead, say_missing};
 use crate::lines::shown_names::say_name;
-use program_desc::{BadKey, KeyFault, KeySet, TablePlace};
+use crate::say;
+use program_desc::{BadKey, Key, KeyFault, KeySet, TablePlace, keys_of};
 use std::alloc::{AllocError, Allocator};
-
-/// Appends an index, in brackets.
-fn say_index<A: Allocator + Copy>(out: &mut Vec<u8, A>, index: usize) -> Result<(), AllocError>
-    ensures { OnOk result (out.new.items ≡ out.old.items ++ words.index_words index) }
-{
-    let alloc = *out.allocator();
-    let told = format!(in alloc; "[{index}]")?;
-    out.extend_from_slice(told.as_bytes())
-}
 
 /// Appends a table's path; that of the whole is empty.
 fn say_table<A: Allocator + Copy>(out: &mut Vec<u8, A>, table: TablePlace) -> Result<(), AllocError>
@@ -23,24 +14,10 @@ fn say_table<A: Allocator + Copy>(out: &mut Vec<u8, A>, table: TablePlace) -> Re
 {
     match table {
         TablePlace::Description => Ok(()),
-        TablePlace::Region(i) => {
-            out.extend_from_slice(b"region")?;
-            say_index(out, i)
-        }
-        TablePlace::File(i) => {
-            out.extend_from_slice(b"file")?;
-            say_index(out, i)
-        }
-        TablePlace::Entry(i) => {
-            out.extend_from_slice(b"entry")?;
-            say_index(out, i)
-        }
-        TablePlace::Module(i, j) => {
-            out.extend_from_slice(b"entry")?;
-            say_index(out, i)?;
-            out.extend_from_slice(b".module")?;
-            say_index(out, j)
-        }
+        TablePlace::Region(i) => say!(out, "region[{i}]"),
+        TablePlace::File(i) => say!(out, "file[{i}]"),
+        TablePlace::Entry(i) => say!(out, "entry[{i}]"),
+        TablePlace::Module(i, j) => say!(out, "entry[{i}].module[{j}]"),
     }
 }
 
@@ -50,10 +27,7 @@ fn dot_words(table: TablePlace) -> &'static str
 {
     match table {
         TablePlace::Description => "",
-        TablePlace::Region(_) => ".",
-        TablePlace::File(_) => ".",
-        TablePlace::Entry(_) => ".",
-        TablePlace::Module(_, _) => ".",
+        _ => ".",
     }
 }
 
@@ -71,18 +45,18 @@ fn say_path<A: Allocator + Copy>(
     say_name(out, key.as_bytes())
 }
 
-/// The keys of a table.
-fn keys_listed(keys: KeySet) -> &'static str
-    ensures { result.now ≡ words.listed_words (keys_of_set keys) }
+/// Appends the names of keys, one after the other.
+fn say_keys<A: Allocator + Copy>(out: &mut Vec<u8, A>, keys: &[Key]) -> Result<(), AllocError>
+    ensures { OnOk result (out.new.items
+        ≡ out.old.items ++ words.listed_words (map (λ key. key.name.now) keys.now)) }
 {
     match keys {
-        KeySet::Description => "size, pool, fill, default, fallback, region, file, entry",
-        KeySet::Region => "base, length, kind",
-        KeySet::File => "name, hex",
-        KeySet::Entry => { "title, protocol, kernel, line, module, rsdp_old, rsdp_new, initrd" }
-        KeySet::Multiboot2Entry => "title, protocol, kernel, line, module, rsdp_old, rsdp_new",
-        KeySet::LinuxEntry => "title, protocol, kernel, line, initrd",
-        KeySet::Module => "file, line",
+        [] => Ok(()),
+        [last] => out.extend_from_slice(last.name.as_bytes()),
+        [first, rest @ ..] => {
+            say!(out, "{}, ", first.name)?;
+            say_keys(out, rest)
+        }
     }
 }
 
@@ -91,8 +65,7 @@ fn say_unknown<A: Allocator + Copy>(out: &mut Vec<u8, A>, known: KeySet) -> Resu
     ensures { OnOk result (out.new.items ≡ out.old.items ++ words.unknown_words known) }
 {
     out.extend_from_slice(b" is no key; the keys are ")?;
-    out.extend_from_slice(keys_listed(known).as_bytes())?;
-    Ok(())
+    say_keys(out, keys_of(known))
 }
 
 /// Appends a bad key: its path, what it holds, what is allowed there.
@@ -122,7 +95,7 @@ pub fn say_bad_key<A: Allocator + Copy>(
         }
         KeyFault::BadItem(key, index, value, allowed) => {
             say_path(out, table, key)?;
-            say_index(out, index)?;
+            say!(out, "[{index}]")?;
             say_bad_value(out, value, allowed)
         }
         KeyFault::SameName(value) => {

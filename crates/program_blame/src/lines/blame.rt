@@ -10,6 +10,7 @@ use crate::lines::number_and_line_end::say_number_in_brackets;
 use crate::lines::pool_lines::say_pool_lines;
 use crate::lines::radix_hints::{say_pool_hints, say_size_hint};
 use crate::lines::word_hints::say_key_hint;
+use crate::say;
 use crate::subjects::{Blame, TextPlace};
 use bl_map::MapFault;
 use program_desc::Description;
@@ -58,25 +59,20 @@ fn say_map_fault<A: Allocator + Copy>(
 ) -> Result<(), AllocError>
     ensures { OnOk result (out.new.items ≡ out.old.items ++ blames.map_fault_words fault) }
 {
-    let alloc = *out.allocator();
     let number = fault.number();
     let name = map_fault_name(fault);
-    let front = format!(in alloc; "{number} {name}")?;
-    out.extend_from_slice(front.as_bytes())?;
+    say!(out, "{number} {name}")?;
     say_told(out, fault)?;
-    out.extend_from_slice(b": ")?;
-    out.extend_from_slice(map_fault_meaning(fault).as_bytes())
+    say!(out, ": {}", map_fault_meaning(fault))
 }
 
 /// Appends where a text is not TOML.
 fn say_place<A: Allocator + Copy>(out: &mut Vec<u8, A>, place: &TextPlace) -> Result<(), AllocError>
     ensures { OnOk result (out.new.items ≡ out.old.items ++ blames.not_toml_words place.now) }
 {
-    let alloc = *out.allocator();
     let line = place.line;
     let column = place.column;
-    let words = format!(in alloc; "it is not TOML, at line {line}, column {column}")?;
-    out.extend_from_slice(words.as_bytes())
+    say!(out, "it is not TOML, at line {line}, column {column}")
 }
 
 fn say_words<A: Allocator + Copy>(out: &mut Vec<u8, A>, blame: &Blame<'_>) -> Result<(), AllocError>

@@ -1,10 +1,11 @@
 //! What a key of a description holds, and what is allowed there, in words.
-ghost use Rattle.std.specs.Prelude.{◌≡◌, ◌++◌, OnOk, codes, decimal};
+ghost use Rattle.std.specs.Prelude.{◌≡◌, ◌++◌, OnOk};
 ghost use Rattle.std.specs.Fmt.{signed_decimal};
 ghost use Rattle.toml.specs.View.{view};
 ghost use Rattle.program_blame.specs.BadKeyWords as words;
 
 use crate::lines::shown_names::say_name;
+use crate::say;
 use program_desc::Allowed;
 use std::alloc::{AllocError, Allocator};
 use toml::Value;
@@ -19,26 +20,20 @@ fn say_text<A: Allocator + Copy>(out: &mut Vec<u8, A>, text: &str) -> Result<(),
         say_name(out, text.as_bytes())?;
         return out.extend_from_slice(b"\"");
     }
-    let alloc = *out.allocator();
     let length = text.len();
-    let told = format!(in alloc; "a text of {length} bytes")?;
-    out.extend_from_slice(told.as_bytes())
+    say!(out, "a text of {length} bytes")
 }
 
 fn say_integer<A: Allocator + Copy>(out: &mut Vec<u8, A>, n: i64) -> Result<(), AllocError>
     ensures { OnOk result (out.new.items ≡ out.old.items ++ signed_decimal n) }
 {
-    let alloc = *out.allocator();
-    let told = format!(in alloc; "{n}")?;
-    out.extend_from_slice(told.as_bytes())
+    say!(out, "{n}")
 }
 
 fn say_array<A: Allocator + Copy>(out: &mut Vec<u8, A>, count: usize) -> Result<(), AllocError>
-    ensures { OnOk result
-        (out.new.items ≡ out.old.items ++ codes "an array of " ++ decimal count) }
+    ensures { OnOk result (out.new.items ≡ out.old.items ++ words.array_words count) }
 {
-    out.extend_from_slice(b"an array of ")?;
-    say_number_of(out, count as u64)
+    say!(out, "an array of {count}")
 }
 
 /// Appends what a value is.
@@ -56,14 +51,6 @@ fn say_held<A: Allocator + Copy>(out: &mut Vec<u8, A>, value: &Value) -> Result<
         Value::Array(items) => say_array(out, items.len()),
         Value::Table(_) => out.extend_from_slice(b"a table"),
     }
-}
-
-fn say_number_of<A: Allocator + Copy>(out: &mut Vec<u8, A>, n: u64) -> Result<(), AllocError>
-    ensures { OnOk result (out.new.items ≡ out.old.items ++ decimal n) }
-{
-    let alloc = *out.allocator();
-    let told = format!(in alloc; "{n}")?;
-    out.extend_from_slice(told.as_bytes())
 }
 
 /// What is allowed, but for how many entries there are.
@@ -97,7 +84,7 @@ pub fn say_allowed<A: Allocator + Copy>(
 {
     out.extend_from_slice(allowed_front(allowed).as_bytes())?;
     match allowed {
-        Allowed::IndexBelow(count) => say_number_of(out, count),
+        Allowed::IndexBelow(count) => say!(out, "{count}"),
         _ => Ok(()),
     }
 }

@@ -2,6 +2,7 @@
 ghost use Rattle.std.specs.Prelude.{◌≡◌, ◌++◌, OnOk, codes};
 ghost use Rattle.program_blame.specs.ToldNumbers.{number_told};
 
+use crate::say;
 use std::alloc::{AllocError, Allocator};
 
 /// Appends a number, in brackets.
@@ -11,9 +12,7 @@ pub fn say_number_in_brackets<A: Allocator + Copy>(
 ) -> Result<(), AllocError>
     ensures { OnOk result (out.new.items ≡ out.old.items ++ number_told number) }
 {
-    let alloc = *out.allocator();
-    let told = format!(in alloc; "({number})")?;
-    out.extend_from_slice(told.as_bytes())
+    say!(out, "({number})")
 }
 
 /// Appends the end of a line.

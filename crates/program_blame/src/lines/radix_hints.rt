@@ -3,6 +3,7 @@ ghost use Rattle.std.specs.Prelude.{◌≡◌, ◌++◌, OnOk, IfOk};
 ghost use Rattle.program_blame.specs.RadixHints as hints;
 ghost use Rattle.program_blame.specs.RegionHints as lines;
 
+use crate::say;
 use bl_map::{FRAME_SIZE, MAX_SIZE, MIN_SIZE};
 use std::alloc::{AllocError, Allocator};
 use std::ops::Range;
@@ -19,9 +20,7 @@ fn digits_as_hex<A: Allocator>(alloc: A, n: u64) -> Result<Option<u64>, AllocErr
 fn say_hex<A: Allocator + Copy>(out: &mut Vec<u8, A>, n: u64) -> Result<(), AllocError>
     ensures { OnOk result (out.new.items ≡ out.old.items ++ hints.hex_line n) }
 {
-    let alloc = *out.allocator();
-    let line = format!(in alloc; "hint: is 0x{n} meant?\n")?;
-    out.extend_from_slice(line.as_bytes())
+    say!(out, "hint: is 0x{n} meant?\n")
 }
 
 fn is_size(n: u64) -> bool
@@ -55,15 +54,9 @@ fn is_pool_bound(size: u64, n: u64) -> bool
 pub fn say_size_hint<A: Allocator + Copy>(out: &mut Vec<u8, A>, size: u64) -> Result<(), AllocError>
     ensures { OnOk result (out.new.items ≡ out.old.items ++ hints.size_hint size) }
 {
-    let alloc = *out.allocator();
-    match digits_as_hex(alloc, size)? {
-        None => Ok(()),
-        Some(reading) => {
-            if is_size(reading) {
-                return say_hex(out, size);
-            }
-            Ok(())
-        }
+    match digits_as_hex(*out.allocator(), size)? {
+        Some(reading) if is_size(reading) => say_hex(out, size),
+        _ => Ok(()),
     }
 }
 
@@ -78,15 +71,9 @@ fn say_pool_bound_hint<A: Allocator + Copy>(
     if !is_unaligned(n) {
         return Ok(());
     }
-    let alloc = *out.allocator();
-    match digits_as_hex(alloc, n)? {
-        None => Ok(()),
-        Some(reading) => {
-            if is_pool_bound(size, reading) {
-                return say_hex(out, n);
-            }
-            Ok(())
-        }
+    match digits_as_hex(*out.allocator(), n)? {
+        Some(reading) if is_pool_bound(size, reading) => say_hex(out, n),
+        _ => Ok(()),
     }
 }
 

@@ -4,6 +4,7 @@ ghost use Rattle.bl_map.specs.NormalMap.{region_end};
 ghost use Rattle.program_blame.specs.RegionHints as hints;
 ghost use Rattle.program_blame.specs.RegionHints.{region_hint, region_hint_at};
 
+use crate::say;
 use bl_map::{FRAME_SIZE, Region};
 use std::alloc::{AllocError, Allocator};
 
@@ -22,22 +23,6 @@ fn ends_in_frame(region: &Region) -> bool
     (region.base % FRAME_SIZE + region.length % FRAME_SIZE) % FRAME_SIZE != 0
 }
 
-fn say_begins<A: Allocator + Copy>(out: &mut Vec<u8, A>, index: u64) -> Result<(), AllocError>
-    ensures { OnOk result (out.new.items ≡ out.old.items ++ hints.region_begin_line index) }
-{
-    let alloc = *out.allocator();
-    let line = format!(in alloc; "hint: region {index} begins within a frame\n")?;
-    out.extend_from_slice(line.as_bytes())
-}
-
-fn say_ends<A: Allocator + Copy>(out: &mut Vec<u8, A>, index: u64) -> Result<(), AllocError>
-    ensures { OnOk result (out.new.items ≡ out.old.items ++ hints.region_end_line index) }
-{
-    let alloc = *out.allocator();
-    let line = format!(in alloc; "hint: region {index} ends within a frame\n")?;
-    out.extend_from_slice(line.as_bytes())
-}
-
 fn say_begin_hint<A: Allocator + Copy>(
     out: &mut Vec<u8, A>,
     index: u64,
@@ -47,7 +32,7 @@ fn say_begin_hint<A: Allocator + Copy>(
         (out.new.items ≡ out.old.items ++ hints.region_begin_hint index region.now) }
 {
     if begins_in_frame(region) {
-        return say_begins(out, index);
+        return say!(out, "hint: region {index} begins within a frame\n");
     }
     Ok(())
 }
@@ -61,7 +46,7 @@ fn say_end_hint<A: Allocator + Copy>(
         (out.new.items ≡ out.old.items ++ hints.region_end_hint index region.now) }
 {
     if ends_in_frame(region) {
-        return say_ends(out, index);
+        return say!(out, "hint: region {index} ends within a frame\n");
     }
     Ok(())
 }

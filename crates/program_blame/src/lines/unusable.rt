@@ -3,6 +3,7 @@ ghost use Rattle.std.specs.Prelude.{◌≡◌, ◌++◌, OnOk};
 ghost use Rattle.program_blame.specs.UnusableAddress as words;
 
 use crate::lines::number_and_line_end::say_line_end;
+use crate::say;
 use bl_map::{FIRST_USABLE, Kind};
 use std::alloc::{AllocError, Allocator};
 
@@ -16,9 +17,7 @@ pub fn say_address<A: Allocator + Copy>(
     ensures { OnOk result (out.new.items ≡ out.old.items
         ++ words.address_words before.now address behind.now) }
 {
-    let alloc = *out.allocator();
-    let line = format!(in alloc; "{before}{address:08x}{behind}")?;
-    out.extend_from_slice(line.as_bytes())
+    say!(out, "{before}{address:08x}{behind}")
 }
 
 /// Why no part may lie on a byte of kind usable.
@@ -41,10 +40,7 @@ fn unusable_words(size: u64, address: u64, kind: Option<Kind>) -> &'static str
     match kind {
         None => "in no region",
         Some(Kind::Usable) => limit_words(size, address),
-        Some(Kind::Reserved) => Kind::Reserved.name(),
-        Some(Kind::Acpi) => Kind::Acpi.name(),
-        Some(Kind::Nvs) => Kind::Nvs.name(),
-        Some(Kind::Bad) => Kind::Bad.name(),
+        Some(kind) => kind.name(),
     }
 }
 

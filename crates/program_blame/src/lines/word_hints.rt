@@ -2,20 +2,18 @@
 ghost use Rattle.std.specs.Prelude.{◌≡◌, ◌++◌, OnOk, map};
 ghost use Rattle.toml.specs.Data.{as_str};
 ghost use Rattle.toml.specs.View.{view};
-ghost use Rattle.program_desc.specs.Allowed.{keys_of_set};
 ghost use Rattle.program_blame.specs.WordHints as hints;
 
 use crate::lines::edit_distance::is_one_edit_away;
-use program_desc::{Allowed, KeyFault, KeySet};
+use crate::say;
+use program_desc::{Allowed, Key, KeyFault, keys_of};
 use std::alloc::{AllocError, Allocator};
 use toml::Value;
 
 fn say_meant<A: Allocator + Copy>(out: &mut Vec<u8, A>, word: &str) -> Result<(), AllocError>
     ensures { OnOk result (out.new.items ≡ out.old.items ++ hints.meant_line word.now) }
 {
-    out.extend_from_slice(b"hint: is ")?;
-    out.extend_from_slice(word.as_bytes())?;
-    out.extend_from_slice(b" meant?\n")
+    say!(out, "hint: is {word} meant?\n")
 }
 
 /// Appends the hint on the first of these words that is near to what is held, if one is.
@@ -39,40 +37,24 @@ fn say_near<A: Allocator + Copy>(
     }
 }
 
-/// Appends the hint on a key that a table may not have, if there is one.
+/// Appends the hint on the first of these keys that is near to what is held, if one is.
+#[tactic(auto, unfolding(crate::specs::WordHints::near_hint))]
 fn say_near_key<A: Allocator + Copy>(
     out: &mut Vec<u8, A>,
-    key: &str,
-    known: KeySet,
+    keys: &[Key],
+    held: &str,
 ) -> Result<(), AllocError>
-    ensures { OnOk result
-        (out.new.items ≡ out.old.items ++ hints.near_hint (keys_of_set known) key.now) }
+    ensures { OnOk result (out.new.items
+        ≡ out.old.items ++ hints.near_hint (map (λ key. key.name.now) keys.now) held.now) }
 {
-    match known {
-        KeySet::Description => {
-            let keys = [
-                "size", "pool", "fill", "default", "fallback", "region", "file", "entry",
-            ];
-            say_near(out, &keys, key)
+    match keys {
+        [] => Ok(()),
+        [key, rest @ ..] => {
+            if is_one_edit_away(held.as_bytes(), key.name.as_bytes()) {
+                return say_meant(out, key.name);
+            }
+            say_near_key(out, rest, held)
         }
-        KeySet::Region => say_near(out, &["base", "length", "kind"], key),
-        KeySet::File => say_near(out, &["name", "hex"], key),
-        KeySet::Entry => {
-            let keys = [
-                "title", "protocol", "kernel", "line", "module", "rsdp_old", "rsdp_new", "initrd",
-            ];
-            say_near(out, &keys, key)
-        }
-        KeySet::Multiboot2Entry => {
-            let keys = [
-                "title", "protocol", "kernel", "line", "module", "rsdp_old", "rsdp_new",
-            ];
-            say_near(out, &keys, key)
-        }
-        KeySet::LinuxEntry => {
-            say_near(out, &["title", "protocol", "kernel", "line", "initrd"], key)
-        }
-        KeySet::Module => say_near(out, &["file", "line"], key),
     }
 }
 
@@ -115,7 +97,7 @@ pub fn say_key_hint<A: Allocator + Copy>(
     ensures { OnOk result (out.new.items ≡ out.old.items ++ hints.key_hint fault.now) }
 {
     match *fault {
-        KeyFault::Unknown(key, known) => say_near_key(out, key, known),
+        KeyFault::Unknown(key, known) => say_near_key(out, keys_of(known), key),
         KeyFault::BadValue(_, value, allowed) => say_value_hint(out, value, allowed),
         _ => Ok(()),
     }

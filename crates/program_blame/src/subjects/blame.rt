@@ -15,7 +15,7 @@ pub enum Blame<'a> {
     /// It is not UTF-8.
     NotUtf8,
 
-    /// It is not TOML, which is seen at this place.
+    /// It is not TOML; the reader of TOML reports this place.
     NotToml(TextPlace),
 
     /// This key is unknown or missing, or its value is not allowed.

@@ -1,6 +1,6 @@
 -- What the code keeps of looking for a bad key. Own.
 use Rattle.std.specs.Prelude.{◌≡◌, ℕ, Bool, true, false, ◌&&◌, not, List, Option, Some, None}
-use Rattle.std.specs.Prelude.{is_some}
+use Rattle.std.specs.Prelude.{is_some, MatchOption}
 use Rattle.std.specs.Option.{IsSomeAnd}
 use Rattle.std.specs.List.{list_all}
 use Rattle.toml.specs.Data.{Data, array, table, Items, no_items, item, Members, get_member}
@@ -11,7 +11,8 @@ use Rattle.bl_map.specs.Kinds.{kind_named}
 use Rattle.bl_plan.specs.Protocols.{protocol_named}
 use Rattle.program_desc.specs.Values.{◌>>=◌, bytes_from, some_when, has_only}
 use Rattle.program_desc.specs.Entries.{is_rsdp_copy, is_title}
-use Rattle.program_desc.specs.Allowed.{allows, KeyRule, key_rules, keys_of_set}
+use Rattle.program_desc.specs.Allowed.{allows}
+use Rattle.program_desc.specs.Keys.{KeyRule, key_rules, keys_of_set}
 use Rattle.program_desc.specs.BadKeys.{IsItemFault}
 use Rattle.program_desc.specs.declared.bad_key.Allowed.{Allowed}
 use Rattle.program_desc.specs.declared.bad_key.Allowed.TheVariants.{AnyText, Title, KindName}
@@ -23,7 +24,7 @@ use Rattle.program_desc.specs.declared.bad_key.KeySet.{KeySet}
 use Rattle.program_desc.specs.declared.bad_key.KeySet.TheVariants as keys
 use Rattle.program_desc.specs.declared.bad_key.TablePlace.{TablePlace}
 use Rattle.program_desc.specs.declared.bad_key.TablePlace.TheVariants as places
-use Rattle.program_desc.specs.declared.bad_keys.rules.Rule.{Rule}
+use Rattle.program_desc.specs.declared.key_table.Key.{Key}
 use Rattle.program_desc.specs.declared.bad_keys.items.TableArray.{TableArray}
 use Rattle.program_desc.specs.declared.bad_keys.items.TableArray.TheVariants.{Regions, Files}
 use Rattle.program_desc.specs.declared.bad_keys.items.TableArray.TheVariants.{Modules}
@@ -46,11 +47,12 @@ text_test test (Some s) = test s
 
 -- ---- keys
 
-abbrev pub rule_view : Rule → KeyRule
-rule_view rule = record {
-  key = rule.key.now;
-  required = rule.required;
-  allowed = rule.allowed;
+-- the rule of a key, but for items of arrays
+abbrev pub rule_view : Key → KeyRule
+rule_view key = record {
+  key = key.name.now;
+  required = key.required;
+  allowed = key.allowed;
   items = None;
 }
 
@@ -67,6 +69,19 @@ all_pass rules ms = list_all (λ rule. passes rule ms) rules
 
 abbrev pub table_passes : KeySet → Members → Bool
 table_passes set ms = has_only (keys_of_set set) ms && all_pass (key_rules 0 set) ms
+
+-- ---- answers of a search
+
+-- what was looked through passes, or the table at this place has a fault
+abbrev pub FindsFault : {A : Type 0} → TablePlace → A → (A → Bool) → (A → KeyFault → Type 0)
+    → Option BadKey → Type 0
+FindsFault place x passes IsFault found =
+    MatchOption found (passes x ≡ true) (λ bad. (bad.table ≡ place) × IsFault x bad.fault)
+
+-- it passes, or a key is bad so
+abbrev pub FindsBad : {A : Type 0} → A → (A → Bool) → (A → BadKey → Type 0) → Option BadKey
+    → Type 0
+FindsBad x passes IsBad found = MatchOption found (passes x ≡ true) (IsBad x)
 
 -- ---- items
 

@@ -6,9 +6,10 @@ use Rattle.toml.specs.View.{view, items_view}
 use Rattle.toml.specs.declared.value.Value.{Value}
 use Rattle.program_desc.specs.Values.{has_only}
 use Rattle.program_desc.specs.Described.{InlineFile, has_file, names_differ}
-use Rattle.program_desc.specs.Allowed.{allows, item_count, KeyRule, keys_of_set, optional_key}
-use Rattle.program_desc.specs.Allowed.{required_key}
+use Rattle.program_desc.specs.Allowed.{allows, item_count}
+use Rattle.program_desc.specs.Keys.{KeyRule, keys_of_set, optional_key, required_key}
 use Rattle.program_desc.specs.internal.BadKeySearch.{all_items, all_pass, array_items, item_passes}
+use Rattle.program_desc.specs.internal.BadKeySearch.{passes}
 use Rattle.program_desc.specs.declared.bad_key.Allowed.TheVariants.{Number}
 use Rattle.program_desc.specs.declared.bad_key.Allowed.TheVariants.{TwoNumbers, Byte, Tables}
 use Rattle.program_desc.specs.declared.bad_key.Allowed.TheVariants.{EntryTables, IndexBelow}
@@ -51,17 +52,17 @@ HasDistinctFileNames ms =
 abbrev pub machine_rules : List KeyRule
 machine_rules = required_key (codes "size") Number ∷ required_key (codes "pool") TwoNumbers ∷ []
 
-abbrev pub fill_rules : List KeyRule
-fill_rules = optional_key (codes "fill") Byte ∷ []
+abbrev pub fill_rule : KeyRule
+fill_rule = optional_key (codes "fill") Byte
 
-abbrev pub region_array_rules : List KeyRule
-region_array_rules = optional_key (codes "region") Tables ∷ []
+abbrev pub region_rule : KeyRule
+region_rule = optional_key (codes "region") Tables
 
-abbrev pub file_array_rules : List KeyRule
-file_array_rules = optional_key (codes "file") Tables ∷ []
+abbrev pub file_rule : KeyRule
+file_rule = optional_key (codes "file") Tables
 
-abbrev pub entry_array_rules : List KeyRule
-entry_array_rules = required_key (codes "entry") EntryTables ∷ []
+abbrev pub entry_rule : KeyRule
+entry_rule = required_key (codes "entry") EntryTables
 
 abbrev pub index_rules : ℕ → List KeyRule
 index_rules count =
@@ -72,21 +73,21 @@ machine_passes ms =
     has_only (keys_of_set keys.Description) ms
     && (all_pass machine_rules ms
     && (all_items (allows Number) (array_items (get_member (codes "pool") ms))
-    && all_pass fill_rules ms))
+    && passes fill_rule ms))
 
 abbrev pub regions_pass : Members → Bool
 regions_pass ms =
-    all_pass region_array_rules ms
+    passes region_rule ms
     && all_items (item_passes keys.Region) (array_items (get_member (codes "region") ms))
 
 abbrev pub files_pass : Members → Bool
 files_pass ms =
-    all_pass file_array_rules ms
+    passes file_rule ms
     && all_items (item_passes keys.File) (array_items (get_member (codes "file") ms))
 
 abbrev pub menu_passes : Members → Bool
 menu_passes ms =
-    all_pass entry_array_rules ms
+    passes entry_rule ms
     && all_items entry_item_passes (array_items (get_member (codes "entry") ms))
 
 abbrev pub indices_pass_among : ℕ → Members → Bool

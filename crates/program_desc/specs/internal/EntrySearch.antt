@@ -7,10 +7,11 @@ use Rattle.bl_plan.specs.declared.protocol.Protocol.{Protocol}
 use Rattle.bl_plan.specs.declared.protocol.Protocol.TheVariants.{Multiboot2, Linux, Linux64}
 use Rattle.program_desc.specs.Values.{◌>>=◌, has_only}
 use Rattle.program_desc.specs.Entries.{toml_protocol}
-use Rattle.program_desc.specs.Allowed.{KeyRule, keys_of_set, optional_key, required_key}
-use Rattle.program_desc.specs.BadKeys.{BreaksAnyOf, entry_set, IsItemFault, IsKeyFault}
-use Rattle.program_desc.specs.BadKeys.{set_of_protocol}
+use Rattle.program_desc.specs.Keys.{KeyRule, keys_of_set, optional_key, required_key}
+use Rattle.program_desc.specs.Keys.{set_of_protocol}
+use Rattle.program_desc.specs.BadKeys.{BreaksAnyOf, BreaksRule, entry_set, IsItemFault, IsKeyFault}
 use Rattle.program_desc.specs.internal.BadKeySearch.{all_items, all_pass, array_items, item_passes}
+use Rattle.program_desc.specs.internal.BadKeySearch.{passes}
 use Rattle.program_desc.specs.declared.bad_key.Allowed.TheVariants.{AnyText, Title, ProtocolName}
 use Rattle.program_desc.specs.declared.bad_key.Allowed.TheVariants.{CopyText, ModuleTables}
 use Rattle.program_desc.specs.declared.bad_key.BadKey.{BadKey}
@@ -26,9 +27,6 @@ protocol_in ms = get_member (codes "protocol") ms >>= toml_protocol
 abbrev pub entry_set_in : Members → KeySet
 entry_set_in ms = set_of_protocol (protocol_in ms)
 
-abbrev pub protocol_rules : List KeyRule
-protocol_rules = required_key (codes "protocol") ProtocolName ∷ []
-
 abbrev pub common_rules : List KeyRule
 common_rules =
     required_key (codes "title") Title ∷ required_key (codes "kernel") AnyText
@@ -38,11 +36,14 @@ abbrev pub copy_rules : List KeyRule
 copy_rules =
     optional_key (codes "rsdp_old") CopyText ∷ optional_key (codes "rsdp_new") CopyText ∷ []
 
-abbrev pub module_array_rules : List KeyRule
-module_array_rules = optional_key (codes "module") ModuleTables ∷ []
+abbrev pub protocol_rule : KeyRule
+protocol_rule = required_key (codes "protocol") ProtocolName
 
-abbrev pub initrd_rules : List KeyRule
-initrd_rules = optional_key (codes "initrd") AnyText ∷ []
+abbrev pub module_rule : KeyRule
+module_rule = optional_key (codes "module") ModuleTables
+
+abbrev pub initrd_rule : KeyRule
+initrd_rule = optional_key (codes "initrd") AnyText
 
 abbrev pub common_keys_pass : KeySet → Members → Bool
 common_keys_pass set ms = has_only (keys_of_set set) ms && all_pass common_rules ms
@@ -53,7 +54,7 @@ IsCommonKeyFault set ms fault = IsKeyFault 0 set ms fault ⊎ BreaksAnyOf common
 
 abbrev pub modules_pass : Members → Bool
 modules_pass ms =
-    all_pass module_array_rules ms
+    passes module_rule ms
     && all_items (item_passes keys.Module) (array_items (get_member (codes "module") ms))
 
 abbrev pub multiboot2_passes : Members → Bool
@@ -61,11 +62,11 @@ multiboot2_passes ms =
     common_keys_pass keys.Multiboot2Entry ms && (modules_pass ms && all_pass copy_rules ms)
 
 abbrev pub linux_passes : Members → Bool
-linux_passes ms = common_keys_pass keys.LinuxEntry ms && all_pass initrd_rules ms
+linux_passes ms = common_keys_pass keys.LinuxEntry ms && passes initrd_rule ms
 
 -- what an entry of this protocol passes
 abbrev pub passes_by : Option Protocol → Members → Bool
-passes_by None ms = all_pass protocol_rules ms
+passes_by None ms = passes protocol_rule ms
 passes_by (Some Multiboot2) ms = multiboot2_passes ms
 passes_by (Some Linux) ms = linux_passes ms
 passes_by (Some Linux64) ms = linux_passes ms
@@ -85,7 +86,7 @@ IsModuleFault ms j fault =
 
 -- its modules, or its key for them
 abbrev pub IsModulesFaultAt : ℕ → Members → TablePlace → KeyFault → Type 0
-IsModulesFaultAt i ms (places.Entry k) fault = (k ≡ i) × BreaksAnyOf module_array_rules ms fault
+IsModulesFaultAt i ms (places.Entry k) fault = (k ≡ i) × BreaksRule module_rule ms fault
 IsModulesFaultAt i ms (places.Module k j) fault = (k ≡ i) × IsModuleFault ms j fault
 IsModulesFaultAt i ms _ fault = ⊥
 

@@ -1,14 +1,16 @@
 //! The items of arrays: regions, files, modules, numbers.
-ghost use Rattle.std.specs.Prelude.{◌≡◌, true, MatchOption};
+ghost use Rattle.std.specs.Prelude.{◌≡◌};
 ghost use Rattle.toml.specs.Data.{get_member};
 ghost use Rattle.toml.specs.View.{view, table_view, items_view};
-ghost use Rattle.program_desc.specs.Allowed.{allows as allowed_of, key_rules};
+ghost use Rattle.program_desc.specs.Allowed.{allows as allowed_of};
+ghost use Rattle.program_desc.specs.Keys.{key_rules};
 ghost use Rattle.program_desc.specs.BadKeys.{BreaksAnyOf, IsItemFault, IsKeyFault};
 ghost use Rattle.program_desc.specs.internal.BadKeySearch as kept;
 
 use crate::bad_key::{Allowed, BadKey, KeyFault, KeySet, TablePlace};
-use crate::bad_keys::rules::{broken_rules, optional_key, required_key, unknown_key};
+use crate::bad_keys::rules::{broken_rules, unknown_key};
 use crate::bad_keys::values::allows;
+use crate::key_table::{IN_FILE, IN_MODULE, IN_REGION};
 use crate::keys::at_key;
 use toml::{Table, Value};
 
@@ -56,36 +58,20 @@ pub fn items_at<'a>(table: &'a Table, key: &str) -> &'a [Value]
 
 /// A key with a value that is not allowed, or that is missing.
 fn broken_in<'a>(table: &'a Table, place: TablePlace, listed: TableArray) -> Option<BadKey<'a>>
-    ensures { MatchOption result
-        (kept.all_pass (key_rules 0 (kept.set_in listed)) (table_view table.now) ≡ true)
-        (λ bad. (bad.table ≡ place)
-        × BreaksAnyOf (key_rules 0 (kept.set_in listed)) (table_view table.now) bad.fault) }
+    ensures { kept.FindsFault place (table_view table.now)
+        (kept.all_pass (key_rules 0 (kept.set_in listed)))
+        (BreaksAnyOf (key_rules 0 (kept.set_in listed))) result }
 {
     match listed {
-        TableArray::Regions => {
-            let base = required_key("base", Allowed::Number);
-            let length = required_key("length", Allowed::Number);
-            let kind = required_key("kind", Allowed::KindName);
-            broken_rules(table, place, &[base, length, kind])
-        }
-        TableArray::Files => {
-            let name = required_key("name", Allowed::AnyText);
-            let hex = required_key("hex", Allowed::HexText);
-            broken_rules(table, place, &[name, hex])
-        }
-        TableArray::Modules(_) => {
-            let file = required_key("file", Allowed::AnyText);
-            let line = optional_key("line", Allowed::AnyText);
-            broken_rules(table, place, &[file, line])
-        }
+        TableArray::Regions => broken_rules(table, place, &IN_REGION),
+        TableArray::Files => broken_rules(table, place, &IN_FILE),
+        TableArray::Modules(_) => broken_rules(table, place, &IN_MODULE),
     }
 }
 
 fn bad_in<'a>(table: &'a Table, place: TablePlace, listed: TableArray) -> Option<BadKey<'a>>
-    ensures { MatchOption result
-        (kept.table_passes (kept.set_in listed) (table_view table.now) ≡ true)
-        (λ bad. (bad.table ≡ place)
-        × IsKeyFault 0 (kept.set_in listed) (table_view table.now) bad.fault) }
+    ensures { kept.FindsFault place (table_view table.now)
+        (kept.table_passes (kept.set_in listed)) (IsKeyFault 0 (kept.set_in listed)) result }
 {
     match unknown_key(table, place, set_in(listed)) {
         Some(bad) => Some(bad),
@@ -94,10 +80,8 @@ fn bad_in<'a>(table: &'a Table, place: TablePlace, listed: TableArray) -> Option
 }
 
 fn bad_item<'a>(value: &'a Value, place: TablePlace, listed: TableArray) -> Option<BadKey<'a>>
-    ensures { MatchOption result
-        (kept.item_passes (kept.set_in listed) (view value.now) ≡ true)
-        (λ bad. (bad.table ≡ place)
-        × IsItemFault (kept.set_in listed) (view value.now) bad.fault) }
+    ensures { kept.FindsFault place (view value.now)
+        (kept.item_passes (kept.set_in listed)) (IsItemFault (kept.set_in listed)) result }
 {
     match value.as_table() {
         Some(table) => bad_in(table, place, listed),
@@ -110,9 +94,8 @@ fn bad_item<'a>(value: &'a Value, place: TablePlace, listed: TableArray) -> Opti
 
 /// The first bad key of the tables of an array.
 pub fn bad_among<'a>(items: &'a [Value], listed: TableArray) -> Option<BadKey<'a>>
-    ensures { MatchOption result
-        (kept.all_items (kept.item_passes (kept.set_in listed)) (items_view items.now) ≡ true)
-        (kept.IsListedBad listed (items_view items.now)) }
+    ensures { kept.FindsBad (items_view items.now)
+        (kept.all_items (kept.item_passes (kept.set_in listed))) (kept.IsListedBad listed) result }
 {
     for (i, item) in items.iter().enumerate() {
         if let Some(bad) = bad_item(item, place_in(listed, i), listed) {
@@ -124,10 +107,8 @@ pub fn bad_among<'a>(items: &'a [Value], listed: TableArray) -> Option<BadKey<'a
 
 /// The first item that is not allowed, of an array at this key of the description.
 pub fn bad_number<'a>(items: &'a [Value], key: &'static str, allowed: Allowed) -> Option<BadKey<'a>>
-    ensures { MatchOption result
-        (kept.all_items (allowed_of allowed) (items_view items.now) ≡ true)
-        (λ bad. (bad.table ≡ TablePlace.Description)
-        × kept.IsBadItemFault key.now allowed (items_view items.now) bad.fault) }
+    ensures { kept.FindsFault TablePlace.Description (items_view items.now)
+        (kept.all_items (allowed_of allowed)) (kept.IsBadItemFault key.now allowed) result }
 {
     for (i, item) in items.iter().enumerate() {
         if !allows(allowed, item) {

@@ -3,116 +3,59 @@ ghost use Rattle.std.specs.Prelude.{◌≡◌, true, IfOk, IsSome, MatchOption};
 ghost use Rattle.toml.specs.View.{table_view};
 ghost use Rattle.program_desc.specs.Described.{described_in};
 ghost use Rattle.program_desc.specs.BadKeys.{BreaksAnyOf, IsBadKey};
-ghost use Rattle.program_desc.specs.internal.BadKeySearch as tests;
+ghost use Rattle.program_desc.specs.internal.BadKeySearch.{FindsBad, FindsFault, all_pass};
 ghost use Rattle.program_desc.specs.internal.DescriptionSearch as kept;
 
 use crate::bad_key::{Allowed, BadKey, KeyFault, KeySet, TablePlace};
 use crate::bad_keys::entries::bad_among_entries;
 use crate::bad_keys::items::{TableArray, bad_among, bad_number, items_at};
-use crate::bad_keys::rules::{broken_rules, optional_key, required_key, unknown_key};
+use crate::bad_keys::rules::{broken_rule, broken_rules, unknown_key};
 use crate::bad_keys::same_names::{name_value, same_name};
+use crate::key_table::{DEFAULT, ENTRY, FALLBACK, FILE, FILL, Key, POOL, REGION, SIZE};
 use std::alloc::{AllocError, Global};
 use toml::{Table, Value};
 
-/// The keys `size` and `pool`.
-fn bad_size<'a>(table: &'a Table) -> Option<BadKey<'a>>
-    ensures { MatchOption result
-        (tests.all_pass kept.machine_rules (table_view table.now) ≡ true)
-        (λ bad. (bad.table ≡ TablePlace.Description)
-        × BreaksAnyOf kept.machine_rules (table_view table.now) bad.fault) }
-{
-    let size = required_key("size", Allowed::Number);
-    let pool = required_key("pool", Allowed::TwoNumbers);
-    broken_rules(table, TablePlace::Description, &[size, pool])
-}
-
-fn bad_fill<'a>(table: &'a Table) -> Option<BadKey<'a>>
-    ensures { MatchOption result
-        (tests.all_pass kept.fill_rules (table_view table.now) ≡ true)
-        (λ bad. (bad.table ≡ TablePlace.Description)
-        × BreaksAnyOf kept.fill_rules (table_view table.now) bad.fault) }
-{
-    let rule = optional_key("fill", Allowed::Byte);
-    broken_rules(table, TablePlace::Description, &[rule])
-}
-
-fn bad_region_key<'a>(table: &'a Table) -> Option<BadKey<'a>>
-    ensures { MatchOption result
-        (tests.all_pass kept.region_array_rules (table_view table.now) ≡ true)
-        (λ bad. (bad.table ≡ TablePlace.Description)
-        × BreaksAnyOf kept.region_array_rules (table_view table.now) bad.fault) }
-{
-    let rule = optional_key("region", Allowed::Tables);
-    broken_rules(table, TablePlace::Description, &[rule])
-}
-
-fn bad_file_key<'a>(table: &'a Table) -> Option<BadKey<'a>>
-    ensures { MatchOption result
-        (tests.all_pass kept.file_array_rules (table_view table.now) ≡ true)
-        (λ bad. (bad.table ≡ TablePlace.Description)
-        × BreaksAnyOf kept.file_array_rules (table_view table.now) bad.fault) }
-{
-    let rule = optional_key("file", Allowed::Tables);
-    broken_rules(table, TablePlace::Description, &[rule])
-}
-
-fn bad_entry_key<'a>(table: &'a Table) -> Option<BadKey<'a>>
-    ensures { MatchOption result
-        (tests.all_pass kept.entry_array_rules (table_view table.now) ≡ true)
-        (λ bad. (bad.table ≡ TablePlace.Description)
-        × BreaksAnyOf kept.entry_array_rules (table_view table.now) bad.fault) }
-{
-    let rule = required_key("entry", Allowed::EntryTables);
-    broken_rules(table, TablePlace::Description, &[rule])
-}
-
 /// The keys `default` and `fallback`, where there are so many entries.
 fn bad_index_keys<'a>(table: &'a Table, count: u64) -> Option<BadKey<'a>>
-    ensures { MatchOption result
-        (tests.all_pass (kept.index_rules count) (table_view table.now) ≡ true)
-        (λ bad. (bad.table ≡ TablePlace.Description)
-        × BreaksAnyOf (kept.index_rules count) (table_view table.now) bad.fault) }
+    ensures { FindsFault TablePlace.Description (table_view table.now)
+        (all_pass (kept.index_rules count)) (BreaksAnyOf (kept.index_rules count)) result }
 {
-    let default = optional_key("default", Allowed::IndexBelow(count));
-    let fallback = optional_key("fallback", Allowed::Indices);
-    broken_rules(table, TablePlace::Description, &[default, fallback])
+    let default = Key {
+        allowed: Allowed::IndexBelow(count),
+        ..DEFAULT
+    };
+    broken_rules(table, TablePlace::Description, &[default, FALLBACK])
 }
 
 /// The keys `size`, `pool` and `fill`, and those that the table may not have.
 fn bad_machine<'a>(table: &'a Table) -> Option<BadKey<'a>>
-    ensures { MatchOption result
-        (kept.machine_passes (table_view table.now) ≡ true)
-        (IsBadKey (table_view table.now)) }
+    ensures { FindsBad (table_view table.now) kept.machine_passes IsBadKey result }
 {
     if let Some(bad) = unknown_key(table, TablePlace::Description, KeySet::Description) {
         return Some(bad);
     }
-    if let Some(bad) = bad_size(table) {
+    if let Some(bad) = broken_rules(table, TablePlace::Description, &[SIZE, POOL]) {
         return Some(bad);
     }
     if let Some(bad) = bad_number(items_at(table, "pool"), "pool", Allowed::Number) {
         return Some(bad);
     }
-    bad_fill(table)
+    broken_rule(table, TablePlace::Description, &FILL)
 }
 
 fn bad_regions<'a>(table: &'a Table) -> Option<BadKey<'a>>
-    ensures { MatchOption result
-        (kept.regions_pass (table_view table.now) ≡ true)
-        (IsBadKey (table_view table.now)) }
+    ensures { FindsBad (table_view table.now) kept.regions_pass IsBadKey result }
 {
-    match bad_region_key(table) {
+    match broken_rule(table, TablePlace::Description, &REGION) {
         Some(bad) => Some(bad),
         None => bad_among(items_at(table, "region"), TableArray::Regions),
     }
 }
 
 fn bad_files<'a>(table: &'a Table) -> Option<BadKey<'a>>
-    ensures { MatchOption result
-        (kept.files_pass (table_view table.now) ≡ true)
-        (IsBadKey (table_view table.now)) }
+    ensures { FindsBad (table_view table.now) kept.files_pass IsBadKey result }
 {
-    match bad_file_key(table) {
+    match broken_rule(table, TablePlace::Description, &FILE) {
         Some(bad) => Some(bad),
         None => bad_among(items_at(table, "file"), TableArray::Files),
     }
@@ -136,11 +79,9 @@ fn bad_repeated_name<'a>(global: Global, table: &'a Table) -> Result<Option<BadK
 }
 
 fn bad_menu<'a>(table: &'a Table) -> Option<BadKey<'a>>
-    ensures { MatchOption result
-        (kept.menu_passes (table_view table.now) ≡ true)
-        (IsBadKey (table_view table.now)) }
+    ensures { FindsBad (table_view table.now) kept.menu_passes IsBadKey result }
 {
-    match bad_entry_key(table) {
+    match broken_rule(table, TablePlace::Description, &ENTRY) {
         Some(bad) => Some(bad),
         None => bad_among_entries(items_at(table, "entry")),
     }
@@ -148,9 +89,7 @@ fn bad_menu<'a>(table: &'a Table) -> Option<BadKey<'a>>
 
 /// The keys `default` and `fallback`.
 fn bad_indices<'a>(table: &'a Table) -> Option<BadKey<'a>>
-    ensures { MatchOption result
-        (kept.indices_pass (table_view table.now) ≡ true)
-        (IsBadKey (table_view table.now)) }
+    ensures { FindsBad (table_view table.now) kept.indices_pass IsBadKey result }
 {
     let count = items_at(table, "entry").len() as u64;
     match bad_index_keys(table, count) {

@@ -1,9 +1,8 @@
-use Rattle.std.proofs.Common.{◌≡◌, ◌++◌, ◌∙◌, ℕ, List, ap, sym, codes, decimal, length}
-use Rattle.std.proofs.Common.{append_assoc, arith}
+use Rattle.std.proofs.Common.{◌≡◌, ◌++◌, ◌∙◌, ℕ, List, ap, sym, length, arith}
 use Rattle.std.proofs.lemmas.Result.{on_ok_weaker}
 use Rattle.toml.specs.View.{view}
 use Rattle.toml.specs.declared.value.Value.{Value}
-use Rattle.program_blame.specs.BadKeyWords.{held_words}
+use Rattle.program_blame.specs.BadKeyWords.{array_words, held_words}
 use Rattle.program_blame.proofs.KeyLemmas.{held_array}
 use Rattle.program_blame.proofs.lines.key_values.say_held.Goals as goal
 
@@ -13,9 +12,7 @@ returns-in-Array g c =
     let same : length items.items ≡ c.len.result = omega (arith, c.len.ensures) in
     let told =
     ap (λ (v : Value). held_words (view v)) c.in-Array.is ∙ held_array items
-    ∙ ap (λ (n : ℕ). codes "an array of " ++ decimal n) same in
+    ∙ ap array_words same in
     on_ok_weaker c.say_array.result
-    (λ said. said
-    ∙ append_assoc c.args.out.now.items (codes "an array of ") (decimal c.len.result)
-    ∙ ap (λ (w : List ℕ). c.args.out.now.items ++ w) (sym told))
+    (λ said. said ∙ ap (λ (w : List ℕ). c.args.out.now.items ++ w) (sym told))
     c.say_array.ensures

@@ -7,5 +7,5 @@ returns-in-Some c = (c.in-Some.ensures.0, inl (c.in-Some.ensures.1 0))
 
 pub returns-in-None : goal.returns-in-None
 returns-in-None c =
-    answer_in c.bad_texts.result (both _ _ c.in-None.ensures) (λ bad h. (h.0, inr h.1))
-    c.bad_texts.ensures
+    answer_in c.broken_rules.result (both _ _ c.in-None.ensures) (λ bad h. (h.0, inr h.1))
+    c.broken_rules.ensures

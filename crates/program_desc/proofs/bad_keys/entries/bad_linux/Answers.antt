@@ -14,6 +14,6 @@ returns-in-Some c =
 pub returns-in-None : goal.returns-in-None
 returns-in-None c =
     let ms = table_view c.args.table.now in
-    answer_in c.bad_initrd.result (both _ _ c.in-None.ensures)
+    answer_in c.broken_rule.result (both _ _ c.in-None.ensures)
     (λ bad h. at_entry keys.LinuxEntry c.args.i ms bad.table bad.fault h.0
-    (initrd-Linux ms bad.fault h.1)) c.bad_initrd.ensures
+    (initrd-Linux ms bad.fault h.1)) c.broken_rule.ensures

@@ -11,12 +11,12 @@ returns-in-Some c =
     at_whole ms c.in-Some.bad c.in-Some.ensures.0
     (c.in-Some.ensures.1 (count_at (codes "entry") ms))
 
-pub returns-in-Some-bad_size : goal.returns-in-Some-bad_size
-returns-in-Some-bad_size c =
+pub returns-in-Some-broken_rules : goal.returns-in-Some-broken_rules
+returns-in-Some-broken_rules c =
     let ms = table_view c.args.table.now in
-    let bad = c.in-Some-bad_size.bad in
-    at_whole ms bad c.in-Some-bad_size.ensures.0
-    (front_whole (count_at (codes "entry") ms) ms bad.fault c.in-Some-bad_size.ensures.1)
+    let bad = c.in-Some-broken_rules.bad in
+    at_whole ms bad c.in-Some-broken_rules.ensures.0
+    (front_whole (count_at (codes "entry") ms) ms bad.fault c.in-Some-broken_rules.ensures.1)
 
 pub returns-in-Some-bad_number : goal.returns-in-Some-bad_number
 returns-in-Some-bad_number c =
@@ -29,8 +29,8 @@ pub returns : goal.returns
 returns c =
     let ms = table_view c.args.table.now in
     let numbers = rw c.items_at.ensures at c.in_default-bad_number.ensures in
-    answer_in c.bad_fill.result
-    (λ fill. both _ _ c.in_default.ensures (both _ _ c.in_default-bad_size.ensures
+    answer_in c.broken_rule.result
+    (λ fill. both _ _ c.in_default.ensures (both _ _ c.in_default-broken_rules.ensures
     (both _ _ numbers fill)))
     (λ bad h. at_whole ms bad h.0 (fill_whole (count_at (codes "entry") ms) ms bad.fault h.1))
-    c.bad_fill.ensures
+    c.broken_rule.ensures

@@ -1,0 +1,119 @@
+//! The keys of a description's tables, each with its rule. Reading, the search for a bad key and
+//! the words of messages take them from here.
+ghost use Rattle.std.specs.Prelude.{◌≡◌, map};
+ghost use Rattle.std.specs.List.{list_any};
+ghost use Rattle.std.specs.Str.{bytes_eq};
+ghost use Rattle.program_desc.specs.Keys.{keys_of_set};
+
+use crate::bad_key::{Allowed, KeySet};
+
+/// A key of a table: whether it must stand, and what it may hold.
+#[derive(Clone, Copy, Debug)]
+pub struct Key {
+    pub name: &'static str,
+    pub required: bool,
+    pub allowed: Allowed,
+}
+
+macro_rules! required {
+    ($name:expr, $allowed:expr) => {
+        Key {
+            name: $name,
+            required: true,
+            allowed: $allowed,
+        }
+    };
+}
+
+macro_rules! optional {
+    ($name:expr, $allowed:expr) => {
+        Key {
+            name: $name,
+            required: false,
+            allowed: $allowed,
+        }
+    };
+}
+
+pub const SIZE: Key = required!("size", Allowed::Number);
+
+pub const POOL: Key = required!("pool", Allowed::TwoNumbers);
+
+pub const FILL: Key = optional!("fill", Allowed::Byte);
+// The search puts in how many entries there are.
+pub const DEFAULT: Key = optional!("default", Allowed::IndexBelow(0));
+
+pub const FALLBACK: Key = optional!("fallback", Allowed::Indices);
+
+pub const REGION: Key = optional!("region", Allowed::Tables);
+
+pub const FILE: Key = optional!("file", Allowed::Tables);
+
+pub const ENTRY: Key = required!("entry", Allowed::EntryTables);
+
+pub const TITLE: Key = required!("title", Allowed::Title);
+
+pub const PROTOCOL: Key = required!("protocol", Allowed::ProtocolName);
+
+pub const KERNEL: Key = required!("kernel", Allowed::AnyText);
+
+pub const LINE: Key = optional!("line", Allowed::AnyText);
+
+pub const MODULE: Key = optional!("module", Allowed::ModuleTables);
+
+pub const RSDP_OLD: Key = optional!("rsdp_old", Allowed::CopyText);
+
+pub const RSDP_NEW: Key = optional!("rsdp_new", Allowed::CopyText);
+
+pub const INITRD: Key = optional!("initrd", Allowed::AnyText);
+
+static IN_DESCRIPTION: [Key; 8] = [SIZE, POOL, FILL, DEFAULT, FALLBACK, REGION, FILE, ENTRY];
+
+pub static IN_REGION: [Key; 3] = [
+    required!("base", Allowed::Number),
+    required!("length", Allowed::Number),
+    required!("kind", Allowed::KindName),
+];
+
+pub static IN_FILE: [Key; 2] = [
+    required!("name", Allowed::AnyText),
+    required!("hex", Allowed::HexText),
+];
+
+static IN_ENTRY: [Key; 8] = [
+    TITLE, PROTOCOL, KERNEL, LINE, MODULE, RSDP_OLD, RSDP_NEW, INITRD,
+];
+
+static IN_MULTIBOOT2: [Key; 7] = [TITLE, PROTOCOL, KERNEL, LINE, MODULE, RSDP_OLD, RSDP_NEW];
+
+static IN_LINUX: [Key; 5] = [TITLE, PROTOCOL, KERNEL, LINE, INITRD];
+
+pub static IN_MODULE: [Key; 2] = [required!("file", Allowed::AnyText), LINE];
+
+/// The keys that a table may have.
+pub fn keys_of(set: KeySet) -> &'static [Key]
+    ensures { map (λ key. key.name.now) result.now ≡ keys_of_set set }
+{
+    match set {
+        KeySet::Description => &IN_DESCRIPTION,
+        KeySet::Region => &IN_REGION,
+        KeySet::File => &IN_FILE,
+        KeySet::Entry => &IN_ENTRY,
+        KeySet::Multiboot2Entry => &IN_MULTIBOOT2,
+        KeySet::LinuxEntry => &IN_LINUX,
+        KeySet::Module => &IN_MODULE,
+    }
+}
+
+fn is_among(name: &str, keys: &[Key]) -> bool
+    ensures { result ≡ list_any (λ key. bytes_eq key.name.now name.now) keys.now }
+{
+    keys.iter().any(|key| key.name == name)
+}
+
+/// Whether a table may have a key.
+pub fn is_key(set: KeySet, name: &str) -> bool
+    ensures { result ≡ list_any (λ k. bytes_eq k name.now) (keys_of_set set) }
+{
+    is_among(name, keys_of(set))
+}
