@@ -29,8 +29,8 @@ fn run_walk<A: Allocator + Copy, R: Source, B: Allocator>(
 }
 
 /// Reads an image to the end of a source, and appends the lines of what a kernel sees in it to
-/// `say`: its protocol, where it is entered, its line, its parts, the modules, the initial ramdisk,
-/// the memory map.
+/// `say`: its protocol, where it is entered, its line, the kernel's parts, the modules, the initial
+/// ramdisk, the memory map, the copies of RSDPs.
 ///
 /// The status is 0, 2 where the image is refused, with 71 to 75 by its reader or with 81 to 83 by
 /// what a kernel would see, 3 where the source had a fault, or 4 where memory ran out. With 2 the

@@ -24,9 +24,9 @@ use program_menu::Files;
 
 /// Two boots are two calls of `boot` with no more in common than this: their machines have equal
 /// facts (size, map and pool), and the entries that they hand over have equal values (protocol,
-/// line, files and the modules' lines). Memory, sinks, titles, names, indices, other entries and
-/// files, what was refused before, where each file came from and the order of its pieces may
-/// differ.
+/// line, files, the modules' lines and the copies of RSDPs). Memory, sinks, titles, names, indices,
+/// other entries and files, what was refused before, where each file came from and the order of its
+/// pieces may differ.
 ///
 /// They write one image. And an entry that is refused in one is refused in the other, for the same,
 /// if its files have equal sizes and it has an equal value there.

@@ -36,7 +36,8 @@ text_place before = after_bytes (record { line = 1; column = 1 }) before
 
 -- ---- what stands
 
--- the text is not TOML, which is seen at this place of it
+-- the text is not TOML, and the place is one of it, or behind it: toml's contract says of no place
+-- that the mistake is there
 pub record IsNotToml (desc : List ℕ) (place : TextPlace) : Type 0 where
   pub text : is_utf8 desc ≡ true
   pub refused : parse_document desc ≡ None
