@@ -96,8 +96,9 @@ fn outcome_of<A: Allocator + Copy>(session: Session<A>) -> Result<Outcome<A>, Bo
 /// not wait for changes nothing. If nothing more is to come, the first missing piece is lost, and
 /// the entry is refused for its file.
 ///
-/// If the store's answers are genuine, the boot ends with the first entry that is not refused; and
-/// if the store is faithful and was asked for nothing before, its files alone decide.
+/// If the store's answers are genuine, the boot ends with the first entry that is not refused, or
+/// with all refusals (40). If the store is faithful and was asked for nothing before, its files
+/// alone decide. Either way memory may run out instead (41).
 ///
 /// Memory has the machine's size. Afterwards it is as after `Session::start`.
 pub fn run<M: PhysMem, S: Store, A: Allocator + Copy>(
