@@ -5,7 +5,7 @@ from functools import lru_cache
 from pathlib import Path
 from typing import Iterable, List, Set
 
-from tests import repository
+from tests import repository, tables
 from tests.examples import FIRST, SECOND
 from tests.support import PROGRAM, TOP, Checks, ProgramChecks, is_at_hand, run
 
@@ -24,6 +24,7 @@ TOOLS = [
     ("a reader's hour in docs/THEOREMS.md has the lines that it counts", "tools/hour", "--check"),
     ("explain has the name and the meaning of each refusal that docs/REFUSALS.md has", "tools/refusals"),
     ("the core for C has the numbers and the words of docs/REFUSALS.md", "tools/c_texts", "--check"),
+    ("each must-fail edit changes a line that stands once, those of docs/EDITS.md in the function named there", "tools/edits"),
     ("CONTRIBUTING.md lists each place where a refusal and a key stand", "tools/refusal_places", "--check"),
 ]
 
@@ -106,6 +107,16 @@ class Pages(Checks):
             TOP / "examples/first.toml",
             TOP / "crates/bootcore/data/first.toml",
         )
+
+    def test_counts(self) -> None:
+        """README tells how many edits, rows, cases and changed images there are"""
+        edits = len([name for name in repository.files() if name.endswith(".edit")])
+        rows = sum(map(tables.rows_of, tables.all_tables()))
+        cases = sum(lines_of_table(table) for table in sorted(TOP.glob("cases/*.cases")))
+        images = lines_of_table(TOP / "cases/images")
+        told = " ".join((TOP / "README.md").read_text(encoding="utf-8").split())
+        wanted = (f"{edits} mistakes", f"{rows:,} calls", f"{cases} boot descriptions", f"{images} corrupted images")
+        self.assertEqual([it for it in wanted if it not in told], [], "what README.md should tell, and does not")
 
     def test_version(self) -> None:
         ran = run(TOP / "tools/version")
@@ -209,6 +220,11 @@ def longer_lines(names: Iterable[str], most: int) -> List[str]:
 def longer_files(names: Iterable[str], most: int) -> List[str]:
     lengths = ((name, (TOP / name).read_bytes().count(b"\n")) for name in names)
     return [f"{name}: {length} lines" for name, length in lengths if length > most]
+
+
+def lines_of_table(table: Path) -> int:
+    """The lines of a table of cases or of images, without comments."""
+    return sum(bool(line) and not line.startswith("#") for line in table.read_text(encoding="utf-8").splitlines())
 
 
 def first_match(pattern: str, name: str) -> str:
