@@ -21,7 +21,7 @@ none_left text m at start segments i all =
     rw (drop_all i segments all) (same_lists _ _ (search (rules, places)) (λ k d h. grind (arith, places)))
 
 -- the first segment is the lowest
-low_first : (s : Segment) (segments : List Segment) → AllPairs SegmentsAscend (s ∷ segments)
+pub low_first : (s : Segment) (segments : List Segment) → AllPairs SegmentsAscend (s ∷ segments)
     → low_of (s ∷ segments) ≡ s.address
 low_first s [] ascend = refl
 low_first s (t ∷ segments) ascend =

@@ -35,3 +35,6 @@ pub mod LegalLaws
 pub mod TotalLaws
 pub mod PartLaws
 pub mod SegmentLaws
+pub mod StepLemmas
+pub mod StepOrderLemmas
+pub mod StepSourceLemmas

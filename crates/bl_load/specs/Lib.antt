@@ -22,3 +22,6 @@ pub mod Parts
 pub mod Unplaced
 pub mod Legal
 pub mod MemoryAfter
+pub mod Steps
+pub mod PlanSteps
+pub mod LoadedBySteps

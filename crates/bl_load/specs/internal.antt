@@ -7,3 +7,4 @@ pub mod CheckedEntries
 pub mod Contents
 pub mod Told
 pub mod Checks
+pub mod Stepping

@@ -28,6 +28,9 @@ mod registers64;
 mod segment_descriptor_laws;
 mod segment_descriptors;
 mod segment_registers;
+mod step;
+mod step_laws;
+mod steps;
 mod unplaced_row;
 
 pub use bl_plan::{Choice, MAX_LINE, MAX_RSDP_LENGTH, Place, Protocol, Role, Row};
@@ -49,4 +52,6 @@ pub use registers64::{Registers64, linux64_registers};
 pub use segment_descriptor_laws::selectors_name_the_segments;
 pub use segment_descriptors::descriptors_of;
 pub use segment_registers::{SegmentName, SegmentRegister};
+pub use step::{Step, StepSource, Steps};
+pub use step_laws::carried_out_steps_are_determined;
 pub use unplaced_row::unplaced;
