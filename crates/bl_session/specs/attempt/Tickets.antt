@@ -13,8 +13,8 @@ ticket_of attempt place piece = record { attempt = attempt; file = place; piece 
 
 abbrev pub first_awaited_piece : (piece : ℕ) → List PieceState → Option ℕ
 first_awaited_piece piece [] = None
-first_awaited_piece piece (lacks size ∷ piece_states) = Some piece
-first_awaited_piece piece (has bytes ∷ piece_states) = first_awaited_piece (piece + 1) piece_states
+first_awaited_piece piece (lacks size ∷ states) = Some piece
+first_awaited_piece piece (has bytes ∷ states) = first_awaited_piece (piece + 1) states
 
 abbrev pub ticket_or : (attempt place : ℕ) → Option Ticket → Option ℕ → Option Ticket
 ticket_or attempt place others None = others
@@ -22,9 +22,9 @@ ticket_or attempt place others (Some piece) = Some (ticket_of attempt place piec
 
 abbrev pub first_ticket : (attempt place : ℕ) → List (List PieceState) → Option Ticket
 first_ticket attempt place [] = None
-first_ticket attempt place (piece_states ∷ files) =
+first_ticket attempt place (states ∷ files) =
     ticket_or attempt place (first_ticket attempt (place + 1) files)
-    (first_awaited_piece 0 piece_states)
+    (first_awaited_piece 0 states)
 
 -- the ticket of the first piece that is awaited after that of a ticket: in its file, or else in the
 -- files after it

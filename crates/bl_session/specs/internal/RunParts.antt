@@ -16,7 +16,7 @@ abbrev pub asked_sizes : List File → ℕ → List (Option ℕ)
 asked_sizes files count =
     map (λ file. size_of (slice_index_or files file missing)) (range_with_len 0 count)
 
--- of these orders, in order, all but the rest were asked for
+-- of these submissions, in order, all but the rest were asked for
 pub record AreAskedButRest (attempt_submissions rest old new : List HistoryItem) : Type 0 where
   pub asked : List HistoryItem
   pub all : attempt_submissions ≡ asked ++ rest

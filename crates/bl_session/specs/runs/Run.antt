@@ -28,20 +28,20 @@ use Rattle.bl_session.specs.session.Phases.{PhaseFacts, outcome_facts, fault_fac
 abbrev pub IsAnswer :
     List File → List HistoryItem → List RefusedEntry → List (List PieceState) → HistoryItem
     → EventFacts → Type 0
-IsAnswer files given earlier piece_states (submitted file ticket) event = ⊥
-IsAnswer files given earlier piece_states (came ticket count genuine) event =
+IsAnswer files given earlier pieces (submitted file ticket) event = ⊥
+IsAnswer files given earlier pieces (came ticket count genuine) event =
     (bytes : List ℕ) × (event ≡ piece ticket bytes) × (length bytes ≡ count)
     × ((genuine ≡ true) ↔ IsPieceOf files (file_under given ticket) ticket.piece bytes)
-IsAnswer files given earlier piece_states (failed ticket) event = event ≡ fault ticket
-IsAnswer files given earlier piece_states nothing event =
-    (ticket : Ticket) × (first_ticket (length earlier) 0 piece_states ≡ Some ticket)
+IsAnswer files given earlier pieces (failed ticket) event = event ≡ fault ticket
+IsAnswer files given earlier pieces nothing event =
+    (ticket : Ticket) × (first_ticket (length earlier) 0 pieces ≡ Some ticket)
     × (event ≡ fault ticket)
 
 -- only an attempt that runs takes answers
 abbrev pub IsEventOf : List File → List HistoryItem → State → HistoryItem → EventFacts → Type 0
 IsEventOf files given state item event =
     on_running state ⊥
-    (λ entry rest earlier piece_states. IsAnswer files given earlier piece_states item event)
+    (λ entry rest earlier pieces. IsAnswer files given earlier pieces item event)
 
 -- where a boot stands, and what it is still to ask for
 pub record RunState : Type 0 where
@@ -57,8 +57,8 @@ run_state_of facts state = record { state = state; owed = attempt_submissions fa
 abbrev pub Delivers : BootFacts → List File → List HistoryItem → State → List HistoryItem
     → HistoryItem → RunState
     → Type 0
-Delivers facts files given state (order ∷ owed) item new =
-    (item ≡ order) × (new ≡ record { state = state; owed = owed })
+Delivers facts files given state (first ∷ owed) item new =
+    (item ≡ first) × (new ≡ record { state = state; owed = owed })
 Delivers facts files given state [] item new =
     (event : EventFacts) × IsEventOf files given state item event
     × StepsToOrFails facts state event new.state
@@ -96,14 +96,14 @@ IsMarked nothing = Unit {0}
 abbrev pub IsMarkedItem : State → HistoryItem → EventFacts → Type 0
 IsMarkedItem state item event =
     on_running state (Unit {0})
-    (λ entry rest earlier piece_states. is_wanted earlier piece_states event ≡ true → IsMarked item)
+    (λ entry rest earlier pieces. is_wanted earlier pieces event ≡ true → IsMarked item)
 
 -- an event that is wanted is marked, and its faults are these; one that is not may be anything
 abbrev pub IsGenuineItem : Faults → State → HistoryItem → EventFacts → Type 0
 IsGenuineItem faults state item event =
-    on_running state (Unit {0}) (λ entry rest earlier piece_states. is_wanted earlier piece_states
-    event ≡ true
-    → IsMarked item × EventAgreesWithFaults faults earlier piece_states event)
+    on_running state (Unit {0})
+    (λ entry rest earlier pieces. is_wanted earlier pieces event ≡ true
+    → IsMarked item × EventAgreesWithFaults faults earlier pieces event)
 
 -- of these items, after this history, each answer is so where it comes
 abbrev pub EachAnswerIs :

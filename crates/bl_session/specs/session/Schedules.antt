@@ -22,28 +22,28 @@ no_fault attempt = None
 -- a piece completes its attempt only if no fault comes of it; a fault is the one that comes
 abbrev pub EventAgreesWithFaults :
     Faults → List RefusedEntry → List (List PieceState) → EventFacts → Type 0
-EventAgreesWithFaults faults earlier piece_states (piece ticket bytes) =
-    are_whole (with_piece piece_states ticket.file ticket.piece bytes) ≡ true
+EventAgreesWithFaults faults earlier pieces (piece ticket bytes) =
+    are_whole (with_piece pieces ticket.file ticket.piece bytes) ≡ true
     → faults (length earlier) ≡ None
-EventAgreesWithFaults faults earlier piece_states (fault ticket) =
+EventAgreesWithFaults faults earlier pieces (fault ticket) =
     faults (length earlier) ≡ Some ticket.file
 
 -- a piece holds its file's bytes at its place; and the faults are these
 abbrev pub IsGenuineEvent :
     BootFacts → List File → Faults → ℕ → List RefusedEntry → List (List PieceState) → EventFacts
     → Type 0
-IsGenuineEvent facts files faults entry earlier piece_states (piece ticket bytes) =
+IsGenuineEvent facts files faults entry earlier pieces (piece ticket bytes) =
     (bytes ≡ piece_of (slice_index_or (texts_of facts files entry) ticket.file []) ticket.piece)
-    × EventAgreesWithFaults faults earlier piece_states (piece ticket bytes)
-IsGenuineEvent facts files faults entry earlier piece_states (fault ticket) =
-    EventAgreesWithFaults faults earlier piece_states (fault ticket)
+    × EventAgreesWithFaults faults earlier pieces (piece ticket bytes)
+IsGenuineEvent facts files faults entry earlier pieces (fault ticket) =
+    EventAgreesWithFaults faults earlier pieces (fault ticket)
 
 -- an event that is not wanted may be anything
 abbrev pub IsGenuineAt : BootFacts → List File → Faults → State → EventFacts → Type 0
 IsGenuineAt facts files faults state event =
-    on_running state (Unit {0}) (λ entry rest earlier piece_states.
-    is_wanted earlier piece_states event ≡ true
-    → IsGenuineEvent facts files faults entry earlier piece_states event)
+    on_running state (Unit {0}) (λ entry rest earlier pieces.
+    is_wanted earlier pieces event ≡ true
+    → IsGenuineEvent facts files faults entry earlier pieces event)
 
 -- each event is so where it comes
 abbrev pub IsGenuine : BootFacts → List File → Faults → State → List EventFacts → Type 0

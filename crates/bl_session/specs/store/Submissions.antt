@@ -19,8 +19,8 @@ abbrev pub submissions_for_files : (attempt place : ℕ) → List ℕ → List (
     → List HistoryItem
 submissions_for_files attempt place [] files = []
 submissions_for_files attempt place (index ∷ indices) [] = []
-submissions_for_files attempt place (index ∷ indices) (piece_states ∷ files) =
-    piece_submissions attempt place index (length piece_states)
+submissions_for_files attempt place (index ∷ indices) (states ∷ files) =
+    piece_submissions attempt place index (length states)
     ++ submissions_for_files attempt (place + 1) indices files
 
 -- each piece of the attempt that runs: files ascending, and in each of them pieces ascending
