@@ -13,3 +13,4 @@ pub mod FinishLemmas
 pub mod RequestLemmas
 pub mod MissingLemmas
 pub mod SizeLemmas
+pub mod CursorLemmas

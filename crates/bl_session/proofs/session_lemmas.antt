@@ -8,3 +8,4 @@ pub mod StepFaultLemmas
 pub mod EndedLemmas
 pub mod LaterLemmas
 pub mod NextLemmas
+pub mod BootCallLemmas

@@ -5,3 +5,5 @@ pub mod SubmissionRuns
 pub mod HandoverSteps
 pub mod RunParts
 pub mod AnswerSteps
+pub mod Cursors
+pub mod BootCalls

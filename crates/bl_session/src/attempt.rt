@@ -19,6 +19,7 @@ use bl_mem::PhysMem;
 use bl_stage::Stage;
 use std::alloc::{AllocError, Allocator};
 
+pub(crate) mod cursor;
 pub(crate) mod entry_files;
 mod frame_counts;
 mod handing_over;
@@ -77,6 +78,7 @@ pub fn end_attempt<M: PhysMem, A: Allocator + Copy>(
         (M.bytes memory.old) (M.bytes memory.new) (attempt_with stage.new end)) }
     ensures err { OnErr result
         (IsSameOutside machine.now.pool (M.bytes memory.old) (M.bytes memory.new)) }
+    ensures same { IfOk result (λ end. end ≡ None → stage.new ≡ stage.old) }
     ensures whole { OnErr result (are_whole (piece_states (M.bytes memory.old) stage.old) ≡ true) }
     ensures kept { KeepsSizeAndRoom M.lender M.bytes M.room memory.old memory.new }
 {

@@ -13,8 +13,8 @@ ghost use Rattle.bl_session.specs.runs.Run.{final_phase};
 
 use crate::attempt::ticket::Event;
 use crate::menu::Menu;
-use crate::session::advancing::advance;
 use crate::session::boot_end::{boot_end, into_boot_end};
+use crate::session::event_taking::advance;
 use crate::session::phase::{Boot, Phase};
 use crate::session::starting::begin_first;
 use bl_map::Machine;
@@ -22,7 +22,6 @@ use bl_mem::PhysMem;
 use std::alloc::{AllocError, Allocator};
 use std::marker::Model;
 
-mod advancing;
 mod boot_end;
 mod boot_requests;
 mod event_taking;

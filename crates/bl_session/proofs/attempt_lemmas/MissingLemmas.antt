@@ -57,7 +57,7 @@ length-file_piece_states bytes stage file h =
     ap (λ (s : List PieceState). length s) (file_piece_states bytes stage file h)
     ∙ length-piece_states_of bytes stage file
 
-file_next : (attempt place : ℕ) (files : List (List PieceState)) → place < length files
+pub file_next : (attempt place : ℕ) (files : List (List PieceState)) → place < length files
     → first_ticket attempt place (drop place files)
     ≡ ticket_or attempt place (first_ticket attempt (place + 1) (drop (place + 1) files))
     (first_awaited_piece 0 (get_or files place []))

@@ -18,6 +18,7 @@ use Rattle.bl_session.specs.menu.Menu.{entry_at}
 use Rattle.bl_session.specs.session.Phases.{PhaseFacts, waits, state_at}
 use Rattle.bl_session.specs.attempt.AwaitedPieces.{piece_state_of}
 use Rattle.bl_session.specs.attempt.Tickets.{first_awaited_piece, first_ticket, ticket_or}
+use Rattle.bl_session.specs.internal.Cursors.{first_ticket_from}
 use Rattle.bl_session.specs.attempt.Tickets.{length_awaited, request_for}
 use Rattle.bl_session.specs.session.Requests.{first_request}
 use Rattle.bl_session.specs.session.Requests.{request_after}
@@ -67,36 +68,29 @@ missing_length bytes stage file index e =
     ∙ length_if came (piece_of (staged_file bytes stage file) index) second.1
     ∙ piece_size bytes stage file index
 
--- ---- after a ticket
+-- ---- from a piece on
 
-pub after_is : (attempt : ℕ) (files : List (List PieceState)) (ticket : Ticket) (found : Option ℕ)
-    → found
-    ≡ first_awaited_piece (ticket.piece + 1) (drop (ticket.piece + 1) (get_or files ticket.file []))
-    → ticket_or attempt ticket.file
-    (first_ticket attempt (ticket.file + 1) (drop (ticket.file + 1) files)) found
-    ≡ ticket_after attempt files ticket
-after_is attempt files ticket found e =
-    ap
-    (ticket_or attempt ticket.file
-    (first_ticket attempt (ticket.file + 1) (drop (ticket.file + 1) files))) e
+pub from_is : (attempt : ℕ) (files : List (List PieceState)) (file piece : ℕ) (found : Option ℕ)
+    → found ≡ first_awaited_piece piece (drop piece (get_or files file []))
+    → ticket_or attempt file (first_ticket attempt (file + 1) (drop (file + 1) files)) found
+    ≡ first_ticket_from attempt files file piece
+from_is attempt files file piece found e =
+    ap (ticket_or attempt file (first_ticket attempt (file + 1) (drop (file + 1) files))) e
 
-pub after_past : (attempt : ℕ) (bytes : List ℕ) (stage : Staging) (ticket : Ticket)
-    → length stage.sizes ≤ ticket.file
-    → None ≡ ticket_after attempt (piece_states bytes stage) ticket
-after_past attempt bytes stage ticket h =
+pub from_past : (attempt : ℕ) (bytes : List ℕ) (stage : Staging) (file piece : ℕ)
+    → length stage.sizes ≤ file
+    → None ≡ first_ticket_from attempt (piece_states bytes stage) file piece
+from_past attempt bytes stage file piece h =
     let long = length-piece_states bytes stage in
     let files = piece_states bytes stage in
-    let none : get_or files ticket.file [] ≡ [] = get_or_past files ticket.file [] (omega arith) in
-    let piece_state : None
-    ≡ first_awaited_piece (ticket.piece + 1)
-    (drop (ticket.piece + 1) (get_or files ticket.file [])) =
+    let none : get_or files file [] ≡ [] = get_or_past files file [] (omega arith) in
+    let piece_state : None ≡ first_awaited_piece piece (drop piece (get_or files file [])) =
     sym
-    (ap (λ (s : List PieceState). first_awaited_piece (ticket.piece + 1)
-    (drop (ticket.piece + 1) s)) none
-    ∙ ap (first_awaited_piece (ticket.piece + 1)) (drop_all (ticket.piece + 1) [] (omega arith))) in
+    (ap (λ (s : List PieceState). first_awaited_piece piece (drop piece s)) none
+    ∙ ap (first_awaited_piece piece) (drop_all piece [] (omega arith))) in
     sym
-    (ap (first_ticket attempt (ticket.file + 1)) (drop_all (ticket.file + 1) files (omega arith)))
-    ∙ after_is attempt files ticket None piece_state
+    (ap (first_ticket attempt (file + 1)) (drop_all (file + 1) files (omega arith)))
+    ∙ from_is attempt files file piece None piece_state
 
 -- ---- requests
 

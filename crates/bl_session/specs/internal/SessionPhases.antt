@@ -13,6 +13,7 @@ use Rattle.bl_session.specs.declared.session.phase.Phase.TheVariants.{Failed}
 use Rattle.bl_session.specs.attempt.AttemptResult.{file_refusal, size_refusal, known_lengths}
 use Rattle.bl_session.specs.menu.Menu.{MenuFacts, entry_at}
 use Rattle.bl_session.specs.session.BootSteps.{BootFacts, State}
+use Rattle.bl_session.specs.internal.Cursors.{NoneMissingBelow}
 use Rattle.bl_session.specs.session.Phases.{state_at, running_facts, phase_facts, boot_facts}
 use Rattle.bl_session.specs.session.Phases.{LiesWithin}
 
@@ -67,6 +68,7 @@ pub record IsWaiting {A : Type 0} (machine : MachineFacts) (menu : MenuFacts)
   pub pool : r.stage.pool ≡ machine.pool
   pub files : length r.stage.sizes ≡ length (entry_at menu r.entry).files
   pub small : HasSmallFiles r.stage
+  pub below : NoneMissingBelow r.stage r.cursor.file r.cursor.piece
   pub number : length r.earlier.items < r.next
   pub next : r.next ≤ length menu.attempts
 

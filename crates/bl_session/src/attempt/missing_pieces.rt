@@ -6,7 +6,8 @@ ghost use Rattle.bl_stage.specs.Pieces.{is_missing};
 ghost use Rattle.bl_stage.specs.PieceStates.{piece_states};
 ghost use Rattle.bl_session.specs.menu.Menu.{files_of};
 ghost use Rattle.bl_session.specs.attempt.Tickets.{first_awaited_piece, first_ticket};
-ghost use Rattle.bl_session.specs.internal.SessionPhases.{HasSmallFiles, LacksPiece};
+ghost use Rattle.bl_session.specs.internal.SessionPhases.{HasSmallFiles};
+ghost use Rattle.bl_session.specs.internal.Cursors.{first_ticket_from};
 ghost use Rattle.bl_session.specs.attempt.AwaitedPieces.{piece_state_of};
 ghost use Rattle.bl_session.specs.attempt.Tickets.{length_awaited, request_for, ticket_after};
 
@@ -67,16 +68,33 @@ fn ticket_from<A: Allocator>(attempt: u32, stage: &Stage<A>, start: usize) -> Op
     None
 }
 
-/// The ticket of the first piece that did not come.
-pub fn first_missing<A: Allocator>(attempt: u32, stage: &Stage<A>) -> Option<Ticket>
+/// The ticket of the first piece that did not come: of this file from this piece on, or else of the
+/// files after it.
+pub fn missing_from<A: Allocator>(
+    attempt: u32,
+    stage: &Stage<A>,
+    file: u32,
+    piece: usize,
+) -> Option<Ticket>
     requires few { length stage.now.sizes < 2 ^ 32 }
     requires small { HasSmallFiles stage.now }
-    ensures first { (bytes : List ℕ)
-        → result ≡ first_ticket attempt 0 (piece_states bytes stage.now) }
-    ensures missing { IfSome result (λ ticket.
-        is_missing stage.now ticket.file ticket.piece ≡ true) }
+    ensures first { (bytes : List ℕ) → result
+        ≡ first_ticket_from attempt (piece_states bytes stage.now) file piece }
+    ensures missing { IfSome result (λ found.
+        is_missing stage.now found.file found.piece ≡ true) }
 {
-    ticket_from(attempt, stage, 0)
+    let place = file as usize;
+    if place >= stage.files() {
+        return None;
+    }
+    match piece_from(stage, file, piece) {
+        Some(piece) => Some(Ticket {
+            attempt,
+            file,
+            piece,
+        }),
+        None => ticket_from(attempt, stage, place + 1),
+    }
 }
 
 /// The ticket of the first piece after a ticket's that did not come.
@@ -88,18 +106,7 @@ pub fn next_missing<A: Allocator>(attempt: u32, stage: &Stage<A>, ticket: Ticket
     ensures missing { IfSome result (λ found.
         is_missing stage.now found.file found.piece ≡ true) }
 {
-    let place = ticket.file as usize;
-    if place >= stage.files() {
-        return None;
-    }
-    match piece_from(stage, ticket.file, ticket.piece as usize + 1) {
-        Some(piece) => Some(Ticket {
-            attempt,
-            file: ticket.file,
-            piece,
-        }),
-        None => ticket_from(attempt, stage, place + 1),
-    }
+    missing_from(attempt, stage, ticket.file, ticket.piece as usize + 1)
 }
 
 /// How many bytes a piece has that did not come.
@@ -131,21 +138,5 @@ pub fn request_of<A: Allocator>(
             len: missing_length(stage, ticket),
         }),
         None => None,
-    }
-}
-
-/// The ticket of the first piece that did not come, where one did not.
-pub fn missing_piece<A: Allocator>(attempt: u32, stage: &Stage<A>) -> Ticket
-    requires few { length stage.now.sizes < 2 ^ 32 }
-    requires small { HasSmallFiles stage.now }
-    requires lacks { LacksPiece stage.now }
-    ensures { (bytes : List ℕ) → first_ticket attempt 0 (piece_states bytes stage.now)
-        ≡ Some result }
-{
-    // For the proof: each file has its frames.
-    stage.are_staged();
-    match first_missing(attempt, stage) {
-        Some(ticket) => ticket,
-        None => unreachable!(),
     }
 }

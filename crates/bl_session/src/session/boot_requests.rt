@@ -6,7 +6,8 @@ ghost use Rattle.bl_session.specs.internal.SessionPhases.{IsPhaseKept, facts_of_
 ghost use Rattle.bl_session.specs.session.Requests.{first_request, request_after};
 ghost use Rattle.bl_session.specs.internal.RunParts.{AreSubmitted, first_awaited_ticket};
 
-use crate::attempt::missing_pieces::{first_missing, missing_piece, next_missing, request_of};
+use crate::attempt::cursor::{first_missing, missing_piece};
+use crate::attempt::missing_pieces::{next_missing, request_of};
 use crate::attempt::ticket::{Request, Ticket};
 use crate::session::phase::{Boot, Phase};
 use crate::store::Store;
@@ -45,7 +46,11 @@ impl<'a, A: Allocator + Copy> Boot<'a, A> {
                 // For the proof: there are few attempts and files, so the numbers fit.
                 self.menu.attempts();
                 let entry = self.menu.entry(waiting.entry);
-                let found = first_missing(waiting.earlier.len() as u32, &waiting.stage);
+                let found = first_missing(
+                    waiting.earlier.len() as u32,
+                    &waiting.stage,
+                    waiting.cursor,
+                );
                 request_of(entry, &waiting.stage, found)
             }
             Phase::Unstarted => None,
@@ -87,7 +92,7 @@ impl<'a, A: Allocator + Copy> Boot<'a, A> {
                 // For the proof: there are few attempts and files, so the numbers fit.
                 self.menu.attempts();
                 self.menu.entry(waiting.entry);
-                missing_piece(waiting.earlier.len() as u32, &waiting.stage)
+                missing_piece(waiting.earlier.len() as u32, &waiting.stage, waiting.cursor)
             }
             Phase::Unstarted | Phase::HandedOver(_) | Phase::Failed(_) => unreachable!(),
         }

@@ -1,20 +1,20 @@
-//! One event of an attempt that waits.
-ghost use Rattle.std.specs.Prelude.{◌≡◌, ◌≢◌, ◌==◌, ℕ, List, true, false, IfOk, OnErr, Ok, None};
-ghost use Rattle.std.specs.Prelude.{MatchBool, length};
+//! A session takes an event.
+ghost use Rattle.std.specs.Prelude.{◌≡◌, ◌≢◌, ◌==◌, ℕ, List, true, false, MatchBool, length};
 ghost use Rattle.bl_mem.specs.Memory.{HasRoom, KeepsSizeAndRoom};
-ghost use Rattle.bl_stage.specs.Ranges.{IsSameOutside};
 ghost use Rattle.bl_stage.specs.PieceStates.{piece_states};
-ghost use Rattle.bl_session.specs.session.BootSteps.{StepsTo, piece, fault, is_wanted, is_taken};
-ghost use Rattle.bl_session.specs.session.BootSteps.{ends_attempt};
+ghost use Rattle.bl_session.specs.session.BootSteps.{StepsToOrFails, piece, fault, is_wanted};
+ghost use Rattle.bl_session.specs.session.BootSteps.{is_taken, attempt_number};
+ghost use Rattle.bl_session.specs.session.BootSteps as boot_specs;
 ghost use Rattle.bl_session.specs.session.BootMemory.{IsMemoryAt};
-ghost use Rattle.bl_session.specs.session.Phases.{event_facts};
-ghost use Rattle.bl_session.specs.internal.SessionPhases.{facts_of_boot, running_in, state_in};
-ghost use Rattle.bl_session.specs.internal.SessionPhases.{phase_by};
+ghost use Rattle.bl_session.specs.session.Phases.{event_facts, phase_facts, is_waiting};
+ghost use Rattle.bl_session.specs.internal.SessionPhases.{facts_of_boot, state_in};
 ghost use Rattle.bl_session.specs.internal.SessionPhases.{IsPhaseKept, IsWaiting, LacksPiece};
+ghost use Rattle.bl_session.specs.internal.BootCalls.{HasPoolRoom, TakesEventOn};
 
 use crate::attempt::ticket::{Event, Ticket};
 use crate::session::falling_back::{refuse, settle};
-use crate::session::phase::{Boot, Phase, Running};
+use crate::session::outcome::{BootFault, Progress};
+use crate::session::phase::{Boot, Phase, Running, number_of, progress_of};
 use bl_load::Refusal;
 use bl_mem::PhysMem;
 use bl_stage::Put;
@@ -55,28 +55,9 @@ fn take_piece<M: PhysMem, A: Allocator + Copy>(
 ) -> Result<Option<Phase<A>>, AllocError>
     requires waiting { IsWaiting boot.now.machine.now boot.now.menu.now running.old }
     requires missing { LacksPiece running.old.stage }
-    requires size { length (M.bytes memory.old) ≡ boot.now.machine.now.size }
-    requires room { HasRoom (M.room memory.old)
-        boot.now.machine.now.pool.start boot.now.machine.now.pool.end }
-    ensures step { IfOk result (λ ended. StepsTo (facts_of_boot boot.now)
-        (running_in boot.now (M.bytes memory.old) running.old) (piece ticket bytes.now)
-        (state_in boot.now (M.bytes memory.new) (phase_by running.new ended))) }
-    ensures lacking { OnErr result (ends_attempt
-        (running_in boot.now (M.bytes memory.old) running.old) (piece ticket bytes.now)
-        ≡ true) }
-    ensures memory { IfOk result (λ ended. MatchBool
-        (is_taken (running_in boot.now (M.bytes memory.old) running.old)
-        (piece ticket bytes.now))
-        (IsMemoryAt boot.now.machine.now.pool
-        (state_in boot.now (M.bytes memory.new) (phase_by running.new ended))
-        (M.bytes memory.old) (M.bytes memory.new))
-        (M.bytes memory.new ≡ M.bytes memory.old)) }
-    ensures unchanged { is_taken (running_in boot.now (M.bytes memory.old) running.old)
-        (piece ticket bytes.now) ≡ false → (result ≡ Ok None) × (running.new ≡ running.old) }
-    ensures phase { IfOk result (λ ended.
-        IsPhaseKept boot.now.machine.now boot.now.menu.now (phase_by running.new ended)) }
-    ensures err { OnErr result
-        (IsSameOutside boot.now.machine.now.pool (M.bytes memory.old) (M.bytes memory.new)) }
+    requires memory { HasPoolRoom boot.now.machine.now (M.bytes memory.old) (M.room memory.old) }
+    ensures taken { TakesEventOn boot.now (piece ticket bytes.now) running.old running.new
+        (M.bytes memory.old) (M.bytes memory.new) result }
     ensures kept { KeepsSizeAndRoom M.lender M.bytes M.room memory.old memory.new }
 {
     if !is_of(running, ticket) {
@@ -100,26 +81,9 @@ fn take_fault<M: PhysMem, A: Allocator + Copy>(
 ) -> Result<Option<Phase<A>>, AllocError>
     requires waiting { IsWaiting boot.now.machine.now boot.now.menu.now running.old }
     requires missing { LacksPiece running.old.stage }
-    requires size { length (M.bytes memory.old) ≡ boot.now.machine.now.size }
-    requires room { HasRoom (M.room memory.old)
-        boot.now.machine.now.pool.start boot.now.machine.now.pool.end }
-    ensures step { IfOk result (λ ended. StepsTo (facts_of_boot boot.now)
-        (running_in boot.now (M.bytes memory.old) running.old) (fault ticket)
-        (state_in boot.now (M.bytes memory.new) (phase_by running.new ended))) }
-    ensures lacking { OnErr result (ends_attempt
-        (running_in boot.now (M.bytes memory.old) running.old) (fault ticket) ≡ true) }
-    ensures memory { IfOk result (λ ended. MatchBool
-        (is_taken (running_in boot.now (M.bytes memory.old) running.old) (fault ticket))
-        (IsMemoryAt boot.now.machine.now.pool
-        (state_in boot.now (M.bytes memory.new) (phase_by running.new ended))
-        (M.bytes memory.old) (M.bytes memory.new))
-        (M.bytes memory.new ≡ M.bytes memory.old)) }
-    ensures unchanged { is_taken (running_in boot.now (M.bytes memory.old) running.old)
-        (fault ticket) ≡ false → (result ≡ Ok None) × (running.new ≡ running.old) }
-    ensures phase { IfOk result (λ ended.
-        IsPhaseKept boot.now.machine.now boot.now.menu.now (phase_by running.new ended)) }
-    ensures err { OnErr result
-        (IsSameOutside boot.now.machine.now.pool (M.bytes memory.old) (M.bytes memory.new)) }
+    requires memory { HasPoolRoom boot.now.machine.now (M.bytes memory.old) (M.room memory.old) }
+    ensures taken { TakesEventOn boot.now (fault ticket) running.old running.new
+        (M.bytes memory.old) (M.bytes memory.new) result }
     ensures kept { KeepsSizeAndRoom M.lender M.bytes M.room memory.old memory.new }
 {
     if !awaits_fault(running, ticket) {
@@ -129,7 +93,7 @@ fn take_fault<M: PhysMem, A: Allocator + Copy>(
 }
 
 /// Takes an event: the attempt runs on, or it ended, and the phase after it is answered.
-pub fn take<M: PhysMem, A: Allocator + Copy>(
+fn take<M: PhysMem, A: Allocator + Copy>(
     boot: &Boot<A>,
     memory: &mut M,
     running: &mut Running<A>,
@@ -137,32 +101,57 @@ pub fn take<M: PhysMem, A: Allocator + Copy>(
 ) -> Result<Option<Phase<A>>, AllocError>
     requires waiting { IsWaiting boot.now.machine.now boot.now.menu.now running.old }
     requires missing { LacksPiece running.old.stage }
-    requires size { length (M.bytes memory.old) ≡ boot.now.machine.now.size }
-    requires room { HasRoom (M.room memory.old)
-        boot.now.machine.now.pool.start boot.now.machine.now.pool.end }
-    ensures step { IfOk result (λ ended. StepsTo (facts_of_boot boot.now)
-        (running_in boot.now (M.bytes memory.old) running.old) (event_facts event.entry)
-        (state_in boot.now (M.bytes memory.new) (phase_by running.new ended))) }
-    ensures lacking { OnErr result (ends_attempt
-        (running_in boot.now (M.bytes memory.old) running.old) (event_facts event.entry)
-        ≡ true) }
-    ensures memory { IfOk result (λ ended. MatchBool
-        (is_taken (running_in boot.now (M.bytes memory.old) running.old)
-        (event_facts event.entry))
-        (IsMemoryAt boot.now.machine.now.pool
-        (state_in boot.now (M.bytes memory.new) (phase_by running.new ended))
-        (M.bytes memory.old) (M.bytes memory.new))
-        (M.bytes memory.new ≡ M.bytes memory.old)) }
-    ensures unchanged { is_taken (running_in boot.now (M.bytes memory.old) running.old)
-        (event_facts event.entry) ≡ false → (result ≡ Ok None) × (running.new ≡ running.old) }
-    ensures phase { IfOk result (λ ended.
-        IsPhaseKept boot.now.machine.now boot.now.menu.now (phase_by running.new ended)) }
-    ensures err { OnErr result
-        (IsSameOutside boot.now.machine.now.pool (M.bytes memory.old) (M.bytes memory.new)) }
+    requires memory { HasPoolRoom boot.now.machine.now (M.bytes memory.old) (M.room memory.old) }
+    ensures taken { TakesEventOn boot.now (event_facts event.entry) running.old running.new
+        (M.bytes memory.old) (M.bytes memory.new) result }
     ensures kept { KeepsSizeAndRoom M.lender M.bytes M.room memory.old memory.new }
 {
     match event {
-        Event::Piece(ticket, bytes) => { take_piece(boot, memory, running, ticket, bytes) }
+        Event::Piece(ticket, bytes) => take_piece(boot, memory, running, ticket, bytes),
         Event::Fault(ticket) => take_fault(boot, memory, running, ticket),
     }
+}
+
+/// Takes an event. One that no attempt waits for changes nothing.
+pub fn advance<M: PhysMem, A: Allocator + Copy>(
+    boot: &Boot<A>,
+    memory: &mut M,
+    phase: &mut Phase<A>,
+    event: Event,
+) -> Progress
+    requires standing { IsPhaseKept boot.now.machine.now boot.now.menu.now phase.old }
+    requires size { length (M.bytes memory.old) ≡ boot.now.machine.now.size }
+    requires room { is_waiting (phase_facts boot.now.menu.now.attempts phase.old) ≡ true
+        → HasRoom (M.room memory.old)
+        boot.now.machine.now.pool.start boot.now.machine.now.pool.end }
+    ensures step { StepsToOrFails (facts_of_boot boot.now)
+        (state_in boot.now (M.bytes memory.old) phase.old) (event_facts event.entry)
+        (state_in boot.now (M.bytes memory.new) phase.new) }
+    ensures progress { result ≡ boot_specs.progress
+        (attempt_number (state_in boot.now (M.bytes memory.old) phase.old))
+        (state_in boot.now (M.bytes memory.new) phase.new) }
+    ensures memory { MatchBool
+        (is_taken (state_in boot.now (M.bytes memory.old) phase.old)
+        (event_facts event.entry))
+        (IsMemoryAt boot.now.machine.now.pool (state_in boot.now (M.bytes memory.new) phase.new)
+        (M.bytes memory.old) (M.bytes memory.new))
+        (M.bytes memory.new ≡ M.bytes memory.old) }
+    ensures unchanged { is_taken (state_in boot.now (M.bytes memory.old) phase.old)
+        (event_facts event.entry) ≡ false → phase.new ≡ phase.old }
+    ensures stands { IsPhaseKept boot.now.machine.now boot.now.menu.now phase.new }
+    ensures kept { KeepsSizeAndRoom M.lender M.bytes M.room memory.old memory.new }
+{
+    let attempt = number_of(phase);
+    let ended = match phase {
+        Phase::Waits(running) => take(boot, memory, running, event),
+        Phase::Unstarted => Ok(None),
+        Phase::HandedOver(_) => Ok(None),
+        Phase::Failed(_) => Ok(None),
+    };
+    match ended {
+        Ok(None) => {}
+        Ok(Some(next)) => *phase = next,
+        Err(_) => *phase = Phase::Failed(BootFault::NoMemory),
+    }
+    progress_of(boot.machine, boot.menu, attempt, phase)
 }

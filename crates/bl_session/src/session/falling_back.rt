@@ -1,14 +1,14 @@
 //! Attempts, one after the other.
-ghost use Rattle.std.specs.Prelude.{◌≡◌, ◌<◌, ◌≤◌, ◌++◌, ◌∷◌, [], true, IfOk, OnErr, length, drop};
-ghost use Rattle.bl_mem.specs.Memory.{HasRoom, KeepsSizeAndRoom};
-ghost use Rattle.bl_stage.specs.Ranges.{IsSameOutside};
+ghost use Rattle.std.specs.Prelude.{◌≡◌, ◌<◌, ◌≤◌, ◌++◌, ◌∷◌, [], true, OnErr, length, drop};
+ghost use Rattle.bl_mem.specs.Memory.{KeepsSizeAndRoom};
 ghost use Rattle.bl_stage.specs.PieceStates.{piece_states};
 ghost use Rattle.bl_session.specs.session.BootSteps.{Begins, Continues};
 ghost use Rattle.bl_session.specs.attempt.AwaitedPieces.{are_whole};
-ghost use Rattle.bl_session.specs.session.BootMemory.{IsMemoryAt};
-ghost use Rattle.bl_session.specs.internal.SessionPhases.{facts_of_boot, state_in, phase_by};
-ghost use Rattle.bl_session.specs.internal.SessionPhases.{IsPhaseKept, IsWaiting};
+ghost use Rattle.bl_session.specs.internal.SessionPhases.{facts_of_boot, phase_by};
+ghost use Rattle.bl_session.specs.internal.SessionPhases.{IsWaiting};
+ghost use Rattle.bl_session.specs.internal.BootCalls.{HasPoolRoom, LeadsToPhase};
 
+use crate::attempt::cursor::{Cursor, advanced};
 use crate::attempt::{Attempt, AttemptEnd, begin_attempt, end_attempt};
 use crate::session::outcome::{BootFault, Outcome};
 use crate::session::phase::{Boot, Phase, Running};
@@ -27,18 +27,10 @@ pub fn begin<M: PhysMem, A: Allocator + Copy>(
     earlier: Vec<RefusedEntry, A>,
 ) -> Result<Phase<A>, AllocError>
     requires number { length earlier.items ≤ next }
-    requires size { length (M.bytes memory.old) ≡ boot.now.machine.now.size }
-    requires room { HasRoom (M.room memory.old)
-        boot.now.machine.now.pool.start boot.now.machine.now.pool.end }
-    ensures begun { IfOk result (λ phase. Begins (facts_of_boot boot.now)
-        (drop next boot.now.menu.now.attempts) earlier.items
-        (state_in boot.now (M.bytes memory.new) phase)) }
-    ensures memory { IfOk result (λ phase. IsMemoryAt boot.now.machine.now.pool
-        (state_in boot.now (M.bytes memory.new) phase)
-        (M.bytes memory.old) (M.bytes memory.new)) }
-    ensures phase { IfOk result (IsPhaseKept boot.now.machine.now boot.now.menu.now) }
-    ensures err { OnErr result
-        (IsSameOutside boot.now.machine.now.pool (M.bytes memory.old) (M.bytes memory.new)) }
+    requires memory { HasPoolRoom boot.now.machine.now (M.bytes memory.old) (M.room memory.old) }
+    ensures phase { LeadsToPhase boot.now (Begins (facts_of_boot boot.now)
+        (drop next boot.now.menu.now.attempts) earlier.items) (λ phase. phase)
+        (M.bytes memory.old) (M.bytes memory.new) result }
     ensures kept { KeepsSizeAndRoom M.lender M.bytes M.room memory.old memory.new }
 {
     let mut number = next;
@@ -59,6 +51,7 @@ pub fn begin<M: PhysMem, A: Allocator + Copy>(
                     next: number,
                     earlier: refused,
                     stage,
+                    cursor: Cursor { file: 0, piece: 0 },
                 }));
             }
             Attempt::Ended(AttemptEnd::HandedOver(handoff)) => {
@@ -87,21 +80,11 @@ pub fn refuse<M: PhysMem, A: Allocator + Copy>(
     refusal: Refusal,
 ) -> Result<Option<Phase<A>>, AllocError>
     requires number { length running.old.earlier.items < running.old.next }
-    requires size { length (M.bytes memory.old) ≡ boot.now.machine.now.size }
-    requires room { HasRoom (M.room memory.old)
-        boot.now.machine.now.pool.start boot.now.machine.now.pool.end }
-    ensures begun { IfOk result (λ ended. Begins (facts_of_boot boot.now)
-        (drop running.old.next boot.now.menu.now.attempts)
-        (running.old.earlier.items
-        ++ record { entry = running.old.entry; refusal = refusal } ∷ [])
-        (state_in boot.now (M.bytes memory.new) (phase_by running.new ended))) }
-    ensures memory { IfOk result (λ ended. IsMemoryAt boot.now.machine.now.pool
-        (state_in boot.now (M.bytes memory.new) (phase_by running.new ended))
-        (M.bytes memory.old) (M.bytes memory.new)) }
-    ensures phase { IfOk result (λ ended.
-        IsPhaseKept boot.now.machine.now boot.now.menu.now (phase_by running.new ended)) }
-    ensures err { OnErr result
-        (IsSameOutside boot.now.machine.now.pool (M.bytes memory.old) (M.bytes memory.new)) }
+    requires memory { HasPoolRoom boot.now.machine.now (M.bytes memory.old) (M.room memory.old) }
+    ensures phase { LeadsToPhase boot.now (Begins (facts_of_boot boot.now)
+        (drop running.old.next boot.now.menu.now.attempts) (running.old.earlier.items
+        ++ record { entry = running.old.entry; refusal = refusal } ∷ []))
+        (phase_by running.new) (M.bytes memory.old) (M.bytes memory.new) result }
     ensures kept { KeepsSizeAndRoom M.lender M.bytes M.room memory.old memory.new }
 {
     let mut refused = mem::replace(&mut running.earlier, Vec::new(boot.alloc));
@@ -120,22 +103,12 @@ pub fn settle<M: PhysMem, A: Allocator + Copy>(
     running: &mut Running<A>,
 ) -> Result<Option<Phase<A>>, AllocError>
     requires waiting { IsWaiting boot.now.machine.now boot.now.menu.now running.old }
-    requires size { length (M.bytes memory.old) ≡ boot.now.machine.now.size }
-    requires room { HasRoom (M.room memory.old)
-        boot.now.machine.now.pool.start boot.now.machine.now.pool.end }
-    ensures continues { IfOk result (λ ended. Continues (facts_of_boot boot.now)
-        (Begins (facts_of_boot boot.now)
-        (drop running.old.next boot.now.menu.now.attempts))
+    requires memory { HasPoolRoom boot.now.machine.now (M.bytes memory.old) (M.room memory.old) }
+    ensures phase { LeadsToPhase boot.now (Continues (facts_of_boot boot.now)
+        (Begins (facts_of_boot boot.now) (drop running.old.next boot.now.menu.now.attempts))
         running.old.entry (drop running.old.next boot.now.menu.now.attempts)
-        running.old.earlier.items (piece_states (M.bytes memory.old) running.old.stage)
-        (state_in boot.now (M.bytes memory.new) (phase_by running.new ended))) }
-    ensures memory { IfOk result (λ ended. IsMemoryAt boot.now.machine.now.pool
-        (state_in boot.now (M.bytes memory.new) (phase_by running.new ended))
-        (M.bytes memory.old) (M.bytes memory.new)) }
-    ensures phase { IfOk result (λ ended.
-        IsPhaseKept boot.now.machine.now boot.now.menu.now (phase_by running.new ended)) }
-    ensures err { OnErr result
-        (IsSameOutside boot.now.machine.now.pool (M.bytes memory.old) (M.bytes memory.new)) }
+        running.old.earlier.items (piece_states (M.bytes memory.old) running.old.stage))
+        (phase_by running.new) (M.bytes memory.old) (M.bytes memory.new) result }
     ensures whole { OnErr result
         (are_whole (piece_states (M.bytes memory.old) running.old.stage) ≡ true) }
     ensures kept { KeepsSizeAndRoom M.lender M.bytes M.room memory.old memory.new }
@@ -148,7 +121,10 @@ pub fn settle<M: PhysMem, A: Allocator + Copy>(
         boot.menu.entry(entry),
         &mut running.stage,
     )? {
-        None => Ok(None),
+        None => {
+            running.cursor = advanced(&running.stage, running.cursor);
+            Ok(None)
+        }
         Some(AttemptEnd::HandedOver(handoff)) => Ok(Some(Phase::HandedOver(Outcome {
             entry,
             refused: mem::replace(&mut running.earlier, Vec::new(boot.alloc)),

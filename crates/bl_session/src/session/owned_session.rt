@@ -13,8 +13,8 @@ ghost use Rattle.bl_session.specs.runs.Run.{final_phase};
 
 use crate::attempt::ticket::{Event, Request, Ticket};
 use crate::menu::Menu;
-use crate::session::advancing::advance;
 use crate::session::boot_end::{boot_end, into_boot_end};
+use crate::session::event_taking::advance;
 use crate::session::outcome::{BootFault, Outcome, Progress};
 use crate::session::phase::{Boot, Phase, awaits_pieces};
 use crate::session::starting::begin_first;

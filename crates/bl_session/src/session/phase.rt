@@ -5,6 +5,7 @@ ghost use Rattle.bl_session.specs.session.BootSteps as boot;
 ghost use Rattle.bl_session.specs.session.Phases.{phase_facts, is_waiting};
 ghost use Rattle.bl_session.specs.internal.SessionPhases.{state_of, IsPhaseKept};
 
+use crate::attempt::cursor::Cursor;
 use crate::menu::Menu;
 use crate::session::outcome::{BootFault, Outcome, Progress};
 use bl_load::RefusedEntry;
@@ -23,13 +24,14 @@ pub struct Boot<'a, A: Allocator + Copy> {
 }
 
 /// An attempt that waits for pieces: its entry, the number of the next attempt, the refusals so
-/// far, its files.
+/// far, its files, and a cursor over their pieces.
 #[derive(Drop)]
 pub struct Running<A: Allocator> {
     pub entry: u32,
     pub next: usize,
     pub earlier: Vec<RefusedEntry, A>,
     pub stage: Stage<A>,
+    pub cursor: Cursor,
 }
 
 /// Where a session stands.

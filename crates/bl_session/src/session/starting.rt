@@ -1,8 +1,7 @@
 //! A session starts: its first attempt begins.
-ghost use Rattle.std.specs.Prelude.{◌≡◌, ◌≢◌, [], true, IfOk, OnErr, OnOk};
+ghost use Rattle.std.specs.Prelude.{◌≡◌, ◌≢◌, [], true, OnOk};
 ghost use Rattle.std.specs.Prelude.{length};
 ghost use Rattle.bl_mem.specs.Memory.{HasRoom, KeepsSizeAndRoom};
-ghost use Rattle.bl_stage.specs.Ranges.{IsSameOutside};
 ghost use Rattle.bl_session.specs.session.BootSteps.{attempt_number, Begins};
 ghost use Rattle.bl_session.specs.session.BootSteps.{StartsOrFails};
 ghost use Rattle.bl_session.specs.session.BootSteps as boot_specs;
@@ -10,6 +9,7 @@ ghost use Rattle.bl_session.specs.session.BootMemory.{IsMemoryAt};
 ghost use Rattle.bl_session.specs.session.Phases.{phase_facts};
 ghost use Rattle.bl_session.specs.session.Phases.{is_waiting, not_started};
 ghost use Rattle.bl_session.specs.internal.SessionPhases.{facts_of_boot, state_in, IsPhaseKept};
+ghost use Rattle.bl_session.specs.internal.BootCalls.{LeadsToPhase};
 
 use crate::session::falling_back::begin;
 use crate::session::outcome::{BootFault, Progress};
@@ -43,14 +43,9 @@ fn reserve_and_begin<M: PhysMem, A: Allocator + Copy>(
     memory: &mut M,
 ) -> Result<Phase<A>, AllocError>
     requires { length (M.bytes memory.old) ≡ boot.now.machine.now.size }
-    ensures begun { IfOk result (λ phase. Begins (facts_of_boot boot.now)
-        boot.now.menu.now.attempts [] (state_in boot.now (M.bytes memory.new) phase)) }
-    ensures memory { IfOk result (λ phase. IsMemoryAt boot.now.machine.now.pool
-        (state_in boot.now (M.bytes memory.new) phase)
-        (M.bytes memory.old) (M.bytes memory.new)) }
-    ensures phase { IfOk result (IsPhaseKept boot.now.machine.now boot.now.menu.now) }
-    ensures err { OnErr result
-        (IsSameOutside boot.now.machine.now.pool (M.bytes memory.old) (M.bytes memory.new)) }
+    ensures phase { LeadsToPhase boot.now (Begins (facts_of_boot boot.now)
+        boot.now.menu.now.attempts []) (λ phase. phase)
+        (M.bytes memory.old) (M.bytes memory.new) result }
     ensures room { OnOk result
         (HasRoom (M.room memory.new)
         boot.now.machine.now.pool.start boot.now.machine.now.pool.end) }

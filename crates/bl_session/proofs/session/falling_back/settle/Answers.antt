@@ -1,76 +1,157 @@
-use Rattle.std.proofs.Common.{◌≡◌, List, Some, drop, ap, refl, rules, subst}
+use Rattle.std.proofs.Common.{◌≡◌, ◌∙◌, List, Some, arith, drop, length, ap, refl, rules, subst, sym}
 use Rattle.bl_load.specs.declared.refused_entry.RefusedEntry.{RefusedEntry}
-use Rattle.bl_session.specs.menu.Menu.{facts_of}
+use Rattle.bl_session.specs.menu.Menu.{EntryFacts, facts_of}
 use Rattle.bl_session.specs.session.BootSteps.{unstarted, handed_over, Begins, Continues}
+use Rattle.bl_session.specs.internal.AttemptStates.{IsMemoryAfterAttempt, KeepsAttempt}
 use Rattle.bl_session.specs.internal.AttemptStates.{attempt_with}
 use Rattle.bl_stage.specs.PieceStates.{piece_states}
-use Rattle.bl_session.specs.internal.SessionPhases.{facts_of_boot, state_of, phase_by}
+use Rattle.bl_stage.specs.Staged.{Staging}
+use Rattle.bl_session.specs.declared.attempt.Attempt.{Attempt}
+use Rattle.bl_session.specs.internal.SessionPhases.{HasSmallFiles, facts_of_boot, state_of, phase_by}
 use Rattle.bl_session.specs.declared.attempt.Attempt.TheVariants.{Waits, Ended}
 use Rattle.bl_session.specs.declared.attempt.AttemptEnd.TheVariants.{HandedOver, Refused}
 use Rattle.bl_session.specs.session.Phases.{handover_held}
 use Rattle.bl_session.proofs.session_lemmas.AdvanceLemmas.{continues, continues_later}
 use Rattle.bl_session.proofs.session_lemmas.AdvanceLemmas.{attempt_of_entry}
 use Rattle.bl_session.proofs.session_lemmas.KeptMemoryLemmas.{memory_later}
+use Rattle.bl_session.proofs.session_lemmas.StepLemmas.{outside_taken}
+use Rattle.bl_session.proofs.session_lemmas.BootCallLemmas.{lacks_memory}
+use Rattle.bl_session.proofs.menu_lemmas.MenuLemmas.{few_files}
 use Rattle.bl_session.proofs.session.falling_back.settle.Goals as goal
 
-pub returns-in-None-clause-continues : goal.returns-in-None-clause-continues
-returns-in-None-clause-continues g c =
-    let w = c.args.running.now in
-    let facts = facts_of_boot c.args.boot.now in
-    let rest = drop w.next facts.menu.attempts in
-    let files = piece_states (g.M.PhysMem.bytes c.args.memory.now) w.stage in
-    let bytes = g.M.PhysMem.bytes c.end_attempt.new.memory in
-    let stage = c.end_attempt.new.stage in
-    continues {A = g.row.A.Denot} facts (Begins facts rest) w.entry rest w.earlier.items files bytes
-    unstarted (Waits stage)
-    (attempt_of_entry facts.machine facts.menu w.entry (facts_of c.entry.result.now) files bytes
-    (attempt_with stage c.in_ok-end_attempt.field-0) (Waits stage) c.entry.ensures.entry
-    c.in_ok-end_attempt.ensures.attempt (ap (attempt_with stage) c.in-None.is)) tt
+pub advanced-running-requires-clause-few : goal.advanced-running-requires-clause-few
+advanced-running-requires-clause-few g c =
+    let same = c.in_ok-end_attempt.ensures.same c.in-None.is in
+    let few = few_files c.entry.result.now c.entry.ensures.limits in
+    let files = c.requires.waiting.files in
+    let entry = ap (λ (e : EntryFacts). length e.files) c.entry.ensures.entry in
+    rw same (omega (arith, few, files, entry))
 
-pub returns-in-Some-HandedOver-clause-continues : goal.returns-in-Some-HandedOver-clause-continues
-returns-in-Some-HandedOver-clause-continues g c =
-    let w = c.args.running.now in
-    let facts = facts_of_boot c.args.boot.now in
-    let rest = drop w.next facts.menu.attempts in
-    let files = piece_states (g.M.PhysMem.bytes c.args.memory.now) w.stage in
-    let bytes = g.M.PhysMem.bytes c.end_attempt.new.memory in
-    let stage = c.end_attempt.new.stage in
-    let end = HandedOver c.in-Some-HandedOver.handoff in
-    let one = Ended end in
-    let is : c.in_ok-end_attempt.field-0 ≡ Some end = cc in
-    let same : w.earlier.items ≡ c.replace.result.items = search rules in
-    subst
-    (λ (earlier : List RefusedEntry).
-    Continues facts (Begins facts rest) w.entry rest w.earlier.items files
-    (handed_over w.entry earlier (handover_held bytes c.in-Some-HandedOver.handoff))) same
-    (continues facts (Begins facts rest) w.entry rest w.earlier.items files bytes unstarted one
-    (attempt_of_entry facts.machine facts.menu w.entry (facts_of c.entry.result.now) files bytes
-    (attempt_with stage c.in_ok-end_attempt.field-0) one c.entry.ensures.entry
-    c.in_ok-end_attempt.ensures.attempt (ap (attempt_with stage) is)) tt)
+pub advanced-running-requires-clause-small : goal.advanced-running-requires-clause-small
+advanced-running-requires-clause-small g c =
+    rw (c.in_ok-end_attempt.ensures.same c.in-None.is) c.requires.waiting.small
 
-pub returns-in-Some-Refused-clause-continues : goal.returns-in-Some-Refused-clause-continues
-returns-in-Some-Refused-clause-continues g c =
-    let w = c.args.running.now in
-    let facts = facts_of_boot c.args.boot.now in
-    let rest = drop w.next facts.menu.attempts in
-    let files = piece_states (g.M.PhysMem.bytes c.args.memory.now) w.stage in
-    let mid = g.M.PhysMem.bytes c.end_attempt.new.memory in
-    let new = g.M.PhysMem.bytes c.refuse.new.memory in
-    let one = attempt_with c.end_attempt.new.stage c.in_ok-end_attempt.field-0 in
-    let is : c.in_ok-end_attempt.field-0 ≡ Some (Refused c.in-Some-Refused.refusal) = cc in
-    continues_later facts (Begins facts rest) w.entry rest w.earlier.items files mid one
-    c.in-Some-Refused.refusal c.refuse.result
-    (λ ended. state_of facts.menu.attempts new (phase_by c.refuse.new.running ended))
-    (attempt_of_entry facts.machine facts.menu w.entry (facts_of c.entry.result.now) files mid
-    one one c.entry.ensures.entry c.in_ok-end_attempt.ensures.attempt refl)
-    (ap (attempt_with c.end_attempt.new.stage) is) c.refuse.ensures.begun
+pub advanced-running-requires-clause-below : goal.advanced-running-requires-clause-below
+advanced-running-requires-clause-below g c =
+    rw (c.in_ok-end_attempt.ensures.same c.in-None.is) c.requires.waiting.below
 
-pub returns-in-Some-Refused-clause-memory : goal.returns-in-Some-Refused-clause-memory
-returns-in-Some-Refused-clause-memory g c =
-    let facts = facts_of_boot c.args.boot.now in
-    let old = g.M.PhysMem.bytes c.args.memory.now in
-    let mid = g.M.PhysMem.bytes c.end_attempt.new.memory in
-    let new = g.M.PhysMem.bytes c.refuse.new.memory in
-    memory_later facts.machine.pool old mid new c.refuse.result
-    (λ ended. state_of facts.menu.attempts new (phase_by c.refuse.new.running ended))
-    (search rules) c.refuse.ensures.memory
+pub returns-in-None-clause-phase : goal.returns-in-None-clause-phase
+returns-in-None-clause-phase g c = record {
+  state = (let w = c.args.running.now in
+      let facts = facts_of_boot c.args.boot.now in
+      let rest = drop w.next facts.menu.attempts in
+      let files = piece_states (g.M.PhysMem.bytes c.args.memory.now) w.stage in
+      let bytes = g.M.PhysMem.bytes c.end_attempt.new.memory in
+      let stage = c.end_attempt.new.stage in
+      continues {A = g.row.A.Denot} facts (Begins facts rest) w.entry rest w.earlier.items files bytes
+      unstarted (Waits stage)
+      (attempt_of_entry facts.machine facts.menu w.entry (facts_of c.entry.result.now) files bytes
+      (attempt_with stage c.in_ok-end_attempt.field-0) (Waits stage) c.entry.ensures.entry
+      c.in_ok-end_attempt.ensures.attempt (ap (attempt_with stage) c.in-None.is)) tt);
+  memory = (subst (λ (x : Attempt g.row.A.Denot). IsMemoryAfterAttempt c.args.boot.now.machine.now.pool
+      (g.M.PhysMem.bytes c.args.memory.now) (g.M.PhysMem.bytes c.end_attempt.new.memory) x)
+      (ap (attempt_with c.end_attempt.new.stage) c.in-None.is) c.in_ok-end_attempt.ensures.memory);
+  stands = (let machine = c.args.boot.now.machine.now in
+      let waiting = c.requires.waiting in
+      let stage = c.end_attempt.new.stage in
+      let same = c.in_ok-end_attempt.ensures.same c.in-None.is in
+      let keeps =
+      subst
+      (λ (x : Attempt g.row.A.Denot).
+      KeepsAttempt machine (length (facts_of c.entry.result.now).files) x)
+      (ap (attempt_with stage) c.in-None.is) c.in_ok-end_attempt.ensures.keeps in (
+        record {
+          entry = waiting.entry;
+          pool = ap (λ (s : Staging). s.pool) same ∙ waiting.pool;
+          files = ap (λ (s : Staging). length s.sizes) same ∙ waiting.files;
+          small = subst (λ (s : Staging). HasSmallFiles s) (sym same) waiting.small;
+          below = c.advanced-running.ensures;
+          number = waiting.number;
+          next = waiting.next;
+        },
+        keeps.3,
+      ));
+  err = (tt);
+}
+
+pub returns-in-Some-HandedOver-clause-phase : goal.returns-in-Some-HandedOver-clause-phase
+returns-in-Some-HandedOver-clause-phase g c = record {
+  state = (let w = c.args.running.now in
+      let facts = facts_of_boot c.args.boot.now in
+      let rest = drop w.next facts.menu.attempts in
+      let files = piece_states (g.M.PhysMem.bytes c.args.memory.now) w.stage in
+      let bytes = g.M.PhysMem.bytes c.end_attempt.new.memory in
+      let stage = c.end_attempt.new.stage in
+      let end = HandedOver c.in-Some-HandedOver.handoff in
+      let one = Ended end in
+      let is : c.in_ok-end_attempt.field-0 ≡ Some end = cc in
+      let same : w.earlier.items ≡ c.replace.result.items = search rules in
+      subst
+      (λ (earlier : List RefusedEntry).
+      Continues facts (Begins facts rest) w.entry rest w.earlier.items files
+      (handed_over w.entry earlier (handover_held bytes c.in-Some-HandedOver.handoff))) same
+      (continues facts (Begins facts rest) w.entry rest w.earlier.items files bytes unstarted one
+      (attempt_of_entry facts.machine facts.menu w.entry (facts_of c.entry.result.now) files bytes
+      (attempt_with stage c.in_ok-end_attempt.field-0) one c.entry.ensures.entry
+      c.in_ok-end_attempt.ensures.attempt (ap (attempt_with stage) is)) tt));
+  memory = (let is : c.in_ok-end_attempt.field-0 ≡ Some (HandedOver c.in-Some-HandedOver.handoff) = cc in
+      subst (λ (x : Attempt g.row.A.Denot). IsMemoryAfterAttempt c.args.boot.now.machine.now.pool
+      (g.M.PhysMem.bytes c.args.memory.now) (g.M.PhysMem.bytes c.end_attempt.new.memory) x)
+      (ap (attempt_with c.end_attempt.new.stage) is) c.in_ok-end_attempt.ensures.memory);
+  stands = (let is : c.in_ok-end_attempt.field-0 ≡ Some (HandedOver c.in-Some-HandedOver.handoff) = cc in
+      subst (λ (x : Attempt g.row.A.Denot). KeepsAttempt c.args.boot.now.machine.now
+      (length (facts_of c.entry.result.now).files) x)
+      (ap (attempt_with c.end_attempt.new.stage) is) c.in_ok-end_attempt.ensures.keeps);
+  err = (tt);
+}
+
+pub returns-in-Some-Refused-clause-phase : goal.returns-in-Some-Refused-clause-phase
+returns-in-Some-Refused-clause-phase g c = record {
+  state = (let w = c.args.running.now in
+      let facts = facts_of_boot c.args.boot.now in
+      let rest = drop w.next facts.menu.attempts in
+      let files = piece_states (g.M.PhysMem.bytes c.args.memory.now) w.stage in
+      let mid = g.M.PhysMem.bytes c.end_attempt.new.memory in
+      let new = g.M.PhysMem.bytes c.refuse.new.memory in
+      let one = attempt_with c.end_attempt.new.stage c.in_ok-end_attempt.field-0 in
+      let is : c.in_ok-end_attempt.field-0 ≡ Some (Refused c.in-Some-Refused.refusal) = cc in
+      continues_later facts (Begins facts rest) w.entry rest w.earlier.items files mid one
+      c.in-Some-Refused.refusal c.refuse.result
+      (λ ended. state_of facts.menu.attempts new (phase_by c.refuse.new.running ended))
+      (attempt_of_entry facts.machine facts.menu w.entry (facts_of c.entry.result.now) files mid
+      one one c.entry.ensures.entry c.in_ok-end_attempt.ensures.attempt refl)
+      (ap (attempt_with c.end_attempt.new.stage) is) c.refuse.ensures.phase.state);
+  memory = (let is : c.in_ok-end_attempt.field-0 ≡ Some (Refused c.in-Some-Refused.refusal) = cc in
+      memory_later c.args.boot.now.machine.now.pool (g.M.PhysMem.bytes c.args.memory.now)
+      (g.M.PhysMem.bytes c.end_attempt.new.memory) (g.M.PhysMem.bytes c.refuse.new.memory)
+      c.refuse.result
+      (λ ended. state_of (facts_of_boot c.args.boot.now).menu.attempts
+      (g.M.PhysMem.bytes c.refuse.new.memory) (phase_by c.refuse.new.running ended))
+      (subst (λ (x : Attempt g.row.A.Denot). IsMemoryAfterAttempt c.args.boot.now.machine.now.pool
+      (g.M.PhysMem.bytes c.args.memory.now) (g.M.PhysMem.bytes c.end_attempt.new.memory) x)
+      (ap (attempt_with c.end_attempt.new.stage) is) c.in_ok-end_attempt.ensures.memory) c.refuse.ensures.phase.memory);
+  stands = (c.refuse.ensures.phase.stands);
+  err = (let is : c.in_ok-end_attempt.field-0 ≡ Some (Refused c.in-Some-Refused.refusal) = cc in
+      outside_taken c.args.boot.now.machine.now.pool (g.M.PhysMem.bytes c.args.memory.now)
+      (g.M.PhysMem.bytes c.end_attempt.new.memory) (g.M.PhysMem.bytes c.refuse.new.memory)
+      c.refuse.result (subst (λ (x : Attempt g.row.A.Denot). IsMemoryAfterAttempt c.args.boot.now.machine.now.pool
+      (g.M.PhysMem.bytes c.args.memory.now) (g.M.PhysMem.bytes c.end_attempt.new.memory) x)
+      (ap (attempt_with c.end_attempt.new.stage) is) c.in_ok-end_attempt.ensures.memory) c.refuse.ensures.phase.err);
+}
+
+pub returns-in_err-end_attempt-clause-phase : goal.returns-in_err-end_attempt-clause-phase
+returns-in_err-end_attempt-clause-phase g c =
+    lacks_memory _ _ _ _ _ _ c.from_residual.result c.from_residual.ensures.1
+    c.in_err-end_attempt.ensures.err
+
+pub end_attempt-requires-clause-size : goal.end_attempt-requires-clause-size
+end_attempt-requires-clause-size g c = c.requires.memory.size
+
+pub end_attempt-requires-clause-room : goal.end_attempt-requires-clause-room
+end_attempt-requires-clause-room g c = c.requires.memory.room
+
+pub refuse-requires-clause-memory : goal.refuse-requires-clause-memory
+refuse-requires-clause-memory g c = record {
+  size = c.end_attempt.ensures.kept.size ∙ c.requires.memory.size;
+  room = λ a from to. c.end_attempt.ensures.kept.room a (c.requires.memory.room a from to);
+}

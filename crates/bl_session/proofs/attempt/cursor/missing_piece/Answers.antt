@@ -2,7 +2,7 @@ use Rattle.std.proofs.Common.{[], sym, ◌∙◌}
 use Rattle.bl_stage.specs.PieceStates.{piece_states}
 use Rattle.bl_session.proofs.attempt_lemmas.WholeLemmas.{whole_came}
 use Rattle.bl_session.proofs.attempt_lemmas.MissingLemmas.{none_missing}
-use Rattle.bl_session.proofs.attempt.missing_pieces.missing_piece.Goals as goal
+use Rattle.bl_session.proofs.attempt.cursor.missing_piece.Goals as goal
 
 pub unreachable-requires : goal.unreachable-requires
 unreachable-requires g c =

@@ -1,0 +1,65 @@
+//! A cursor over the pieces of an attempt: nothing looks for a missing one from the first on.
+ghost use Rattle.std.specs.Prelude.{◌≡◌, ◌<◌, ◌^◌, ℕ, List, IfSome, Some, length, true};
+ghost use Rattle.bl_stage.specs.Pieces.{is_missing};
+ghost use Rattle.bl_stage.specs.PieceStates.{piece_states};
+ghost use Rattle.bl_session.specs.attempt.Tickets.{first_ticket};
+ghost use Rattle.bl_session.specs.internal.SessionPhases.{HasSmallFiles, LacksPiece};
+ghost use Rattle.bl_session.specs.internal.Cursors.{NoneMissingBelow};
+
+use crate::attempt::missing_pieces::missing_from;
+use crate::attempt::ticket::Ticket;
+use bl_stage::Stage;
+use std::alloc::Allocator;
+
+/// A place among the pieces of an attempt, below which none is missing.
+#[derive(Clone, Copy)]
+pub struct Cursor {
+    pub file: u32,
+    pub piece: u32,
+}
+
+/// The ticket of the first piece that did not come.
+pub fn first_missing<A: Allocator>(attempt: u32, stage: &Stage<A>, cursor: Cursor) -> Option<Ticket>
+    requires few { length stage.now.sizes < 2 ^ 32 }
+    requires small { HasSmallFiles stage.now }
+    requires below { NoneMissingBelow stage.now cursor.file cursor.piece }
+    ensures first { (bytes : List ℕ)
+        → result ≡ first_ticket attempt 0 (piece_states bytes stage.now) }
+    ensures missing { IfSome result (λ ticket.
+        is_missing stage.now ticket.file ticket.piece ≡ true) }
+{
+    missing_from(attempt, stage, cursor.file, cursor.piece as usize)
+}
+
+/// The cursor once more pieces came: at the first one that did not, or where it was if each came.
+pub fn advanced<A: Allocator>(stage: &Stage<A>, cursor: Cursor) -> Cursor
+    requires few { length stage.now.sizes < 2 ^ 32 }
+    requires small { HasSmallFiles stage.now }
+    requires below { NoneMissingBelow stage.now cursor.file cursor.piece }
+    ensures { NoneMissingBelow stage.now result.file result.piece }
+{
+    match first_missing(0, stage, cursor) {
+        Some(found) => Cursor {
+            file: found.file,
+            piece: found.piece,
+        },
+        None => cursor,
+    }
+}
+
+/// The ticket of the first piece that did not come, where one did not.
+pub fn missing_piece<A: Allocator>(attempt: u32, stage: &Stage<A>, cursor: Cursor) -> Ticket
+    requires few { length stage.now.sizes < 2 ^ 32 }
+    requires small { HasSmallFiles stage.now }
+    requires below { NoneMissingBelow stage.now cursor.file cursor.piece }
+    requires lacks { LacksPiece stage.now }
+    ensures { (bytes : List ℕ) → first_ticket attempt 0 (piece_states bytes stage.now)
+        ≡ Some result }
+{
+    // For the proof: each file has its frames.
+    stage.are_staged();
+    match first_missing(attempt, stage, cursor) {
+        Some(ticket) => ticket,
+        None => unreachable!(),
+    }
+}
