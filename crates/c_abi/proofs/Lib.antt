@@ -10,3 +10,4 @@ mod PrepareLaws
 mod SizeLemmas
 mod SeenLemmas
 mod TextLaws
+mod ProtocolLemmas

@@ -12,3 +12,4 @@ pub mod Sessions
 pub mod SeenTold
 pub mod Walk
 pub mod WalkTold
+pub mod internal

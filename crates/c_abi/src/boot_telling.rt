@@ -5,6 +5,7 @@ ghost use Rattle.c_abi.specs.Boot.{typed_end};
 ghost use Rattle.c_abi.specs.BootTold as spec;
 ghost use Rattle.c_abi.specs.Load.{load_fault_of_given};
 ghost use Rattle.c_abi.specs.Status.{fault_status};
+ghost use Rattle.c_abi.specs.internal.Tellings.{telling};
 ghost use Rattle.c_abi.specs.declared.end_records.HandoffRecord.{HandoffRecord};
 ghost use Rattle.c_abi.specs.declared.end_records.PlaceRecord.{PlaceRecord};
 
@@ -45,18 +46,8 @@ pub(crate) fn tell_outcome<A: Allocator>(
 ) -> u32
     requires { 256 ≤ length places.old }
     ensures { spec.TellsBoot (Ok (outcome_facts outcome.now)) result
-        (record {
-          handoff = told.old;
-          places = places.old;
-          refusals = refusals.old;
-          count = count.old;
-        })
-        (record {
-          handoff = told.new;
-          places = places.new;
-          refusals = refusals.new;
-          count = count.new;
-        }) }
+        (telling told.old places.old refusals.old count.old)
+        (telling told.new places.new refusals.new count.new) }
 {
     // For the proof: there is room for each place.
     outcome.handoff.len();
@@ -75,18 +66,8 @@ pub(crate) fn tell_boot_fault<A: Allocator>(
 ) -> u32
     ensures { (handoff : HandoffRecord) → (places : List PlaceRecord)
         → spec.TellsBoot (Ok (fault_facts fault.now)) result
-        (record {
-          handoff = handoff;
-          places = places;
-          refusals = refusals.old;
-          count = count.old;
-        })
-        (record {
-          handoff = handoff;
-          places = places;
-          refusals = refusals.new;
-          count = count.new;
-        }) }
+        (telling handoff places refusals.old count.old)
+        (telling handoff places refusals.new count.new) }
 {
     match fault {
         BootFault::NoEntryLeft(refused) => {
@@ -108,18 +89,8 @@ pub(crate) fn tell_boot<A: Allocator>(
 ) -> u32
     requires { OnOk end (256 ≤ length places.old) }
     ensures { spec.TellsBoot (typed_end end) result
-        (record {
-          handoff = told.old;
-          places = places.old;
-          refusals = refusals.old;
-          count = count.old;
-        })
-        (record {
-          handoff = told.new;
-          places = places.new;
-          refusals = refusals.new;
-          count = count.new;
-        }) }
+        (telling told.old places.old refusals.old count.old)
+        (telling told.new places.new refusals.new count.new) }
 {
     match end {
         Ok(Ok(outcome)) => tell_outcome(&outcome, told, places, refusals, count),

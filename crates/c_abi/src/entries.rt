@@ -1,5 +1,5 @@
 //! Entries as the libraries take them.
-ghost use Rattle.std.specs.Prelude.{◌≡◌, [], None, Some, IfOk, IfErr, OnOk, MatchResult};
+ghost use Rattle.std.specs.Prelude.{◌≡◌, [], None, IfOk, IfErr, OnOk};
 ghost use Rattle.std.specs.Prelude.{length, map, option_to_list};
 ghost use Rattle.bl_load.specs.EntryValue.{file_count, value_of, IsWithinLimits};
 ghost use Rattle.bl_session.specs.menu.Menu.{facts_of};
@@ -7,6 +7,7 @@ ghost use Rattle.c_abi.specs.Boot.{entry_facts_given, entries_misuse};
 ghost use Rattle.c_abi.specs.GivenChecks.{load_misuse};
 ghost use Rattle.c_abi.specs.Given as spec;
 ghost use Rattle.c_abi.specs.Load.{IsEntryGivenFault};
+ghost use Rattle.c_abi.specs.internal.Checks.{FindsMisuse};
 
 use crate::given_arrays::Given;
 use crate::given_fault::GivenFault;
@@ -14,6 +15,7 @@ use crate::given_records::{ByteRange, EntryRecord, NO_FILE};
 use crate::misuse::Misuse;
 use bl_load::{Entry, Module};
 use bl_mem::Bytes;
+use bl_plan::Protocol;
 use std::alloc::{AllocError, Allocator};
 
 /// The modules of an entry.
@@ -73,7 +75,7 @@ pub(crate) fn entry_of<A: Allocator + Copy>(
         (λ made. file_count made ≡ length (spec.file_indices given.now entry.now)) }
 {
     let line = Bytes::copy(alloc, given.line(entry.line))?;
-    if entry.protocol == 1 {
+    if entry.is_of(Protocol::Multiboot2) {
         return Ok(Entry::Multiboot2 {
             kernel: entry.kernel,
             line,
@@ -86,7 +88,7 @@ pub(crate) fn entry_of<A: Allocator + Copy>(
         kernel: entry.kernel,
         line,
         initrd: initrd_of(entry),
-        wide: entry.protocol == 3,
+        wide: entry.is_of(Protocol::Linux64),
     })
 }
 
@@ -130,9 +132,7 @@ pub(crate) fn entries_of<A: Allocator + Copy>(
 
 /// Checks entries, one after the other: the first misuse.
 pub(crate) fn check_entries(given: &Given, entries: &[EntryRecord]) -> Result<(), Misuse>
-    ensures { MatchResult result
-        (λ _. entries_misuse given.now entries.now ≡ None)
-        (λ misuse. entries_misuse given.now entries.now ≡ Some misuse) }
+    ensures { FindsMisuse (entries_misuse given.now entries.now) result }
 {
     for entry in entries {
         given.check_entry(entry)?;

@@ -5,6 +5,7 @@ ghost use Rattle.c_abi.specs.Given as spec;
 use crate::given_arrays::Given;
 use crate::given_records::{EntryRecord, ModuleRecord, NO_FILE};
 use bl_mem::SliceView;
+use bl_plan::Protocol;
 use std::alloc::{AllocError, Allocator};
 
 /// A file, by its index.
@@ -40,7 +41,7 @@ fn add_beside<'a, A: Allocator>(
         ≡ map (λ v. v.bytes.now) views.old.items
         ++ map (spec.file_given given.now) (spec.indices_beside given.now entry.now)) }
 {
-    if entry.protocol == 1 {
+    if entry.is_of(Protocol::Multiboot2) {
         return add_modules(given, given.modules_of(entry), views);
     }
     if entry.initrd == NO_FILE {

@@ -6,6 +6,7 @@ use crate::array_ranges::are_among;
 use crate::given_arrays::Given;
 use crate::given_records::{ByteRange, EntryRecord, ModuleRecord, NO_FILE, RegionRecord};
 use crate::misuse::Misuse;
+use bl_plan::Protocol;
 
 /// Whether a number is that of a kind of memory.
 fn is_kind(kind: u32) -> bool
@@ -25,7 +26,7 @@ pub(crate) fn have_kinds(regions: &[RegionRecord]) -> bool
 fn is_protocol(protocol: u32) -> bool
     ensures { result ≡ spec.is_protocol protocol }
 {
-    1 <= protocol && protocol <= 3
+    Protocol::from_number(protocol).is_some()
 }
 
 impl Given<'_> {
@@ -37,7 +38,7 @@ impl Given<'_> {
     fn are_modules_in_range(&self, entry: &EntryRecord) -> bool
         ensures { result ≡ spec.are_modules_in_range self.now entry.now }
     {
-        if entry.protocol != 1 {
+        if !entry.is_of(Protocol::Multiboot2) {
             return true;
         }
         let first = entry.first_module as u64;
@@ -75,7 +76,7 @@ impl Given<'_> {
         if !self.is_in_text(entry.line) {
             return false;
         }
-        if entry.protocol != 1 {
+        if !entry.is_of(Protocol::Multiboot2) {
             return true;
         }
         self.has_module_texts(entry)
@@ -99,7 +100,7 @@ impl Given<'_> {
         if !self.is_file(entry.kernel) {
             return false;
         }
-        if entry.protocol == 1 {
+        if entry.is_of(Protocol::Multiboot2) {
             let modules = self.modules_of(entry);
             return self.are_files(modules);
         }
@@ -137,7 +138,7 @@ impl Given<'_> {
         if !self.has_contents(entry.kernel) {
             return false;
         }
-        if entry.protocol == 1 {
+        if entry.is_of(Protocol::Multiboot2) {
             let modules = self.modules_of(entry);
             return self.are_data(modules);
         }
@@ -149,15 +150,13 @@ impl Given<'_> {
 }
 
 impl Given<'_> {
-    ghost use Rattle.std.specs.Prelude.{◌≡◌, Some, None, MatchResult, ◌&&◌};
     ghost use Rattle.c_abi.specs.GivenChecks as spec;
+    ghost use Rattle.c_abi.specs.internal.Checks.{FindsMisuse};
 
     /// Checks what an entry names: the first misuse.
     #[tactic(auto, unfolding(crate::specs::GivenChecks::entry_misuse))]
     pub(crate) fn check_entry(&self, entry: &EntryRecord) -> Result<(), Misuse>
-        ensures { MatchResult result
-            (λ _. spec.entry_misuse self.now entry.now ≡ None)
-            (λ misuse. spec.entry_misuse self.now entry.now ≡ Some misuse) }
+        ensures { FindsMisuse (spec.entry_misuse self.now entry.now) result }
     {
         if !is_protocol(entry.protocol) {
             return Err(Misuse::BadProtocol);
@@ -176,9 +175,7 @@ impl Given<'_> {
 
     #[tactic(auto, unfolding(crate::specs::GivenChecks::contents_misuse))]
     fn check_contents(&self, entry: &EntryRecord) -> Result<(), Misuse>
-        ensures { MatchResult result
-            (λ _. spec.contents_misuse self.now entry.now ≡ None)
-            (λ misuse. spec.contents_misuse self.now entry.now ≡ Some misuse) }
+        ensures { FindsMisuse (spec.contents_misuse self.now entry.now) result }
     {
         if !self.has_data(entry) {
             return Err(Misuse::BadContents);
@@ -188,9 +185,7 @@ impl Given<'_> {
 
     /// Checks what an entry names, and where its files lie: the first misuse.
     pub(crate) fn check_load(&self, entry: &EntryRecord) -> Result<(), Misuse>
-        ensures { MatchResult result
-            (λ _. spec.load_misuse self.now entry.now ≡ None)
-            (λ misuse. spec.load_misuse self.now entry.now ≡ Some misuse) }
+        ensures { FindsMisuse (spec.load_misuse self.now entry.now) result }
     {
         self.check_entry(entry)?;
         self.check_contents(entry)

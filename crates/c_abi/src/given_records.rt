@@ -1,4 +1,5 @@
 //! What C gives, as plain records. Addresses and lengths are in bytes.
+use bl_plan::Protocol;
 
 /// Bytes of an array, from an offset on.
 #[repr(C)]
@@ -54,6 +55,18 @@ pub struct EntryRecord {
     pub line: ByteRange,
     pub rsdp_old: ByteRange,
     pub rsdp_new: ByteRange,
+}
+
+impl EntryRecord {
+    ghost use Rattle.std.specs.Prelude.{◌≡◌, ◌==◌};
+    ghost use Rattle.bl_plan.specs.Protocols.{protocol_number};
+
+    /// Whether its number is that of this protocol.
+    pub(crate) fn is_of(&self, protocol: Protocol) -> bool
+        ensures { result ≡ (self.now.protocol == protocol_number protocol) }
+    {
+        self.protocol == protocol.number()
+    }
 }
 
 /// The index of no file.

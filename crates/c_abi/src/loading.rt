@@ -1,14 +1,12 @@
 //! One entry comes into memory of the caller's own.
-ghost use Rattle.std.specs.Prelude.{◌≡◌, ◌+◌, ◌≤◌, IfOk, IfErr, OnOk, Result, All};
+ghost use Rattle.std.specs.Prelude.{◌≡◌, ◌+◌, ◌≤◌, IfOk, IfErr, OnOk, Result};
 ghost use Rattle.std.specs.Prelude.{length, map};
 ghost use Rattle.bl_mem.specs.Memory.{memory_from};
-ghost use Rattle.bl_load.specs.Handover.{overwrite_parts};
-ghost use Rattle.bl_load.specs.Parts.{IsHandover, IsPrepFault};
-ghost use Rattle.bl_load.specs.PlanContents.{handover_in};
 ghost use Rattle.bl_load.specs.EntryValue.{value_of, file_count, IsWithinLimits};
 ghost use Rattle.bl_load.specs.HandoffFacts.{HandoffFacts};
 ghost use Rattle.c_abi.specs.Load.{IsEntryLoaded, IsEntryFault, IsEntrySound, IsGivenLoadEnd};
 ghost use Rattle.c_abi.specs.LoadTold.{TellsEnd};
+ghost use Rattle.c_abi.specs.internal.LoadEnds.{LoadsValue};
 ghost use Rattle.c_abi.specs.declared.load_fault.LoadFault.{LoadFault};
 
 use crate::end_records::{HandoffRecord, PlaceRecord, RefusalRecord};
@@ -38,20 +36,9 @@ fn load_typed<A: Allocator + Copy>(
     requires size { machine.now.size ≤ base + length memory.old }
     requires files { length files.now ≡ file_count entry.now }
     requires limits { IsWithinLimits entry.now }
-    ensures handover { IfOk result (λ handoff. IsHandover machine.now
+    ensures { LoadsValue machine.now
         (value_of (map (λ file. file.bytes.now) files.now) entry.now)
-        (handover_in (memory_from base memory.new)
-        handoff.protocol handoff.registers handoff.places)) }
-    ensures after { IfOk result (λ handoff. memory_from base memory.new ≡ overwrite_parts
-        (handover_in (memory_from base memory.new)
-        handoff.protocol handoff.registers handoff.places).parts
-        (memory_from base memory.old)) }
-    ensures inside { IfOk result (λ handoff.
-        All (λ place. place.address + place.length ≤ machine.now.size) handoff.places) }
-    ensures fault { IfErr result (λ fault. IsPrepFault machine.now
-        (value_of (map (λ file. file.bytes.now) files.now) entry.now) fault) }
-    ensures unchanged { IfErr result (λ _. memory_from base memory.new
-        ≡ memory_from base memory.old) }
+        (memory_from base memory.old) (memory_from base memory.new) result }
 {
     let mut own = SliceMemory::from_base(base, memory);
     load_entry(alloc, machine, &mut own, entry, files)

@@ -1,7 +1,8 @@
 //! The files of a menu.
-ghost use Rattle.std.specs.Prelude.{◌≡◌, None, Some, IfOk, MatchResult, map, option_copied};
+ghost use Rattle.std.specs.Prelude.{◌≡◌, IfOk, map, option_copied};
 ghost use Rattle.bl_session.specs.store.Ledger.{sliced_file};
 ghost use Rattle.c_abi.specs.Boot as spec;
+ghost use Rattle.c_abi.specs.internal.Checks.{FindsMisuse};
 
 use crate::array_ranges::range_bytes;
 use crate::entries::check_entries;
@@ -55,9 +56,7 @@ fn are_missing_or_within(given: &Given, files: &[ByteRange]) -> bool
 
 #[tactic(auto, unfolding(crate::specs::Boot::files_misuse))]
 fn check_stored(given: &Given) -> Result<(), Misuse>
-    ensures { MatchResult result
-        (λ _. spec.files_misuse given.now ≡ None)
-        (λ misuse. spec.files_misuse given.now ≡ Some misuse) }
+    ensures { FindsMisuse (spec.files_misuse given.now) result }
 {
     if !are_missing_or_within(given, given.files) {
         return Err(Misuse::BadContents);
@@ -67,9 +66,7 @@ fn check_stored(given: &Given) -> Result<(), Misuse>
 
 /// Checks the entries and the files of a menu: the first misuse.
 pub(crate) fn check_menu(given: &Given, entries: &[EntryRecord]) -> Result<(), Misuse>
-    ensures { MatchResult result
-        (λ _. spec.entries_or_files_misuse given.now entries.now ≡ None)
-        (λ misuse. spec.entries_or_files_misuse given.now entries.now ≡ Some misuse) }
+    ensures { FindsMisuse (spec.entries_or_files_misuse given.now entries.now) result }
 {
     check_entries(given, entries)?;
     check_stored(given)

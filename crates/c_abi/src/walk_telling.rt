@@ -1,6 +1,7 @@
 //! What C is told of a walk.
 ghost use Rattle.std.specs.Prelude.{◌≡◌, ◌≤◌, ◌++◌, length, drop, MatchBool};
 ghost use Rattle.c_abi.specs.WalkTold as spec;
+ghost use Rattle.c_abi.specs.internal.Tellings.{walk_telling};
 
 use crate::end_records::RefusalRecord;
 use crate::given_records::RegionRecord;
@@ -75,20 +76,8 @@ pub(crate) fn tell_records<A: Allocator>(
     text: &mut [u8],
 ) -> u32
     ensures { spec.TellsSeen records.now result
-        (record {
-          seen = told.old;
-          kernel = kernel.old;
-          modules = modules.old;
-          runs = runs.old;
-          text = text.old;
-        })
-        (record {
-          seen = told.new;
-          kernel = kernel.new;
-          modules = modules.new;
-          runs = runs.new;
-          text = text.new;
-        }) }
+        (walk_telling told.old kernel.old modules.old runs.old text.old)
+        (walk_telling told.new kernel.new modules.new runs.new text.new) }
 {
     *told = records.seen;
     if !fits_into(records, kernel, modules, runs, text) {

@@ -1,0 +1,22 @@
+-- What stands in the records that C is told by. Own.
+use Rattle.std.specs.Prelude.{ℕ, List}
+use Rattle.c_abi.specs.BootTold.{Telling}
+use Rattle.c_abi.specs.SeenTold.{WalkRecordsFacts}
+use Rattle.c_abi.specs.declared.end_records.HandoffRecord.{HandoffRecord}
+use Rattle.c_abi.specs.declared.end_records.PlaceRecord.{PlaceRecord}
+use Rattle.c_abi.specs.declared.end_records.RefusalRecord.{RefusalRecord}
+use Rattle.c_abi.specs.declared.given_records.RegionRecord.{RegionRecord}
+use Rattle.c_abi.specs.declared.seen_records.SeenModuleRecord.{SeenModuleRecord}
+use Rattle.c_abi.specs.declared.seen_records.SeenPartRecord.{SeenPartRecord}
+use Rattle.c_abi.specs.declared.seen_records.SeenRecord.{SeenRecord}
+
+-- of a boot
+abbrev pub telling : HandoffRecord → List PlaceRecord → List RefusalRecord → ℕ → Telling
+telling handoff places refusals count =
+    record { handoff = handoff; places = places; refusals = refusals; count = count }
+
+-- of a walk
+abbrev pub walk_telling : SeenRecord → List SeenPartRecord → List SeenModuleRecord
+    → List RegionRecord → List ℕ → WalkRecordsFacts
+walk_telling seen kernel modules runs text =
+    record { seen = seen; kernel = kernel; modules = modules; runs = runs; text = text }
