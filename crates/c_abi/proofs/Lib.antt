@@ -11,3 +11,4 @@ mod SizeLemmas
 mod SeenLemmas
 mod TextLaws
 mod ProtocolLemmas
+mod ResultLemmas

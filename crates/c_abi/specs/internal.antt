@@ -1,3 +1,4 @@
 pub mod Checks
 pub mod LoadEnds
+pub mod Menus
 pub mod Tellings

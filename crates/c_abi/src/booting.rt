@@ -1,15 +1,16 @@
 //! A menu is booted in memory of the caller's own.
-ghost use Rattle.std.specs.Prelude.{◌≡◌, ◌+◌, ◌≤◌, None, IfOk, IfErr, OnOk, Result, map, length};
+ghost use Rattle.std.specs.Prelude.{◌≡◌, ◌+◌, ◌≤◌, None, OnOk, Result, map, length};
 ghost use Rattle.std.specs.Prelude.{option_copied};
 ghost use Rattle.bl_mem.specs.Memory.{KeepsSizeAndRoom, memory_from};
 ghost use Rattle.bl_session.specs.store.Ledger.{sliced_file};
 ghost use Rattle.bl_session.specs.runs.Run.{final_phase};
 ghost use Rattle.bl_session.specs.session.Phases.{PhaseFacts};
-ghost use Rattle.c_abi.specs.Boot.{HasBootEnded, IsGivenBootEnd, IsBootMenuFault, IsMenuAllowed};
-ghost use Rattle.c_abi.specs.Boot.{files_misuse, typed_end, menu_given};
+ghost use Rattle.c_abi.specs.Boot.{HasBootEnded, IsGivenBootEnd, IsBootMenuFault};
+ghost use Rattle.c_abi.specs.Boot.{files_misuse, typed_end};
 ghost use Rattle.c_abi.specs.Boot as spec;
 ghost use Rattle.c_abi.specs.BootTold.{TellsBoot};
 ghost use Rattle.c_abi.specs.declared.given_fault.GivenFault.{GivenFault};
+ghost use Rattle.c_abi.specs.internal.Menus.{MakesMenu};
 
 use crate::boot_telling::tell_boot;
 use crate::end_records::{HandoffRecord, PlaceRecord, RefusalRecord};
@@ -92,20 +93,14 @@ fn menu_of<A: Allocator + Copy>(
     default: u32,
     fallbacks: &[u32],
 ) -> Result<Menu<A>, GivenFault>
-    ensures menu { IfOk result (λ menu.
-        menu ≡ menu_given given.now entries.now default fallbacks.now) }
-    ensures allowed { OnOk result
-        (IsMenuAllowed given.now entries.now default fallbacks.now) }
+    ensures made { MakesMenu given.now entries.now default fallbacks.now
+        (IsBootMenuFault given.now entries.now default fallbacks.now) result }
     ensures stored { OnOk result (files_misuse given.now ≡ None) }
-    ensures fault { IfErr result (IsBootMenuFault given.now entries.now default fallbacks.now) }
 {
     if let Err(misuse) = check_menu(given, entries) {
         return Err(GivenFault::Misused(misuse));
     }
-    match menu_made(alloc, given, entries, default, fallbacks) {
-        Ok(menu) => Ok(menu),
-        Err(fault) => Err(fault),
-    }
+    menu_made(alloc, given, entries, default, fallbacks)
 }
 
 /// Boots a menu in memory that begins at a base, with room for so many places.

@@ -100,10 +100,7 @@ pub(crate) fn load<A: Allocator + Copy>(
     if end < made.size() {
         return Err(LoadFault::Misused(Misuse::BadMemory));
     }
-    match load_given(alloc, &made, memory, base, given, entry) {
-        Ok(handoff) => Ok(handoff),
-        Err(fault) => Err(fault),
-    }
+    load_given(alloc, &made, memory, base, given, entry)
 }
 
 /// Loads an entry, and tells what comes of it.

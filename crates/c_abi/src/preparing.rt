@@ -70,10 +70,7 @@ fn prepare_entry<A: Allocator + Copy>(
         Ok(made) => made,
         Err(fault) => return Err(given_fault(fault)),
     };
-    match prepare_given(alloc, &made, given, entry) {
-        Ok(plan) => Ok(plan),
-        Err(fault) => Err(fault),
-    }
+    prepare_given(alloc, &made, given, entry)
 }
 
 /// Tells what a load of an entry would hand over, or why it would not. The checks are those of

@@ -1,8 +1,8 @@
 //! A session of what C gives, and what C is told of its outcome.
-ghost use Rattle.std.specs.Prelude.{◌≡◌, IfOk, IfErr, OnOk, map};
-ghost use Rattle.c_abi.specs.Boot.{IsMenuAllowed, menu_given};
+ghost use Rattle.std.specs.Prelude.{◌≡◌, IfOk, map};
 ghost use Rattle.c_abi.specs.Sessions.{IsSessionMenuFault, IsSessionMade, TellsOutcome};
 ghost use Rattle.c_abi.specs.Sessions as spec;
+ghost use Rattle.c_abi.specs.internal.Menus.{MakesMenu};
 
 use crate::boot_telling::{tell_boot_fault, tell_outcome};
 use crate::end_records::{HandoffRecord, PlaceRecord, RefusalRecord};
@@ -42,19 +42,13 @@ fn menu_without_files<A: Allocator + Copy>(
     default: u32,
     fallbacks: &[u32],
 ) -> Result<Menu<A>, GivenFault>
-    ensures menu { IfOk result (λ menu.
-        menu ≡ menu_given given.now entries.now default fallbacks.now) }
-    ensures allowed { OnOk result
-        (IsMenuAllowed given.now entries.now default fallbacks.now) }
-    ensures fault { IfErr result (IsSessionMenuFault given.now entries.now default fallbacks.now) }
+    ensures { MakesMenu given.now entries.now default fallbacks.now
+        (IsSessionMenuFault given.now entries.now default fallbacks.now) result }
 {
     if let Err(misuse) = check_entries(given, entries) {
         return Err(GivenFault::Misused(misuse));
     }
-    match menu_made(alloc, given, entries, default, fallbacks) {
-        Ok(menu) => Ok(menu),
-        Err(fault) => Err(fault),
-    }
+    menu_made(alloc, given, entries, default, fallbacks)
 }
 
 /// The session of a menu whose files' bytes come later. Of a file its length alone is looked at,

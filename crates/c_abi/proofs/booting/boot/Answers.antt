@@ -42,7 +42,7 @@ returns-in-Err-menu_of-clause-end g c =
     let same = c.if-end-size.false in (
       bad_menu (omega (arith, many)) c.in-Ok.ensures.sound
           (omega (arith, length-append {A = ℕ}, length-replicate {A = ℕ}, size, told, same))
-          c.in-Err-menu_of.fault c.in-Err-menu_of.ensures.fault,
+          c.in-Err-menu_of.fault c.in-Err-menu_of.ensures.made.fault,
       refl,
     )
 
@@ -59,7 +59,7 @@ returns-clause-end g c =
       machine_sound = c.in-Ok.ensures.sound;
       has_memory =
           omega (arith, length-append {A = ℕ}, length-replicate {A = ℕ}, size, told, same);
-      allowed = c.in-Ok-menu_of.ensures.allowed;
+      allowed = c.in-Ok-menu_of.ensures.made.allowed;
       stored = c.in-Ok-menu_of.ensures.stored;
       booted =
           let files = given_files c.args.given.now in
@@ -68,5 +68,5 @@ returns-clause-end g c =
           subst
           (λ (menu : MenuFacts).
           HasBootEnded c.in-Ok.made menu files old new (final_phase c.boot_given.result))
-          c.in-Ok-menu_of.ensures.menu c.boot_given.ensures;
+          c.in-Ok-menu_of.ensures.made.menu c.boot_given.ensures;
     }

@@ -1,6 +1,11 @@
 use Rattle.std.proofs.Common.{arith, subst, sym}
 use Rattle.c_abi.specs.declared.load_fault.LoadFault.{LoadFault}
-use Rattle.c_abi.specs.Load.{few_places, bad_machine, bad_entry, IsNotLoaded}
+use Rattle.std.proofs.lemmas.Result.{IfErr-weaker}
+use Rattle.bl_load.specs.PlanContents.{handoff_by}
+use Rattle.c_abi.specs.Load.{few_places, bad_machine, bad_entry, IsNotLoaded, IsEntryFault}
+use Rattle.c_abi.specs.Load.{IsEntrySound}
+use Rattle.c_abi.specs.Prepare.{IsHandoffOf, IsPrepared}
+use Rattle.c_abi.proofs.ResultLemmas.{on_ok, ok_by_both}
 use Rattle.c_abi.proofs.preparing.prepare_entry.Goals as goal
 
 pub returns-then-room-lt-MAX_PARTS-clause-fault : goal.returns-then-room-lt-MAX_PARTS-clause-fault
@@ -16,12 +21,41 @@ returns-in-Err-clause-fault g c =
     (sym c.given_fault.ensures)
     (bad_machine (omega (arith, many)) c.in-Err.fault c.in-Err.ensures.fault)
 
+pub returns-clause-prepared : goal.returns-clause-prepared
+returns-clause-prepared g c =
+    let many = c.if-room-lt-MAX_PARTS.false in
+    let given = c.args.given.now in
+    let entry = c.args.entry.now in
+    ok_by_both c.prepare_given.result
+    (λ plan. IsHandoffOf c.in-Ok.made given entry (handoff_by plan))
+    (λ plan. IsEntrySound given entry)
+    (λ plan. IsPrepared c.args.machine.now c.args.regions.now given entry
+    c.args.room (handoff_by plan))
+    (λ plan handed sound. record {
+      has_room = omega (arith, many);
+      facts = c.in-Ok.made;
+      machine_is = c.in-Ok.ensures.machine;
+      machine_sound = c.in-Ok.ensures.sound;
+      entry_sound = sound;
+      handed = handed;
+    }) c.prepare_given.ensures.handed c.prepare_given.ensures.sound
+
+pub returns-clause-room : goal.returns-clause-room
+returns-clause-room g c =
+    let many = c.if-room-lt-MAX_PARTS.false in on_ok c.prepare_given.result (omega (arith, many))
+
 pub returns-clause-fault : goal.returns-clause-fault
 returns-clause-fault g c =
     let many = c.if-room-lt-MAX_PARTS.false in
-    bad_entry (omega (arith, many)) c.in-Ok.ensures.sound (omega arith)
-    c.in-Err-prepare_given.fault record {
+    let given = c.args.given.now in
+    let entry = c.args.entry.now in
+    let machine = c.args.machine.now in
+    let regions = c.args.regions.now in
+    IfErr-weaker c.prepare_given.result (IsEntryFault c.in-Ok.made given entry)
+    (IsNotLoaded machine regions given entry c.args.room machine.size)
+    (λ fault is.
+    bad_entry (omega (arith, many)) c.in-Ok.ensures.sound (omega arith) fault record {
       facts = c.in-Ok.made;
       machine_is = c.in-Ok.ensures.machine;
-      is = c.in-Err-prepare_given.ensures.fault;
-    }
+      is = is;
+    }) c.prepare_given.ensures.fault
