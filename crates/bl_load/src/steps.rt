@@ -168,7 +168,7 @@ impl<A: Allocator> Plan<A> {
     /// or skip zeros where memory is zero.
     ///
     /// The steps are the same for all files of these lengths. They ascend, and none is empty, so
-    /// each byte of a part is written once. Where memory for the steps is refused, that is answered.
+    /// each byte of a part is written once. It fails only where memory for the steps is refused.
     pub fn steps<B: Allocator + Copy>(&self, alloc: B) -> Result<Steps<B>, AllocError>
         requires { CanBeLoaded self.now }
 
