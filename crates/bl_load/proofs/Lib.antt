@@ -38,3 +38,4 @@ pub mod SegmentLaws
 pub mod StepLemmas
 pub mod StepOrderLemmas
 pub mod StepSourceLemmas
+pub mod StepOriginLemmas

@@ -25,3 +25,4 @@ pub mod MemoryAfter
 pub mod Steps
 pub mod PlanSteps
 pub mod LoadedBySteps
+pub mod Origins

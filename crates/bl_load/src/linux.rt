@@ -4,6 +4,7 @@ ghost use Rattle.bl_load.specs.KernelReading.{linux};
 ghost use Rattle.bl_load.specs.EntryValue.{linux_value};
 ghost use Rattle.bl_load.specs.Protocols.{has_params};
 ghost use Rattle.bl_load.specs.Parts.{IsHandover, IsPrepFault};
+ghost use Rattle.bl_load.specs.Origins.{planned_origin, AreOrigins};
 ghost use Rattle.bl_load.specs.PlanContents.{handover_by};
 ghost use Rattle.bl_load.specs.Loadable.{lengths_of, IsLoadable, IsLean};
 ghost use Rattle.bl_load.specs.Unplaced.{IsUnplaced, IsFaultBeforePlacing};
@@ -90,6 +91,9 @@ pub fn prepare<A: Allocator + Copy, V: ByteView>(
     ensures loadable { IfOk result (λ plan. IsLoadable
         (lengths_of (map V.bytes files.now)) machine.now.size plan) }
     ensures lean { IfOk result (λ plan. IsLean plan.parts.items) }
+    ensures origins { IfOk result (λ plan. AreOrigins machine.now
+        (linux_value protocol (map V.bytes files.now) line.now)
+        (map planned_origin plan.parts.items)) }
     ensures fault { IfErr result (λ fault. IsPrepFault machine.now
         (linux_value protocol (map V.bytes files.now) line.now) fault) }
 {

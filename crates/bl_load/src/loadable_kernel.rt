@@ -1,6 +1,7 @@
 //! What an entry's parts are by its kernel's file.
 ghost use Rattle.std.specs.Prelude.{◌≡◌, All, IfOk};
 ghost use Rattle.bl_load.specs.Parts.{content_of, registers_of};
+ghost use Rattle.bl_load.specs.Origins.{origin_from};
 ghost use Rattle.bl_load.specs.internal.Contents.{IsPlacedAmong, IsContentOf};
 ghost use Rattle.bl_load.specs.internal.Placing.{EndsLow, capped_rows_of};
 ghost use Rattle.bl_load.specs.internal.ReadKernels.{EntersBy, EntryPointFits32Bits};
@@ -41,6 +42,8 @@ pub trait LoadableKernel {
         requires { IsPlacedAmong entry.now (reading self.now) places.now place.now }
         ensures { IfOk result (IsContentOf (texts_in entry.now) place.now.role
             (content_of entry.now.machine.now (value_of_files entry.now) (reading self.now)
+            places.now place.now.role place.now.index)
+            (origin_from entry.now.machine.now (value_of_files entry.now) (reading self.now)
             places.now place.now.role place.now.index) place.now.length) };
 
     /// The registers as a kernel begins that is entered by this protocol, where the parts have

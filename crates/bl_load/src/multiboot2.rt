@@ -5,6 +5,7 @@ ghost use Rattle.bl_load.specs.internal.ReadMultiboot2Kernels.{kernel_by};
 ghost use Rattle.bl_load.specs.KernelReading.{multiboot2};
 ghost use Rattle.bl_load.specs.Parts as parts;
 ghost use Rattle.bl_load.specs.Parts.{IsHandover, IsPrepFault};
+ghost use Rattle.bl_load.specs.Origins.{planned_origin, AreOrigins};
 ghost use Rattle.bl_load.specs.PlanContents.{handover_by};
 ghost use Rattle.bl_load.specs.internal.Loading.{value_by, AreOfMultiboot2};
 ghost use Rattle.bl_load.specs.Loadable.{lengths_of, IsLoadable, IsLean};
@@ -92,6 +93,9 @@ pub fn prepare<A: Allocator + Copy, V: ByteView>(
     ensures loadable { IfOk result (λ plan. IsLoadable
         (lengths_of (map V.bytes files.now)) machine.now.size plan) }
     ensures lean { IfOk result (λ plan. IsLean plan.parts.items) }
+    ensures origins { IfOk result (λ plan. AreOrigins machine.now
+        (value_by (map V.bytes files.now) line.now modules.now rsdps.now)
+        (map planned_origin plan.parts.items)) }
     ensures fault { IfErr result (IsPrepFault machine.now
         (value_by (map V.bytes files.now) line.now modules.now rsdps.now)) }
 {

@@ -6,6 +6,7 @@ ghost use Rattle.bl_plan.specs.declared.fault.PlanFault.TheVariants.{Overlap};
 ghost use Rattle.bl_load.specs.internal.Placing as kept;
 ghost use Rattle.bl_load.specs.internal.Placing.{IsPlacedHandover, IsPlaceFault};
 ghost use Rattle.bl_load.specs.PlannedPlaces.{planned_place};
+ghost use Rattle.bl_load.specs.Origins.{planned_origin, AreOrigins};
 ghost use Rattle.bl_load.specs.PlanContents.{handover_by};
 ghost use Rattle.bl_load.specs.Loadable.{lengths_of, IsLoadable, IsLean};
 ghost use Rattle.bl_load.specs.internal.CheckedEntries.{texts_in, value_of_files, IsReadWithFiles};
@@ -60,6 +61,8 @@ pub fn plan_parts<A: Allocator + Copy, V: ByteView, K: LoadableKernel>(
     ensures loadable { IfOk result (λ plan. IsLoadable
         (lengths_of (texts_in entry.now)) entry.now.machine.now.size plan) }
     ensures lean { IfOk result (λ plan. IsLean plan.parts.items) }
+    ensures origins { IfOk result (λ plan. AreOrigins entry.now.machine.now
+        (value_of_files entry.now) (map planned_origin plan.parts.items)) }
     ensures fault { IfErr result (λ fault. IsPlaceFault entry.now.machine.now
         (table.rows_of entry.now.machine.now (value_of_files entry.now) (K.reading kernel.now))
         fault) }

@@ -2,6 +2,7 @@
 ghost use Rattle.std.specs.Prelude.{◌≡◌, IfOk, IfErr, length, map};
 ghost use Rattle.bl_load.specs.EntryValue.{value_of, file_count, IsWithinLimits};
 ghost use Rattle.bl_load.specs.Parts.{IsHandover, IsPrepFault};
+ghost use Rattle.bl_load.specs.Origins.{planned_origin, AreOrigins};
 ghost use Rattle.bl_load.specs.PlanContents.{handover_by};
 ghost use Rattle.bl_load.specs.Loadable.{lengths_of, IsLoadable, IsLean};
 
@@ -41,6 +42,11 @@ pub fn prepare<A: Allocator + Copy, V: ByteView>(
     // Of the files' bytes a plan holds none but a Linux kernel's setup header, which stands in the
     // boot parameters: only what the loader makes has bytes of its own.
     ensures lean { IfOk result (λ plan. IsLean plan.parts.items) }
+
+    // Where each part's bytes come from is decided by the facts and the value, too: which bytes of
+    // which file, or what bytes of the plan's own.
+    ensures origins { IfOk result (λ plan. AreOrigins machine.now
+        (value_of (map V.bytes files.now) entry.now) (map planned_origin plan.parts.items)) }
 
     ensures fault { IfErr result (λ fault. IsPrepFault machine.now
         (value_of (map V.bytes files.now) entry.now) fault) }

@@ -1,10 +1,27 @@
-//! Laws of steps: whoever carries them out, an entry comes into memory in one way.
-ghost use Rattle.std.specs.Prelude.{◌≡◌, ◌≤◌, ℕ, List, length};
+//! Laws of steps: which they are, and what they write.
+ghost use Rattle.std.specs.Prelude.{◌≡◌, ◌≤◌, ℕ, List, length, map};
 ghost use Rattle.bl_map.specs.MachineFacts.{MachineFacts};
+ghost use Rattle.bl_load.specs.declared.plan.PlannedPart.{PlannedPart};
 ghost use Rattle.bl_load.specs.declared.step.Step.{Step};
 ghost use Rattle.bl_load.specs.EntryValue.{EntryValue};
 ghost use Rattle.bl_load.specs.LoadedBySteps.{LoadsEntry};
+ghost use Rattle.bl_load.specs.Origins.{planned_origin, AreOrigins};
+ghost use Rattle.bl_load.specs.PlanSteps.{steps_from, own_bytes};
 ghost use Rattle.bl_load.specs.Steps.{carry_out};
+
+use std::alloc::Allocator;
+
+/// Equal facts and equal values give equal steps with equal bytes: the parts of plans that `prepare`
+/// answers for them come from the same, and steps follow from where parts come from.
+pub fn plan_steps_are_determined<A: Allocator, B: Allocator>()
+    ensures steps { (facts : MachineFacts) (value : EntryValue) (parts : List (PlannedPart A))
+        (others : List (PlannedPart B)) → AreOrigins facts value (map planned_origin parts)
+        → AreOrigins facts value (map planned_origin others)
+        → steps_from 0 parts ≡ steps_from 0 others }
+    ensures own { (facts : MachineFacts) (value : EntryValue) (parts : List (PlannedPart A))
+        (others : List (PlannedPart B)) → AreOrigins facts value (map planned_origin parts)
+        → AreOrigins facts value (map planned_origin others) → own_bytes parts ≡ own_bytes others }
+{}
 
 /// Two lists of steps that load one entry, each with the bytes of its plan, make equal memory of
 /// equal memory: the machine's facts and the entry's value alone decide what is written.

@@ -9,6 +9,7 @@ use Rattle.bl_load.specs.declared.plan.PlannedPart.{PlannedPart}
 use Rattle.bl_load.specs.KernelReading.{KernelReading}
 use Rattle.bl_load.specs.Loadable.{lengths_of, content_length, IsInFiles, IsLeanContent}
 use Rattle.bl_load.specs.Loadable.{IsBacked, IsLean}
+use Rattle.bl_load.specs.Origins.{Origin, origin_of, planned_origin, origin_at}
 use Rattle.bl_load.specs.Parts.{part_from}
 use Rattle.bl_load.specs.PlanContents.{content_by, part_by}
 use Rattle.bl_load.specs.PlannedPlaces.{planned_place}
@@ -25,11 +26,12 @@ pub record IsPlacedAmong {A : Type 0} {V : Type 0} {view : Ghosts V} (entry : Ch
   pub rowed : HasRowLength entry.machine.now (value_of_files entry) reading place
   pub small : place.length ≤ 2 ^ 32
 
--- the content of a part of this role is these bytes: they are there, at most so many, and stay in
--- the files but for what the loader makes
+-- the content of a part of this role is these bytes, and comes from there: they are there, at most
+-- so many, and stay in the files but for what the loader makes
 pub record IsContentOf {A : Type 0} (texts : List (List ℕ)) (role : Role) (bytes : List ℕ)
-    (most : ℕ) (content : Content A) : Type 0 where
+    (origin : Origin) (most : ℕ) (content : Content A) : Type 0 where
   pub is : content_by texts content ≡ bytes
+  pub comes : origin_of content ≡ origin
   pub there : IsInFiles (lengths_of texts) content
   pub short : content_length content ≤ most
   pub lean : IsLeanContent role content
@@ -43,3 +45,5 @@ pub record ArePartsAt {A : Type 0} {B : Type 0} {V : Type 0} {view : Ghosts V}
   pub backed : All (IsBacked (lengths_of (texts_in entry))) items
   pub lean : IsLean items
   pub places : map planned_place items ≡ sorted
+  pub origins : map planned_origin items
+      ≡ map (origin_at entry.machine.now (value_of_files entry) reading all) sorted

@@ -11,6 +11,7 @@ ghost use Rattle.bl_load.specs.KernelReading.{linux};
 ghost use Rattle.bl_load.specs.Parts.{content_of, payload_of};
 ghost use Rattle.bl_bzimage.specs.Setup.{IsSetup};
 ghost use Rattle.bl_mem.specs.Files.{nth_file};
+ghost use Rattle.bl_load.specs.Origins.{file_range, origin_from};
 ghost use Rattle.bl_load.specs.internal.Contents.{IsPlacedAmong, IsContentOf};
 ghost use Rattle.bl_load.specs.internal.Placing.{EndsLow};
 ghost use Rattle.bl_load.specs.internal.Told.{params_facts};
@@ -103,6 +104,7 @@ fn page_tables_at<A: Allocator>(alloc: A, places: &[Place]) -> Result<Bytes<A>, 
 fn initrd_content<A: Allocator, V: ByteView>(files: &[V]) -> Content<A>
     requires some { 1 ≤ length (initrd_file (map V.bytes files.now)) }
     ensures { IsContentOf (map V.bytes files.now) role.Initrd (initrd_file (map V.bytes files.now))
+        (file_range 1 0 (length (initrd_file (map V.bytes files.now))))
         (length (initrd_file (map V.bytes files.now))) result }
 {
     Content::File {
@@ -117,7 +119,9 @@ fn payload_content<A: Allocator, V: ByteView>(files: &[V], setup: &Setup) -> Con
     requires some { 1 ≤ length files.now }
     requires setup { IsSetup (nth_file (map V.bytes files.now) 0) setup.now }
     ensures { IsContentOf (map V.bytes files.now) role.Kernel
-        (payload_of (nth_file (map V.bytes files.now) 0) setup.now) setup.now.payload_size result }
+        (payload_of (nth_file (map V.bytes files.now) 0) setup.now)
+        (file_range 0 setup.now.payload_offset setup.now.payload_size)
+        setup.now.payload_size result }
 {
     Content::File {
         file: 0,
@@ -137,6 +141,8 @@ pub fn linux_content<A: Allocator + Copy, V: ByteView>(
     requires { IsPlacedAmong entry.now (linux setup.now) places.now place.now }
     ensures { IfOk result (IsContentOf (texts_in entry.now) place.now.role
         (content_of entry.now.machine.now (value_of_files entry.now) (linux setup.now) places.now
+        place.now.role place.now.index)
+        (origin_from entry.now.machine.now (value_of_files entry.now) (linux setup.now) places.now
         place.now.role place.now.index) place.now.length) }
 {
     match place.role {

@@ -9,6 +9,7 @@ ghost use Rattle.bl_load.specs.Parts as parts;
 ghost use Rattle.bl_load.specs.Parts.{content_of};
 ghost use Rattle.bl_mem.specs.Files.{nth_file};
 ghost use Rattle.bl_load.specs.internal.CheckedEntries.{texts_in, value_of_files};
+ghost use Rattle.bl_load.specs.Origins.{file_range, kernel_origin, origin_from};
 ghost use Rattle.bl_load.specs.internal.Contents.{IsPlacedAmong, IsContentOf};
 ghost use Rattle.bl_load.specs.internal.Placing.{HasKernelLength};
 
@@ -35,7 +36,9 @@ fn kernel_content<A: Allocator + Copy, B: Allocator, V: ByteView>(
     requires small { place.now.length ≤ 2 ^ 32 }
     ensures { IfOk result (IsContentOf (map V.bytes files.now) role.Kernel
         (parts.kernel_content (nth_file (map V.bytes files.now) 0) (kernel_by kernel.now).segments
-        kernel.now.relocation place.now.index) place.now.length) }
+        kernel.now.relocation place.now.index)
+        (kernel_origin (kernel_by kernel.now).segments kernel.now.relocation place.now.index)
+        place.now.length) }
 {
     let segments = kernel.executable.segments();
     match kernel.relocation {
@@ -60,7 +63,10 @@ fn module_content<A: Allocator, V: ByteView>(files: &[V], place: &Place) -> Cont
     requires length { place.now.length
         ≡ module_length (module_file (map V.bytes files.now) place.now.index) }
     ensures { IsContentOf (map V.bytes files.now) role.Module
-        (module_file (map V.bytes files.now) place.now.index) place.now.length result }
+        (module_file (map V.bytes files.now) place.now.index)
+        (file_range (place.now.index + 1) 0
+        (length (module_file (map V.bytes files.now) place.now.index)))
+        place.now.length result }
 {
     let file = place.index as usize + 1;
     Content::File {
@@ -81,6 +87,8 @@ pub fn multiboot2_content<A: Allocator + Copy, B: Allocator, V: ByteView>(
     requires { IsPlacedAmong entry.now (multiboot2 (kernel_by kernel.now)) places.now place.now }
     ensures { IfOk result (IsContentOf (texts_in entry.now) place.now.role
         (content_of entry.now.machine.now (value_of_files entry.now)
+        (multiboot2 (kernel_by kernel.now)) places.now place.now.role place.now.index)
+        (origin_from entry.now.machine.now (value_of_files entry.now)
         (multiboot2 (kernel_by kernel.now)) places.now place.now.role place.now.index)
         place.now.length) }
 {

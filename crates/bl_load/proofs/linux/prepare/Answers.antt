@@ -94,6 +94,11 @@ returns-in_err-check_line-clause-lean g c =
     let p = err_from_is_err_and c.from_residual.result c.from_residual.ensures.1 in
     rw p.1 tt
 
+pub returns-in_err-check_line-clause-origins : goal.returns-in_err-check_line-clause-origins
+returns-in_err-check_line-clause-origins g c =
+    let p = err_from_is_err_and c.from_residual.result c.from_residual.ensures.1 in
+    rw p.1 tt
+
 pub returns-in_err-check_line-clause-fault : goal.returns-in_err-check_line-clause-fault
 returns-in_err-check_line-clause-fault g c =
     let p = err_from_is_err_and c.from_residual.result c.from_residual.ensures.1 in
@@ -115,6 +120,13 @@ returns-in_err-setup-clause-loadable g c =
 
 pub returns-in_err-setup-clause-lean : goal.returns-in_err-setup-clause-lean
 returns-in_err-setup-clause-lean g c =
+    let p =
+    err_from_is_err_and c.from_residual-in_err-setup.result
+    c.from_residual-in_err-setup.ensures.1 in
+    rw p.1 tt
+
+pub returns-in_err-setup-clause-origins : goal.returns-in_err-setup-clause-origins
+returns-in_err-setup-clause-origins g c =
     let p =
     err_from_is_err_and c.from_residual-in_err-setup.result
     c.from_residual-in_err-setup.ensures.1 in

@@ -107,6 +107,11 @@ returns-in_err-check_lines-clause-lean g c =
     let p = err_from_is_err_and c.from_residual.result c.from_residual.ensures.1 in
     rw p.1 tt
 
+pub returns-in_err-check_lines-clause-origins : goal.returns-in_err-check_lines-clause-origins
+returns-in_err-check_lines-clause-origins g c =
+    let p = err_from_is_err_and c.from_residual.result c.from_residual.ensures.1 in
+    rw p.1 tt
+
 pub returns-in_err-check_lines-clause-fault : goal.returns-in_err-check_lines-clause-fault
 returns-in_err-check_lines-clause-fault g c =
     let p = err_from_is_err_and c.from_residual.result c.from_residual.ensures.1 in
@@ -128,6 +133,13 @@ returns-in_err-kernel-clause-loadable g c =
 
 pub returns-in_err-kernel-clause-lean : goal.returns-in_err-kernel-clause-lean
 returns-in_err-kernel-clause-lean g c =
+    let p =
+    err_from_is_err_and c.from_residual-in_err-kernel.result
+    c.from_residual-in_err-kernel.ensures.1 in
+    rw p.1 tt
+
+pub returns-in_err-kernel-clause-origins : goal.returns-in_err-kernel-clause-origins
+returns-in_err-kernel-clause-origins g c =
     let p =
     err_from_is_err_and c.from_residual-in_err-kernel.result
     c.from_residual-in_err-kernel.ensures.1 in

@@ -6,6 +6,7 @@ use Rattle.bl_plan.specs.declared.part.Place.{Place}
 use Rattle.bl_plan.specs.declared.part.Role.TheVariants.{Kernel}
 use Rattle.bl_load.specs.declared.plan.PlannedPart.{PlannedPart}
 use Rattle.bl_load.specs.Handover.{Part, placed_part, zero_padded}
+use Rattle.bl_load.specs.Origins.{Origin, PartOrigin, planned_origin, origin_at}
 use Rattle.bl_load.specs.Parts.{part_from}
 use Rattle.bl_load.specs.PlannedPlaces.{planned_place}
 use Rattle.bl_load.specs.PlanContents.{part_by}
@@ -30,6 +31,10 @@ loop-place-preserved g c =
     part_from entry.machine.now (value_of_files entry) (g.K.LoadableKernel.reading c.args.kernel.now)
     c.args.places.now in
     let by : PlannedPart g.row.A.Denot → Part = part_by texts in
+    let origin_from_place : Place → PartOrigin =
+    origin_at entry.machine.now (value_of_files entry) (g.K.LoadableKernel.reading c.args.kernel.now)
+    c.args.places.now in
+    let origin_in : PlannedPart g.row.A.Denot → PartOrigin = planned_origin in
     let stays : PlannedPart g.row.A.Denot → Type 0 =
     λ part. IsLeanContent part.place.role part.content in
     let place_in : PlannedPart g.row.A.Denot → Place = planned_place in
@@ -39,6 +44,7 @@ loop-place-preserved g c =
     let place = get_or all k none in
     let new : PlannedPart g.row.A.Denot =
     record { place = place; content = c.in_ok-content.content } in
+    let from_there : Origin → PartOrigin = λ o. record { place = place; origin = o } in
     let more = take_more all k none c.loop-place-test.true in
     let i = c.loop-place.invariant in
     let items = c.in_ok-push.ensures.items in
@@ -61,6 +67,12 @@ loop-place-preserved g c =
       places =
           ap (map place_in) items ∙ map-append place_in c.loop-place.parts.items (new ∷ [])
           ∙ ap (λ (xs : List Place). xs ++ place ∷ []) i.places ∙ sym more;
+      origins =
+          ap (map origin_in) items ∙ map-append origin_in c.loop-place.parts.items (new ∷ [])
+          ∙ ap₂ (λ (xs : List PartOrigin) (x : PartOrigin). xs ++ x ∷ []) i.origins
+          (ap from_there c.in_ok-content.ensures.comes)
+          ∙ sym (map-append origin_from_place (take k all) (place ∷ []))
+          ∙ ap (map origin_from_place) (sym more);
     }
 
 pub returns-in_err-parts : goal.returns-in_err-parts
@@ -87,10 +99,14 @@ returns g c =
     let from : Place → Part =
     part_from entry.machine.now (value_of_files entry) (g.K.LoadableKernel.reading c.args.kernel.now)
     c.args.places.now in
+    let origin_from_place : Place → PartOrigin =
+    origin_at entry.machine.now (value_of_files entry) (g.K.LoadableKernel.reading c.args.kernel.now)
+    c.args.places.now in
     let all = take_all c.loop-place.place-index c.args.sorted.now c.loop-place-test.false in
     record {
       parts = c.loop-place.invariant.parts ∙ ap (map from) all;
       backed = c.loop-place.invariant.backed;
       lean = c.loop-place.invariant.lean;
       places = c.loop-place.invariant.places ∙ all;
+      origins = c.loop-place.invariant.origins ∙ ap (map origin_from_place) all;
     }

@@ -1,4 +1,5 @@
 use Rattle.std.proofs.Common.{◌≡◌, take, map, All}
+use Rattle.bl_load.specs.Origins.{planned_origin, origin_at}
 use Rattle.bl_load.specs.Parts.{part_from}
 use Rattle.bl_load.specs.PlannedPlaces.{planned_place}
 use Rattle.bl_load.specs.PlanContents.{part_by}
@@ -18,4 +19,8 @@ invariant-loop-place g l =
       backed : All (IsBacked (lengths_of texts)) l.parts.items;
       lean : IsLean l.parts.items;
       places : map planned_place l.parts.items ≡ take l.place-index l.sorted;
+      origins : map planned_origin l.parts.items
+          ≡ map
+          (origin_at l.entry.machine.now (value_of_files l.entry) (g.K.LoadableKernel.reading l.kernel)
+          l.places) (take l.place-index l.sorted);
     }

@@ -1,6 +1,6 @@
 use Rattle.std.proofs.Common.{rules}
 use Rattle.std.proofs.lemmas.List.{length-map}
-use Rattle.std.proofs.Common.{◌≡◌, ◌≤◌, ◌<◌, ◌+◌, ◌^◌, List, [], All, map, arith, ap, subst, sym}
+use Rattle.std.proofs.Common.{◌≡◌, ◌≤◌, ◌<◌, ◌+◌, ◌^◌, List, [], All, map, arith, ap, ap₂, subst, sym}
 use Rattle.std.proofs.Common.{◌∙◌}
 use Rattle.std.proofs.lemmas.Result.{err_from_is_err_and}
 use Rattle.bl_plan.specs.declared.part.Place.{Place}
@@ -10,6 +10,7 @@ use Rattle.bl_plan.specs.AddressOrder.{places_in_order, place_key}
 use Rattle.bl_plan.proofs.OrderLemmas.{in_order_all}
 use Rattle.bl_load.specs.PlannedPlaces.{planned_place}
 use Rattle.bl_load.specs.HandoffFacts.{IsWellFormedHandoff}
+use Rattle.bl_load.specs.Origins.{origin_at}
 use Rattle.bl_load.specs.Parts.{registers_of}
 use Rattle.bl_load.specs.declared.registers.Registers.{Registers}
 use Rattle.bl_load.specs.declared.plan.PlannedPart.{PlannedPart}
@@ -211,6 +212,29 @@ returns-clause-handover g c =
       is = search (rules);
     }
 
+pub returns-clause-origins : goal.returns-clause-origins
+returns-clause-origins g c =
+    let facts = c.args.entry.now.machine.now in
+    let reading = g.K.LoadableKernel.reading c.args.kernel.now in
+    let value = value_of_files c.args.entry.now in
+    let rows : c.as_slice.result.now ≡ capped_rows_of facts value reading =
+    c.as_slice.ensures.value ∙ c.in_ok-rows.ensures in
+    let told : ArePlaced facts [] (capped_rows_of facts value reading) c.in-Ok.places.items =
+    subst (λ (rs : List Row). ArePlaced facts [] rs c.in-Ok.places.items) rows
+    c.in-Ok.ensures.placed in
+    let sorted : c.as_slice-5.result.now ≡ places_in_order c.in-Ok.places.items =
+    c.as_slice-5.ensures.value ∙ c.in_ok-sorted.ensures
+    ∙ ap places_in_order c.as_slice-3.ensures.value in
+    record {
+      reading = reading;
+      places = c.in-Ok.places.items;
+      read = c.requires.read;
+      placed = told_placed facts value reading c.in-Ok.places.items told;
+      are = c.in_ok-parts.ensures.origins
+          ∙ ap₂ (λ (all ps : List Place). map (origin_at facts value reading all) ps)
+          c.as_slice-4.ensures.value sorted;
+    }
+
 pub returns-in_err-rows-clause-handover : goal.returns-in_err-rows-clause-handover
 returns-in_err-rows-clause-handover g c =
     let p = err_from_is_err_and c.from_residual.result c.from_residual.ensures.1 in
@@ -223,6 +247,11 @@ returns-in_err-rows-clause-loadable g c =
 
 pub returns-in_err-rows-clause-lean : goal.returns-in_err-rows-clause-lean
 returns-in_err-rows-clause-lean g c =
+    let p = err_from_is_err_and c.from_residual.result c.from_residual.ensures.1 in
+    rw p.1 tt
+
+pub returns-in_err-rows-clause-origins : goal.returns-in_err-rows-clause-origins
+returns-in_err-rows-clause-origins g c =
     let p = err_from_is_err_and c.from_residual.result c.from_residual.ensures.1 in
     rw p.1 tt
 
@@ -247,6 +276,13 @@ returns-in_err-sorted-clause-loadable g c =
 
 pub returns-in_err-sorted-clause-lean : goal.returns-in_err-sorted-clause-lean
 returns-in_err-sorted-clause-lean g c =
+    let p =
+    err_from_is_err_and c.from_residual-in_err-sorted.result
+    c.from_residual-in_err-sorted.ensures.1 in
+    rw p.1 tt
+
+pub returns-in_err-sorted-clause-origins : goal.returns-in_err-sorted-clause-origins
+returns-in_err-sorted-clause-origins g c =
     let p =
     err_from_is_err_and c.from_residual-in_err-sorted.result
     c.from_residual-in_err-sorted.ensures.1 in
@@ -280,6 +316,13 @@ returns-in_err-parts-clause-lean g c =
     c.from_residual-in_err-parts.ensures.1 in
     rw p.1 tt
 
+pub returns-in_err-parts-clause-origins : goal.returns-in_err-parts-clause-origins
+returns-in_err-parts-clause-origins g c =
+    let p =
+    err_from_is_err_and c.from_residual-in_err-parts.result
+    c.from_residual-in_err-parts.ensures.1 in
+    rw p.1 tt
+
 pub returns-in_err-parts-clause-fault : goal.returns-in_err-parts-clause-fault
 returns-in_err-parts-clause-fault g c =
     let p =
@@ -308,6 +351,13 @@ returns-in_err-ranges-clause-lean g c =
     c.from_residual-in_err-ranges.ensures.1 in
     rw p.1 tt
 
+pub returns-in_err-ranges-clause-origins : goal.returns-in_err-ranges-clause-origins
+returns-in_err-ranges-clause-origins g c =
+    let p =
+    err_from_is_err_and c.from_residual-in_err-ranges.result
+    c.from_residual-in_err-ranges.ensures.1 in
+    rw p.1 tt
+
 pub returns-in_err-ranges-clause-fault : goal.returns-in_err-ranges-clause-fault
 returns-in_err-ranges-clause-fault g c =
     let p =
@@ -323,6 +373,9 @@ returns-in-Err-clause-loadable g c = tt
 
 pub returns-in-Err-clause-lean : goal.returns-in-Err-clause-lean
 returns-in-Err-clause-lean g c = tt
+
+pub returns-in-Err-clause-origins : goal.returns-in-Err-clause-origins
+returns-in-Err-clause-origins g c = tt
 
 pub rows-requires : goal.rows-requires
 rows-requires g c = c.requires

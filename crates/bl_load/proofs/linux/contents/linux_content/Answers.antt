@@ -4,6 +4,7 @@ use Rattle.bl_params.proofs.Lengths.{length-boot_params}
 use Rattle.bl_params.proofs.PagingLemmas.{length-paging}
 use Rattle.bl_plan.specs.declared.part.Role.TheVariants.{PageTables}
 use Rattle.bl_load.specs.Addresses.{address_of}
+use Rattle.bl_load.specs.Origins.{made}
 use Rattle.bl_load.specs.Protocols.{is_wide}
 use Rattle.bl_load.specs.LinuxRows.{boot_params_facts}
 use Rattle.bl_load.specs.KernelReading.{linux}
@@ -31,6 +32,7 @@ returns-in_ok-boot_params-in-BootParams g c =
     rw c.in-BootParams.is
     (record {
       is = is;
+      comes = ap made is;
       there = tt;
       short =
           omega (
@@ -56,6 +58,7 @@ returns-in_ok-page_tables_at-in-PageTables g c =
     rw c.in-PageTables.is
     (record {
       is = is;
+      comes = ap made is;
       there = tt;
       short =
           omega (

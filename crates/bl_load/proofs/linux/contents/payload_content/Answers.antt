@@ -1,4 +1,4 @@
-use Rattle.std.proofs.Common.{ℕ, List, length, map, arith, rules}
+use Rattle.std.proofs.Common.{ℕ, List, length, map, arith, rules, refl}
 use Rattle.std.proofs.lemmas.List.{length-map}
 use Rattle.bl_bzimage.proofs.SetupLaws.{payload_is_tail}
 use Rattle.bl_mem.specs.Files.{nth_file}
@@ -12,6 +12,7 @@ returns g c =
     let tail = (payload_is_tail (nth_file texts 0) c.args.setup.now c.requires.setup).0 in
     record {
       is = search rules;
+      comes = refl;
       there = (
         omega (
           arith,

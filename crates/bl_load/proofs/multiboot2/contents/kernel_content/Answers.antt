@@ -1,6 +1,7 @@
 use Rattle.std.proofs.Common.{ℕ, List, length, map, arith, ap, ◌∙◌}
 use Rattle.std.proofs.lemmas.List.{length-map}
 use Rattle.bl_plan.specs.AddressOrder.{segments_in_order}
+use Rattle.bl_load.specs.Origins.{file_block}
 use Rattle.bl_load.specs.internal.ReadMultiboot2Kernels.{executable_facts}
 use Rattle.bl_load.proofs.ContentLemmas.{block_content, block_copied, block_ascends, block_some}
 use Rattle.bl_load.proofs.ContentLemmas.{block_short}
@@ -16,6 +17,7 @@ returns-in_ok-in_order-in-Some g c =
     let some = c.requires.file in
     record {
       is = block_content _ segments _ c.in-Some.field-0 _ _ loadable is c.in-Some.is;
+      comes = rw c.in-Some.is (ap (file_block 0) is);
       there = (
         omega (
           arith,

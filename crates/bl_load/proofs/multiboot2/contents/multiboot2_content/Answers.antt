@@ -1,9 +1,15 @@
-use Rattle.std.proofs.Common.{◌≡◌, ℕ, List, [], length, arith, ap, subst}
+use Rattle.std.proofs.Common.{◌≡◌, ◌⊎◌, ℕ, List, [], length, arith, ap, subst, inl, inr}
 use Rattle.bl_mbi.specs.InfoToWriteFacts.{info_size}
+use Rattle.bl_map.specs.MachineFacts.{MachineFacts}
 use Rattle.bl_plan.specs.declared.part.Role.{Role}
+use Rattle.bl_plan.specs.declared.part.Role.TheVariants.{BootParams, CommandLine, Gdt, Initrd}
+use Rattle.bl_plan.specs.declared.part.Role.TheVariants.{PageTables}
+use Rattle.bl_load.specs.EntryValue.{EntryValue}
+use Rattle.bl_load.specs.Multiboot2Kernel.{Multiboot2KernelFacts}
 use Rattle.bl_load.specs.KernelReading.{multiboot2}
 use Rattle.bl_load.specs.internal.ReadMultiboot2Kernels.{kernel_by}
 use Rattle.bl_map.specs.PoolFrames.{round_up_to_frames}
+use Rattle.bl_load.specs.Origins.{made}
 use Rattle.bl_load.specs.Rows.{information_of}
 use Rattle.bl_load.specs.internal.Placing.{HasLength}
 use Rattle.bl_load.specs.internal.CheckedEntries.{texts_in, value_of_files}
@@ -37,6 +43,7 @@ returns-in_ok-bytes-in-Information g c =
     rw c.in-Information.is
     (record {
       is = is;
+      comes = ap made is;
       there = tt;
       short = omega (arith, short, ap (λ (bytes : List ℕ). length bytes) is);
       lean = tt;
@@ -47,3 +54,26 @@ returns-in-Kernel g c = rw c.in-Kernel.is c.kernel_content.ensures
 
 pub returns-in-Module : goal.returns-in-Module
 returns-in-Module g c = rw c.in-Module.is c.module_content.ensures
+
+-- there is no such part
+no_part : (facts : MachineFacts) (value : EntryValue) (kernel : Multiboot2KernelFacts) (r : Role)
+    (i n : ℕ) → HasLength facts value (multiboot2 kernel) r i n
+    → (r ≡ BootParams) ⊎ ((r ≡ CommandLine) ⊎ ((r ≡ Gdt) ⊎ ((r ≡ Initrd) ⊎ (r ≡ PageTables)))) → ⊥
+no_part facts value kernel r i n has (inl e) =
+    subst (λ (x : Role). HasLength facts value (multiboot2 kernel) x i n) e has
+no_part facts value kernel r i n has (inr (inl e)) =
+    subst (λ (x : Role). HasLength facts value (multiboot2 kernel) x i n) e has
+no_part facts value kernel r i n has (inr (inr (inl e))) =
+    subst (λ (x : Role). HasLength facts value (multiboot2 kernel) x i n) e has
+no_part facts value kernel r i n has (inr (inr (inr (inl e)))) =
+    subst (λ (x : Role). HasLength facts value (multiboot2 kernel) x i n) e has
+no_part facts value kernel r i n has (inr (inr (inr (inr e)))) =
+    subst (λ (x : Role). HasLength facts value (multiboot2 kernel) x i n) e has
+
+pub returns-in-BootParams : goal.returns-in-BootParams
+returns-in-BootParams g c =
+    let entry = c.args.entry.now in
+    let place = c.args.place.now in
+    absurd
+    (no_part entry.machine.now (value_of_files entry) (kernel_by c.args.kernel.now) place.role
+    place.index place.length c.requires.rowed c.in-BootParams.is)
