@@ -3,4 +3,3 @@ pub mod Submissions
 pub mod Faithful
 pub mod Stores
 pub mod Ledger
-pub mod Scripts

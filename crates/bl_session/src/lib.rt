@@ -23,6 +23,6 @@ pub use runs::{
 };
 pub use session::{BootFault, Outcome, OwnedSession, Progress, Session};
 pub use store::{
-    Completion, FileStore, History, Ledger, Order, ScriptStore, SliceFiles, SliceStore, Store,
-    StoredFiles, Submission,
+    Completion, FileStore, History, Ledger, Order, SliceFiles, SliceStore, Store, StoredFiles,
+    Submission,
 };

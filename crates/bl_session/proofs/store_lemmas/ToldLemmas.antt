@@ -13,8 +13,6 @@ use Rattle.bl_session.specs.store.History.{HistoryItem, IsItemOfAnswer}
 use Rattle.bl_session.specs.store.Stores.{FileStoreFacts, event_of, answer_to, next_event}
 use Rattle.bl_session.specs.store.Stores.{next_place, without_index, after_answer}
 use Rattle.bl_session.specs.store.Stores.{item_of_completion}
-use Rattle.bl_session.specs.store.Scripts as scripts
-use Rattle.bl_session.specs.store.Scripts.{ScriptStoreFacts, event_of_reply, picked_place}
 use Rattle.bl_session.proofs.store_lemmas.SubmissionLemmas.{item_is}
 use Rattle.bl_session.proofs.store_lemmas.StoreLemmas.{place_within}
 use Rattle.bl_session.proofs.store_lemmas.ListedLemmas.{length_without}
@@ -107,32 +105,4 @@ file_store_tells old new (Err fault) is ok err = record {
   as_many = tt;
   err =
       (ap (λ (s : FileStoreFacts). s.given) err, ap (λ (s : FileStoreFacts). length s.pending) err);
-}
-
-picked_within : (store : ScriptStoreFacts) → 0 < length store.pending
-    → picked_place store < length store.pending
-picked_within store some = omega arith
-
-pub script_store_tells : {A E : Type 0} (old new : ScriptStoreFacts)
-    (result : Result (Option (Completion A)) E)
-    → IfOk result (λ answer. option_map event_of answer ≡ scripts.next_script_event old)
-    → IfOk result (λ answer. new ≡ scripts.after_script_answer old (option_map event_of answer))
-    → OnErr result (new ≡ old)
-    → Tells old.files new.files old.given new.given (length old.pending) (length new.pending) result
-script_store_tells old new (Ok answer) is ok err =
-    tells_taken (event_of_reply old.files) old.files new.files old.given new.given old.pending
-    new.pending
-    (picked_place old) answer (picked_within old) is
-    (ap (λ (s : ScriptStoreFacts). s.files) ok) (ap (λ (s : ScriptStoreFacts). s.given) ok)
-    (ap (λ (s : ScriptStoreFacts). s.pending) ok)
-script_store_tells old new (Err fault) is ok err = record {
-  files = ap (λ (s : ScriptStoreFacts). s.files) err;
-  given = tt;
-  none = tt;
-  fewer = tt;
-  as_many = tt;
-  err = (
-    ap (λ (s : ScriptStoreFacts). s.given) err,
-    ap (λ (s : ScriptStoreFacts). length s.pending) err,
-  );
 }

@@ -13,11 +13,11 @@ use std::marker::Model;
 /// program runs.
 ///
 /// A store of one's own that answers each ticket once keeps a [`Ledger`](crate::Ledger), which
-/// keeps a history, and needs no proof. A store that answers in some other way, as `ScriptStore`
-/// answers a ticket twice, keeps a history in a field and gives its `items` as `given` in its `impl
-/// Store`: `and_submission` after a submission that was not refused memory, `and_answer` after each
-/// answer. `item_is` of `proofs/store_lemmas/SubmissionLemmas.antt` then proves the clause `given`
-/// of `next`.
+/// keeps a history, and needs no proof. A store that answers in some other way, such as a ticket
+/// twice, keeps a history in a field and gives its `items` as `given` in its `impl Store`: those of
+/// `and_submission` after a submission that was not refused memory, and of `and_answer` after each
+/// answer.
+/// `tells_taken` of `proofs/store_lemmas/ToldLemmas.antt` then proves the clauses of `next`.
 #[derive(Drop)]
 pub struct History {
     ghost items: { List HistoryItem },

@@ -1,5 +1,5 @@
-use Rattle.bl_session.proofs.store_lemmas.ToldLemmas.{script_store_tells}
-use Rattle.bl_session.proofs.store.script_store.ScriptStoreStore.TheImpl.Goals as goal
+use Rattle.test_row_parts.proofs.ScriptLemmas.{script_store_tells}
+use Rattle.test_row_parts.proofs.menu_calls.script_store.ScriptStoreStore.TheImpl.Goals as goal
 
 pub next-tells : goal.next-tells
 next-tells g x c =

@@ -1,13 +1,10 @@
 //! What a script store is still to answer.
 ghost use Rattle.std.specs.Prelude.{◌≡◌, ◌++◌, map, IfOk, OnOk, OnErr};
 ghost use Rattle.std.specs.Int.Bits.{bit_xor};
-ghost use Rattle.bl_session.specs.store.Stores.{event_of};
-ghost use Rattle.bl_session.specs.store.Scripts.{event_of_reply, replies_to};
+ghost use Rattle.bl_session.specs.store.Stores.{answer_to, event_of};
+ghost use Rattle.test_row_parts.specs.Scripts.{event_of_reply, replies_to};
 
-use crate::attempt::ticket::Ticket;
-use crate::store::Completion;
-use crate::store::stored_files::StoredFiles;
-use crate::store::submission::{Submission, answer};
+use bl_session::{Completion, StoredFiles, Submission, Ticket};
 use std::alloc::{AllocError, Allocator};
 
 /// What comes of a submission: its answer, the same with each byte altered, or a fault.
@@ -16,6 +13,22 @@ pub(crate) enum ScriptReply {
     Answer(Submission),
     Altered(Submission),
     Fault(Ticket),
+}
+
+/// The answer to a submission: a copy of the piece, or a fault, if there is no such file or piece.
+fn answer<F: StoredFiles, A: Allocator + Copy>(
+    alloc: A,
+    files: &F,
+    submission: &Submission,
+) -> Result<Completion<A>, AllocError>
+    ensures { IfOk result (λ completion.
+        event_of completion ≡ answer_to (F.files files.now) submission.now) }
+{
+    let Submission { file, ticket } = *submission;
+    match files.piece(file, ticket.piece) {
+        Some(piece) => Ok(Completion::Piece(ticket, Vec::from_slice(alloc, piece)?)),
+        None => Ok(Completion::Fault(ticket)),
+    }
 }
 
 /// Each byte exclusive-or 0xFF.

@@ -1,6 +1,6 @@
 use Rattle.std.proofs.Common.{sym}
 use Rattle.std.proofs.lemmas.List.{drop-drop}
-use Rattle.bl_session.proofs.store.script.Script.advance.Goals as goal
+use Rattle.test_row_parts.proofs.menu_calls.script.Script.advance.Goals as goal
 
 pub returns-then-self-len : goal.returns-then-self-len
 returns-then-self-len g c =

@@ -1,16 +1,12 @@
-//! A store for tests, whose answers are told beforehand.
-use crate::attempt::ticket::Ticket;
-use crate::store::fetched_files::size_in;
-use crate::store::history::History;
-use crate::store::script::Script;
-use crate::store::script_reply::{ScriptReply, completion_of, push_replies};
-use crate::store::submission::Submission;
-use crate::store::{Completion, Store};
-use bl_stage::Fetched;
+//! A store whose answers are told beforehand: in any order, some tickets a second time with other
+//! bytes, some with a fault.
+use crate::menu_calls::script::Script;
+use crate::menu_calls::script_reply::{ScriptReply, completion_of, push_replies};
+use bl_session::{Completion, Fetched, History, Store, StoredFiles, Submission, Ticket};
 use std::alloc::{AllocError, Allocator};
 use std::marker::Model;
 
-/// A store over files in memory, for tests. What comes of each ticket is appended to a list as it
+/// A store over files in memory. What comes of each ticket is appended to a list as it
 /// is submitted; each answer is taken out of that list at a place that was told beforehand.
 #[derive(Drop)]
 pub struct ScriptStore<A: Allocator + Copy> {
@@ -25,7 +21,7 @@ pub struct ScriptStore<A: Allocator + Copy> {
 
 impl<A: Allocator + Copy> Model for ScriptStore<A> {
     ghost use Rattle.bl_stage.specs.Files.{stored_files};
-    ghost use Rattle.bl_session.specs.store.Scripts.{ScriptStoreFacts};
+    ghost use Rattle.test_row_parts.specs.Scripts.{ScriptStoreFacts};
 
     ghost Value = { ScriptStoreFacts };
 
@@ -43,7 +39,7 @@ impl<A: Allocator + Copy> ScriptStore<A> {
     ghost use Rattle.std.specs.Prelude.{◌≡◌, [], slice_get, IfOk, option_map};
     ghost use Rattle.bl_stage.specs.Files.{stored_files};
     ghost use Rattle.bl_session.specs.store.Stores.{event_of};
-    ghost use Rattle.bl_session.specs.store.Scripts.{next_script_event, picked_place};
+    ghost use Rattle.test_row_parts.specs.Scripts.{next_script_event, picked_place};
 
     /// A store of these files, by their index in the menu. A ticket of `fail` comes as a fault, and
     /// else one of `twice` comes twice, the second time with each byte exclusive-or 0xFF.
@@ -105,8 +101,8 @@ impl<A: Allocator + Copy> Store for ScriptStore<A> {
     ghost use Rattle.std.specs.Prelude.{slice_index_or};
     ghost use Rattle.bl_stage.specs.Files.{missing, size_of};
     ghost use Rattle.bl_session.specs.store.Stores.{event_of};
-    ghost use Rattle.bl_session.specs.store.Scripts.{next_script_event, after_script_submission};
-    ghost use Rattle.bl_session.specs.store.Scripts.{after_script_answer};
+    ghost use Rattle.test_row_parts.specs.Scripts.{next_script_event, after_script_submission};
+    ghost use Rattle.test_row_parts.specs.Scripts.{after_script_answer};
 
     type Alloc = A;
 
@@ -119,7 +115,7 @@ impl<A: Allocator + Copy> Store for ScriptStore<A> {
     fn size(&self, file: u32) -> Result<Option<u64>, AllocError>
         ensures { result ≡ Ok (size_of (slice_index_or self.now.files file missing)) }
     {
-        Ok(size_in(&self.files, file))
+        Ok(self.files.size(file))
     }
 
     fn left(&self) -> u64 {

@@ -6,9 +6,9 @@ use Rattle.std.specs.Int.Bits.{bit_xor}
 use Rattle.bl_stage.specs.Files.{File}
 use Rattle.bl_session.specs.declared.attempt.ticket.Ticket.{Ticket}
 use Rattle.bl_session.specs.declared.store.submission.Submission.{Submission}
-use Rattle.bl_session.specs.declared.store.script_reply.ScriptReply.{ScriptReply}
-use Rattle.bl_session.specs.declared.store.script_reply.ScriptReply.TheVariants.{Answer, Altered}
-use Rattle.bl_session.specs.declared.store.script_reply.ScriptReply.TheVariants.{Fault}
+use Rattle.test_row_parts.specs.declared.menu_calls.script_reply.ScriptReply.{ScriptReply}
+use Rattle.test_row_parts.specs.declared.menu_calls.script_reply.ScriptReply.TheVariants.{Answer, Altered}
+use Rattle.test_row_parts.specs.declared.menu_calls.script_reply.ScriptReply.TheVariants.{Fault}
 use Rattle.bl_session.specs.session.BootSteps.{EventFacts, piece, fault}
 use Rattle.bl_session.specs.store.History.{HistoryItem, submitted, is_same}
 use Rattle.bl_session.specs.store.Stores.{answer_to, item_of_answer, without_index}
