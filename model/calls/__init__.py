@@ -28,11 +28,10 @@ class Call(NamedTuple):
 
 
 def all_calls() -> Dict[str, Call]:
-    from . import (boots, conversions, descriptions, entries, handoffs, images, information,
-                   kernels, lines, machines, memories, menus, plans, reasons, sessions, sinks,
-                   stages, walks)
-    modules = (boots, conversions, descriptions, entries, handoffs, images, information, kernels,
-               lines, machines, memories, menus, plans, reasons, sessions, sinks, stages, walks)
+    from . import (boots, conversions, entries, images, information, kernels, lines, machines,
+                   memories, menus, plans, registers, sessions, sinks, stages, walks)
+    modules = (boots, conversions, entries, images, information, kernels, lines, machines,
+               memories, menus, plans, registers, sessions, sinks, stages, walks)
     calls: Dict[str, Call] = {}
     for module in modules:
         calls.update(module.CALLS)

@@ -1,27 +1,25 @@
-"""boot, boots, map, explain, fetch: the calls of program_boot and program_explain on a description."""
+"""boot, map, explain: the calls of program_boot and program_explain on a description."""
 
-from typing import List, Optional, Set, Union
+from typing import List, Optional, Set
 
-from language import demand, fields, number, only, pair, quoted, single, spell
+from language import demand, fields, number, only, quoted, single, spell
 from rules import booting, description, explaining
 from rules.image import spell as image_of
 
 from . import BYTES_OF, Call
-from .answers import Sweep, one_of
+from .answers import one_of
 
-TOO_LONG = booting.FILE_LIMIT + 1
-
+ROOM = 0x100000  # of a sink whose room is left out
 
 class Given:
     """The fields of a row: files that can be fetched, what was said before, the sink."""
 
     def __init__(self, table, line):
         named, bare = fields(line.words)
-        only(named, "file", "said", "limit", "limits", "step")
-        demand(all(word in ("long", "reverse") for word in bare))
+        only(named, "file", "said", "limit", "step")
+        demand(all(word == "reverse" for word in bare))
         self.named = named
         self.said = table.names.one(single(named, "said")) if "said" in named else b""
-        self.is_long = "long" in bare
         self.files = {}
         for word in named.get("file", []):
             name, colon, data = word.partition(":")
@@ -29,13 +27,13 @@ class Given:
             self.files.setdefault(name, table.names.one(data))  # of two with one name the first
         demand("step" not in named or number(single(named, "step")) > 0)
 
-    def path_named(self, name: str) -> Union[bytes, int, None]:
-        return TOO_LONG if self.is_long else self.files.get(name)
+    def path_named(self, name: str) -> Optional[bytes]:
+        return self.files.get(name)
 
-    def text(self, run: booting.Run, data: bytes, limit: Optional[int]) -> str:
+    def text(self, run: booting.Run, data: bytes, limit: int) -> str:
         """What is told of a boot whose sink has room for so many bytes, but for the bytes that it
         took."""
-        if run.handover is not None and limit is not None and len(image_of(run.handover)) > limit:
+        if run.handover is not None and len(image_of(run.handover)) > limit:
             said, status, faults = "", 3, 1
         else:
             said, status, faults = "".join(line + "\n" for line in run.said), run.status, 0
@@ -57,20 +55,10 @@ class Given:
 
 def boot(table, line):
     given = Given(table, line)
-    limit = number(single(given.named, "limit")) if "limit" in given.named else None
+    limit = number(single(given.named, "limit")) if "limit" in given.named else ROOM
     run = booting.boot(line.data, given.path_named)
     image = image_of(run.handover)[:limit] if run.handover is not None else b""
     return "%s, image %s" % (given.text(run, line.data, limit), spell(image))
-
-
-def boots(table, line):
-    given = Given(table, line)
-    first, end = pair(single(given.named, "limits"), "..")
-    run = booting.boot(line.data, given.path_named)
-    size = len(image_of(run.handover)) if run.handover is not None else 0
-    room, none = given.text(run, line.data, size), given.text(run, line.data, size - 1)
-    return Sweep((n, (room if n >= size else none) + ", its first bytes")
-                 for n in range(first, end))
 
 
 def boot_is_refused(table, line, text):
@@ -112,19 +100,8 @@ def explain_is_refused(table, line, text):
     return text in ends + ["no memory"]
 
 
-def fetch(table, line):
-    demand(bool(line.words))
-    given = Given(table, line._replace(words=line.words[1:]))
-    found = given.path_named(line.words[0])
-    if found is None:
-        return "missing, missing 1"
-    return (spell(found) if isinstance(found, bytes) else "too long") + ", missing 0"
-
-
 CALLS = {
     "boot": Call(boot, BYTES_OF, boot_is_refused),
-    "boots": Call(boots, BYTES_OF),
     "map": Call(map_of, BYTES_OF, map_is_refused),
     "explain": Call(explain, BYTES_OF, explain_is_refused),
-    "fetch": Call(fetch, is_refused=lambda table, line, text: text == "no memory, missing 0"),
 }

@@ -1,12 +1,11 @@
-"""convert, converts: the calls of program_boot that write an image anew."""
+"""convert: the call of program_boot that writes an image anew."""
 
 from typing import Optional
 
-from language import demand, number, pair, perhaps, quoted, single, spell
+from language import demand, number, perhaps, quoted, spell
 from rules import booting
 
 from . import BYTES_OF, Call
-from .answers import Sweep
 from .images import Source, either, needed_of
 from .walks import Before
 
@@ -53,22 +52,6 @@ def convert(table, line):
     return either(meets_fault, ends.broken() + ", ", told)
 
 
-def converts(table, line):
-    """Over the reads that are faults, or over the room of the sink."""
-    before = Before(table, line, "step", "fails", "limit", "limits")
-    source, ends = Source(before.named), Ends(before, line.data)
-    if "limits" in before.named:
-        demand("fails" not in before.named and "limit" not in before.named)
-        first, end = pair(single(before.named, "limits"), "..")
-        return Sweep((n, ends.into(n) + ", its first bytes") for n in range(first, end))
-    first, end = pair(single(before.named, "fails"), "..")
-    limit, needed = room_of(before.named, "limit"), needed_of(line.data)
-    told = "%s, %x bytes" % (ends.into(limit), min(limit, len(ends.whole)))
-    broken = ends.broken() + ", 0 bytes"
-    return Sweep((n, either(source.meets_fault(n, needed), broken, told))
-                 for n in range(first, end))
-
-
 def convert_is_refused(table, line, text):
     """Nothing is blamed or taken then; what there was before may lack the memory too. That it was
     wanting stands behind what was taken."""
@@ -77,7 +60,4 @@ def convert_is_refused(table, line, text):
     return text in ("no memory", "status 4, blamed %s, faults 0 0, , no memory" % blamed)
 
 
-CALLS = {
-    "convert": Call(convert, BYTES_OF, convert_is_refused),
-    "converts": Call(converts, BYTES_OF),
-}
+CALLS = {"convert": Call(convert, BYTES_OF, convert_is_refused)}

@@ -1,4 +1,4 @@
-"""prepare, unplaced, load, load_entry, refusal: the calls of bl_load."""
+"""prepare, load: the calls of bl_load."""
 
 from typing import List, Optional
 
@@ -6,10 +6,9 @@ from language import demand, fields, number, only, perhaps, single, spell
 from rules import entry as entries
 from rules.handover import MULTIBOOT2, PROTOCOL_NAMES, Handover, names_of, part_bytes
 from rules.memory import Memory
-from rules.refusals import NAMES, Refused
+from rules.refusals import Refused
 
 from . import BYTES_OF, Call
-from .answers import Open
 from .kernels import refusal_text
 from .machines import last_machine
 
@@ -70,26 +69,6 @@ def prepare(table, line):
         return "refused " + refusal_text(refused)
 
 
-def row_text(wanted) -> str:
-    """A part that has no place, with the fields that a row of `places` has."""
-    words = ["%s %x len=%x" % (ROLES[wanted.role], wanted.index, wanted.length)]
-    if wanted.choice != "fixed":
-        words.append("align=%x low=%x high=%x" % (wanted.align, wanted.low, wanted.high))
-    has_address = wanted.choice in ("fixed", "preferred")
-    return " ".join(words + ["at=%x" % wanted.at if has_address else wanted.choice])
-
-
-def unplaced(table, line):
-    """The row of the first part that has no place."""
-    try:
-        entries.prepare(last_machine(table), read_entry(table, line.words, line.data))
-    except Refused as refused:
-        if refused.wanted is not None:
-            return row_text(refused.wanted)
-        return "refused " + refusal_text(refused)
-    return "none"
-
-
 def memory_after(machine, handover: Handover, fill: int) -> bytes:
     """All of memory: each part's bytes, and the others as before."""
     memory = Memory(machine.size, fill)
@@ -116,43 +95,7 @@ def load(table, line):
                                        spell(memory_after(machine, handover, filled)))
 
 
-def load_entry(table, line):
-    """What is handed over, or the refusal, and all of memory, which a refusal leaves."""
-    machine, filled, entry = read_load(table, line)
-    try:
-        handover = entries.prepare(machine, entry)
-    except Refused as refused:
-        return "refused %s, memory %s" % (refusal_text(refused),
-                                          spell(bytes([filled]) * machine.size))
-    return "%s, memory %s" % (handover_text(handover), spell(memory_after(machine, handover, filled)))
-
-
-def load_entry_is_refused(table, line, text):
-    """Memory that ran out leaves each byte, too."""
-    machine, filled, _ = read_load(table, line)
-    return text in ("no memory", "no memory, memory " + spell(bytes([filled]) * machine.size))
-
-
-def refusal(table, line):
-    """Its number, and a text, which is the program's own but tells what the refusal tells, in
-    decimal."""
-    demand(bool(line.words))
-    found = [number for number, name in NAMES.items() if name == line.words[0] and number < 40]
-    demand(len(found) == 1)
-    told = ["%d" % number(word) for word in line.words[1:]]
-
-    def is_right(text: str) -> bool:
-        first, _, rest = text.partition(" ")
-        return first == "%d" % found[0] and (not told
-                                             or [word for word in rest.split(" ")
-                                                 if word.isdigit()] == told)
-    return Open("%d .. %s" % (found[0], " ".join(told)), is_right)
-
-
 CALLS = {
     "prepare": Call(prepare, BYTES_OF),
-    "unplaced": Call(unplaced, BYTES_OF),
     "load": Call(load, BYTES_OF),
-    "load_entry": Call(load_entry, BYTES_OF, load_entry_is_refused),
-    "refusal": Call(refusal),
 }

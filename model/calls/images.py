@@ -1,5 +1,4 @@
-"""image, images, image_of, read_image, image_fault, read_images, rewrite, rewrites: the calls of
-bl_image."""
+"""image, images, image_of, read_image, image_fault, read_images: the calls of bl_image."""
 
 from typing import Optional
 
@@ -153,34 +152,6 @@ def read_images(table, line):
                  for n in range(first, end))
 
 
-def rewrite(table, line):
-    """What was read is written to a sink in memory."""
-    named, bare = fields(line.words)
-    only(named, "limit", "step")
-    demand(not bare)
-    limit, step = number(single(named, "limit")), number(single(named, "step"))
-    demand(step > 0)
-    try:
-        whole = rules.convert(line.data)
-    except Refused as refused:
-        return fault_text(refused)
-    return "%s, %s" % (sink_text(limit, len(whole)), spell(whole[:limit]))
-
-
-def rewrites(table, line):
-    named, bare = fields(line.words)
-    only(named, "limits", "step")
-    demand(not bare)
-    first, end = pair(single(named, "limits"), "..")
-    demand(number(single(named, "step")) > 0)
-    try:
-        size = len(rules.convert(line.data))
-    except Refused as refused:
-        return fault_text(refused)
-    return Sweep((limit, sink_text(limit, size) + ", its first bytes")
-                 for limit in range(first, end))
-
-
 CALLS = {
     "image": Call(image, BYTES_OF),
     "images": Call(images, BYTES_OF),
@@ -188,6 +159,4 @@ CALLS = {
     "read_image": Call(read_image, ALL_BYTES),
     "image_fault": Call(image_fault, ALL_BYTES),
     "read_images": Call(read_images, BYTES_OF),
-    "rewrite": Call(rewrite, BYTES_OF),
-    "rewrites": Call(rewrites, BYTES_OF),
 }

@@ -1,16 +1,15 @@
-"""elf, header, read_setup, setup_fault, write_params, read_params, gdt, gdt64, page_tables,
-translate: what is read of kernels, and told Linux."""
+"""elf, header, read_setup, setup_fault, read_params, gdt64, page_tables, translate: what is read of
+kernels, and told Linux."""
 
 from typing import List
 
 from language import demand, fields, number, numbers, only, pair, single, spell
 from rules import boot_params, bzimage, elf as elves, multiboot2, paging
-from rules.machine import REGION_LIMIT, Run
 from rules.numbers import u16, u32, u64
 from rules.refusals import Refused
 
 from . import ALL_BYTES, BYTES_OF, Call
-from .machines import kind_named, run_word
+from .machines import run_word
 
 
 def fault_text(refused: Refused) -> str:
@@ -87,40 +86,6 @@ def setup_fault(table, line):
     return fault_alone(bzimage.read, line.data)
 
 
-def read_run(word: str) -> Run:
-    """`BASE+LENGTH:KIND`, which ends at most at 2^52."""
-    place, colon, kind = word.partition(":")
-    demand(colon == ":")
-    base, length = pair(place, "+")
-    demand(base + length <= REGION_LIMIT)
-    return Run(base, base + length, kind_named(kind))
-
-
-def write_params(table, line):
-    named, bare = fields(line.words)
-    only(named, "load", "initrd", "line", "run")
-    demand(not bare)
-    initrd = pair(single(named, "initrd"), "+")
-    told = boot_params.Params(number(single(named, "load"), 32), *initrd,
-                              number(single(named, "line"), 32),
-                              [read_run(word) for word in named.get("run", [])])
-    try:
-        setup = bzimage.read(line.data)
-    except Refused:
-        demand(False)
-    return filled_words(boot_params.spell(setup.header, told))
-
-
-def filled_words(page: bytes) -> str:
-    """The bytes that are not 0, each stretch of them as a piece at its offset."""
-    words, at = [], 0
-    for stretch in page.split(b"\0"):
-        if stretch:
-            words.append("@%x=%s" % (at, stretch.hex()))
-        at += len(stretch) + 1
-    return " ".join(words)
-
-
 def read_params(table, line):
     try:
         read = boot_params.read(line.data)
@@ -131,11 +96,6 @@ def read_params(table, line):
              "cmd_line_ptr=%x" % read.cmd_line_ptr]
     words += field_words(line.data, FIELDS)
     return " ".join(words + ["run=" + run_word(run) for run in read.runs])
-
-
-def gdt(table, line):
-    demand(not line.words)
-    return boot_params.gdt().hex()
 
 
 def gdt64(table, line):
@@ -170,9 +130,7 @@ CALLS = {
     "header": Call(header, ALL_BYTES),
     "read_setup": Call(read_setup, ALL_BYTES),
     "setup_fault": Call(setup_fault, ALL_BYTES),
-    "write_params": Call(write_params, BYTES_OF),
     "read_params": Call(read_params, ALL_BYTES),
-    "gdt": Call(gdt),
     "gdt64": Call(gdt64),
     "page_tables": Call(page_tables),
     "translate": Call(translate, BYTES_OF),

@@ -10,6 +10,9 @@ ORDERS = ("forward", "reverse")
 # The options of each subcommand; --out must be given where it may be.
 OPTIONS = {"boot": ("--out", "--order"), "map": (), "walk": (), "convert": ("--out",),
            "explain": ("--order",)}
+# What the path of each is called.
+FIELDS = {"boot": "description", "map": "description", "walk": "image", "convert": "image",
+          "explain": "description"}
 
 
 class Refused(Exception):
@@ -61,22 +64,21 @@ def job(words: List[str]) -> str:
         raise Refused
     if "--out" in OPTIONS[command] and "--out" not in options:
         raise Refused
-    if command == "convert":
-        return "convert %s to %s" % (paths[0], options["--out"])
-    if command == "boot":
-        return "boot %s to %s %s" % (paths[0], options["--out"], order)
-    if command == "explain":
-        return "explain %s %s" % (paths[0], order)
-    return "%s %s" % (command, paths[0])
+    told = [(FIELDS[command], '"%s"' % paths[0])]
+    if "--out" in OPTIONS[command]:
+        told.append(("new" if command == "convert" else "image", '"%s"' % options["--out"]))
+    if "--order" in OPTIONS[command]:
+        told.append(("order", order.capitalize()))
+    return "%s { %s }" % (command.capitalize(), ", ".join("%s: %s" % one for one in told))
 
 
 def line(table, row):
     try:
         return job(row.words)
     except Help:
-        return "help"
+        return "Help"
     except Refused:
-        return "refused"
+        return "Refused"
 
 
 CALLS = {"line": Call(line)}

@@ -1,9 +1,9 @@
-"""memory, sparse, slice_memory, view, spell, own: the calls of bl_mem."""
+"""memory, sparse, slice_memory, own: the calls of bl_mem."""
 
 from typing import Callable, List
 
 from language import demand, fields, number, numbers, only, pair, single, spell as spelled, steps
-from rules.memory import MAX_BLOCK, Memory, bytes_of, number_of
+from rules.memory import MAX_BLOCK, Memory
 from rules.numbers import FRAME
 
 from . import Call
@@ -166,29 +166,6 @@ def slice_memory(table, line):
     return "; ".join(told + ["slice " + spelled(bytes(memory.slice))])
 
 
-def view(table, line):
-    demand(len(line.words) >= 2)
-    at, length = number(line.words[0]), number(line.words[1])
-    file = table.names.bytes_of(line.words[2:])
-    demand(at + length <= len(file))
-    words = ["length %x [%s]" % (len(file), spelled(file[at:at + length]))]
-    for width in (1, 2, 4, 8):
-        if width <= length:
-            words.append("u%d:%x" % (8 * width, number_of(file[at:at + width])))
-    return " ".join(words)
-
-
-def spell(table, line):
-    demand(bool(line.words))
-    value, data = number(line.words[0]), table.names.bytes_of(line.words[1:])
-    words = ["[%s]" % spelled(data)]
-    for width in (4, 8):
-        if value < 1 << 8 * width:
-            written = spelled(bytes_of(value, width))
-            words.append("u%d [%s] [%s]" % (8 * width, written, written))
-    return " ".join(words)
-
-
 def own(table, line):
     word = spelled(line.data)
     is_empty = "false" if line.data else "true"
@@ -199,7 +176,5 @@ CALLS = {
     "memory": Call(flat),
     "sparse": Call(sparse, is_refused=sparse_is_refused),
     "slice_memory": Call(slice_memory),
-    "view": Call(view),
-    "spell": Call(spell),
     "own": Call(own, "all"),
 }

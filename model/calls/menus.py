@@ -15,7 +15,7 @@ from .kernels import fault_text
 File = Union[bytes, int, None]
 WORDS = ("file", "entry", "modules", "rsdp_old", "rsdp_new", "default", "fallback", "store",
          "twice", "fail", "picks", "answers")
-STORES = ("forward", "reverse", "counting", "slices", "slices_reverse", "silent", "script")
+STORES = ("forward", "reverse", "silent", "script")
 
 
 class MenuEntry(NamedTuple):
@@ -122,10 +122,6 @@ def menu(table, line):
         attempts = read.check()
     except Refused as refused:
         return fault_text(refused)
-    return menu_text(read, attempts)
-
-
-def menu_text(read: Menu, attempts: List[int]) -> str:
     told = " ".join("%x" % index for index in attempts)
     return "attempts %s, files %x" % (told, read.file_count())
 

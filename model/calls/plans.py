@@ -1,9 +1,8 @@
-"""plan, places, order, holds: the calls of bl_plan, and of bl_mem's segments."""
+"""plan: the calls of bl_plan."""
 
 from typing import Callable, Dict, List, NamedTuple
 
 from language import demand, fields, number, only, pair, single, steps
-from rules.memory import segment_holds
 from rules.places import Planner
 from rules.refusals import Refused
 
@@ -11,8 +10,6 @@ from . import Call
 from .machines import last_machine
 
 FAULTS = {15: "overlap", 19: "not usable", 20: "no room"}
-ROLES = ("Kernel", "Module", "Information", "BootParams", "CommandLine", "Gdt", "Initrd",
-         "PageTables")
 
 
 class Asked(NamedTuple):
@@ -97,44 +94,4 @@ def step_asks(words: List[str]) -> bool:
     return words != ["taken"]
 
 
-def places(table, line):
-    rows = []
-    for words in steps(line.words):
-        demand(len(words) > 2 and words[0] in ROLES)
-        length = number(single(fields(words[2:])[0], "len"))
-        rows.append((words[0], number(words[1], 32), length, chosen(words[2:])))
-    planner = Planner(last_machine(table))
-    answers = []
-    for role, index, length, choose in rows:
-        try:
-            answers.append("%s %x %x+%x" % (role, index, choose(planner), length))
-        except Refused as refused:
-            return FAULTS[refused.number]
-    return "; ".join(answers) or "none"
-
-
-def read_segment(word: str) -> List[int]:
-    """`OFFSET,ADDRESS,FILESZ,MEMSZ`."""
-    segment = [number(part) for part in word.split(",")]
-    demand(len(segment) == 4)
-    return segment
-
-
-def order(table, line):
-    segments = sorted([read_segment(word) for word in line.words], key=lambda segment: segment[1])
-    return ";".join("%x,%x,%x,%x" % tuple(segment) for segment in segments) or "none"
-
-
-def holds(table, line):
-    demand(len(line.words) > 1)
-    _, address, _, memsz = read_segment(line.words[0])
-    asked = [segment_holds(address, memsz, number(word)) for word in line.words[1:]]
-    return "; ".join("yes" if held else "no" for held in asked)
-
-
-CALLS = {
-    "plan": Call(plan, is_refused=plan_is_refused),
-    "places": Call(places),
-    "order": Call(order),
-    "holds": Call(holds),
-}
+CALLS = {"plan": Call(plan, is_refused=plan_is_refused)}

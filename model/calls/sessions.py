@@ -1,4 +1,4 @@
-"""run, session, owned_session: the calls of bl_session on whole boots."""
+"""run, session: the calls of bl_session on whole boots."""
 
 from functools import lru_cache
 from typing import List, Optional
@@ -14,7 +14,7 @@ from .answers import Answer, Open, Steps, is_right, one_of
 from .entries import head_text, place_text
 from .kernels import refusal_text
 from .machines import last_machine
-from .menus import Menu, menu_text, usable_menu
+from .menus import Menu, usable_menu
 
 FILL = 0xa5
 NO_MEMORY, KEPT = "no memory", "outside kept"
@@ -62,7 +62,7 @@ def store_of(menu: Menu):
     elif menu.store == "silent":
         store = stores.SilentStore()
     else:
-        store = stores.FileStore(menu.store in ("reverse", "slices_reverse"))
+        store = stores.FileStore(menu.store == "reverse")
     if "answers" in named:
         return stores.DryStore(store, number(single(named, "answers")))
     return store
@@ -74,8 +74,6 @@ def run(table, line):
     session = Session(machine, menu, order)
     stores.run(session, store_of(menu))
     told = ", " + outcome_text(session)
-    if menu.store == "counting":
-        told += ", sizes %x" % menu.file_count()  # each size is asked once
     kept = outside(machine)
     if isinstance(kept, str):
         return kept + told
@@ -121,13 +119,6 @@ def request_text(session: Session, after: Optional[Ticket]) -> str:
     return "none"
 
 
-def own_text(session: Session, name: str) -> str:
-    """The machine or the menu that a session owns."""
-    if name == "machine":
-        return "size %x pool %x..%x" % (session.machine.size, *session.machine.pool)
-    return menu_text(session.menu, session.order)
-
-
 def is_event(words: List[str]) -> bool:
     return words[0] in ("start", "piece", "fault")
 
@@ -152,10 +143,6 @@ def told(table, session: Session, words: List[str]) -> Answer:
         return request_text(session, read_ticket(rest[0]) if rest else None)
     if words == ["waiting"]:
         return "yes" if session.state == "waiting" else "no"
-    if words in (["machine"], ["menu"]):
-        return own_text(session, name)
-    if words == ["end"]:
-        return outcome_text(session)
     demand(words in (["outcome"], ["outside"]))
     return outcome_text(session) if name == "outcome" else outside(session.machine)
 
@@ -165,9 +152,7 @@ def parse(table, line):
     at = line.words.index("do")
     menu, order = usable_menu(table, line.words[:at])
     made = steps(line.words[at + 1:])
-    demand(all(made) and ["end"] not in made[:-1])
-    if line.name == "session":  # it has neither
-        demand(["machine"] not in made and ["menu"] not in made)
+    demand(all(made))
     return Session(last_machine(table), menu, order), made
 
 
@@ -208,14 +193,11 @@ def is_told_out(words: List[str], part: str, boot: Session) -> bool:
         at, length = number(words[1]), number(words[2])
         start, end = boot.machine.pool
         return max(at, start) < min(at + length, end) or part == spell(bytes([FILL]) * length)
-    if words[0] in ("machine", "menu"):
-        return part == own_text(boot, words[0])
     return part == {"start": "failed", "waiting": "no", "missing": "none", "outcome": NO_MEMORY,
-                    "end": NO_MEMORY, "outside": KEPT}[words[0]]
+                    "outside": KEPT}[words[0]]
 
 
 CALLS = {
     "run": Call(run, is_refused=lambda table, line, text: text == KEPT + ", " + NO_MEMORY),
     "session": Call(session, is_refused=session_is_refused),
-    "owned_session": Call(session, is_refused=session_is_refused),
 }

@@ -2,7 +2,7 @@
 
 from typing import List, Tuple
 
-from language import BadRow, demand, fields, number, single, spell
+from language import demand, number
 
 from . import Call
 
@@ -51,29 +51,12 @@ def parts_text(table, sink: Sink, words: List[str]) -> List[str]:
 
 
 def sink(table, line):
-    demand(bool(line.words))
-    kind, words = line.words[0], line.words[1:]
-    if kind == "memory":
-        demand(len(words) >= 2)
-        named, _ = fields(words[:2])
-        made = Sink(number(single(named, "limit")), number(single(named, "step")))
-        demand(made.step > 0)
-        # All of its room is one request; no room is none.
-        told = parts_text(table, made, words[2:]) + ["asked %d" % (made.limit > 0)]
-        return ", ".join(told + ["holds " + spell(made.taken)])
-    if kind == "vector":
-        demand(bool(words))
-        own = table.names.one(words[0])
-        made = Sink(1 << 64, 1 << 64)
-        told = parts_text(table, made, words[1:])
-        return ", ".join(told + ["holds " + spell(own + made.taken)])
-    if kind == "pairs":
-        demand(len(words) >= 2
-               and words[1] in ("nothing", "storage_full", "broken_pipe", "interrupted"))
-        # It takes two bytes at each of so many writes.
-        made = Sink(PAIR * number(words[0]), PAIR)
-        return ", ".join(parts_text(table, made, words[2:]) + ["holds %x bytes" % len(made.taken)])
-    raise BadRow
+    """It takes two bytes at each of so many writes."""
+    demand(len(line.words) >= 2)
+    writes, end, *parts = line.words
+    demand(end in ("nothing", "storage_full", "broken_pipe", "interrupted"))
+    made = Sink(PAIR * number(writes), PAIR)
+    return ", ".join(parts_text(table, made, parts) + ["holds %x bytes" % len(made.taken)])
 
 
 CALLS = {"sink": Call(sink)}

@@ -1,13 +1,13 @@
-"""walk, walk_to, walks_to: the calls of bl_walk, and of program_boot on an image."""
+"""walk, walk_to: the calls of bl_walk, and of program_boot on an image."""
 
 from typing import List
 
-from language import demand, fields, only, pair, quoted, single, spell
+from language import demand, fields, only, quoted, single, spell
 from rules import image as images, walking
 from rules.refusals import Refused
 
 from . import ALL_BYTES, BYTES_OF, Call
-from .answers import Sweep, one_of
+from .answers import one_of
 from .images import Source, either, needed_of
 from .kernels import fault_text
 from .machines import run_word
@@ -80,16 +80,6 @@ def walk_to(table, line):
     return either(meets_fault, before.text(3, "", "", 1), told)
 
 
-def walks_to(table, line):
-    demand(line.words[:1] != [] and line.words[0].startswith("fails="))
-    before = Before(table, line, "step", "fails")
-    source, needed = Source(before.named), needed_of(line.data)
-    first, end = pair(single(before.named, "fails"), "..")
-    told, broken = one_of(walked_texts(before, line.data)), before.text(3, "", "", 1)
-    return Sweep((n, either(source.meets_fault(n, needed), broken, told))
-                 for n in range(first, end))
-
-
 def walk_to_is_refused(table, line, text):
     """Nothing is said or blamed then; what there was before may lack the memory too."""
     before = Before(table, line, "said", "blamed", "step", "fail")
@@ -99,5 +89,4 @@ def walk_to_is_refused(table, line, text):
 CALLS = {
     "walk": Call(walk, ALL_BYTES),
     "walk_to": Call(walk_to, BYTES_OF, walk_to_is_refused),
-    "walks_to": Call(walks_to, BYTES_OF),
 }

@@ -14,9 +14,8 @@ from .headers import MIB
 
 def draw(rng: Random, count: int) -> List[str]:
     """So many rows; each few are on a machine of their own."""
-    drawers = [elf, header, setup, info, info, params, params, image, image, walk, rewrite,
-               convert, prepare, prepare, prepare, plan, facts, describe, menu, handoff, unusable,
-               frames_for]
+    drawers = [elf, header, setup, info, info, params, params, image, image, walk, convert, convert,
+               prepare, prepare, prepare, plan, description, menu, registers]
     rows = []
     while len(rows) < count:
         rows.append(machine(rng))
@@ -77,13 +76,6 @@ def walk(rng: Random) -> str:
     return "walk " + digits(images.mutated(rng, data) if chance(rng, 60) else data)
 
 
-def rewrite(rng: Random) -> str:
-    data = images.draw(rng)
-    data = images.mutated(rng, data) if chance(rng, 50) else data
-    limit = rng.choice([0x10000, len(data), length(rng)])
-    return f"rewrite limit={limit:x} step={rng.choice([1, 7, 0x10000]):x} of {digits(data)}"
-
-
 def convert(rng: Random) -> str:
     data = images.draw(rng)
     data = images.mutated(rng, data) if chance(rng, 50) else data
@@ -116,10 +108,9 @@ def prepare(rng: Random) -> str:
     return f"prepare {protocol} line={told}{disk} of {digits(file)}"
 
 
-def handoff(rng: Random) -> str:
-    """What is asked of a handoff, of an entry as it is prepared."""
-    entry = prepare(rng).partition(" ")[2]
-    return rng.choice(["registers ", "segments ", "parts ", "parts "]) + entry
+def registers(rng: Random) -> str:
+    """Those of an entry as it is prepared."""
+    return "registers " + prepare(rng).partition(" ")[2]
 
 
 def menu(rng: Random) -> str:
@@ -162,33 +153,6 @@ def step(rng: Random) -> str:
     return f"place {limits} {rng.choice(['lowest', 'highest'])}"
 
 
-def facts(rng: Random) -> str:
-    if chance(rng, 50):
-        return "normal"
-    words = [f"{number(rng, 33):x}" for _ in range(4)]
-    for _ in range(4):
-        start = rng.choice([0x1000, MIB, number(rng, 33)])
-        words.append(f"{start:x}..{start + rng.choice([0, 1, 0x1000, MIB]):x}")
-    return "facts " + " ".join(words)
-
-
-def unusable(rng: Random) -> str:
-    words = []
-    for _ in range(rng.randrange(1, 6)):
-        start = rng.choice([0, 0xFFF, 0x1000, MIB, number(rng, 33), number(rng, 64)])
-        end = start + rng.choice([0, 1, 0x1000, MIB, number(rng, 33)])
-        words.append(f"{start:x}..{min(end, (1 << 64) - 1):x}")
-    return "unusable " + " ".join(words)
-
-
-def frames_for(rng: Random) -> str:
-    """Of a few files, or of so many that they may have 2^64 frames."""
-    words = []
-    for _ in range(rng.randrange(5)):
-        size = rng.choice([0, 1, 0x1000, 0x1001, (1 << 64) - 1, number(rng, 64)])
-        words.append(f"{size:x}" + rng.choice(["", "", "*3", "*800", "*1000"]))
-    return " ".join(["frames_for", *words])
-
-
-def describe(rng: Random) -> str:
-    return "describe " + digits(descriptions.draw(rng).text)
+def description(rng: Random) -> str:
+    """Its map, or its boot without any file beside it."""
+    return rng.choice(["map of ", "boot of "]) + digits(descriptions.draw(rng).text)

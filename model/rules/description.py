@@ -45,15 +45,13 @@ def bad(why: str) -> NoReturn:
     raise BadDescription(why)
 
 
-def read(text: bytes, checks_machine: bool = True) -> Description:
-    """Raises BadDescription. A machine that is refused is a bad description too, unless it is not
-    to be checked."""
+def read(text: bytes) -> Description:
+    """Raises BadDescription. A machine that is refused is a bad description too."""
     described = describe(toml_tree(text))
-    if checks_machine:
-        try:
-            check(described.machine)
-        except Refused as refused:
-            bad(f"machine {refused.args}")
+    try:
+        check(described.machine)
+    except Refused as refused:
+        bad(f"machine {refused.args}")
     return described
 
 

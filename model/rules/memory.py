@@ -44,17 +44,3 @@ class Memory:
     def holds(self, start: int, end: int) -> bool:
         """Whether the range goes forward and lies in memory."""
         return start <= end <= self.size
-
-
-def number_of(data: bytes) -> int:
-    """A file's bytes as a number, the lowest first."""
-    return int.from_bytes(data, "little")
-
-
-def bytes_of(number: int, width: int) -> bytes:
-    return number.to_bytes(width, "little")
-
-
-def segment_holds(address: int, memsz: int, at: int) -> bool:
-    """Whether a segment has a byte at this address; nothing wraps."""
-    return address <= at < address + memsz

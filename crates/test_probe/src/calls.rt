@@ -16,9 +16,6 @@ impl Calls for AllCalls {
 
     fn make_plain(&self, row: &mut Row<'_>) {
         let name = row.word();
-        if boots::make_plain(row, name) {
-            return;
-        }
         if !parts::make_plain(row, name) {
             calls::make_plain(row, name);
         }
@@ -26,10 +23,7 @@ impl Calls for AllCalls {
 
     fn make_over(&self, row: &mut Row<'_>) {
         let name = row.word();
-        if boots::make_over(row, name) {
-            return;
-        }
-        if !parts::make_over(row, name) {
+        if !boots::make_over(row, name) && !parts::make_over(row, name) {
             calls::make_over(row, name);
         }
     }

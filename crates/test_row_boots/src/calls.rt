@@ -3,26 +3,13 @@
 use crate::{boot, convert, explain, walk_to};
 use test_rows::row::Row;
 
-/// Makes a call of this name, whose words are left in the row, if it is one of these; and answers
-/// whether it is.
-pub fn make_plain(row: &mut Row<'_>, name: &str) -> bool {
-    if name != "fetch" {
-        return false;
-    }
-    boot::answer_fetch(row);
-    true
-}
-
 /// Makes a call of this name over the row's bytes, if it is one of these; and answers whether it
 /// is.
 pub fn make_over(row: &mut Row<'_>, name: &str) -> bool {
     match name {
         "walk_to" => walk_to::answer(row),
-        "walks_to" => walk_to::answer_each(row),
         "convert" => convert::answer(row),
-        "converts" => convert::answer_each(row),
-        "boot" => boot::answer_boot(row),
-        "boots" => boot::answer_boots(row),
+        "boot" => boot::answer(row),
         "map" => boot::answer_map(row),
         "explain" => explain::answer(row),
         _ => return false,

@@ -1,111 +1,71 @@
-//! `convert FIELD .. of BYTES`, `converts fails=A..B FIELD .. of BYTES` (where each read from A to
-//! B - 1 is a fault) and `converts limits=A..B FIELD .. of BYTES` (into a sink of each limit).
+//! `convert FIELD .. of BYTES`. `blamed=BYTES` was blamed before, `step=N` and `fail=N` are those of
+//! the source, `limit=N` and `takes=N` those of the sink: its room, and how many bytes it takes at
+//! most at a write.
 
 use crate::boot::say_said;
-use crate::conversion::{Conversion, read_conversion};
-use crate::sink::open_sink;
-use bl_image::{MemSink, Sink, Source};
+use bl_image::{Sink, Source};
 use program_boot::convert;
-use std::alloc::Global;
-use std::ops::Range;
-use test_row_parts::sinks::{AMPLE, Series};
+use test_row_parts::sinks::sink_over;
 use test_row_parts::source::SourceFields;
-use test_rows::answer_runs::AnswerRuns;
 use test_rows::row::Row;
 
-/// What a conversion left: its status, and the sink.
+/// Room for each image of a row that says no other.
+const ROOM: u64 = 0x1_0000;
+
+/// What a conversion is made with.
 #[derive(Drop)]
-struct Converted {
-    status: u8,
-    out: MemSink<Global>,
+struct Conversion {
+    source: SourceFields,
+    blamed: Vec<u8>,
+    limit: u64,
+    takes: u64,
 }
 
-/// Converts the row's bytes over the heap, read from such a source, into a sink of this limit, and
-/// says how it ended. None where memory ran out for the sink or for what was blamed before.
-fn convert_into(
-    row: &mut Row<'_>,
-    fields: &Conversion,
-    source: SourceFields,
-    limit: u64,
-) -> Option<Converted> {
-    let heap = row.heap;
-    let Ok(mut blamed) = fields.blamed.as_slice().to_vec(heap) else {
-        row.say("no memory");
-        return None;
+impl Conversion {
+    fn add(&mut self, row: &mut Row<'_>, word: &str) {
+        let (name, value) = row.cut(word, "=");
+        match name {
+            "blamed" => self.blamed = row.bytes_of(value),
+            "limit" => self.limit = row.number_of(value),
+            "takes" => self.takes = row.number_of(value),
+            _ => self.source.add(row, name, value),
+        }
+    }
+}
+
+/// What a conversion is made with, by the words that are left.
+fn read_conversion(row: &mut Row<'_>) -> Conversion {
+    let mut conversion = Conversion {
+        source: SourceFields::new(),
+        blamed: Vec::new(row.alloc),
+        limit: ROOM,
+        takes: ROOM,
     };
-    let mut out = open_sink(row, limit, fields.takes)?;
-    let mut source = source.source(row);
+    for word in row.rest().split_whitespace() {
+        conversion.add(row, word);
+    }
+    conversion
+}
+
+/// Converts the row's bytes over the heap, and says what the sink took.
+pub fn answer(row: &mut Row<'_>) {
+    let heap = row.heap;
+    let alloc = row.alloc;
+    let fields = read_conversion(row);
+    let Ok(mut blamed) = fields.blamed.as_slice().to_vec(heap) else {
+        return row.say("no memory");
+    };
+    let Some(mut out) = sink_over(row, alloc, fields.limit, fields.takes) else {
+        return;
+    };
+    let mut source = fields.source.source(row);
     let status = convert(heap, &mut source, &mut out, &mut blamed);
     row.say_decimal("status ", status as u64);
     say_said(row, ", blamed ", blamed.as_slice());
     row.say_number(", faults ", source.faults());
     row.say_number(" ", out.faults());
-    Some(Converted { status, out })
-}
-
-/// Converts the row's bytes, and says what the sink took.
-pub fn answer(row: &mut Row<'_>) {
-    let fields = read_conversion(row);
-    if fields.fails.is_some() || fields.limits.is_some() {
-        return row.refuse();
-    }
-    let Some(done) = convert_into(row, &fields, fields.source, fields.limit) else {
-        return;
-    };
-    row.say_bytes(", ", done.out.contents());
-    if done.status == 4 {
+    row.say_bytes(", ", out.contents());
+    if status == 4 {
         row.say(", no memory");
-    }
-}
-
-/// Converts the row's bytes where each read in turn is a fault of the source, and says how many
-/// bytes the sink took.
-fn converted_at_each(
-    row: &mut Row<'_>,
-    fields: &Conversion,
-    fails: Range<u64>,
-) -> Option<AnswerRuns> {
-    let mut runs = AnswerRuns::new(row.alloc, true);
-    for fail in fails {
-        let done = convert_into(row, fields, fields.source.failing(fail), fields.limit)?;
-        row.say_number(", ", done.out.contents().len() as u64);
-        row.say(" bytes");
-        runs.add(fail, row.take_text());
-    }
-    Some(runs)
-}
-
-/// Converts the row's bytes into sinks of each limit. None where the row can't be answered, or
-/// memory ran out for what was blamed before.
-fn converted_to_each(
-    row: &mut Row<'_>,
-    fields: &Conversion,
-    limits: Range<u64>,
-) -> Option<Series<Global>> {
-    let ample = convert_into(row, fields, fields.source, AMPLE)?;
-    let mut series = Series::new(row, ample.out);
-    for limit in limits {
-        let done = convert_into(row, fields, fields.source, limit)?;
-        series.add(row, limit, &done.out);
-    }
-    Some(series)
-}
-
-/// Converts the row's bytes where each read in turn is a fault of the source, or into a sink of
-/// each limit.
-pub fn answer_each(row: &mut Row<'_>) {
-    let mut fields = read_conversion(row);
-    match (fields.fails.take(), fields.limits.take()) {
-        (Some(fails), None) => {
-            if let Some(runs) = converted_at_each(row, &fields, fails) {
-                row.say_runs(runs);
-            }
-        }
-        (None, Some(limits)) => {
-            if let Some(series) = converted_to_each(row, &fields, limits) {
-                series.say(row);
-            }
-        }
-        _ => row.refuse(),
     }
 }

@@ -4,9 +4,6 @@
 mod beside;
 mod boot;
 pub mod calls;
-mod conversion;
 mod convert;
 mod explain;
-mod long_files;
-mod sink;
 mod walk_to;

@@ -1,3 +1,2 @@
 mod AskedLemmas
-mod PlanLemmas
 mod ScriptLemmas

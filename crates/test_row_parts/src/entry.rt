@@ -29,12 +29,7 @@ pub struct EntryField {
 
 /// The protocol of this name.
 pub fn protocol_of(row: &mut Row<'_>, name: &str) -> Protocol {
-    let protocols = [
-        ("multiboot2", Protocol::Multiboot2),
-        ("linux", Protocol::Linux),
-        ("linux64", Protocol::Linux64),
-    ];
-    row.pick(&protocols, name, Protocol::Linux)
+    row.found(Protocol::from_name(name), Protocol::Linux)
 }
 
 /// A copy of an RSDP, over a heap, if there is one.
@@ -45,13 +40,6 @@ fn copy_over<'h>(
     match copy {
         Some(bytes) => Ok(Some(Bytes::copy(heap, bytes.as_slice())?)),
         None => Ok(None),
-    }
-}
-
-/// A copy of an RSDP after a text, if there is one.
-pub fn say_copy(row: &mut Row<'_>, before: &str, copy: &Option<Bytes<&Refusing>>) {
-    if let Some(bytes) = copy {
-        row.say_bytes(before, bytes.as_slice());
     }
 }
 

@@ -1,10 +1,9 @@
 //! `prepare ENTRY of KERNEL` and `load fill=VV ENTRY of KERNEL`, on the last machine.
 
-use crate::row_entry::{LoadedEntry, load_entry, prepare_entry, read_entry};
-use bl_load::{Handoff, Plan, Registers};
+use crate::row_entry::{loaded_entry, prepared_entry};
+use bl_load::Registers;
 use bl_mem::PhysMem;
 use bl_plan::{Place, Role};
-use test_refusing::Refusing;
 use test_rows::calls::memory::read;
 use test_rows::row::Row;
 
@@ -42,7 +41,11 @@ pub fn say_place(row: &mut Row<'_>, place: &Place) {
     ]);
 }
 
-fn say_plan(row: &mut Row<'_>, plan: &Plan<&Refusing>) {
+/// Prepares the entry over the heap.
+pub fn answer_prepare(row: &mut Row<'_>) {
+    let Some(plan) = prepared_entry(row) else {
+        return;
+    };
     row.say_decimal("protocol ", plan.protocol.number() as u64);
     say_registers(row, &plan.registers);
     for part in &plan.parts {
@@ -50,46 +53,20 @@ fn say_plan(row: &mut Row<'_>, plan: &Plan<&Refusing>) {
     }
 }
 
-/// All of a handoff's calls.
-pub fn say_handoff(row: &mut Row<'_>, handoff: &Handoff<&Refusing>) {
+/// Prepares the entry and loads it, both over the heap; the handoff, how often loading asked for
+/// memory, and all of memory.
+pub fn answer_load(row: &mut Row<'_>) {
+    let Some(loaded) = loaded_entry(row) else {
+        return;
+    };
+    let handoff = &loaded.handoff;
     row.say_decimal("protocol ", handoff.protocol().number() as u64);
     say_registers(row, &handoff.registers());
     for i in 0..handoff.len() {
         say_place(row, &handoff.place(i));
     }
-}
-
-/// A handoff, how often loading asked for memory, and all of memory.
-fn say_loaded(row: &mut Row<'_>, loaded: &LoadedEntry<'_>) {
-    say_handoff(row, &loaded.handoff);
     row.say_number(", asked ", loaded.requests);
     let size = loaded.memory.size();
     let memory = read(row, &loaded.memory, 0, size);
     row.say_bytes(", memory ", memory.as_slice());
-}
-
-/// Prepares the entry over the heap.
-pub fn answer_prepare(row: &mut Row<'_>) {
-    let heap = row.heap;
-    let read = read_entry(row);
-    let files = read.views(row);
-    let Some(machine) = row.machine_over(heap) else {
-        return;
-    };
-    if let Some(plan) = prepare_entry(row, heap, &machine, &read, files.as_slice()) {
-        say_plan(row, &plan);
-    }
-}
-
-/// Prepares the entry and loads it, both over the heap.
-pub fn answer_load(row: &mut Row<'_>) {
-    let heap = row.heap;
-    let fill = row.byte_field("fill");
-    let read = read_entry(row);
-    let Some(machine) = row.machine_over(heap) else {
-        return;
-    };
-    if let Some(loaded) = load_entry(row, heap, &machine, fill, &read) {
-        say_loaded(row, &loaded);
-    }
 }

@@ -1,31 +1,23 @@
 //! `image limit=N step=N fill=VV ENTRY of KERNEL` and `images limits=A..B step=N fill=VV ENTRY of
 //! KERNEL`, on the last machine: into a sink in memory, or into one of each limit. `image_of
 //! fill=VV ENTRY of KERNEL`: what memory holds.
-ghost use Rattle.std.specs.Prelude.{◌+◌, ◌≤◌, length, All, IfSome};
+ghost use Rattle.std.specs.Prelude.{◌+◌, ◌≤◌, length, All};
 
 use crate::read_image::say_image;
-use crate::row_entry::{LoadedEntry, load_entry, read_entry};
-use crate::sinks::{AMPLE, Series, say_written, sink_over};
+use crate::row_entry::{LoadedEntry, loaded_entry};
+use crate::sinks::sink_over;
 use bl_image::{Image, MemSink, Sink, write_image};
 use std::ops::Range;
 use test_refusing::Refusing;
+use test_rows::answer_runs::AnswerRuns;
 use test_rows::row::Row;
 
-/// The entry of the words that are left, loaded over the heap.
-fn loaded_entry<'a>(row: &mut Row<'a>) -> Option<LoadedEntry<'a>>
-    ensures { IfSome result (λ made. All
-        (λ place. place.address + place.length ≤ length made.memory) made.handoff.places) }
-{
-    let heap = row.heap;
-    let fill = row.byte_field("fill");
-    let read = read_entry(row);
-    let machine = row.machine_over(heap)?;
-    load_entry(row, heap, &machine, fill, &read)
-}
+/// A limit above the length of each image of a row.
+const AMPLE: u64 = 0x10_0000;
 
-/// Writes the image to a sink in memory of this limit and step, and says how it ended. None where
-/// memory ran out for the sink.
-pub fn written<'h>(
+/// Writes the image to a sink in memory of this limit and step. Says how it ended, the faults of
+/// the sink, and how often it asked for memory. None where memory ran out for the sink.
+fn written<'h>(
     row: &mut Row<'_>,
     heap: &'h Refusing,
     loaded: &LoadedEntry<'h>,
@@ -37,30 +29,39 @@ pub fn written<'h>(
 {
     let mut sink = sink_over(row, heap, limit, step)?;
     let before = heap.asked();
-    let ended = write_image(&loaded.handoff, &loaded.memory, &mut sink);
+    match write_image(&loaded.handoff, &loaded.memory, &mut sink) {
+        Ok(()) => row.say("ok"),
+        Err(fault) => row.say_decimal("fault ", fault.number() as u64),
+    }
     let asked = heap.asked().saturating_sub(before);
-    say_written(row, ended, sink.faults(), asked);
+    row.say_numbers(&[(", faults ", sink.faults()), (", asked ", asked)]);
     Some(sink)
 }
 
-/// Writes the image to sinks of each limit. None where memory ran out for one.
-pub fn written_to_each<'h>(
+/// Writes the image to sinks of each limit, and says whether each took the first bytes, as many as
+/// it has room for. None where memory ran out for one.
+fn written_to_each<'h>(
     row: &mut Row<'_>,
     heap: &'h Refusing,
     loaded: &LoadedEntry<'h>,
     limits: Range<u64>,
     step: u64,
-) -> Option<Series<&'h Refusing>>
+) -> Option<AnswerRuns>
     requires { All (λ place. place.address + place.length ≤ length loaded.now.memory)
         loaded.now.handoff.places }
 {
-    let ample = written(row, heap, loaded, AMPLE, AMPLE)?;
-    let mut series = Series::new(row, ample);
+    let whole = written(row, heap, loaded, AMPLE, AMPLE)?;
+    let whole = whole.contents();
+    let _said = row.take_text();
+    let mut runs = AnswerRuns::new(row.alloc, true);
     for limit in limits {
         let sink = written(row, heap, loaded, limit, step)?;
-        series.add(row, limit, &sink);
+        let count = whole.len().min(limit as usize);
+        let is_front = sink.contents() == &whole[..count];
+        row.say_either(is_front, ", its first bytes", ", other bytes");
+        runs.add(limit, row.take_text());
     }
-    Some(series)
+    Some(runs)
 }
 
 /// Prepares the entry, loads it and writes its image, all over the heap.
@@ -84,8 +85,8 @@ pub fn answer_each(row: &mut Row<'_>) {
     let Some(loaded) = loaded_entry(row) else {
         return;
     };
-    if let Some(series) = written_to_each(row, heap, &loaded, limits, step) {
-        series.say(row);
+    if let Some(runs) = written_to_each(row, heap, &loaded, limits, step) {
+        row.say_runs(runs);
     }
 }
 

@@ -1,11 +1,9 @@
 //! The calls on menus and their boots: `menu MENU ..`, `run MENU ..`, `session MENU .. do STEP;
-//! ..`, `owned_session MENU .. do STEP; ..`.
+//! ..`.
 
-mod answers;
 mod boot_fields;
 mod building;
 mod dry_store;
-mod either_session;
 mod end;
 mod memory;
 pub mod menu;

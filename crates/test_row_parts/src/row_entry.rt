@@ -15,7 +15,7 @@ use test_rows::row::Row;
 
 /// An entry of a row, and its files, the kernel first.
 #[derive(Drop)]
-pub struct RowEntry {
+struct RowEntry {
     entry: EntryField,
     files: Vec<Vec<u8>>,
 }
@@ -49,7 +49,7 @@ impl RowEntry {
 }
 
 /// The entry of the words that are left, whose kernel is the row's bytes.
-pub fn read_entry(row: &mut Row<'_>) -> RowEntry {
+fn read_entry(row: &mut Row<'_>) -> RowEntry {
     let protocol = row.word();
     let protocol = protocol_of(row, protocol);
     let line = row.bytes_field("line");
@@ -67,7 +67,7 @@ pub fn read_entry(row: &mut Row<'_>) -> RowEntry {
 
 impl RowEntry {
     /// Its files, as the calls take them.
-    pub fn views(&self, row: &mut Row<'_>) -> Vec<SliceView<'_>> {
+    fn views(&self, row: &mut Row<'_>) -> Vec<SliceView<'_>> {
         let mut views = Vec::new(row.alloc);
         for file in &self.files {
             row.keep(&mut views, SliceView::new(file.as_slice()));
@@ -77,7 +77,7 @@ impl RowEntry {
 }
 
 /// The entry, which has so many files. If it can't be made, the row's answer says why.
-pub fn entry_of<'h>(
+fn entry_of<'h>(
     row: &mut Row<'_>,
     heap: &'h Refusing,
     read: &RowEntry,
@@ -97,27 +97,8 @@ pub fn entry_of<'h>(
     Some(entry)
 }
 
-/// What an entry is loaded by: a machine, and the entry.
-#[derive(Drop)]
-pub struct Given<'h> {
-    pub machine: Machine<&'h Refusing>,
-    pub entry: Entry<&'h Refusing>,
-}
-
-/// The last machine and the entry, which has so many files, over the row's heap. If they can't be
-/// made, the row's answer says why.
-pub fn read_given<'a>(row: &mut Row<'a>, read: &RowEntry, files: usize) -> Option<Given<'a>>
-    ensures files { IfSome result (λ given. files ≡ file_count given.entry) }
-    ensures limits { IfSome result (λ given. IsWithinLimits given.entry) }
-{
-    let heap = row.heap;
-    let machine = row.machine_over(heap)?;
-    let entry = entry_of(row, heap, read, files)?;
-    Some(Given { machine, entry })
-}
-
 /// What is prepared for an entry. If it is refused, the row's answer says why.
-pub fn prepare_entry<'h>(
+fn prepare_entry<'h>(
     row: &mut Row<'_>,
     heap: &'h Refusing,
     machine: &Machine<&'h Refusing>,
@@ -131,10 +112,20 @@ pub fn prepare_entry<'h>(
     match prepare(heap, machine, &entry, files) {
         Ok(plan) => Some(plan),
         Err(fault) => {
-            say_fault(row, fault);
+            say_fault(row, "refused ", fault);
             None
         }
     }
+}
+
+/// What is prepared for the entry of the words that are left, on the last machine, all over the
+/// heap. If it is refused, the row's answer says why.
+pub fn prepared_entry<'a>(row: &mut Row<'a>) -> Option<Plan<&'a Refusing>> {
+    let heap = row.heap;
+    let read = read_entry(row);
+    let files = read.views(row);
+    let machine = row.machine_over(heap)?;
+    prepare_entry(row, heap, &machine, &read, files.as_slice())
 }
 
 /// Memory that holds an entry's parts, what the kernel is handed, and how many requests for memory
@@ -148,7 +139,7 @@ pub struct LoadedEntry<'h> {
 
 /// An entry's parts in the machine's memory, each byte of which is `fill` before. If it is refused,
 /// the row's answer says why.
-pub fn load_entry<'h>(
+fn load_entry<'h>(
     row: &mut Row<'_>,
     heap: &'h Refusing,
     machine: &Machine<&'h Refusing>,
@@ -177,4 +168,16 @@ pub fn load_entry<'h>(
         handoff,
         requests: heap.asked().saturating_sub(before),
     })
+}
+
+/// The entry of the words that are left, after `fill`, loaded over the heap.
+pub fn loaded_entry<'a>(row: &mut Row<'a>) -> Option<LoadedEntry<'a>>
+    ensures { IfSome result (λ made. All
+        (λ place. place.address + place.length ≤ length made.memory) made.handoff.places) }
+{
+    let heap = row.heap;
+    let fill = row.byte_field("fill");
+    let read = read_entry(row);
+    let machine = row.machine_over(heap)?;
+    load_entry(row, heap, &machine, fill, &read)
 }

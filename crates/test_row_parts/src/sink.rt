@@ -1,16 +1,43 @@
-//! `sink memory limit=N step=N PART ..`, `sink vector BYTES PART ..` and `sink pairs N END PART
-//! ..`: parts, one after the other, to one sink.
+//! `sink N END PART ..`: parts, one after the other, to a sink over a writer that takes at most two
+//! bytes at each of N writes; then it takes nothing (END is `nothing`) or has an error.
 //!
-//! A PART is `write=BYTES` (one write) or `all=BYTES`. The pairs' writer takes two bytes at each of
-//! N writes; at the next one it takes nothing (END is `nothing`) or has an error.
+//! A PART is `write=BYTES` (one write) or `all=BYTES`.
 ghost use Rattle.std.specs.Prelude.{◌≡◌, ◌≤◌};
 
-use crate::short_writer::{ShortWriter, error_named};
-use bl_image::{ImageFault, IoSink, MemSink, Sink, write_all};
+use bl_image::{ImageFault, IoSink, Sink, write_all};
+use std::io;
+use std::io::{ErrorKind, Write};
 use test_rows::row::Row;
 
 /// More faults than any row has.
 const FAULTS: u64 = 1000;
+
+/// A writer that ends early.
+#[derive(Drop)]
+struct ShortWriter {
+    writes: u64,
+    error: Option<ErrorKind>,
+    taken: usize,
+}
+
+impl Write for ShortWriter {
+    fn write(&mut self, part: &[u8]) -> io::Result<usize> {
+        if self.writes == 0 {
+            return match self.error {
+                None => Ok(0),
+                Some(kind) => Err(io::Error::from(kind)),
+            };
+        }
+        self.writes -= 1;
+        let count = part.len().min(2);
+        self.taken = self.taken.saturating_add(count);
+        Ok(count)
+    }
+
+    fn flush(&mut self) -> io::Result<()> {
+        Ok(())
+    }
+}
 
 /// What one part comes to at a sink.
 fn say_part<S: Sink>(row: &mut Row<'_>, sink: &mut S, word: &str)
@@ -44,48 +71,22 @@ fn say_parts<S: Sink>(row: &mut Row<'_>, sink: &mut S)
     row.say_number("faults ", sink.faults());
 }
 
-fn answer_memory(row: &mut Row<'_>) {
-    let heap = row.heap;
-    let limit = row.number_field("limit") as usize;
-    let step = row.number_field("step") as usize;
-    if step == 0 {
-        return row.refuse();
-    }
-    let Ok(mut sink) = MemSink::new(heap, limit, step) else {
-        return row.lack();
-    };
-    say_parts(row, &mut sink);
-    row.say_number(", asked ", heap.asked());
-    row.say_bytes(", holds ", sink.contents());
-}
-
-fn answer_vector(row: &mut Row<'_>) {
-    let held = row.word();
-    let mut sink = IoSink::new(row.bytes_of(held));
-    say_parts(row, &mut sink);
-    let held = sink.into_writer();
-    row.say_bytes(", holds ", held.as_slice());
-}
-
-fn answer_pairs(row: &mut Row<'_>) {
+/// Writes the parts to the sink.
+pub fn answer(row: &mut Row<'_>) {
     let writes = row.number();
+    let ends = [
+        ("nothing", None),
+        ("storage_full", Some(ErrorKind::StorageFull)),
+        ("broken_pipe", Some(ErrorKind::BrokenPipe)),
+        ("interrupted", Some(ErrorKind::Interrupted)),
+    ];
     let end = row.word();
     let mut sink = IoSink::new(ShortWriter {
         writes,
-        error: error_named(row, end),
+        error: row.pick(&ends, end, None),
         taken: 0,
     });
     say_parts(row, &mut sink);
     row.say_number(", holds ", sink.into_writer().taken as u64);
     row.say(" bytes");
-}
-
-/// Writes the parts to the sink.
-pub fn answer(row: &mut Row<'_>) {
-    match row.word() {
-        "memory" => answer_memory(row),
-        "vector" => answer_vector(row),
-        "pairs" => answer_pairs(row),
-        _ => row.refuse(),
-    }
 }

@@ -1,7 +1,7 @@
 //! `walk BYTES`: what a kernel sees in an image, or the fault of reading or walking it.
 
-use crate::entry::say_copy;
 use crate::read_image::read_row_image;
+use bl_mem::Bytes;
 use bl_walk::{Seen, WalkFault, walk};
 use test_refusing::Refusing;
 use test_rows::row::Row;
@@ -17,6 +17,13 @@ fn say_files(row: &mut Row<'_>, seen: &Seen<'_, &Refusing>) {
     if let Some(initrd) = &seen.initrd {
         row.say_number(" initrd=", initrd.address as u64);
         row.say_bytes(":", initrd.bytes);
+    }
+}
+
+/// A copy of an RSDP after a text, if there is one.
+fn say_copy(row: &mut Row<'_>, before: &str, copy: &Option<Bytes<&Refusing>>) {
+    if let Some(bytes) = copy {
+        row.say_bytes(before, bytes.as_slice());
     }
 }
 

@@ -5,15 +5,20 @@ use crate::row::Row;
 use std::ops::Range;
 
 impl<'a> Row<'a> {
-    /// What stands before and behind a mark.
-    pub fn cut<'b>(&mut self, text: &'b str, mark: &str) -> (&'b str, &'b str) {
-        match text.split_once(mark) {
-            Some(parts) => parts,
+    /// What was found; another value where that is nothing, and the row can't be read.
+    pub fn found<T: Copy>(&mut self, found: Option<T>, otherwise: T) -> T {
+        match found {
+            Some(value) => value,
             None => {
                 self.refuse();
-                ("", "")
+                otherwise
             }
         }
+    }
+
+    /// What stands before and behind a mark.
+    pub fn cut<'b>(&mut self, text: &'b str, mark: &str) -> (&'b str, &'b str) {
+        self.found(text.split_once(mark), ("", ""))
     }
 
     /// The value of this name in a table; where it is not there, another one.
@@ -29,13 +34,7 @@ impl<'a> Row<'a> {
 
     /// The number of these hexadecimal digits.
     pub fn number_of(&mut self, digits: &str) -> u64 {
-        match u64::from_str_radix(digits, 16) {
-            Ok(number) => number,
-            Err(_) => {
-                self.refuse();
-                0
-            }
-        }
+        self.found(u64::from_str_radix(digits, 16).ok(), 0)
     }
 
     /// The number of these hexadecimal digits, which must be one of 32 bits.
@@ -79,12 +78,6 @@ impl<'a> Row<'a> {
     pub fn number_field(&mut self, name: &str) -> u64 {
         let digits = self.field(name);
         self.number_of(digits)
-    }
-
-    /// The number of 32 bits that stands after `NAME=` in the next word.
-    pub fn number32_field(&mut self, name: &str) -> u32 {
-        let digits = self.field(name);
-        self.number32_of(digits)
     }
 
     /// The byte that stands after `NAME=` in the next word.

@@ -22,6 +22,11 @@ impl Row<'_> {
         self.say(text);
     }
 
+    /// Appends one of two texts.
+    pub fn say_either(&mut self, is_first: bool, first: &str, second: &str) {
+        self.say(if is_first { first } else { second });
+    }
+
     /// Appends a number, hexadecimal, of so many digits at least.
     fn say_hex(&mut self, number: u64, digits: usize) {
         if write!(self.text, "{number:0digits$x}").is_err() {

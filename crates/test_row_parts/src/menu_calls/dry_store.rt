@@ -3,7 +3,6 @@
 
 use bl_session::{Completion, Store, Ticket};
 use std::alloc::AllocError;
-use std::cell::Cell;
 use test_refusing::Refusing;
 
 /// What a store was asked after its last answer: for a piece of a file under a ticket, or for an
@@ -14,13 +13,11 @@ pub enum Asked {
     More,
 }
 
-/// A store that gives so many answers of another one, and then nothing more; and counts how often
-/// a size was asked.
+/// A store that gives so many answers of another one, and then nothing more.
 #[derive(Drop)]
 pub struct DryStore<'h, S: Store + Drop> {
     store: S,
     answers: u64,
-    sizes: Cell<u64>,
     asked: Vec<Asked, &'h Refusing>,
 }
 
@@ -30,14 +27,8 @@ impl<'h, S: Store + Drop> DryStore<'h, S> {
         DryStore {
             store,
             answers,
-            sizes: Cell::new(0),
             asked: Vec::new(heap),
         }
-    }
-
-    /// How often a size was asked.
-    pub fn sizes(&self) -> u64 {
-        self.sizes.get()
     }
 }
 
@@ -54,7 +45,6 @@ impl<'h, S: Store + Drop> Store for DryStore<'h, S> {
     ghost left = { λ s. left_of s.asked.items (S.left s.store) s.answers };
 
     fn size(&self, file: u32) -> Result<Option<u64>, AllocError> {
-        self.sizes.set(self.sizes.get().saturating_add(1));
         self.store.size(file)
     }
 

@@ -13,12 +13,9 @@ const MAX_LOOKED_AT: u64 = 0x400_0000;
 
 /// Whether an address is in one of the ranges.
 fn is_in(ranges: &[Range<u64>], address: u64) -> bool {
-    for range in ranges {
-        if range.start <= address && address < range.end {
-            return true;
-        }
-    }
-    false
+    ranges
+        .iter()
+        .any(|range| range.start <= address && address < range.end)
 }
 
 /// Whether each byte of a range of memory is this one or lies in a part.
@@ -51,11 +48,7 @@ pub fn say_pool<M: PhysMem>(
     parts: &[Range<u64>],
 ) {
     let is_clear = is_but_in(row, memory, parts, pool.start..pool.end, 0);
-    row.say(if is_clear {
-        ", pool clear"
-    } else {
-        ", pool dirty"
-    });
+    row.say_either(is_clear, ", pool clear", ", pool dirty");
 }
 
 /// Whether memory outside the pool and the parts is as it was, if it is small.
@@ -75,9 +68,5 @@ pub fn say_outside<M: PhysMem>(
     let end = if is_empty { size } else { pool.end };
     let is_kept = is_but_in(row, memory, parts, 0..start, FILL)
         && is_but_in(row, memory, parts, end..size, FILL);
-    row.say(if is_kept {
-        "outside kept"
-    } else {
-        "outside changed"
-    });
+    row.say_either(is_kept, "outside kept", "outside changed");
 }

@@ -6,7 +6,7 @@ use test_refusing::Refusing;
 use test_rows::row::Row;
 
 /// The order of a menu's attempts, and how many files it names.
-pub fn say_menu(row: &mut Row<'_>, menu: &Menu<&Refusing>) {
+fn say_menu(row: &mut Row<'_>, menu: &Menu<&Refusing>) {
     row.say("attempts");
     for attempt in 0..menu.attempts() {
         row.say_number(" ", menu.entry_of(attempt) as u64);

@@ -2,14 +2,11 @@
 ghost use Rattle.std.specs.Prelude.{IsTrue};
 ghost use Rattle.bl_mem.specs.Memory.{HasRoom};
 
-use crate::menu_calls::answers::{say_progress, say_request};
 use crate::menu_calls::building::Plan;
-use crate::menu_calls::either_session::EitherSession;
 use crate::menu_calls::end::{parts_of, say_end};
 use crate::menu_calls::memory::{FILL, say_outside};
-use crate::menu_calls::menu::say_menu;
 use bl_mem::{PhysMem, Sparse};
-use bl_session::{Event, OwnedSession, Session, Ticket};
+use bl_session::{Event, Progress, Session, Ticket};
 use std::marker::Model;
 use std::ops::Range;
 use test_refusing::Refusing;
@@ -21,21 +18,20 @@ use test_rows::row::Row;
 pub struct Rig<'a, 'h> {
     size: u64,
     pool: Range<u64>,
-    session: EitherSession<'a, 'h>,
+    session: Session<'a, &'h Refusing>,
     memory: Sparse<&'h Refusing>,
 }
 
 impl<'a, 'h> Model for Rig<'a, 'h> {
     ghost use Rattle.std.specs.Prelude.{◌≡◌};
     ghost use Rattle.bl_session.specs.session.Phases.{SessionFacts};
-    ghost use Rattle.test_row_parts.specs.EitherSession.{either_facts};
 
     ghost Value = { SessionFacts };
 
-    ghost view = { λ rig. either_facts rig.session };
+    ghost view = { λ rig. rig.session };
 
-    ghost invariant = { λ rig. (rig.size ≡ (either_facts rig.session).boot.machine.size)
-        × (rig.pool ≡ (either_facts rig.session).boot.machine.pool) };
+    ghost invariant = { λ rig. (rig.size ≡ rig.session.boot.machine.size)
+        × (rig.pool ≡ rig.session.boot.machine.pool) };
 }
 
 /// Gives room to the pool, as an event asks, and says whether memory sufficed. Where it did not,
@@ -44,6 +40,16 @@ fn give_pool<M: PhysMem>(row: &mut Row<'_>, memory: &mut M, pool: &Range<u64>) -
     ensures room { IsTrue result → HasRoom (M.room memory.new) pool.now.start pool.now.end }
 {
     pool.start >= pool.end || give_room(row, memory, pool)
+}
+
+/// Where a session stands after a call.
+fn say_progress(row: &mut Row<'_>, progress: Progress) {
+    match progress {
+        Progress::Waiting => row.say("waiting"),
+        Progress::Next(attempt) => row.say_number("next ", attempt as u64),
+        Progress::Done => row.say("done"),
+        Progress::Failed => row.say("failed"),
+    }
 }
 
 impl<'a, 'h> Rig<'a, 'h> {
@@ -59,27 +65,7 @@ impl<'a, 'h> Rig<'a, 'h> {
         Some(Rig {
             size: plan.machine.size(),
             pool: plan.machine.pool(),
-            session: EitherSession::Borrowing(session),
-            memory,
-        })
-    }
-
-    /// The same of a session that owns its machine and its menu.
-    pub fn owning(
-        heap: &'h Refusing,
-        plan: Plan<'h>,
-        sizes: &[Option<u64>],
-    ) -> Option<Rig<'a, 'h>> {
-        let Plan { machine, menu } = plan;
-        let sizes = Vec::from_slice(heap, sizes).ok()?;
-        let size = machine.size();
-        let pool = machine.pool();
-        let memory = Sparse::new(heap, size, FILL).ok()?;
-        let session = OwnedSession::new(heap, machine, menu, sizes);
-        Some(Rig {
-            size,
-            pool,
-            session: EitherSession::Owning(session),
+            session,
             memory,
         })
     }
@@ -111,58 +97,26 @@ impl<'a, 'h> Rig<'a, 'h> {
         }
     }
 
-    /// What it ended in, or `none`, taken for good.
-    pub fn finish(self, row: &mut Row<'_>) {
-        let Rig {
-            pool,
-            session,
-            memory,
-            ..
-        } = self;
-        match session.into_outcome() {
-            Some(end) => say_end(row, &memory, &pool, end.as_ref()),
-            None => row.say("none"),
-        }
-    }
-
-    /// The size and the pool of the machine that the session owns.
-    pub fn say_machine(&self, row: &mut Row<'_>) {
-        let Some(session) = self.session.owned() else {
-            return row.refuse();
-        };
-        let pool = session.machine().pool();
-        row.say_numbers(&[
-            ("size ", session.machine().size()),
-            (" pool ", pool.start),
-            ("..", pool.end),
-        ]);
-    }
-
-    /// The menu that it owns.
-    pub fn say_menu(&self, row: &mut Row<'_>) {
-        match self.session.owned() {
-            Some(session) => say_menu(row, session.menu()),
-            None => row.refuse(),
-        }
-    }
-
     /// Whether an attempt waits for pieces.
     pub fn say_waiting(&self, row: &mut Row<'_>) {
-        row.say(if self.session.is_waiting() {
-            "yes"
-        } else {
-            "no"
-        });
+        row.say_either(self.session.is_waiting(), "yes", "no");
     }
 
-    /// The first piece that is awaited, or the first one after that of a ticket, or `none`.
+    /// The first piece that is awaited, or the first one after that of a ticket: its file's index
+    /// in the menu, its ticket, its length; or `none`.
     pub fn say_missing(&self, row: &mut Row<'_>, after: Option<Ticket>) {
         let request = match after {
             Some(ticket) => self.session.missing_after(ticket),
             None => self.session.missing(),
         };
         match request {
-            Some(request) => say_request(row, &request),
+            Some(request) => row.say_numbers(&[
+                ("file ", request.file as u64),
+                (" ticket ", request.ticket.attempt as u64),
+                (".", request.ticket.file as u64),
+                (".", request.ticket.piece as u64),
+                (" length ", request.len as u64),
+            ]),
             None => row.say("none"),
         }
     }

@@ -1,9 +1,7 @@
 //! What a row says of a store.
 //!
-//! `store=forward`, `reverse`, `counting` (forward, and tells how often a size was asked),
-//! `slices`, `slices_reverse` (a store over slices, the first or the last one first), `silent`, or
-//! `script`, and then `twice=A.F.P,..`, `fail=A.F.P,..`, `picks=N,N,..`. `answers=N`: the store
-//! gives so many answers, and then nothing more.
+//! `store=forward`, `reverse`, `silent`, or `script`, and then `twice=A.F.P,..`, `fail=A.F.P,..`,
+//! `picks=N,N,..`. `answers=N`: the store gives so many answers, and then nothing more.
 
 use bl_session::{Order, Ticket};
 use test_rows::row::Row;
@@ -11,10 +9,7 @@ use test_rows::row::Row;
 /// How a store answers.
 #[derive(Clone, Copy)]
 pub enum StoreKind {
-    Forward,
-    Reverse,
-    Counting,
-    Slices(Order),
+    Files(Order),
     Script,
 }
 
@@ -53,7 +48,7 @@ impl StoreFields {
     /// A store that gives each answer, the first first.
     pub fn new(row: &Row<'_>) -> StoreFields {
         StoreFields {
-            kind: StoreKind::Forward,
+            kind: StoreKind::Files(Order::Forward),
             answers: u64::MAX,
             twice: Vec::new(row.alloc),
             fail: Vec::new(row.alloc),
@@ -63,11 +58,8 @@ impl StoreFields {
 
     fn set_kind(&mut self, row: &mut Row<'_>, name: &str) {
         let kinds = [
-            ("forward", StoreKind::Forward),
-            ("reverse", StoreKind::Reverse),
-            ("counting", StoreKind::Counting),
-            ("slices", StoreKind::Slices(Order::Forward)),
-            ("slices_reverse", StoreKind::Slices(Order::Reverse)),
+            ("forward", StoreKind::Files(Order::Forward)),
+            ("reverse", StoreKind::Files(Order::Reverse)),
             ("script", StoreKind::Script),
         ];
         if name == "silent" {

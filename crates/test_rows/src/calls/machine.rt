@@ -9,16 +9,6 @@ use crate::row::Row;
 use bl_map::{Kind, Machine, MapFault, Region};
 use test_refusing::Refusing;
 
-fn kind_of(row: &mut Row<'_>, word: &str) -> Kind {
-    match Kind::from_name(word) {
-        Some(kind) => kind,
-        None => {
-            row.refuse();
-            Kind::Bad
-        }
-    }
-}
-
 impl Row<'_> {
     /// The region that `BASE+LENGTH:KIND` is.
     pub fn region_of(&mut self, word: &str) -> Region {
@@ -27,7 +17,7 @@ impl Row<'_> {
         Region {
             base: self.number_of(base),
             length: self.number_of(length),
-            kind: kind_of(self, kind),
+            kind: self.found(Kind::from_name(kind), Kind::Bad),
         }
     }
 

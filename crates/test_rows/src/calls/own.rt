@@ -10,11 +10,7 @@ pub fn answer(row: &mut Row<'_>) {
         return row.say("no memory");
     };
     row.say_number("length ", bytes.len() as u64);
-    row.say(if bytes.is_empty() {
-        " empty true"
-    } else {
-        " empty false"
-    });
+    row.say_either(bytes.is_empty(), " empty true", " empty false");
     row.say_digits("; ", bytes.as_slice());
     let again = Bytes::from(bytes.into_vec());
     row.say_digits("; ", again.as_slice());

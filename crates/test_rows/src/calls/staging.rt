@@ -119,8 +119,7 @@ fn step<M: PhysMem>(
     match row.word() {
         "put" => put_one(row, memory, stage),
         "puts" => put_all(row, memory, stage),
-        "complete" if stage.complete() => row.say("complete"),
-        "complete" => row.say("waiting"),
+        "complete" => row.say_either(stage.complete(), "complete", "waiting"),
         "view" => view(row, memory, stage),
         "evacuate" => evacuate(row, memory, stage),
         "scrub" => scrub_all(row, machine, memory),

@@ -1,22 +1,11 @@
 //! `header BYTES`: what a kernel's Multiboot2 header says.
 
-use crate::calls::elf::say_segment;
-use crate::row::Row;
-use bl_mb2head::{HeadFault, Header, find_header};
+use crate::elf::say_segment;
+use crate::refusal::say_fault;
+use bl_load::PrepFault;
+use bl_mb2head::{Header, find_header};
 use bl_mem::SliceView;
-
-/// A fault as its number and what it tells.
-fn say_fault(row: &mut Row<'_>, fault: HeadFault) {
-    match fault {
-        HeadFault::NoHeader => row.say("fault 4"),
-        HeadFault::HeaderCut => row.say("fault 5"),
-        HeadFault::BadArchitecture => row.say("fault 6"),
-        HeadFault::BadTag(place) => row.say_number("fault 7 ", place),
-        HeadFault::UnsupportedTag(kind) => row.say_number("fault 8 ", kind as u64),
-        HeadFault::UnsupportedRequest(kind) => row.say_number("fault 9 ", kind as u64),
-        HeadFault::NoConsole => row.say("fault 10"),
-    }
-}
+use test_rows::row::Row;
 
 /// Where the header stands, and what it has of a segment, an entry and a relocation.
 fn say_header(row: &mut Row<'_>, header: &Header) {
@@ -41,6 +30,6 @@ fn say_header(row: &mut Row<'_>, header: &Header) {
 pub fn answer(row: &mut Row<'_>) {
     match find_header(&SliceView::new(row.bytes)) {
         Ok(header) => say_header(row, &header),
-        Err(fault) => say_fault(row, fault),
+        Err(fault) => say_fault(row, "fault ", PrepFault::from(fault)),
     }
 }

@@ -1,0 +1,36 @@
+//! `read_params BYTES`: what boot parameters tell, or their first fault.
+
+use crate::row::Row;
+use bl_params::{ParamFault, Params, read_params};
+use test_refusing::Refusing;
+
+fn say_params(row: &mut Row<'_>, params: &Params<&Refusing>) {
+    row.say_numbers(&[
+        ("code32_start=", params.code32_start as u64),
+        (" ramdisk=", params.ramdisk_image as u64),
+        ("+", params.ramdisk_size as u64),
+        (" cmd_line_ptr=", params.cmd_line_ptr as u64),
+        (" version=", params.version as u64),
+        (" loadflags=", params.loadflags as u64),
+        (" initrd_addr_max=", params.initrd_addr_max as u64),
+        (" kernel_alignment=", params.kernel_alignment as u64),
+        (" relocatable_kernel=", params.relocatable_kernel as u64),
+        (" xloadflags=", params.xloadflags as u64),
+        (" cmdline_size=", params.cmdline_size as u64),
+        (" pref_address=", params.pref_address),
+        (" init_size=", params.init_size as u64),
+    ]);
+    for run in &params.runs {
+        row.say_region(" run=", run);
+    }
+}
+
+/// Reads boot parameters over the heap.
+pub fn answer(row: &mut Row<'_>) {
+    match read_params(row.heap, row.bytes) {
+        Ok(params) => say_params(row, &params),
+        Err(ParamFault::WrongLength) => row.say("fault 66"),
+        Err(ParamFault::BadParams(offset)) => row.say_number("fault 67 ", offset as u64),
+        Err(ParamFault::NoMemory) => row.say("no memory"),
+    }
+}
