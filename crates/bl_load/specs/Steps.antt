@@ -23,7 +23,7 @@ carry_out (step ∷ steps) own texts memory =
     carry_out steps own texts
     (overwrite memory step.address (source_bytes own texts step.source step.length))
 
--- the source has so many bytes, where the files have these lengths and the plan so many bytes itself
+-- the source has so many bytes, where files have these lengths and the plan so many bytes itself
 abbrev pub IsThere : List ℕ → ℕ → StepSource → ℕ → Type 0
 IsThere lengths own (File file offset) count =
     (file < length lengths) × (offset + count ≤ slice_index lengths file)

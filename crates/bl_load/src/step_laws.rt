@@ -11,8 +11,8 @@ ghost use Rattle.bl_load.specs.Steps.{carry_out};
 
 use std::alloc::Allocator;
 
-/// Equal facts and equal values give equal steps with equal bytes: the parts of plans that `prepare`
-/// answers for them come from the same, and steps follow from where parts come from.
+/// Equal facts and equal values give equal steps with equal bytes: the parts of plans that
+/// `prepare` answers for them come from the same, and steps follow from where parts come from.
 pub fn plan_steps_are_determined<A: Allocator, B: Allocator>()
     ensures steps { (facts : MachineFacts) (value : EntryValue) (parts : List (PlannedPart A))
         (others : List (PlannedPart B)) → AreOrigins facts value (map planned_origin parts)

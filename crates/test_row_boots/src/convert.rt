@@ -1,6 +1,6 @@
-//! `convert FIELD .. of BYTES`. `blamed=BYTES` was blamed before, `step=N` and `fail=N` are those of
-//! the source, `limit=N` and `takes=N` those of the sink: its room, and how many bytes it takes at
-//! most at a write.
+//! `convert FIELD .. of BYTES`. `blamed=BYTES` was blamed before, `step=N` and `fail=N` are those
+//! of the source, `limit=N` and `takes=N` those of the sink: its room, and how many bytes it takes
+//! at most at a write.
 
 use crate::boot::say_said;
 use bl_image::{Sink, Source};

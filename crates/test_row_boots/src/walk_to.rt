@@ -6,8 +6,8 @@ use program_boot::walk_to;
 use test_row_parts::source::read_source;
 use test_rows::row::Row;
 
-/// Says the walk of an image over the heap, after what was said and blamed before, and the faults of
-/// the source.
+/// Says the walk of an image over the heap, after what was said and blamed before, and the faults
+/// of the source.
 pub fn answer(row: &mut Row<'_>) {
     let heap = row.heap;
     let said = row.bytes_field("said");

@@ -7,7 +7,8 @@ use Rattle.bl_stage.specs.Files.{File}
 use Rattle.bl_session.specs.declared.attempt.ticket.Ticket.{Ticket}
 use Rattle.bl_session.specs.declared.store.submission.Submission.{Submission}
 use Rattle.test_row_parts.specs.declared.menu_calls.script_reply.ScriptReply.{ScriptReply}
-use Rattle.test_row_parts.specs.declared.menu_calls.script_reply.ScriptReply.TheVariants.{Answer, Altered}
+use Rattle.test_row_parts.specs.declared.menu_calls.script_reply.ScriptReply.TheVariants.{Answer}
+use Rattle.test_row_parts.specs.declared.menu_calls.script_reply.ScriptReply.TheVariants.{Altered}
 use Rattle.test_row_parts.specs.declared.menu_calls.script_reply.ScriptReply.TheVariants.{Fault}
 use Rattle.bl_session.specs.session.BootSteps.{EventFacts, piece, fault}
 use Rattle.bl_session.specs.store.History.{HistoryItem, submitted, is_same}
