@@ -35,6 +35,10 @@
  *
  * Versions. BOOTCORE_VERSION is that of this file, bootcore_version() that of the archive.
  *
+ * What to read: to load one entry, as a hypervisor does, bootcore_given, bootcore_entry and
+ * bootcore_load; to boot a menu bootcore_boot; to boot while a disk still reads bootcore_session_make and
+ * what follows; to check an image bootcore_walk. docs/EMBED.md has a program for each.
+ *
  * The names of this file hold in C99 and later, and in C++98 and later.
  */
 #ifndef BOOTCORE_H
@@ -81,7 +85,7 @@ enum {
     BOOTCORE_FEW_PLACES = 16,       /* room for fewer than BOOTCORE_MAX_PARTS places; of a walk: for
                                      * less than it tells */
     BOOTCORE_BAD_KIND = 18,         /* a region's kind is none of BOOTCORE_USABLE and so on */
-    BOOTCORE_BAD_SIZE = 19,         /* the size is not 1 MiB to 4 GiB in frames of 4096 bytes */
+    BOOTCORE_BAD_SIZE = 19,         /* the size is no multiple of 4096 from 1 MiB to 4 GiB */
     BOOTCORE_TOO_MANY_REGIONS = 20, /* more than 128 */
     BOOTCORE_BAD_REGION = 21,       /* a region ends above 2^52 */
     BOOTCORE_BAD_POOL = 22,         /* the pool is not of whole frames, or not all of it is usable */
@@ -97,12 +101,19 @@ enum {
 };
 
 enum {
-    BOOTCORE_MAX_PARTS = 256,
-    BOOTCORE_MAX_REFUSALS = 32 /* a boot refuses no more entries */
+    BOOTCORE_MAX_REGIONS = 128,
+    BOOTCORE_MAX_ENTRIES = 32,
+    BOOTCORE_MAX_MODULES = 64,  /* of an entry */
+    BOOTCORE_MAX_LINE = 4095,   /* bytes of a line; a Linux kernel may take fewer */
+    BOOTCORE_MAX_RSDP = 256,    /* bytes of a copy of an RSDP */
+    BOOTCORE_MAX_PARTS = 256,   /* what `places` must have room for, however few parts there are */
+    BOOTCORE_MAX_REFUSALS = 32  /* a boot refuses no more entries */
 };
 
 /* Why an entry is refused: the numbers of a bootcore_refusal. docs/REFUSALS.md says more of each, and what
- * to do; bootcore_text says it in words. In brackets: what `first`, and `second`, of a refusal are. */
+ * to do; bootcore_text says it in words. Beside a number: what `first`, and `second`, of the refusal are,
+ * where they are something: `file` is a file's place in its entry, of which the kernel's is 0; `offset`
+ * that of a tag in the kernel's file; `type` a tag's; `i` and `j` are program headers by their index. */
 enum {
     BOOTCORE_REFUSAL_NO_FILE = 1, /* file */
     BOOTCORE_REFUSAL_FILE_FAULT = 2, /* file */
@@ -198,8 +209,10 @@ typedef struct bootcore_region {
     uint32_t reserved; /* not looked at */
 } bootcore_region;
 
-/* The machine beside its regions. A load needs no pool: its length may be 0, and its base is any
- * multiple of 4096 then. */
+/* The machine beside its regions. Its size is where its memory below 4 GiB ends: no part lies above.
+ * Regions come in any order, may overlap, and may lie above the size; the kernel is told the runs of
+ * memory that they make, all of them. A load needs no pool: its length may be 0, and its base is any
+ * multiple of 4096 then; parts of a boot may lie in the pool. */
 typedef struct bootcore_machine {
     uint64_t size;
     uint64_t pool_base;
@@ -212,13 +225,18 @@ typedef struct bootcore_module {
     bootcore_range line; /* of the text, without a zero byte */
 } bootcore_module;
 
-/* An entry. What its protocol has no use for is not looked at. */
+/* An entry. What its protocol has no use for is not looked at.
+ *
+ * A Multiboot2 kernel is an ELF file, or a file with an address tag. A Linux kernel is a bzImage (never
+ * a vmlinux) of boot protocol 2.10 or later, for the 64-bit entry 2.12 with bit 0 of xloadflags. Copies
+ * of the RSDP are for Multiboot2 alone: on a machine without a BIOS a Linux kernel finds ACPI's tables
+ * by acpi_rsdp= in its line. */
 typedef struct bootcore_entry {
     uint32_t protocol;
     uint32_t kernel;         /* the index of its file */
-    uint32_t first_module;   /* Multiboot2: its modules, by their index among those given; at most */
-    uint32_t module_count;   /* their number, where there is none too */
-    uint32_t initrd;         /* Linux: the index of its file, or BOOTCORE_NO_FILE */
+    uint32_t first_module;   /* Multiboot2: the index of its first module among those given; at most */
+    uint32_t module_count;   /* their number, also where the entry has no module */
+    uint32_t initrd;         /* Linux: the index of its file, or BOOTCORE_NO_FILE; 0 is the first file */
     uint32_t reserved;       /* not looked at */
     bootcore_range line;     /* of the text, without a zero byte */
     bootcore_range rsdp_old; /* Multiboot2: a copy of the RSDP of ACPI 1.0, of the text */
@@ -243,8 +261,15 @@ typedef struct bootcore_given {
 } bootcore_given;
 
 /* The registers as the kernel begins. With 32 bits rip is what eip is to hold, rax what eax is to
- * hold, and so on; r8 to r15, cr3, cr4 and efer are 0 then, and no rule gives them. A segment
- * register's number is its selector. A20 is 1 if the gate is to be open. */
+ * hold, and so on; r8 to r15, cr3, cr4 and efer are 0 then: no rule gives them, so choose them. TR, LDTR,
+ * IDTR and the debug registers are yours to choose under each protocol. A20 is 1 if the gate is to be
+ * open. gdt_limit is the offset of the table's last byte; under Multiboot2 there is no table, and base
+ * and limit are 0.
+ *
+ * A segment register's number is its selector. What a processor keeps beside it, so that a virtual one
+ * need not load a descriptor, is not read from the table: each segment is flat, with base 0, limit
+ * 0xFFFFFFFF (in bytes), G, S and P set, DPL 0, AVL clear. CS has type 11, the others type 3; D/B is set
+ * and L clear, but in CS with 64 bits, where L is set and D/B clear. */
 typedef struct bootcore_registers {
     uint64_t bits; /* 32 or 64 */
     uint64_t rip, rax, rbx, rcx, rdx, rsi, rdi, rbp, rsp;
@@ -254,7 +279,8 @@ typedef struct bootcore_registers {
     uint64_t gdt_base, gdt_limit, a20;
 } bootcore_registers;
 
-/* A part in memory. But for a kernel's it has whole frames: behind its bytes are zeros. */
+/* A part in memory. The length of all but a kernel's part is a multiple of 4096; what a part has no
+ * bytes for is zero. */
 typedef struct bootcore_place {
     uint32_t role;
     uint32_t index; /* among the parts of its role */
@@ -280,7 +306,8 @@ const char *bootcore_text(uint32_t number);
 /* Writes a refusal, or a walk's fault, as a line of text without its end: as `bootcore explain` has it,
  * `refused NUMBER NAME(WHAT IT CARRIES): MEANING`, or `bad image ..`. At most `length` bytes are written,
  * the last one a zero byte; the answer is the whole text's length without that byte, so a buffer that is
- * longer than the answer has all of it. `buffer` may be null where `length` is 0. */
+ * longer than the answer has all of it. `buffer` may be null where `length` is 0. A null refusal gives an
+ * empty text. */
 BOOTCORE_CALL
 size_t bootcore_describe(const bootcore_refusal *refusal, char *buffer, size_t length);
 
@@ -299,8 +326,9 @@ enum {
 };
 
 /* Writes the head of a handoff image, of version 2: all that stands before the bytes of the parts, which
- * follow in the order of the places. The answer is its length; where `head` is null or has fewer bytes
- * nothing is written, and after a null of another argument the answer is 0. */
+ * follow in the order of the places. `places` has as many elements as the handoff says. The answer is the
+ * head's length; where `head` is null or has fewer bytes nothing is written. It is 0 after a null handoff,
+ * and after null places where the handoff has some. */
 BOOTCORE_CALL
 size_t bootcore_image_head(const bootcore_handoff *handoff, const bootcore_place *places,
                            uint8_t *head, size_t length);
