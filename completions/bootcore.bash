@@ -1,9 +1,9 @@
 # shellcheck shell=bash
-# Completes bootcore's command line in bash. To use it, source this file, in ~/.bashrc for example:
+# Made by tools/completions. Completes bootcore's command line in bash. To use it, source this file, in ~/.bashrc for example:
 #   . PATH-OF-THIS-REPOSITORY/completions/bootcore.bash
 
 _bootcore() {
-    local word=${COMP_WORDS[COMP_CWORD]} options='' left='' given=' ' has_file='' at option
+    local word=${COMP_WORDS[COMP_CWORD]} options='' left='' present=' ' has_file='' at option
     COMPREPLY=()
     if [ "$COMP_CWORD" = 1 ]; then
         mapfile -t COMPREPLY < <(compgen -W 'boot map walk convert explain --help' -- "$word")
@@ -11,30 +11,33 @@ _bootcore() {
     fi
     case ${COMP_WORDS[1]} in
         boot) options='--out --order --help' ;;
+        map) options='--help' ;;
+        walk) options='--help' ;;
         convert) options='--out --help' ;;
         explain) options='--order --help' ;;
-        map | walk) options=--help ;;
         *) return ;;
     esac
     # what stands before the word: options, those with a value with it, and the one file
     for ((at = 2; at < COMP_CWORD; at++)); do
         case " $options " in
             *" ${COMP_WORDS[at]} "*)
-                given+="${COMP_WORDS[at]} "
+                present+="${COMP_WORDS[at]} "
                 if [ "${COMP_WORDS[at]}" != --help ]; then at=$((at + 1)); fi
                 ;;
             *) has_file=yes ;;
         esac
     done
     if ((at > COMP_CWORD)); then # the word is the value of an option
-        if [ "${COMP_WORDS[COMP_CWORD - 1]}" = --order ]; then
-            mapfile -t COMPREPLY < <(compgen -W 'forward reverse' -- "$word")
-            return
-        fi
+        case ${COMP_WORDS[COMP_CWORD - 1]} in
+            --order)
+                mapfile -t COMPREPLY < <(compgen -W 'forward reverse' -- "$word")
+                return
+                ;;
+        esac
     else
         for option in $options; do
             if [ "$option" = --help ] && ((COMP_CWORD > 2)); then continue; fi
-            case $given in *" $option "*) ;; *) left+=" $option" ;; esac
+            case $present in *" $option "*) ;; *) left+=" $option" ;; esac
         done
         if [ -n "$has_file" ] || [[ $word == -* ]]; then
             mapfile -t COMPREPLY < <(compgen -W "$left" -- "$word")

@@ -25,38 +25,72 @@ TOOLS = [
     ("explain has the name and the meaning of each refusal that docs/REFUSALS.md has", "tools/refusals"),
     ("the core for C has the numbers and the words of docs/REFUSALS.md", "tools/c_texts", "--check"),
     ("each must-fail edit changes a line that stands once, those of docs/EDITS.md in the function named there", "tools/edits"),
+    ("the completions are those of the table of tools/completions, which has the calls of USAGE", "tools/completions", "--check"),
     ("CONTRIBUTING.md lists each place where a refusal and a key stand", "tools/refusal_places", "--check"),
 ]
 
 EXAMPLE_PROGRAMS = ["guest", "by_hand", "disk", "disk_boot", "check", "guest_from_files"]
 
-# a sentence, the words on the line after `bootcore`, and what is offered for the last of them
+# what each shell does, the words on the line after `bootcore`, and what is offered for the last of them, sorted
 COMPLETIONS = [
-    ("bash completes the subcommand walk", "w", "walk"),
-    ("bash completes the option --order of boot", "boot x --or", "--order"),
-    ("bash completes the order reverse of boot", "boot x --order r", "reverse"),
-    ("bash completes the description of map", "map examples/first.t", "examples/first.toml"),
-    ("bash completes only an option of boot that is not on the line yet", "boot x --order forward --o", "--out"),
-    ("bash offers nothing after the description of map", "map x e", ""),
-    ("bash completes the subcommand convert", "c", "convert"),
-    ("bash completes the image that convert reads", "convert examples/first.i", "examples/first.image.hex"),
-    ("bash offers --out after the image that convert reads", "convert x --", "--out"),
-    ("bash completes the image that convert writes", "convert x --out examples/sec", "examples/second.toml"),
-    ("bash offers nothing after both images of convert", "convert x --out y e", ""),
-    ("bash offers the options of boot before its description", "boot --", "--out --order --help"),
-    ("bash completes the description of boot after the image", "boot --out y examples/first.t", "examples/first.toml"),
-    ("bash completes the subcommand explain", "e", "explain"),
-    ("bash offers --order after the description of explain", "explain x --", "--order"),
-    ("bash completes the order forward of explain", "explain x --order f", "forward"),
-    ("bash offers nothing after the description and the order of explain", "explain x --order forward --", ""),
+    ("completes the subcommand walk", "w", "walk"),
+    ("completes the option --order of boot", "boot x --or", "--order"),
+    ("completes the order reverse of boot", "boot x --order r", "reverse"),
+    ("completes the description of map", "map examples/first.t", "examples/first.toml"),
+    ("completes only an option of boot that is not on the line yet", "boot x --order forward --o", "--out"),
+    ("offers nothing after the description of map", "map x e", ""),
+    ("completes the subcommand convert", "c", "convert"),
+    ("completes the image that convert reads", "convert examples/first.i", "examples/first.image.hex"),
+    ("offers --out after the image that convert reads", "convert x --", "--out"),
+    ("completes the image that convert writes", "convert x --out examples/sec", "examples/second.toml"),
+    ("offers nothing after both images of convert", "convert x --out y e", ""),
+    ("offers the options of boot before its description", "boot --", "--help --order --out"),
+    ("completes the description of boot after the image", "boot --out y examples/first.t", "examples/first.toml"),
+    ("completes the subcommand explain", "e", "explain"),
+    ("offers --order after the description of explain", "explain x --", "--order"),
+    ("completes the order forward of explain", "explain x --order f", "forward"),
+    ("offers nothing after the description and the order of explain", "explain x --order forward --", ""),
+    ("offers --help where a subcommand may stand", "--", "--help"),
+    ("offers nothing after a word that is no subcommand", "foo e", ""),
 ]
-COMPLETE = """\
+# how each shell prints what it offers for the last of the words that follow
+BASH = """\
 set -u
 source completions/bootcore.bash
 COMP_WORDS=("$@")
 COMP_CWORD=$(($# - 1))
 _bootcore
 echo "${COMPREPLY[*]}"
+"""
+ZSH = """\
+zmodload zsh/zpty
+rm -f "$ZDOTDIR/offered"
+export ON_LINE="$*"
+zpty shell zsh -d -i
+while zpty -r shell; do :; done >/dev/null
+cat "$ZDOTDIR/offered"
+"""
+FISH = """\
+source completions/bootcore.fish
+complete -C "$argv"
+"""
+SHELLS = {"bash": ("-c", BASH, "bash"), "zsh": ("-f", "-c", ZSH, "zsh"), "fish": ("-c", FISH)}
+# zsh completes only on a terminal: there it inserts all that it offers
+ZSHRC = """\
+fpath=(completions $fpath)
+autoload -Uz compinit
+compinit -u -D
+zstyle ':completion:*' completer _all_matches _complete
+zstyle ':completion:*' insert true
+zle-line-init() {
+    BUFFER=$ON_LINE
+    zle end-of-line
+    zle complete-word
+    if [ "$BUFFER" = "$ON_LINE" ]; then BUFFER=; fi
+    print -r -- "${BUFFER#${ON_LINE% *}}" >"$ZDOTDIR/offered"
+    exit
+}
+zle -N zle-line-init
 """
 
 
@@ -127,9 +161,18 @@ class Pages(Checks):
         self.ends(f"tools/version prints the version of the usage text in {source}", ran, 0, usage + "\n")
 
     def test_completions(self) -> None:
-        for sentence, words, offered in COMPLETIONS:
-            ran = run("bash", "-c", COMPLETE, "bash", "bootcore", *words.split(" "))
-            self.ends(sentence, ran, 0, offered + "\n")
+        (self.room / ".zshrc").write_text(ZSHRC)
+        env = {name: str(self.room) for name in ("HOME", "XDG_CONFIG_HOME", "XDG_DATA_HOME", "ZDOTDIR")}
+        for shell, words in SHELLS.items():
+            if not is_at_hand(shell):
+                self.leave_out(f"{shell} completes the command line", f"{shell} is not at hand")
+                continue
+            for sentence, line, offered in COMPLETIONS:
+                ran = run(shell, *words, "bootcore", *line.split(" "), env={**env, "TERM": "dumb"})
+                with self.check(f"{shell} {sentence}"):
+                    self.assert_ended(ran, 0, None)
+                    without_descriptions = re.sub("\t.*", "", ran.out.decode())
+                    self.assert_text(ran, offered, " ".join(sorted(without_descriptions.split())), "offered")
 
 
 class ManualPage(Checks):
