@@ -1,5 +1,6 @@
 """pages: links, quoted lines, names, lengths, the manual page"""
 
+import os
 import re
 from functools import lru_cache
 from pathlib import Path
@@ -223,6 +224,34 @@ class BesideProgram(ProgramChecks):
         calls = [line for line in synopsis.split("\n") if re.match(" +bootcore", line)]
         wanted = re.sub(" +", " ", usage.replace("usage: ", " ", 1))
         self.assert_text(ran, wanted, re.sub(" +", " ", "\n".join([*calls, ""])), "synopsis")
+
+
+class Guide(ProgramChecks):
+    """The commands of docs/GUIDE.md print what stands below them; `..` is any number of lines."""
+
+    BLOCK = re.compile(r"^```\n(\$ .*?)^```$", re.M | re.S)
+    NOT_HERE = ("mkdir", "qemu.sh", "linux.sh", "ramdisk.sh")  # the folder is made otherwise; ./test qemu and program have the others
+
+    def test_commands(self) -> None:
+        for name in ("examples", "cases", "tools", "crates", "model"):
+            (self.room / name).symlink_to(TOP / name)
+        folder = self.room / "trial"
+        folder.mkdir()
+        (folder / "first.toml").write_bytes(FIRST.read_bytes())
+        env = {"PATH": f"{PROGRAM.parent}:{os.environ['PATH']}", "BOOTCORE": str(PROGRAM)}
+        page = (TOP / "docs/GUIDE.md").read_text(encoding="utf-8")
+        asked = [each.partition("\n") for block in self.BLOCK.findall(page) for each in re.split(r"^\$ ", block, flags=re.M)[1:]]
+        for command, _, wanted in asked:
+            if any(word in command for word in self.NOT_HERE):
+                continue
+            sentence = f"the guide's command prints what the guide says: {command}"
+            if re.match("(as|ld) ", command) and not is_at_hand(command[:2]):
+                self.leave_out(sentence, f"{command[:2]} is not at hand")
+                continue
+            with self.check(sentence):
+                ran = run("bash", "-c", command, cwd=folder, env=env)
+                lines = "".join(r"(?:.*\n)*" if line == ".." else re.escape(line) + r"\n" for line in wanted.splitlines())
+                self.assertRegex(ran.out.decode(), re.compile(rf"\A{lines}\Z"), f"ran: {ran}\nstandard output")
 
 
 def missing_links(page: str) -> List[str]:
