@@ -1,5 +1,5 @@
 -- What the code keeps of a file that it reads. Own.
-use Rattle.std.specs.Prelude.{ℕ, ◌<◌, ◌≤◌, length, ⊥}
+use Rattle.std.specs.Prelude.{ℕ, ◌<◌, ◌≤◌, length}
 use Rattle.bl_stage.specs.declared.fetched.Fetched.{Fetched}
 use Rattle.bl_stage.specs.declared.fetched.Fetched.TheVariants as fetched
 
