@@ -42,23 +42,15 @@ static void put_words(struct text *text, const char *words) {
     }
 }
 
-static void put_decimal(struct text *text, uint64_t number) {
-    char digits[20]; /* 2^64 - 1 has as many */
+static void put_number(struct text *text, uint64_t number, unsigned base) {
+    char digits[20]; /* 2^64 - 1 has as many to the base 10 */
     size_t count = 0;
     do {
-        digits[count++] = (char)('0' + number % 10);
-        number /= 10;
+        digits[count++] = "0123456789abcdef"[number % base];
+        number /= base;
     } while (number);
     while (count) {
         put(text, digits[--count]);
-    }
-}
-
-static void put_offset(struct text *text, uint64_t offset) {
-    int shift;
-    put_words(text, "0x");
-    for (shift = 60; shift >= 0; shift -= 4) {
-        put(text, "0123456789abcdef"[offset >> shift & 15]);
     }
 }
 
@@ -68,13 +60,14 @@ static void put_carried(struct text *text, enum carried carried, const bootcore_
     }
     put(text, '(');
     if (carried == AN_OFFSET) {
-        put_offset(text, refusal->first);
+        put_words(text, "0x");
+        put_number(text, refusal->first, 16);
     } else {
-        put_decimal(text, refusal->first);
+        put_number(text, refusal->first, 10);
     }
     if (carried == TWO_NUMBERS) {
         put_words(text, ", ");
-        put_decimal(text, refusal->second);
+        put_number(text, refusal->second, 10);
     }
     put(text, ')');
 }
@@ -91,7 +84,7 @@ size_t bootcore_describe(const bootcore_refusal *refusal, char *buffer, size_t l
     const struct refusal_text *found = refusal ? find(refusal->number) : NULL;
     if (refusal) {
         put_words(&text, refusal->number > BOOTCORE_REFUSAL_NO_64_ENTRY ? "bad image " : "refused ");
-        put_decimal(&text, refusal->number);
+        put_number(&text, refusal->number, 10);
         if (found) {
             put(&text, ' ');
             put_words(&text, found->name);
