@@ -7,6 +7,7 @@
     .text
     .code32
 
+    .balign 8                       # a header stands at a multiple of 8 of the file, also of an ELF file
 header:
     .long 0xe85250d6, 0, header_end - header
     .long -(0xe85250d6 + (header_end - header))
