@@ -1,5 +1,6 @@
 pub mod Given
 pub mod GivenChecks
+pub mod MenuGiven
 pub mod Machines
 pub mod Load
 pub mod Prepare

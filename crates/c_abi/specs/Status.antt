@@ -17,24 +17,25 @@ refused_status = 1
 abbrev pub no_memory_status : ℕ
 no_memory_status = 4
 
+-- a part begins where the memory that is given is not
+abbrev pub outside_status : ℕ
+outside_status = 6
+
 abbrev pub misuse_status : Misuse → ℕ
-misuse_status misuse.FewPlaces = 16
-misuse_status misuse.BadKind = 18
-misuse_status misuse.BadSize = 19
-misuse_status misuse.TooManyRegions = 20
-misuse_status misuse.BadRegion = 21
-misuse_status misuse.BadPool = 22
-misuse_status misuse.BadMemory = 23
-misuse_status misuse.BadProtocol = 24
-misuse_status misuse.BadModules = 25
-misuse_status misuse.BadText = 26
-misuse_status misuse.BadFile = 27
-misuse_status misuse.BadContents = 28
-misuse_status misuse.TooMany = 29
-misuse_status misuse.BadIndex = 30
+misuse_status misuse.SmallRoom = 104
+misuse_status misuse.BadKind = 105
+misuse_status misuse.BadSize = 106
+misuse_status misuse.TooManyRegions = 107
+misuse_status misuse.BadRegion = 108
+misuse_status misuse.BadPool = 109
+misuse_status misuse.BadMemory = 110
+misuse_status misuse.BadProtocol = 111
+misuse_status misuse.TooMany = 112
+misuse_status misuse.BadIndex = 113
 
 -- of a load that ended so
 abbrev pub fault_status : LoadFault → ℕ
 fault_status (Misused misuse) = misuse_status misuse
 fault_status (Refused refused) = refused_status
 fault_status NoMemory = no_memory_status
+fault_status Outside = outside_status

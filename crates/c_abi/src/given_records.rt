@@ -1,13 +1,6 @@
-//! What C gives, as plain records. Addresses and lengths are in bytes.
+//! What C gives, as plain records. Addresses and lengths are in bytes. A slice in a record is a
+//! pointer and a length there; no pointer is null.
 use bl_plan::Protocol;
-
-/// Bytes of an array, from an offset on.
-#[repr(C)]
-#[derive(Clone, Copy)]
-pub struct ByteRange {
-    pub offset: u64,
-    pub length: u64,
-}
 
 /// A region of the memory map. `kind` is 1 to 5; `reserved` is not looked at.
 #[repr(C)]
@@ -28,36 +21,41 @@ pub struct MachineRecord {
     pub pool_length: u64,
 }
 
-/// A module: the index of its file, and its line as a range of the text. `reserved` is not looked
-/// at.
+/// A file. A call that loads reads its bytes and does not look at `length`; a call that is told of
+/// files by their lengths reads `length` and does not look at the bytes. A menu's file of length
+/// `UNREADABLE` can't be read.
 #[repr(C)]
 #[derive(Clone, Copy)]
-pub struct ModuleRecord {
-    pub file: u32,
-    pub reserved: u32,
-    pub line: ByteRange,
+pub struct FileRecord<'a> {
+    pub bytes: &'a [u8],
+    pub length: u64,
 }
 
-/// An entry: the number of its protocol, the index of its kernel's file, and its line as a range of
-/// the text. Of protocol 1 it has `module_count` modules from `first_module` on, and copies of the
-/// RSDP as ranges of the text, of which one without bytes is none. Of protocols 2 and 3 it has an
-/// initial ramdisk, whose file's index is `NO_FILE` for none. What the protocol has no use for, and
-/// `reserved`, is not looked at.
+/// A module: its file and its line.
 #[repr(C)]
 #[derive(Clone, Copy)]
-pub struct EntryRecord {
+pub struct ModuleRecord<'a> {
+    pub file: FileRecord<'a>,
+    pub line: &'a [u8],
+}
+
+/// An entry: the number of its protocol, its kernel's file and its line. Of protocol 1 it has
+/// modules and copies of the RSDP, of which one without bytes is none. Of protocols 2 and 3 it has
+/// an initial ramdisk, unless `has_initrd` is 0. What the protocol has no use for is not looked at.
+#[repr(C)]
+#[derive(Clone, Copy)]
+pub struct EntryRecord<'a> {
     pub protocol: u32,
-    pub kernel: u32,
-    pub first_module: u32,
-    pub module_count: u32,
-    pub initrd: u32,
-    pub reserved: u32,
-    pub line: ByteRange,
-    pub rsdp_old: ByteRange,
-    pub rsdp_new: ByteRange,
+    pub has_initrd: u32,
+    pub kernel: FileRecord<'a>,
+    pub line: &'a [u8],
+    pub initrd: FileRecord<'a>,
+    pub modules: &'a [ModuleRecord<'a>],
+    pub rsdp_old: &'a [u8],
+    pub rsdp_new: &'a [u8],
 }
 
-impl EntryRecord {
+impl EntryRecord<'_> {
     ghost use Rattle.std.specs.Prelude.{◌≡◌, ◌==◌};
     ghost use Rattle.bl_plan.specs.Protocols.{protocol_number};
 
@@ -69,8 +67,5 @@ impl EntryRecord {
     }
 }
 
-/// The index of no file.
-pub const NO_FILE: u32 = u32::MAX;
-
-/// The offset of a file that can't be read.
-pub const MISSING: u64 = u64::MAX;
+/// The length of a file that can't be read.
+pub const UNREADABLE: u64 = u64::MAX;

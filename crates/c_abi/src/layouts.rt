@@ -1,17 +1,17 @@
 //! The sizes of the records: those that `include/bootcore.h` asserts.
 use crate::end_records::{HandoffRecord, PlaceRecord, RefusalRecord, RegistersRecord};
-use crate::given_records::{ByteRange, EntryRecord, MachineRecord, ModuleRecord, RegionRecord};
+use crate::given_records::{EntryRecord, FileRecord, MachineRecord, ModuleRecord, RegionRecord};
 use crate::seen_records::{SeenModuleRecord, SeenPartRecord, SeenRecord};
 
-const _: () = prove!(size_of::<ByteRange>() == 16);
+const _: () = prove!(size_of::<FileRecord<'_>>() == 24);
 
 const _: () = prove!(size_of::<RegionRecord>() == 24);
 
 const _: () = prove!(size_of::<MachineRecord>() == 24);
 
-const _: () = prove!(size_of::<ModuleRecord>() == 24);
+const _: () = prove!(size_of::<ModuleRecord<'_>>() == 40);
 
-const _: () = prove!(size_of::<EntryRecord>() == 72);
+const _: () = prove!(size_of::<EntryRecord<'_>>() == 120);
 
 const _: () = prove!(size_of::<RegistersRecord>() == 256);
 

@@ -1,13 +1,11 @@
 //! What C gives and is told, in records and arrays, and what the libraries make of it.
 #![tactic(auto)]
 
-mod array_ranges;
 mod boot_telling;
 mod booting;
 mod end_records;
 mod entries;
 mod file_views;
-mod given_arrays;
 mod given_checks;
 mod given_fault;
 mod given_records;
@@ -36,10 +34,9 @@ mod walking;
 pub use boot_telling::given_status;
 pub use booting::boot_told;
 pub use end_records::{HandoffRecord, PlaceRecord, RefusalRecord, RegistersRecord};
-pub use given_arrays::Given;
 pub use given_fault::GivenFault;
 pub use given_records::{
-    ByteRange, EntryRecord, MISSING, MachineRecord, ModuleRecord, NO_FILE, RegionRecord,
+    EntryRecord, FileRecord, MachineRecord, ModuleRecord, RegionRecord, UNREADABLE,
 };
 pub use load_fault::LoadFault;
 pub use load_laws::loads_end_as_prepared;

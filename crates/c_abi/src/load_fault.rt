@@ -10,7 +10,7 @@ use std::alloc::AllocError;
 use thiserror::Error;
 
 /// Why an entry is not loaded: its caller broke a condition, or the entry is refused, or memory ran
-/// out.
+/// out, or a part would begin below the memory that is given.
 #[derive(Clone, Copy, Debug, PartialEq, Eq, Error)]
 pub enum LoadFault {
     #[error("{0}")]
@@ -19,6 +19,8 @@ pub enum LoadFault {
     Refused(Refusal),
     #[error("no memory")]
     NoMemory,
+    #[error("a part begins below the memory that is given")]
+    Outside,
 }
 
 impl From<Misuse> for LoadFault {

@@ -7,8 +7,8 @@ use thiserror::Error;
 /// A condition of a call that its caller broke, found before any memory was changed.
 #[derive(Clone, Copy, Debug, PartialEq, Eq, Error)]
 pub enum Misuse {
-    #[error("room for fewer places than there may be")]
-    FewPlaces,
+    #[error("an array has too little room")]
+    SmallRoom,
     #[error("a region's kind is none")]
     BadKind,
     #[error("bad size")]
@@ -23,14 +23,6 @@ pub enum Misuse {
     BadMemory,
     #[error("no such protocol")]
     BadProtocol,
-    #[error("an entry's modules are not among the modules")]
-    BadModules,
-    #[error("a line or a copy does not lie in the text")]
-    BadText,
-    #[error("no such file")]
-    BadFile,
-    #[error("a file does not lie in the contents")]
-    BadContents,
     #[error("too many entries or modules, or a copy is too long")]
     TooMany,
     #[error("no such entry")]
@@ -38,25 +30,21 @@ pub enum Misuse {
 }
 
 impl Misuse {
-    /// The status that tells of it.
+    /// The status that tells of it. No refusal and no fault has such a number.
     pub fn status(self) -> u32
         ensures { result ≡ misuse_status self }
     {
         match self {
-            Misuse::FewPlaces => 16,
-            Misuse::BadKind => 18,
-            Misuse::BadSize => 19,
-            Misuse::TooManyRegions => 20,
-            Misuse::BadRegion => 21,
-            Misuse::BadPool => 22,
-            Misuse::BadMemory => 23,
-            Misuse::BadProtocol => 24,
-            Misuse::BadModules => 25,
-            Misuse::BadText => 26,
-            Misuse::BadFile => 27,
-            Misuse::BadContents => 28,
-            Misuse::TooMany => 29,
-            Misuse::BadIndex => 30,
+            Misuse::SmallRoom => 104,
+            Misuse::BadKind => 105,
+            Misuse::BadSize => 106,
+            Misuse::TooManyRegions => 107,
+            Misuse::BadRegion => 108,
+            Misuse::BadPool => 109,
+            Misuse::BadMemory => 110,
+            Misuse::BadProtocol => 111,
+            Misuse::TooMany => 112,
+            Misuse::BadIndex => 113,
         }
     }
 }
