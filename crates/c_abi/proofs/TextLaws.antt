@@ -8,7 +8,7 @@ use Rattle.std.proofs.lemmas.Bool.{le-leb}
 use Rattle.std.proofs.lemmas.List.{append-nil}
 use Rattle.std.proofs.Math.Seq.{drop-append_seam, take-append_seam}
 use Rattle.bl_walk.specs.SeenFacts.{SeenFacts, SeenModuleFacts}
-use Rattle.c_abi.specs.Given.{are_among, range_bytes}
+use Rattle.c_abi.specs.TextRanges.{are_among, range_bytes}
 use Rattle.c_abi.specs.SeenTold.{copy_range, lines_seen, modules_told, text_seen}
 use Rattle.c_abi.specs.SeenTold.{text_before_rsdp_new}
 

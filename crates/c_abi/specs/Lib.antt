@@ -10,6 +10,7 @@ pub mod LoadTold
 pub mod Boot
 pub mod BootTold
 pub mod Sessions
+pub mod TextRanges
 pub mod SeenTold
 pub mod Walk
 pub mod WalkTold

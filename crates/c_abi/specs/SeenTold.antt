@@ -7,12 +7,12 @@ use Rattle.bl_map.specs.Kinds.{kind_number}
 use Rattle.bl_plan.specs.Protocols.{protocol_number}
 use Rattle.bl_walk.specs.SeenFacts.{SeenFacts, SeenFileFacts, SeenModuleFacts}
 use Rattle.bl_walk.specs.declared.seen.SeenPart.{SeenPart}
-use Rattle.c_abi.specs.declared.given_records.ByteRange.{ByteRange}
+use Rattle.c_abi.specs.declared.seen_records.ByteRange.{ByteRange}
 use Rattle.c_abi.specs.declared.given_records.RegionRecord.{RegionRecord}
 use Rattle.c_abi.specs.declared.seen_records.SeenModuleRecord.{SeenModuleRecord}
 use Rattle.c_abi.specs.declared.seen_records.SeenPartRecord.{SeenPartRecord}
 use Rattle.c_abi.specs.declared.seen_records.SeenRecord.{SeenRecord}
-use Rattle.c_abi.specs.Given.{no_range}
+use Rattle.c_abi.specs.TextRanges.{no_range}
 
 -- ---- the text: the line, the modules' lines in order, the copies of the RSDP, the old one first
 

@@ -1,9 +1,11 @@
 //! The sizes of the records: those that `include/bootcore.h` asserts.
 use crate::end_records::{HandoffRecord, PlaceRecord, RefusalRecord, RegistersRecord};
 use crate::given_records::{EntryRecord, FileRecord, MachineRecord, ModuleRecord, RegionRecord};
-use crate::seen_records::{SeenModuleRecord, SeenPartRecord, SeenRecord};
+use crate::seen_records::{ByteRange, SeenModuleRecord, SeenPartRecord, SeenRecord};
 
 const _: () = prove!(size_of::<FileRecord<'_>>() == 24);
+
+const _: () = prove!(size_of::<ByteRange>() == 16);
 
 const _: () = prove!(size_of::<RegionRecord>() == 24);
 

@@ -43,7 +43,7 @@ pub use load_laws::loads_end_as_prepared;
 pub use loading::load_told;
 pub use misuse::Misuse;
 pub use preparing::prepare_told;
-pub use seen_records::{SeenModuleRecord, SeenPartRecord, SeenRecord, WalkStop};
+pub use seen_records::{ByteRange, MISSING, SeenModuleRecord, SeenPartRecord, SeenRecord, WalkStop};
 pub use seen_text_laws::ranges_have_their_texts;
 pub use session_laws::sessions_have_the_sizes_of_boots;
 pub use sessions::{outcome_told, session_given};

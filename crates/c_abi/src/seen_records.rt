@@ -1,7 +1,17 @@
 //! What C is told of a walk.
-use crate::given_records::ByteRange;
 use bl_image::ImageFault;
 use bl_walk::WalkFault;
+
+/// Bytes of a text, from an offset on.
+#[repr(C)]
+#[derive(Clone, Copy)]
+pub struct ByteRange {
+    pub offset: u64,
+    pub length: u64,
+}
+
+/// The offset of a copy of an RSDP that is not there.
+pub const MISSING: u64 = u64::MAX;
 
 /// What a kernel sees in an image: the number of its protocol, how many parts the kernel has, how
 /// many modules and runs of memory it is told of, where it is entered, how long its line is, and

@@ -3,8 +3,8 @@ ghost use Rattle.std.specs.Prelude.{◌≡◌, ◌∷◌, ◌++◌, [], length, 
 ghost use Rattle.std.specs.List.{flat_map};
 ghost use Rattle.c_abi.specs.SeenTold as spec;
 
-use crate::given_records::{ByteRange, MISSING, RegionRecord};
-use crate::seen_records::{SeenModuleRecord, SeenPartRecord, SeenRecord};
+use crate::given_records::RegionRecord;
+use crate::seen_records::{ByteRange, MISSING, SeenModuleRecord, SeenPartRecord, SeenRecord};
 use crate::seen_vectors::SeenVectors;
 use bl_map::Region;
 use bl_mem::Bytes;
