@@ -1,45 +1,46 @@
 /*
  * bootcore: what a boot loader does with memory, for C.
  *
- * Link libbootcore.a, which ./install puts into a prefix, with bootcore.pc for pkg-config, and which
- * examples/c/build makes in a checkout. It wants memmove, memset and memcpy, and malloc, realloc and
- * free, which align as the C library's and always return. Nothing else is wanted: no file, no clock,
- * no thread. Each function of this file is a symbol of the archive; what else has a name there that
+ * To load one entry into memory: bootcore_machine, bootcore_entry, bootcore_load. To learn first what
+ * goes where, and read files straight to their places, as a virtual machine monitor does:
+ * bootcore_plan. To boot a menu with fallbacks: bootcore_boot, or bootcore_session_make and what
+ * follows it if a disk still reads. To check an image: bootcore_walk. docs/EMBED.md has a program
+ * for each.
+ *
+ * Archive. Link libbootcore.a, which ./install puts into a prefix, with bootcore.pc for pkg-config,
+ * and examples/c/build makes in a checkout. It wants memmove, memset and memcpy, and malloc, realloc
+ * and free, which align as the C library's and always return; nothing else: no file, no clock, no
+ * thread. Each function of this file is a symbol of the archive. What else has a name there that
  * begins with bootcore_ is no interface.
  *
- * Target. The library is built for x86-64 (x86-64-v2, with SSE enabled) and the System V calling
- * convention, and so its calls are declared.
+ * Target. x86-64 (x86-64-v2, with SSE enabled) and the System V calling convention. A call needs at
+ * most BOOTCORE_STACK bytes of stack, and keeps values in the 128 bytes below the stack pointer (the
+ * red zone): if interrupts use the same stack, as in firmware, call with interrupts off.
  *
  * Units. Addresses and lengths are in bytes, and addresses are those of the machine that is booted.
  * An index counts from 0.
  *
- * Ownership. All memory is the caller's before, during and after a call. What a call takes for
- * itself it gives back before it returns. No pointer is kept, and none is handed out, but for the
- * memory of a session: the library takes it, and bootcore_session_free gives it back.
- *
- * Stack. The library keeps values in the 128 bytes below the stack pointer (the red zone of the
- * System V convention): if interrupts use the same stack, as in a firmware, call with interrupts off.
+ * Memory. All of it is the caller's before, during and after a call. What a call takes from malloc
+ * it frees before it returns, but for what a session keeps. No pointer is kept, and none is handed
+ * out but to constant text. Nothing is read but what is given, and nothing written but parts, the
+ * pool and what a call says that it tells.
  *
  * Threads. None is started, and two calls at once know nothing of each other, if they share nothing
- * that either may change and the allocator bears calls at once. Call from no signal handler.
+ * that either may change. Call from no signal handler.
  *
  * What the caller keeps; no call can test it:
- * - a pointer that is not null points to as many elements as are told, of the type that is told,
- *   aligned as it is there, that nobody else changes during the call;
- * - what a call may change (memory, results) overlaps nothing else that it is given, and nothing of
- *   the program: its code, data, stack and the allocator's blocks. A file that lies in the machine's
- *   memory must first be moved out of it;
- * - a session's struct and pool, between two calls: see bootcore_session and bootcore_session_start.
- * An array without elements may be null, but `memory` and `places` may not. Whatever else the values
- * are, a call ends, and what is wrong with them has a status.
+ * - a pointer that is not null points to as many elements as are told, of its type, aligned as it
+ *   is there, that nobody else changes during the call;
+ * - what a call may change overlaps nothing else that it is given, and nothing of the program;
+ * - a session's struct and pool, between two calls: see bootcore_session.
+ * An array without elements may be null. Whatever else the values are, a call ends, and what is
+ * wrong with them has a status.
  *
- * Versions. BOOTCORE_VERSION is that of this file, bootcore_version() that of the archive.
+ * Versions. BOOTCORE_VERSION is that of this file, bootcore_version() that of the archive. Within
+ * 1.x a struct keeps its size and its fields, and a number its meaning. A reserved word must be 0;
+ * a later version may give another value a meaning. New functions, statuses and refusals may come.
  *
- * What to read: to load one entry, as a hypervisor does, bootcore_given, bootcore_entry and
- * bootcore_load; to boot a menu bootcore_boot; to boot while a disk still reads bootcore_session_make and
- * what follows; to check an image bootcore_walk. docs/EMBED.md has a program for each.
- *
- * The names of this file hold in C99 and later, and in C++98 and later.
+ * This file is C99 and later, and C++98 and later.
  */
 #ifndef BOOTCORE_H
 #define BOOTCORE_H
@@ -61,54 +62,439 @@ extern "C" {
 #define BOOTCORE_CALL
 #endif
 
+typedef char bootcore_is_for_64_bits[sizeof(size_t) == 8 ? 1 : -1];
+
 /* The version: major * 10000 + minor * 100 + patch. */
 #define BOOTCORE_VERSION 10000
 
-/* The version of the archive that is linked. */
 BOOTCORE_CALL
 uint32_t bootcore_version(void);
-
-/* What a call answers. Of several misuses the first in the order of these lines is told, with one
- * exception: BOOTCORE_BAD_PROTOCOL to BOOTCORE_BAD_FILE are looked for entry by entry, so those of a
- * menu's earlier entry come first. After a misuse all is as before, but for what bootcore_walk_all
- * says. */
-enum {
-    BOOTCORE_DONE = 0,
-    BOOTCORE_REFUSED = 1,           /* the entry is refused; of a boot: no entry is left; of a walk:
-                                     * the image is refused */
-    BOOTCORE_NO_MEMORY = 4,         /* malloc or realloc gave none, or a part lies below the memory's
-                                     * base; may come in place of any other but BOOTCORE_NULL and,
-                                     * where no image is walked, BOOTCORE_FEW_PLACES */
-
-    BOOTCORE_NULL = 15,             /* a null pointer to one element or more, or a null `memory`,
-                                     * `places` or struct */
-    BOOTCORE_FEW_PLACES = 16,       /* room for fewer than BOOTCORE_MAX_PARTS places; of a walk: for
-                                     * less than it tells */
-    BOOTCORE_BAD_KIND = 18,         /* a region's kind is none of BOOTCORE_USABLE and so on */
-    BOOTCORE_BAD_SIZE = 19,         /* the size is no multiple of 4096 from 1 MiB to 4 GiB */
-    BOOTCORE_TOO_MANY_REGIONS = 20, /* more than 128 */
-    BOOTCORE_BAD_REGION = 21,       /* a region ends above 2^52 */
-    BOOTCORE_BAD_POOL = 22,         /* the pool is not of whole frames, or not all of it is usable */
-    BOOTCORE_BAD_MEMORY = 23,       /* memory ends below the machine's size; of a boot: not at it */
-    BOOTCORE_BAD_PROTOCOL = 24,     /* an entry's protocol is none of BOOTCORE_MULTIBOOT2 and so on */
-    BOOTCORE_BAD_MODULES = 25,      /* an entry's modules are not among the modules */
-    BOOTCORE_BAD_TEXT = 26,         /* a line or a copy of an RSDP is no range of the text */
-    BOOTCORE_BAD_FILE = 27,         /* the index of a file is not below their number */
-    BOOTCORE_BAD_CONTENTS = 28,     /* of a load: a file of the entry is no range of the contents; of
-                                     * a boot: any file is none, and is not missing */
-    BOOTCORE_TOO_MANY = 29,         /* more than 32 entries, 64 modules, or 256 bytes of a copy */
-    BOOTCORE_BAD_INDEX = 30         /* a menu's first entry or a fallback is no entry */
-};
 
 enum {
     BOOTCORE_MAX_REGIONS = 128,
     BOOTCORE_MAX_ENTRIES = 32,
-    BOOTCORE_MAX_MODULES = 64,  /* of an entry */
-    BOOTCORE_MAX_LINE = 4095,   /* bytes of a line; a Linux kernel may take fewer */
-    BOOTCORE_MAX_RSDP = 256,    /* bytes of a copy of an RSDP */
-    BOOTCORE_MAX_PARTS = 256,   /* what `places` must have room for, however few parts there are */
-    BOOTCORE_MAX_REFUSALS = 32  /* a boot refuses no more entries */
+    BOOTCORE_MAX_MODULES = 64,   /* of an entry */
+    BOOTCORE_MAX_LINE = 4095,    /* bytes of a line; a Linux kernel may take fewer */
+    BOOTCORE_MAX_RSDP = 256,     /* bytes of a copy of an RSDP */
+    BOOTCORE_MAX_PLACES = 256,   /* an entry has no more parts */
+    BOOTCORE_MAX_REFUSALS = 32,  /* a boot refuses no more entries */
+    BOOTCORE_STACK = 16384
 };
+
+/* What a call answers. A misuse, from 101 on, has changed nothing; of several the first in the order
+ * of these lines is told, with one exception: the two of an entry's protocol and size are looked for
+ * entry by entry. */
+enum {
+    BOOTCORE_DONE = 0,
+    BOOTCORE_REFUSED = 1,   /* the entry is refused; of a boot: no entry is left; of a walk: the image */
+    BOOTCORE_WAITING = 2,   /* a session: pieces are awaited, or it was not started */
+    BOOTCORE_NEXT = 3,      /* a session: an entry or more was refused, and pieces of another are awaited */
+    BOOTCORE_NO_MEMORY = 4, /* malloc or realloc gave none; may come in place of any other but
+                             * BOOTCORE_NULL to BOOTCORE_SMALL_ROOM */
+    BOOTCORE_FAILED = 5,    /* a session: no entry is left, or memory ran out; the outcome says which */
+    BOOTCORE_OUTSIDE = 6,   /* a load: a part begins below the memory that is given; of
+                             * bootcore_carry_out: a step does not lie in the memory that is given */
+
+    BOOTCORE_NULL = 101,     /* a null pointer, where one may not be */
+    BOOTCORE_BAD_RESERVED,   /* a reserved word is not 0 */
+    BOOTCORE_BAD_FILE,       /* a file has the length BOOTCORE_UNREADABLE, where all are wanted, or
+                              * other files are given than were planned for */
+    BOOTCORE_SMALL_ROOM,     /* an array of the caller's has too little room */
+    BOOTCORE_BAD_KIND,       /* a region's kind is none of BOOTCORE_USABLE and so on */
+    BOOTCORE_BAD_SIZE,       /* the size is no multiple of 4096 from 1 MiB to 4 GiB */
+    BOOTCORE_TOO_MANY_REGIONS,
+    BOOTCORE_BAD_REGION,     /* a region ends above 2^52 */
+    BOOTCORE_BAD_POOL,       /* the pool is not of whole frames, or not all of it is usable */
+    BOOTCORE_BAD_MEMORY,     /* memory ends below the machine's size; of a boot: not at it. Memory that
+                              * begins at 4 GiB or above is told before any line behind BOOTCORE_NULL */
+    BOOTCORE_BAD_PROTOCOL,   /* an entry's protocol is none of BOOTCORE_MULTIBOOT2 and so on */
+    BOOTCORE_TOO_MANY,       /* too many entries, too many modules, or too long a copy of an RSDP */
+    BOOTCORE_BAD_INDEX,      /* a menu's first entry or a fallback is no entry */
+    BOOTCORE_NO_SESSION,     /* none is kept: it was not made, or it was freed */
+    BOOTCORE_LOW_POOL        /* a session: the pool begins below the memory that is given */
+};
+
+/* ---- what is booted, and on what */
+
+/* Bytes of the caller's: a line, a file. */
+typedef struct bootcore_bytes {
+    const void *bytes;
+    size_t length;
+} bootcore_bytes;
+
+/* The length of a file that can't be read, in a menu: an entry with it is refused. */
+#define BOOTCORE_UNREADABLE (~(size_t)0)
+
+/* Kinds of memory: the numbers of an e820 entry. Where regions overlap, the greatest counts. An
+ * address is usable if its kind is BOOTCORE_USABLE and it lies from 4096 on, below the machine's size
+ * and below 0xFFFFF000; one in no region is not. */
+enum {
+    BOOTCORE_USABLE = 1,
+    BOOTCORE_RESERVED = 2,
+    BOOTCORE_ACPI = 3,
+    BOOTCORE_NVS = 4,
+    BOOTCORE_UNUSABLE = 5
+};
+
+typedef struct bootcore_region {
+    uint64_t base;
+    uint64_t length;
+    uint32_t kind;
+    uint32_t reserved; /* 0 */
+} bootcore_region;
+
+/* A machine. Its size is where its memory below 4 GiB ends: no part lies above. Regions come in any
+ * order, may overlap, and may lie above the size, as a guest's memory above 4 GiB does; the kernel is
+ * told the runs of memory that they make, all of them. The pool is where a boot keeps what it has read
+ * of files: usable whole frames, as many as the files of one entry have together. A load or a plan
+ * needs none: its length may be 0, and its base is any multiple of 4096 then. */
+typedef struct bootcore_machine {
+    uint64_t size;
+    uint64_t pool_base;
+    uint64_t pool_length;
+    const bootcore_region *regions;
+    size_t region_count;
+    uint64_t reserved; /* 0 */
+} bootcore_machine;
+
+/* How a kernel is entered. */
+enum {
+    BOOTCORE_MULTIBOOT2 = 1,
+    BOOTCORE_LINUX = 2,  /* the 32-bit entry of the Linux boot protocol */
+    BOOTCORE_LINUX64 = 3 /* its 64-bit entry */
+};
+
+typedef struct bootcore_module {
+    bootcore_bytes file;
+    bootcore_bytes line; /* without a zero byte */
+} bootcore_module;
+
+/* An entry. What its protocol has no use for is not looked at.
+ *
+ * A Multiboot2 kernel is an ELF file, or a file with an address tag. A Linux kernel is a bzImage (never
+ * a vmlinux) of boot protocol 2.10 or later, for the 64-bit entry 2.12 with bit 0 of xloadflags. Copies
+ * of the RSDP are for Multiboot2 alone: on a machine without a BIOS a Linux kernel finds ACPI's tables
+ * by acpi_rsdp= in its line.
+ *
+ * Where files are told by their lengths alone (a plan, a session), a file's bytes may be null. An
+ * initial ramdisk whose bytes are null and whose length is 0 is none. */
+typedef struct bootcore_entry {
+    uint32_t protocol;
+    uint32_t reserved; /* 0 */
+    bootcore_bytes kernel;
+    bootcore_bytes line;     /* without a zero byte */
+    bootcore_bytes initrd;   /* Linux */
+    bootcore_bytes rsdp_old; /* Multiboot2: a copy of the RSDP of ACPI 1.0; without bytes: none */
+    bootcore_bytes rsdp_new; /* and of that of ACPI 2.0 or later */
+    const bootcore_module *modules; /* Multiboot2 */
+    size_t module_count;
+} bootcore_entry;
+
+/* Memory of the machine that is booted, where the caller has it: the bytes from an address on. */
+typedef struct bootcore_memory {
+    uint64_t address;
+    void *bytes;
+    size_t length;
+} bootcore_memory;
+
+/* ---- what is handed over */
+
+/* The registers as the kernel begins. With 32 bits rip is what eip is to hold, rax what eax is to
+ * hold, and so on; r8 to r15, cr3, cr4 and efer are 0 then: no rule gives them, so choose them. A
+ * segment register's number is its selector: bootcore_segments has the rest. TR, LDTR, IDTR and the
+ * debug registers are yours to choose under each protocol: no kernel may count on them. A20 is 1 if
+ * the gate is to be open. gdt_limit is the offset of the table's last byte; under Multiboot2 there is
+ * no table, and base and limit are 0. */
+typedef struct bootcore_registers {
+    uint64_t bits; /* 32 or 64 */
+    uint64_t rip, rax, rbx, rcx, rdx, rsi, rdi, rbp, rsp;
+    uint64_t r8, r9, r10, r11, r12, r13, r14, r15;
+    uint64_t rflags, cr0, cr3, cr4, efer;
+    uint64_t cs, ds, es, fs, gs, ss;
+    uint64_t gdt_base, gdt_limit, a20;
+} bootcore_registers;
+
+/* A segment register whole, as a virtual processor is given it without loading a descriptor. */
+typedef struct bootcore_segment {
+    uint64_t base;
+    uint32_t limit; /* in bytes */
+    uint16_t selector;
+    uint8_t type, s, dpl, p, avl, l, db, g;
+} bootcore_segment;
+
+/* Tells CS, DS, ES, FS, GS and SS, in this order. */
+BOOTCORE_CALL
+void bootcore_segments(const bootcore_registers *registers, bootcore_segment segments[6]);
+
+/* What a part in memory is. */
+enum {
+    BOOTCORE_KERNEL = 1,
+    BOOTCORE_MODULE = 2,
+    BOOTCORE_INFORMATION = 3,
+    BOOTCORE_BOOT_PARAMS = 4,
+    BOOTCORE_COMMAND_LINE = 5,
+    BOOTCORE_GDT = 6,
+    BOOTCORE_INITRD = 7,
+    BOOTCORE_PAGE_TABLES = 8
+};
+
+/* A part in memory. The length of all but a kernel's part is a multiple of 4096; what a part has no
+ * bytes for is zero. */
+typedef struct bootcore_place {
+    uint32_t role;
+    uint32_t index; /* among the parts of its role */
+    uint64_t address;
+    uint64_t length;
+} bootcore_place;
+
+typedef struct bootcore_handoff {
+    uint32_t entry;       /* the index of the entry that is handed over */
+    uint32_t protocol;    /* how its kernel is entered */
+    uint32_t place_count; /* how many places are told */
+    uint32_t reserved;    /* 0 */
+    bootcore_registers registers;
+} bootcore_handoff;
+
+/* Why an entry is refused: its index, the refusal's number, and what that refusal carries, else 0:
+ * see the numbers at the end of this file. Of a walk: the fault of the image, with entry 0. */
+typedef struct bootcore_refusal {
+    uint32_t entry;
+    uint32_t number;
+    uint64_t first;
+    uint64_t second;
+} bootcore_refusal;
+
+/* Where a call tells what comes of it: set the arrays and their room, the rest is told. */
+typedef struct bootcore_outcome {
+    bootcore_place *places; /* by ascending address */
+    size_t place_room;      /* at least BOOTCORE_MAX_PLACES */
+    bootcore_refusal *refusals;
+    size_t refusal_room;    /* may be 0; BOOTCORE_MAX_REFUSALS is always enough */
+    bootcore_handoff handoff;
+    size_t refusal_count;   /* how many there were, also beyond the room */
+} bootcore_outcome;
+
+/* ---- one entry */
+
+/*
+ * Loads one entry into memory, and tells how its kernel is entered. There is no menu and no pool.
+ *
+ * `memory` reaches at least to the machine's size. Below its address it may begin, where no part goes.
+ *
+ * - BOOTCORE_DONE: memory holds each part at its place, and each other byte as before; the handoff
+ *   and the first places are told (with entry 0), and refusal_count is 0.
+ * - BOOTCORE_REFUSED: refusal_count is 1, and the first of the refusals is told, if there is room.
+ * - BOOTCORE_OUTSIDE, BOOTCORE_NO_MEMORY, a misuse.
+ * What is not told, and after any answer but BOOTCORE_DONE all of memory, is as before.
+ */
+BOOTCORE_CALL
+uint32_t bootcore_load(const bootcore_memory *memory, const bootcore_machine *machine,
+                       const bootcore_entry *entry, bootcore_outcome *outcome);
+
+/*
+ * Tells what bootcore_load would hand over, or why it would not, from the kernel's bytes and the
+ * other files' lengths: it reads no other byte of a file, and no memory.
+ *
+ * The answers are those of bootcore_load, but BOOTCORE_OUTSIDE and BOOTCORE_BAD_MEMORY. After
+ * BOOTCORE_DONE a load of the same entry, with files of these lengths, into memory from address 0
+ * up to the machine's size, tells the same handoff and places, or memory runs out. After
+ * BOOTCORE_REFUSED none is done, and one that is refused has the same refusal.
+ */
+BOOTCORE_CALL
+uint32_t bootcore_prepare(const bootcore_machine *machine, const bootcore_entry *entry,
+                          bootcore_outcome *outcome);
+
+/* Where the bytes of a step come from. */
+enum {
+    BOOTCORE_FROM_FILE = 1,   /* the file of the entry: 0 is the kernel, k module k - 1, or 1 the initrd */
+    BOOTCORE_FROM_LAYOUT = 2, /* the layout's own bytes */
+    BOOTCORE_ZEROS = 3
+};
+
+/* `length` bytes, at least 1, from `offset` of the source on, go to an address. */
+typedef struct bootcore_step {
+    uint64_t address;
+    uint64_t length;
+    uint64_t offset;
+    uint32_t source;
+    uint32_t file; /* of BOOTCORE_FROM_FILE, else 0 */
+} bootcore_step;
+
+/* Where a plan is told: set the arrays and their room, the rest is told. */
+typedef struct bootcore_layout {
+    bootcore_place *places; /* by ascending address */
+    size_t place_room;      /* at least BOOTCORE_MAX_PLACES */
+    bootcore_step *steps;   /* by ascending address, none meets another */
+    size_t step_room;
+    uint8_t *own;           /* the bytes of the parts that no file has */
+    size_t own_room;
+    bootcore_handoff handoff;
+    size_t step_count;
+    size_t own_length;
+    bootcore_refusal refusal;
+} bootcore_layout;
+
+/*
+ * Tells what bootcore_load would do, as steps, from the kernel's bytes and the other files' lengths:
+ * it reads no other byte of a file, and no memory.
+ *
+ * Whoever carries out the steps, in any order, has loaded the entry: whatever the other files' bytes
+ * are and memory held, each part is at its place then, and each other byte as before. Together the
+ * steps are exactly the parts. Steps of zeros may be left out where memory is known to be zero, as a
+ * fresh mapping is, and nowhere else. If the kernel's file may change meanwhile, read from a copy of
+ * it, for which the plan was made.
+ *
+ * - BOOTCORE_DONE: all but the refusal is told.
+ * - BOOTCORE_REFUSED: the refusal is told.
+ * - BOOTCORE_SMALL_ROOM: with places for BOOTCORE_MAX_PLACES, step_count and own_length say what is
+ *   wanted, and nothing else is told: a call without room for steps and bytes asks for it.
+ * - BOOTCORE_NO_MEMORY, another misuse.
+ * What is not told is as before. Equal machines, entries, kernels and lengths have equal plans.
+ */
+BOOTCORE_CALL
+uint32_t bootcore_plan(const bootcore_machine *machine, const bootcore_entry *entry,
+                       bootcore_layout *layout);
+
+/*
+ * Carries out the steps of a plan, from files in memory into memory in one piece or more, which may
+ * lie anywhere and in any order, and may have holes where no part goes. `files` are the entry's: the
+ * kernel, then the modules or the initial ramdisk, of the lengths that were planned for.
+ *
+ * Either all steps are carried out (BOOTCORE_DONE), or nothing is written: BOOTCORE_NULL,
+ * BOOTCORE_BAD_FILE, or BOOTCORE_OUTSIDE if a byte of a step lies in no piece. A step may go over
+ * several pieces; a byte that is in two goes to the first.
+ */
+BOOTCORE_CALL
+uint32_t bootcore_carry_out(const bootcore_layout *layout, const bootcore_bytes *files,
+                            size_t file_count, const bootcore_memory *memory, size_t memory_count);
+
+/* ---- a menu */
+
+/* The entries of a menu, and the order in which they are attempted: `first`, then the fallbacks, each
+ * entry once. */
+typedef struct bootcore_menu {
+    const bootcore_entry *entries;
+    size_t entry_count;
+    const uint32_t *fallbacks;
+    size_t fallback_count;
+    uint32_t first;
+    uint32_t reserved; /* 0 */
+} bootcore_menu;
+
+/*
+ * Boots the first entry of a menu, in the order of attempts, that is not refused. Its files come into
+ * the machine's pool, a piece at a time, and from there to their places, as if a disk gave them.
+ *
+ * `memory` ends at the machine's size. Let no usable byte lie below it: a part or a pool that begins
+ * there ends the boot as if memory ran out.
+ *
+ * - BOOTCORE_DONE: memory holds each part at its place, 0 elsewhere in the pool, and each other byte
+ *   as before; the handoff and the places are told.
+ * - BOOTCORE_REFUSED: no entry is left. Memory holds 0 in the pool, and each other byte as before.
+ * - BOOTCORE_NO_MEMORY: bytes of the pool may have changed, and no other.
+ * - A misuse.
+ * After the first two the refusals are told in order, as many as there is room for, and their number.
+ * What is not told is as before.
+ */
+BOOTCORE_CALL
+uint32_t bootcore_boot(const bootcore_memory *memory, const bootcore_machine *machine,
+                       const bootcore_menu *menu, bootcore_outcome *outcome);
+
+/* ---- a menu, whose files come piece by piece */
+
+enum {
+    BOOTCORE_PIECE = 4096 /* how long each piece of a file is, but for the last one */
+};
+
+/* A boot that is told the pieces of its files as they come. Set `kept` to null at first; after that
+ * only these calls write it. The struct may be moved, but use no copy of it. Call
+ * bootcore_session_free in the end, however the boot ended. Make one call at a time on a session, on
+ * whichever thread. */
+typedef struct bootcore_session {
+    void *kept;
+} bootcore_session;
+
+/* Pieces that are awaited, one after the other in a file: `length` bytes from the offset
+ * piece * BOOTCORE_PIECE on. */
+typedef struct bootcore_request {
+    uint32_t entry;   /* the index of the entry in the menu */
+    uint32_t attempt; /* which attempt it is, from 0 on */
+    uint32_t file;    /* the file's place in its entry, of which the kernel's is 0 */
+    uint32_t piece;   /* the first piece's index in the file */
+    uint64_t length;
+} bootcore_request;
+
+/*
+ * Makes a session of a menu, and keeps it; one that was kept before is freed then. It is not yet
+ * started. Of each file the length is looked at; its bytes come later. What is given is read during
+ * this call alone.
+ *
+ * BOOTCORE_DONE: the session is kept. Any other: what was kept before is still kept.
+ */
+BOOTCORE_CALL
+uint32_t bootcore_session_make(bootcore_session *session, const bootcore_machine *machine,
+                               const bootcore_menu *menu);
+
+/*
+ * Starts a session: the first attempt begins. One that was started before stays as it is.
+ *
+ * `memory` is as for bootcore_boot. The pieces that came lie in the pool: hand the same memory to each
+ * call of a session, and don't write to its pool before the boot ended.
+ *
+ * What this call and the next two answer:
+ * - BOOTCORE_WAITING: pieces are awaited. No byte outside the pool changed.
+ * - BOOTCORE_NEXT: the same, after one refusal or more. Ask again what is missing.
+ * - BOOTCORE_DONE: an entry is handed over. Memory is as after bootcore_boot.
+ * - BOOTCORE_FAILED: no entry is left, and the pool is 0; or memory ran out. No byte outside the pool
+ *   changed.
+ * - BOOTCORE_NULL, BOOTCORE_NO_SESSION, BOOTCORE_BAD_MEMORY, BOOTCORE_LOW_POOL: all is as before.
+ * After the end each further call without a misuse answers BOOTCORE_DONE or BOOTCORE_FAILED again, and
+ * changes nothing. Pieces or a fault before the start answer BOOTCORE_WAITING, and change nothing.
+ */
+BOOTCORE_CALL
+uint32_t bootcore_session_start(bootcore_session *session, const bootcore_memory *memory);
+
+/*
+ * Tells a session that pieces came: the bytes of a request, which are copied. `length` bytes are told,
+ * of which each BOOTCORE_PIECE are a piece, the rest too; they may be fewer than were asked for. In
+ * whatever order pieces come, the boot ends in the same way, unless memory runs out. A piece that is
+ * not awaited changes nothing: one that came before, one of an earlier attempt, or one of another
+ * length.
+ */
+BOOTCORE_CALL
+uint32_t bootcore_session_pieces(bootcore_session *session, const bootcore_memory *memory,
+                                 const bootcore_request *request, const void *bytes, size_t length);
+
+/* Tells a session that the first piece of a request can't be read: its entry is refused, and the next
+ * attempt begins, if there is one. A fault of a piece that is not awaited changes nothing. */
+BOOTCORE_CALL
+uint32_t bootcore_session_fault(bootcore_session *session, const bootcore_memory *memory,
+                                const bootcore_request *request);
+
+/* Tells the first pieces that the running attempt awaits, files and pieces ascending, at most so many
+ * bytes of one file (at least a piece), and whether there are some. If there are none, or no session,
+ * *request is as before. */
+BOOTCORE_CALL
+bool bootcore_session_missing(const bootcore_session *session, size_t most,
+                              bootcore_request *request);
+
+/* Tells the first ones behind those of *request, so that repeated calls tell all of them. Begin anew by
+ * bootcore_session_missing after BOOTCORE_NEXT. */
+BOOTCORE_CALL
+bool bootcore_session_missing_after(const bootcore_session *session, size_t most,
+                                    bootcore_request *request);
+
+/* Tells how a session ended; it stays as it is. BOOTCORE_DONE and BOOTCORE_REFUSED as by bootcore_boot,
+ * BOOTCORE_WAITING: it has not ended, BOOTCORE_NO_MEMORY: memory ran out on the way, or a misuse. */
+BOOTCORE_CALL
+uint32_t bootcore_session_outcome(const bootcore_session *session, bootcore_outcome *outcome);
+
+/* Frees what a session keeps, if there is something; one may be made again. A session that is freed, or
+ * made anew, before its end leaves in the pool what came. */
+BOOTCORE_CALL
+void bootcore_session_free(bootcore_session *session);
+
+/* ---- refusals, and what an image has wrong */
 
 /* Why an entry is refused: the numbers of a bootcore_refusal. docs/REFUSALS.md says more of each, and what
  * to do; bootcore_text says it in words. Beside a number: what `first`, and `second`, of the refusal are,
@@ -161,143 +547,6 @@ enum {
     BOOTCORE_FAULT_WALK_NO_MEMORY = 84
 };
 
-/* Kinds of memory: the numbers of an e820 entry. Where regions overlap, the greatest counts. An
- * address is usable if its kind is BOOTCORE_USABLE and it lies from 4096 on, below the machine's size
- * and below 0xFFFFF000; one in no region is not. */
-enum {
-    BOOTCORE_USABLE = 1,
-    BOOTCORE_RESERVED = 2,
-    BOOTCORE_ACPI = 3,
-    BOOTCORE_NVS = 4,
-    BOOTCORE_BAD = 5
-};
-
-/* How a kernel is entered. */
-enum {
-    BOOTCORE_MULTIBOOT2 = 1,
-    BOOTCORE_LINUX = 2,   /* the 32-bit entry of the Linux boot protocol */
-    BOOTCORE_LINUX64 = 3  /* its 64-bit entry */
-};
-
-/* What a part in memory is. */
-enum {
-    BOOTCORE_KERNEL = 1,
-    BOOTCORE_MODULE = 2,
-    BOOTCORE_INFORMATION = 3,
-    BOOTCORE_BOOT_PARAMS = 4,
-    BOOTCORE_COMMAND_LINE = 5,
-    BOOTCORE_GDT = 6,
-    BOOTCORE_INITRD = 7,
-    BOOTCORE_PAGE_TABLES = 8
-};
-
-#define BOOTCORE_NO_FILE (~(uint32_t)0) /* the index of no file */
-#define BOOTCORE_MISSING (~(uint64_t)0) /* a boot or a session: the offset of a file that can't be read;
-                                         * a walk: that of a copy of an RSDP that is not there */
-
-/* Bytes of an array. A range without bytes, too, begins within the array or at its end, but where
- * BOOTCORE_MISSING stands for none. */
-typedef struct bootcore_range {
-    uint64_t offset;
-    uint64_t length;
-} bootcore_range;
-
-typedef struct bootcore_region {
-    uint64_t base;
-    uint64_t length;
-    uint32_t kind;
-    uint32_t reserved; /* not looked at */
-} bootcore_region;
-
-/* The machine beside its regions. Its size is where its memory below 4 GiB ends: no part lies above.
- * Regions come in any order, may overlap, and may lie above the size; the kernel is told the runs of
- * memory that they make, all of them. A load needs no pool: its length may be 0, and its base is any
- * multiple of 4096 then; parts of a boot may lie in the pool. */
-typedef struct bootcore_machine {
-    uint64_t size;
-    uint64_t pool_base;
-    uint64_t pool_length;
-} bootcore_machine;
-
-typedef struct bootcore_module {
-    uint32_t file;
-    uint32_t reserved;   /* not looked at */
-    bootcore_range line; /* of the text, without a zero byte */
-} bootcore_module;
-
-/* An entry. What its protocol has no use for is not looked at.
- *
- * A Multiboot2 kernel is an ELF file, or a file with an address tag. A Linux kernel is a bzImage (never
- * a vmlinux) of boot protocol 2.10 or later, for the 64-bit entry 2.12 with bit 0 of xloadflags. Copies
- * of the RSDP are for Multiboot2 alone: on a machine without a BIOS a Linux kernel finds ACPI's tables
- * by acpi_rsdp= in its line. */
-typedef struct bootcore_entry {
-    uint32_t protocol;
-    uint32_t kernel;         /* the index of its file */
-    uint32_t first_module;   /* Multiboot2: the index of its first module among those given; at most */
-    uint32_t module_count;   /* their number, also where the entry has no module */
-    uint32_t initrd;         /* Linux: the index of its file, or BOOTCORE_NO_FILE; 0 is the first file */
-    uint32_t reserved;       /* not looked at */
-    bootcore_range line;     /* of the text, without a zero byte */
-    bootcore_range rsdp_old; /* Multiboot2: a copy of the RSDP of ACPI 1.0, of the text */
-    bootcore_range rsdp_new; /* and of that of ACPI 2.0 or later; a length of 0, at an offset within
-                              * the text, stands for none */
-} bootcore_entry;
-
-/* What a boot is made from. The text has the bytes of all lines and copies, the contents those of
- * all files; one byte may serve many. */
-typedef struct bootcore_given {
-    bootcore_machine machine;
-    const bootcore_region *regions;
-    size_t region_count;
-    const bootcore_module *modules;
-    size_t module_count;
-    const uint8_t *text;
-    size_t text_length;
-    const bootcore_range *files; /* of the contents */
-    size_t file_count;
-    const uint8_t *contents;
-    size_t contents_length;
-} bootcore_given;
-
-/* The registers as the kernel begins. With 32 bits rip is what eip is to hold, rax what eax is to
- * hold, and so on; r8 to r15, cr3, cr4 and efer are 0 then: no rule gives them, so choose them. TR, LDTR,
- * IDTR and the debug registers are yours to choose under each protocol. A20 is 1 if the gate is to be
- * open. gdt_limit is the offset of the table's last byte; under Multiboot2 there is no table, and base
- * and limit are 0.
- *
- * A segment register's number is its selector. What a processor keeps beside it, so that a virtual one
- * need not load a descriptor, is not read from the table: each segment is flat, with base 0, limit
- * 0xFFFFFFFF (in bytes), G, S and P set, DPL 0, AVL clear. CS has type 11, the others type 3; D/B is set
- * and L clear, but in CS with 64 bits, where L is set and D/B clear. */
-typedef struct bootcore_registers {
-    uint64_t bits; /* 32 or 64 */
-    uint64_t rip, rax, rbx, rcx, rdx, rsi, rdi, rbp, rsp;
-    uint64_t r8, r9, r10, r11, r12, r13, r14, r15;
-    uint64_t rflags, cr0, cr3, cr4, efer;
-    uint64_t cs, ds, es, fs, gs, ss;
-    uint64_t gdt_base, gdt_limit, a20;
-} bootcore_registers;
-
-/* A part in memory. The length of all but a kernel's part is a multiple of 4096; what a part has no
- * bytes for is zero. */
-typedef struct bootcore_place {
-    uint32_t role;
-    uint32_t index; /* among the parts of its role */
-    uint64_t address;
-    uint64_t length;
-} bootcore_place;
-
-/* Why an entry is refused: its index, the refusal's number as docs/REFUSALS.md has it, and what that
- * refusal carries (a file's place in the entry, an offset, a type, one segment or two), else 0. Of a
- * walk: the fault of the image, with entry 0. */
-typedef struct bootcore_refusal {
-    uint32_t entry;
-    uint32_t number;
-    uint64_t first;
-    uint64_t second;
-} bootcore_refusal;
-
 /* What a refusal's number means, in the words of `bootcore explain`; of a walk's fault, in those of
  * docs/REFUSALS.md. Of any other number it says that there is none. The text is constant. */
 BOOTCORE_CALL
@@ -311,342 +560,10 @@ const char *bootcore_text(uint32_t number);
 BOOTCORE_CALL
 size_t bootcore_describe(const bootcore_refusal *refusal, char *buffer, size_t length);
 
-typedef struct bootcore_handoff {
-    uint32_t entry;    /* the index of the entry that is handed over */
-    uint32_t protocol; /* how its kernel is entered */
-    uint32_t places;   /* how many places are told */
-    uint32_t reserved; /* 0 */
-    bootcore_registers registers;
-} bootcore_handoff;
-
-enum {
-    BOOTCORE_IMAGE_HEAD = 272,     /* the bytes of an image's head before the places, */
-    BOOTCORE_IMAGE_PLACE = 24,     /* and of each place there */
-    BOOTCORE_MAX_IMAGE_HEAD = 6416 /* with BOOTCORE_MAX_PARTS places */
-};
-
-/* Writes the head of a handoff image, of version 2: all that stands before the bytes of the parts, which
- * follow in the order of the places. `places` has as many elements as the handoff says. The answer is the
- * head's length; where `head` is null or has fewer bytes nothing is written. It is 0 after a null handoff,
- * and after null places where the handoff has some. */
-BOOTCORE_CALL
-size_t bootcore_image_head(const bootcore_handoff *handoff, const bootcore_place *places,
-                           uint8_t *head, size_t length);
-
-/* What a kernel sees in an image. Its text is its line, the modules' lines in order, the old copy of
- * the RSDP and the new one, one after the other. */
-typedef struct bootcore_seen {
-    uint32_t protocol;
-    uint32_t reserved;       /* 0 */
-    uint64_t kernel_parts;   /* how many parts the kernel has */
-    uint64_t modules;        /* how many modules it is told of */
-    uint64_t runs;           /* how many runs of memory it is told of */
-    uint64_t entry;          /* where it is entered */
-    uint64_t line_length;
-    uint64_t initrd;         /* where its initial ramdisk lies */
-    uint64_t initrd_length;  /* 0: there is none */
-    uint64_t text_length;
-    bootcore_range rsdp_old; /* of the text; its offset is BOOTCORE_MISSING if there is none */
-    bootcore_range rsdp_new;
-} bootcore_seen;
-
-/* A part of the kernel that is seen. */
-typedef struct bootcore_seen_part {
-    uint64_t address;
-    uint64_t length;
-} bootcore_seen_part;
-
-/* A module that is seen. */
-typedef struct bootcore_seen_module {
-    uint64_t address;
-    uint64_t length;
-    bootcore_range line; /* of the text, without a zero byte */
-} bootcore_seen_module;
-
-/* Where a walk tells all that is seen: the caller's arrays, each with the number of elements that it
- * has room for. A run of memory is told as a region. */
-typedef struct bootcore_seen_arrays {
-    bootcore_seen_part *kernel_parts; /* ascending by their addresses */
-    size_t kernel_part_room;
-    bootcore_seen_module *modules; /* in the order in which the kernel is told of them */
-    size_t module_room;
-    bootcore_region *runs; /* of the memory map, in its order */
-    size_t run_room;
-    uint8_t *text;
-    size_t text_room;
-} bootcore_seen_arrays;
-
-#if defined(__cplusplus) && __cplusplus >= 201103L
-#define BOOTCORE_ASSERT(test, text) static_assert(test, text)
-#elif defined(__STDC_VERSION__) && __STDC_VERSION__ >= 201112L
-#define BOOTCORE_ASSERT(test, text) _Static_assert(test, text)
-#else
-#define BOOTCORE_PASTE(a, b) a##b
-#define BOOTCORE_NAME(line) BOOTCORE_PASTE(bootcore_assert_, line)
-#define BOOTCORE_ASSERT(test, text) typedef char BOOTCORE_NAME(__LINE__)[(test) ? 1 : -1]
-#endif
-
-BOOTCORE_ASSERT(sizeof(size_t) == 8, "bootcore is built for 64 bits");
-BOOTCORE_ASSERT(sizeof(bootcore_range) == 16, "bootcore_range");
-BOOTCORE_ASSERT(sizeof(bootcore_region) == 24, "bootcore_region");
-BOOTCORE_ASSERT(offsetof(bootcore_region, kind) == 16, "bootcore_region.kind");
-BOOTCORE_ASSERT(sizeof(bootcore_machine) == 24, "bootcore_machine");
-BOOTCORE_ASSERT(sizeof(bootcore_module) == 24, "bootcore_module");
-BOOTCORE_ASSERT(offsetof(bootcore_module, line) == 8, "bootcore_module.line");
-BOOTCORE_ASSERT(sizeof(bootcore_entry) == 72, "bootcore_entry");
-BOOTCORE_ASSERT(offsetof(bootcore_entry, line) == 24, "bootcore_entry.line");
-BOOTCORE_ASSERT(sizeof(bootcore_registers) == 256, "bootcore_registers");
-BOOTCORE_ASSERT(offsetof(bootcore_registers, a20) == 248, "bootcore_registers.a20");
-BOOTCORE_ASSERT(sizeof(bootcore_place) == 24, "bootcore_place");
-BOOTCORE_ASSERT(offsetof(bootcore_place, address) == 8, "bootcore_place.address");
-BOOTCORE_ASSERT(sizeof(bootcore_refusal) == 24, "bootcore_refusal");
-BOOTCORE_ASSERT(offsetof(bootcore_refusal, first) == 8, "bootcore_refusal.first");
-BOOTCORE_ASSERT(sizeof(bootcore_handoff) == 272, "bootcore_handoff");
-BOOTCORE_ASSERT(offsetof(bootcore_handoff, registers) == 16, "bootcore_handoff.registers");
-BOOTCORE_ASSERT(sizeof(bootcore_seen) == 104, "bootcore_seen");
-BOOTCORE_ASSERT(offsetof(bootcore_seen, kernel_parts) == 8, "bootcore_seen.kernel_parts");
-BOOTCORE_ASSERT(offsetof(bootcore_seen, rsdp_new) == 88, "bootcore_seen.rsdp_new");
-BOOTCORE_ASSERT(sizeof(bootcore_seen_part) == 16, "bootcore_seen_part");
-BOOTCORE_ASSERT(sizeof(bootcore_seen_module) == 32, "bootcore_seen_module");
-BOOTCORE_ASSERT(offsetof(bootcore_seen_module, line) == 16, "bootcore_seen_module.line");
-
-/*
- * Loads one entry into memory, and tells how its kernel is entered: what a hypervisor does before it
- * enters its guest. There is no menu and no pool.
- *
- * `memory` has the bytes of the machine from the address `base` on, and reaches at least to its
- * size. Let no usable byte lie below `base`: a part whose place begins there ends the load by
- * BOOTCORE_NO_MEMORY.
- *
- * - BOOTCORE_DONE: memory holds each part at its place, and each other byte as before; *handoff is
- *   told (with entry 0), and in the first records of `places` the places, by ascending address. The
- *   other records, and *refusal, are as before.
- * - BOOTCORE_REFUSED: *refusal is told (with entry 0); all else is as before.
- * - Any other: all is as before.
- */
-BOOTCORE_CALL
-uint32_t bootcore_load(uint8_t *memory, size_t memory_length, uint32_t base,
-                       const bootcore_given *given, const bootcore_entry *entry,
-                       bootcore_handoff *handoff, bootcore_place *places, size_t place_count,
-                       bootcore_refusal *refusal);
-
-/*
- * Tells what bootcore_load would hand over of an entry, or why it would not, without the machine's
- * memory: before a firmware is left, or to compute what a machine should have been handed.
- *
- * - BOOTCORE_DONE: *handoff and the places are told as by bootcore_load.
- * - BOOTCORE_REFUSED: *refusal is told as by bootcore_load.
- * - Any other: the status that bootcore_load would answer for memory that reaches to the machine's
- *   size, or BOOTCORE_NO_MEMORY.
- * What is not told is as before.
- *
- * After BOOTCORE_DONE a bootcore_load of equal arrays, with room for as many places and memory that
- * reaches to the machine's size, answers BOOTCORE_DONE and tells the same handoff and places, or
- * BOOTCORE_NO_MEMORY. After BOOTCORE_REFUSED none answers BOOTCORE_DONE, and one that answers
- * BOOTCORE_REFUSED tells the same refusal.
- */
-BOOTCORE_CALL
-uint32_t bootcore_prepare(const bootcore_given *given, const bootcore_entry *entry,
-                          bootcore_handoff *handoff, bootcore_place *places, size_t place_count,
-                          bootcore_refusal *refusal);
-
-/* The entries of a menu, and the order in which they are attempted: `first`, then the fallbacks, each
- * entry once. */
-typedef struct bootcore_menu {
-    const bootcore_entry *entries;
-    size_t entry_count;
-    uint32_t first;
-    const uint32_t *fallbacks;
-    size_t fallback_count;
-} bootcore_menu;
-
-/*
- * Boots the first entry of a menu, in the order of attempts, that is not refused. Its files come into
- * the machine's pool, a piece at a time, and from there to their places, as if a disk gave them. A file
- * whose offset is BOOTCORE_MISSING can't be read: an entry with it is refused.
- *
- * `memory` has the bytes of the machine from the address `base` on, up to its size exactly. Let no
- * usable byte lie below `base`: a part or a pool that begins there ends the boot by
- * BOOTCORE_NO_MEMORY.
- *
- * - BOOTCORE_DONE: memory holds each part at its place, 0 elsewhere in the pool, and each other byte
- *   as before; *handoff and the places are told as by bootcore_load.
- * - BOOTCORE_REFUSED: no entry is left. Memory holds 0 in the pool, and each other byte as before.
- * - BOOTCORE_NO_MEMORY: bytes of the pool may have changed, and no other.
- * - Any other: all is as before.
- *
- * After the first two the refusals are told in order, as many as there is room for, and in *refused
- * how many there were. What is not told is as before.
- */
-BOOTCORE_CALL
-uint32_t bootcore_boot(uint8_t *memory, size_t memory_length, uint32_t base,
-                       const bootcore_given *given, const bootcore_menu *menu,
-                       bootcore_handoff *handoff, bootcore_place *places, size_t place_count,
-                       bootcore_refusal *refusals, size_t refusal_room, uint64_t *refused);
-
-/*
- * Walks an image in memory, as a measured boot does before it trusts what an image hands over: reads
- * it, and follows the addresses in its registers as its kernel would. Its parts are copied on the way.
- *
- * - BOOTCORE_DONE: the bytes are an image, a kernel can be entered with it, and *seen is told.
- * - BOOTCORE_REFUSED: fault->number is 71 to 75 if the bytes are no image (with 74 `first` is the index
- *   of the part), 81 to 83 if no kernel can be entered with it; docs/REFUSALS.md says which is which.
- *   (76, a source that can't be read, does not come: memory can be.)
- * - BOOTCORE_NO_MEMORY: fault->number is 77 or 84.
- * What is not told is as before.
- */
-BOOTCORE_CALL
-uint32_t bootcore_walk(const uint8_t *image, size_t image_length, bootcore_seen *seen,
-                       bootcore_refusal *fault);
-
-/*
- * Walks an image in memory as bootcore_walk does, and tells all that its kernel sees.
- *
- * - BOOTCORE_DONE: as bootcore_walk; besides, the first elements of the arrays are told, as many as
- *   *seen says. The others are as before.
- * - BOOTCORE_FEW_PLACES: an array has room for fewer elements than there are. *seen is told, and says
- *   how many there are; all arrays are as before. So a call without any room asks how much is wanted.
- * - BOOTCORE_REFUSED, BOOTCORE_NO_MEMORY: as bootcore_walk. The arrays are as before.
- *
- * The bytes of modules and of an initial ramdisk are not told. They lie in the image, in the part
- * that has their address.
- */
-BOOTCORE_CALL
-uint32_t bootcore_walk_all(const uint8_t *image, size_t image_length, bootcore_seen *seen,
-                           const bootcore_seen_arrays *arrays, bootcore_refusal *fault);
-
-/* ---- a boot piece by piece */
-
-/* What the calls of a session answer beside the statuses above. BOOTCORE_NO_SESSION comes before any
- * other misuse but BOOTCORE_NULL, and BOOTCORE_LOW_POOL after all others. */
-enum {
-    BOOTCORE_WAITING = 2,     /* pieces are awaited, or the session was not started */
-    BOOTCORE_NEXT = 3,        /* an entry or more was refused, and pieces of another are awaited */
-    BOOTCORE_FAILED = 5,      /* no entry is left, or memory ran out: the outcome says which */
-
-    BOOTCORE_NO_SESSION = 31, /* none is kept: it was not made, or it was freed */
-    BOOTCORE_LOW_POOL = 32    /* the pool begins below the memory's base */
-};
-
-enum {
-    BOOTCORE_PIECE = 4096 /* how long each piece of a file is, but for the last one */
-};
-
-/* A session: a boot that is told the pieces of its files as they come. Set `kept` to null at first: no
- * session is kept then. After that only these calls write it. The struct may be moved, but use no copy
- * of it. What it keeps is on the heap until bootcore_session_free: call that in the end, however the
- * boot ended.
- *
- * Make one call at a time on a session, on whichever thread. Two sessions know nothing of each other. */
-typedef struct bootcore_session {
-    void *kept;
-} bootcore_session;
-
-/* A piece that is awaited: `length` bytes of a file, from the offset piece * BOOTCORE_PIECE on. */
-typedef struct bootcore_request {
-    uint32_t file;    /* the index of its file among those given */
-    uint32_t attempt; /* these three name the piece: the number of the attempt, from 0 on, */
-    uint32_t place;   /* the file's place in its entry, of which the kernel's is 0, */
-    uint32_t piece;   /* and the piece's index in the file */
-    uint32_t length;  /* 1 to BOOTCORE_PIECE */
-} bootcore_request;
-
-BOOTCORE_ASSERT(sizeof(bootcore_session) == 8, "bootcore_session");
-BOOTCORE_ASSERT(sizeof(bootcore_request) == 20, "bootcore_request");
-BOOTCORE_ASSERT(offsetof(bootcore_request, length) == 16, "bootcore_request.length");
-BOOTCORE_ASSERT(sizeof(bool) == 1, "bool");
-
-/*
- * Makes a session of a menu, and keeps it; one that was kept before is freed then. It is not yet
- * started.
- *
- * Of each file its length is looked at, and whether its offset is BOOTCORE_MISSING. Its bytes come
- * later, so any other offset, and any `contents`, will do. The arrays are read during this call alone.
- *
- * - BOOTCORE_DONE: the session is kept.
- * - Any other: what was kept before is still kept. BOOTCORE_FEW_PLACES, BOOTCORE_BAD_MEMORY and
- *   BOOTCORE_BAD_CONTENTS don't come.
- */
-BOOTCORE_CALL
-uint32_t bootcore_session_make(bootcore_session *session, const bootcore_given *given,
-                               const bootcore_menu *menu);
-
-/*
- * Starts a session: the first attempt begins. A session that was started before stays as it is.
- *
- * `memory` has the bytes of the machine from the address `base` on, up to its size exactly. Let no
- * usable byte lie below `base`: a part whose place begins there ends the boot as if memory ran out.
- * The pieces that came lie in the pool: hand the same memory to each call of a session, and don't
- * write to its pool before the boot ended.
- *
- * What this call and the next two answer:
- * - BOOTCORE_WAITING: pieces are awaited. No byte outside the pool changed.
- * - BOOTCORE_NEXT: the same, after one refusal or more. Ask again what is missing.
- * - BOOTCORE_DONE: an entry is handed over. Memory holds each part at its place, 0 elsewhere in the
- *   pool, and each other byte as before the start.
- * - BOOTCORE_FAILED: no entry is left, and the pool is 0; or memory ran out. No byte outside the pool
- *   changed.
- * - BOOTCORE_NO_SESSION, BOOTCORE_BAD_MEMORY (memory does not end at the machine's size),
- *   BOOTCORE_LOW_POOL: all is as before.
- * After the end each further call without a misuse answers BOOTCORE_DONE or BOOTCORE_FAILED again, and
- * changes nothing. A piece or a fault before the start answers BOOTCORE_WAITING, and changes nothing.
- */
-BOOTCORE_CALL
-uint32_t bootcore_session_start(bootcore_session *session, uint8_t *memory, size_t memory_length,
-                                uint32_t base);
-
-/*
- * Tells a session that a piece came: the bytes of a request. They are copied. The request's file and
- * length are not looked at. In whatever order pieces come, the boot ends in the same way, unless memory
- * runs out. A piece that is not awaited changes nothing: one that came before, one of an earlier
- * attempt, or one of another length.
- */
-BOOTCORE_CALL
-uint32_t bootcore_session_piece(bootcore_session *session, uint8_t *memory, size_t memory_length,
-                                uint32_t base, const bootcore_request *request,
-                                const uint8_t *bytes, size_t length);
-
-/* Tells a session that a piece can't be read: its entry is refused, and the next attempt begins, if
- * there is one. A fault of a piece that is not awaited changes nothing. */
-BOOTCORE_CALL
-uint32_t bootcore_session_fault(bootcore_session *session, uint8_t *memory, size_t memory_length,
-                                uint32_t base, const bootcore_request *request);
-
-/* Tells the first piece that the running attempt awaits, files and pieces ascending, and whether
- * there is one. If there is none, or no session, *request is as before. */
-BOOTCORE_CALL
-bool bootcore_session_missing(bootcore_session *session, bootcore_request *request);
-
-/* Tells the first one after *request in this order, so that repeated calls tell all of them; if there
- * is none, *request is as before. Of *request its place and piece alone are looked at, so begin anew
- * by bootcore_session_missing after BOOTCORE_NEXT. */
-BOOTCORE_CALL
-bool bootcore_session_missing_after(bootcore_session *session, bootcore_request *request);
-
-/*
- * Tells how a session ended. The session stays as it is, and may be asked again.
- *
- * - BOOTCORE_DONE: *handoff and the places are told as by bootcore_boot.
- * - BOOTCORE_REFUSED: no entry is left.
- * - BOOTCORE_WAITING: it has not ended. BOOTCORE_NO_MEMORY: memory ran out on the way.
- * - BOOTCORE_NO_SESSION, BOOTCORE_FEW_PLACES.
- *
- * After the first two the refusals are told in order, as many as there is room for, and in *refused
- * how many there were. What is not told is as before.
- */
-BOOTCORE_CALL
-uint32_t bootcore_session_outcome(bootcore_session *session, bootcore_handoff *handoff,
-                                  bootcore_place *places, size_t place_count,
-                                  bootcore_refusal *refusals, size_t refusal_room,
-                                  uint64_t *refused);
-
-/* Frees what a session keeps, if there is something. After that none is kept, and one may be made
- * again. A session that is freed, or made anew, before its end leaves in the pool what came. */
-BOOTCORE_CALL
-void bootcore_session_free(bootcore_session *session);
-
 #ifdef __cplusplus
 }
 #endif
+
+#include "bootcore_image.h"
 
 #endif

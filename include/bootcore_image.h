@@ -1,0 +1,112 @@
+/* Images of a handoff: what a machine was handed, in one file or in memory. docs/FORMATS.md has the
+ * format. This file is a part of bootcore.h: include that. */
+#ifndef BOOTCORE_IMAGE_H
+#define BOOTCORE_IMAGE_H
+
+#include "bootcore.h"
+
+#ifdef __cplusplus
+extern "C" {
+#endif
+
+enum {
+    BOOTCORE_IMAGE_HEAD = 272,     /* the bytes of an image's head before the places, */
+    BOOTCORE_IMAGE_PLACE = 24,     /* and of each place there */
+    BOOTCORE_MAX_IMAGE_HEAD = 6416 /* with BOOTCORE_MAX_PLACES places */
+};
+
+/* Writes the head of a handoff image, of version 2: all that stands before the bytes of the parts, which
+ * follow in the order of the places. `places` has as many elements as the handoff says. The answer is the
+ * head's length; where `head` is null or has fewer bytes nothing is written. It is 0 after a null handoff,
+ * and after null places where the handoff has some. */
+BOOTCORE_CALL
+size_t bootcore_image_head(const bootcore_handoff *handoff, const bootcore_place *places,
+                           uint8_t *head, size_t length);
+
+#define BOOTCORE_ABSENT (~(uint64_t)0) /* the offset of a copy of an RSDP that is not there */
+
+/* Bytes of what a walk tells as text. */
+typedef struct bootcore_range {
+    uint64_t offset;
+    uint64_t length;
+} bootcore_range;
+
+/* What a kernel sees in an image. Its text is its line, the modules' lines in order, the old copy of
+ * the RSDP and the new one, one after the other. */
+typedef struct bootcore_seen {
+    uint32_t protocol;
+    uint32_t reserved;       /* 0 */
+    uint64_t kernel_part_count;
+    uint64_t module_count;   /* of those that it is told of */
+    uint64_t run_count;      /* of runs of memory that it is told of */
+    uint64_t entry_address;  /* where it is entered */
+    uint64_t line_length;
+    uint64_t initrd;         /* where its initial ramdisk lies */
+    uint64_t initrd_length;  /* 0: there is none */
+    uint64_t text_length;
+    bootcore_range rsdp_old; /* of the text; its offset is BOOTCORE_ABSENT if there is none */
+    bootcore_range rsdp_new;
+} bootcore_seen;
+
+/* A part of the kernel that is seen. */
+typedef struct bootcore_seen_part {
+    uint64_t address;
+    uint64_t length;
+} bootcore_seen_part;
+
+/* A module that is seen. */
+typedef struct bootcore_seen_module {
+    uint64_t address;
+    uint64_t length;
+    bootcore_range line; /* of the text, without a zero byte */
+} bootcore_seen_module;
+
+/* Where a walk tells all that is seen: the caller's arrays, each with the number of elements that it
+ * has room for. A run of memory is told as a region. */
+typedef struct bootcore_seen_arrays {
+    bootcore_seen_part *kernel_parts; /* ascending by their addresses */
+    size_t kernel_part_room;
+    bootcore_seen_module *modules; /* in the order in which the kernel is told of them */
+    size_t module_room;
+    bootcore_region *runs; /* of the memory map, in its order */
+    size_t run_room;
+    uint8_t *text;
+    size_t text_room;
+} bootcore_seen_arrays;
+
+/*
+ * Walks an image in memory, as a measured boot does before it trusts what an image hands over: reads
+ * it, and follows the addresses in its registers as its kernel would. Its parts are copied on the way.
+ *
+ * - BOOTCORE_DONE: the bytes are an image, a kernel can be entered with it, and *seen is told.
+ * - BOOTCORE_REFUSED: fault->number is 71 to 75 if the bytes are no image (with 74 `first` is the index
+ *   of the part), 81 to 83 if no kernel can be entered with it; docs/REFUSALS.md says which is which.
+ *   (76, a source that can't be read, does not come: memory can be.)
+ * - BOOTCORE_NO_MEMORY: fault->number is 77 or 84.
+ * What is not told is as before.
+ */
+BOOTCORE_CALL
+uint32_t bootcore_walk(const void *image, size_t image_length, bootcore_seen *seen,
+                       bootcore_refusal *fault);
+
+/*
+ * Walks an image in memory as bootcore_walk does, and tells all that its kernel sees.
+ *
+ * - BOOTCORE_DONE: as bootcore_walk; besides, the first elements of the arrays are told, as many as
+ *   *seen says. The others are as before.
+ * - BOOTCORE_SMALL_ROOM: an array has room for fewer elements than there are. *seen is told, and says
+ *   how many there are; all arrays are as before. So a call without any room asks how much is wanted.
+ * - BOOTCORE_REFUSED, BOOTCORE_NO_MEMORY: as bootcore_walk. The arrays are as before.
+ *
+ * The bytes of modules and of an initial ramdisk are not told. They lie in the image, in the part
+ * that has their address.
+ */
+BOOTCORE_CALL
+uint32_t bootcore_walk_all(const void *image, size_t image_length, bootcore_seen *seen,
+                           const bootcore_seen_arrays *arrays, bootcore_refusal *fault);
+
+#ifdef __cplusplus
+}
+#endif
+
+#endif
