@@ -1,49 +1,152 @@
 /*
- * What crosses to the proved core: exports of crates/bootcore_c, each for arrays that are not null. The
- * functions of bootcore.h test for null, and call these.
+ * What crosses to the proved core: the exports of crates/bootcore_c, and their records. An array is a
+ * pointer and a count of elements, alone or as a slice in a record; no pointer is null. The functions
+ * of bootcore.h test what they are given, make these records of it, and call these.
  */
 #ifndef BOOTCORE_CROSSING_H
 #define BOOTCORE_CROSSING_H
 
 #include "bootcore.h"
 
+typedef struct bootcore_slice {
+    const void *at;
+    size_t count;
+} bootcore_slice;
+
+/* A file: its bytes, or none of them where they don't cross, and its length. */
+typedef struct bootcore_file {
+    bootcore_slice bytes;
+    uint64_t length;
+} bootcore_file;
+
+typedef struct bootcore_crossing_module {
+    bootcore_file file;
+    bootcore_slice line;
+} bootcore_crossing_module;
+
+typedef struct bootcore_crossing_entry {
+    uint32_t protocol;
+    uint32_t has_initrd;
+    bootcore_file kernel;
+    bootcore_slice line;
+    bootcore_file initrd;
+    bootcore_slice modules;
+    bootcore_slice rsdp_old;
+    bootcore_slice rsdp_new;
+} bootcore_crossing_entry;
+
+typedef struct bootcore_crossing_machine {
+    uint64_t size;
+    uint64_t pool_base;
+    uint64_t pool_length;
+} bootcore_crossing_machine;
+
+/* How many steps a plan has, and how many bytes of its own. */
+typedef struct bootcore_counts {
+    uint64_t steps;
+    uint64_t own;
+} bootcore_counts;
+
+/* One piece. */
+typedef struct bootcore_crossing_request {
+    uint32_t entry;
+    uint32_t attempt;
+    uint32_t place; /* of the file in its entry */
+    uint32_t piece;
+    uint32_t length;
+} bootcore_crossing_request;
+
+/* A block of memory, or none. */
+typedef struct bootcore_block {
+    bool is_there;
+    void *at;
+} bootcore_block;
+
+/* The sizes that crates/c_abi and crates/c_handle prove of these records. */
+#define BOOTCORE_HAS_SIZE(type, size) typedef char type##_has_##size[sizeof(type) == (size) ? 1 : -1]
+
+BOOTCORE_HAS_SIZE(bootcore_slice, 16);
+BOOTCORE_HAS_SIZE(bootcore_file, 24);
+BOOTCORE_HAS_SIZE(bootcore_crossing_module, 40);
+BOOTCORE_HAS_SIZE(bootcore_crossing_entry, 120);
+BOOTCORE_HAS_SIZE(bootcore_crossing_machine, 24);
+BOOTCORE_HAS_SIZE(bootcore_counts, 16);
+BOOTCORE_HAS_SIZE(bootcore_crossing_request, 20);
+BOOTCORE_HAS_SIZE(bootcore_region, 24);
+BOOTCORE_HAS_SIZE(bootcore_registers, 256);
+BOOTCORE_HAS_SIZE(bootcore_place, 24);
+BOOTCORE_HAS_SIZE(bootcore_handoff, 272);
+BOOTCORE_HAS_SIZE(bootcore_refusal, 24);
+BOOTCORE_HAS_SIZE(bootcore_step, 32);
+BOOTCORE_HAS_SIZE(bootcore_session, 8);
+BOOTCORE_HAS_SIZE(bootcore_seen, 104);
+BOOTCORE_HAS_SIZE(bootcore_seen_part, 16);
+BOOTCORE_HAS_SIZE(bootcore_seen_module, 32);
+
 BOOTCORE_CALL
 uint32_t bootcore_load_arrays(uint8_t *memory, size_t memory_length, uint32_t base,
-                              const bootcore_machine *machine, const bootcore_region *regions,
-                              size_t region_count, const bootcore_entry *entry,
-                              const bootcore_module *modules, size_t module_count,
-                              const uint8_t *text, size_t text_length, const bootcore_range *files,
-                              size_t file_count, const uint8_t *contents, size_t contents_length,
-                              bootcore_handoff *handoff, bootcore_place *places,
-                              size_t place_count, bootcore_refusal *refusal);
-
+                              const bootcore_crossing_machine *machine,
+                              const bootcore_region *regions, size_t region_count,
+                              const bootcore_crossing_entry *entry, bootcore_handoff *handoff,
+                              bootcore_place *places, size_t place_room,
+                              bootcore_refusal *refusal);
 BOOTCORE_CALL
-uint32_t bootcore_prepare_arrays(const bootcore_machine *machine, const bootcore_region *regions,
-                                 size_t region_count, const bootcore_entry *entry,
-                                 const bootcore_module *modules, size_t module_count,
-                                 const uint8_t *text, size_t text_length,
-                                 const bootcore_range *files, size_t file_count,
-                                 const uint8_t *contents, size_t contents_length,
-                                 bootcore_handoff *handoff, bootcore_place *places,
-                                 size_t place_count, bootcore_refusal *refusal);
-
+uint32_t bootcore_prepare_arrays(const bootcore_crossing_machine *machine,
+                                 const bootcore_region *regions, size_t region_count,
+                                 const bootcore_crossing_entry *entry, bootcore_handoff *handoff,
+                                 bootcore_place *places, size_t place_room,
+                                 bootcore_refusal *refusal);
+BOOTCORE_CALL
+uint32_t bootcore_plan_arrays(const bootcore_crossing_machine *machine,
+                              const bootcore_region *regions, size_t region_count,
+                              const bootcore_crossing_entry *entry, bootcore_handoff *handoff,
+                              bootcore_counts *counts, bootcore_place *places, size_t place_room,
+                              bootcore_step *steps, size_t step_room, uint8_t *own,
+                              size_t own_room, bootcore_refusal *refusal);
 BOOTCORE_CALL
 uint32_t bootcore_boot_arrays(uint8_t *memory, size_t memory_length, uint32_t base,
-                              const bootcore_machine *machine, const bootcore_region *regions,
-                              size_t region_count, const bootcore_entry *entries,
-                              size_t entry_count, uint32_t first, const uint32_t *fallbacks,
-                              size_t fallback_count, const bootcore_module *modules,
-                              size_t module_count, const uint8_t *text, size_t text_length,
-                              const bootcore_range *files, size_t file_count,
-                              const uint8_t *contents, size_t contents_length,
-                              bootcore_handoff *handoff, bootcore_place *places,
-                              size_t place_count, bootcore_refusal *refusals,
-                              size_t refusal_room, uint64_t *refused);
+                              const bootcore_crossing_machine *machine,
+                              const bootcore_region *regions, size_t region_count,
+                              const bootcore_crossing_entry *entries, size_t entry_count,
+                              uint32_t first, const uint32_t *fallbacks, size_t fallback_count,
+                              bootcore_handoff *handoff, bootcore_place *places, size_t place_room,
+                              bootcore_refusal *refusals, size_t refusal_room, uint64_t *count);
+
+BOOTCORE_CALL
+uint32_t bootcore_session_make_arrays(bootcore_session *session,
+                                      const bootcore_crossing_machine *machine,
+                                      const bootcore_region *regions, size_t region_count,
+                                      const bootcore_crossing_entry *entries, size_t entry_count,
+                                      uint32_t first, const uint32_t *fallbacks,
+                                      size_t fallback_count);
+BOOTCORE_CALL
+uint32_t bootcore_session_start_array(bootcore_session *session, uint8_t *memory,
+                                      size_t memory_length, uint32_t base);
+BOOTCORE_CALL
+uint32_t bootcore_session_piece_arrays(bootcore_session *session, uint8_t *memory,
+                                       size_t memory_length, uint32_t base,
+                                       const bootcore_crossing_request *request,
+                                       const uint8_t *bytes, size_t length);
+BOOTCORE_CALL
+uint32_t bootcore_session_fault_array(bootcore_session *session, uint8_t *memory,
+                                      size_t memory_length, uint32_t base,
+                                      const bootcore_crossing_request *request);
+BOOTCORE_CALL
+bool bootcore_session_missing_record(bootcore_session *session, bootcore_crossing_request *request);
+BOOTCORE_CALL
+bool bootcore_session_missing_after_record(bootcore_session *session,
+                                           bootcore_crossing_request *request);
+BOOTCORE_CALL
+uint32_t bootcore_session_outcome_arrays(bootcore_session *session, bootcore_handoff *handoff,
+                                         bootcore_place *places, size_t place_room,
+                                         bootcore_refusal *refusals, size_t refusal_room,
+                                         uint64_t *count);
+BOOTCORE_CALL
+void bootcore_session_free_kept(bootcore_session *session);
 
 BOOTCORE_CALL
 uint32_t bootcore_walk_array(const uint8_t *image, size_t image_length, bootcore_seen *seen,
                              bootcore_refusal *fault);
-
 BOOTCORE_CALL
 uint32_t bootcore_walk_all_arrays(const uint8_t *image, size_t image_length, bootcore_seen *seen,
                                   bootcore_seen_part *kernel_parts, size_t kernel_part_room,
@@ -51,37 +154,13 @@ uint32_t bootcore_walk_all_arrays(const uint8_t *image, size_t image_length, boo
                                   bootcore_region *runs, size_t run_room, uint8_t *text,
                                   size_t text_room, bootcore_refusal *fault);
 
+/* What the core calls for memory, and c/ too: of the toolchain over malloc, realloc and free, or of
+ * c/freestanding over an arena. */
 BOOTCORE_CALL
-uint32_t bootcore_session_make_arrays(bootcore_session *session, const bootcore_machine *machine,
-                                      const bootcore_region *regions, size_t region_count,
-                                      const bootcore_entry *entries, size_t entry_count,
-                                      uint32_t first, const uint32_t *fallbacks,
-                                      size_t fallback_count, const bootcore_module *modules,
-                                      size_t module_count, const uint8_t *text,
-                                      size_t text_length, const bootcore_range *files,
-                                      size_t file_count);
+bootcore_block rattle_alloc(size_t length, size_t alignment);
 BOOTCORE_CALL
-uint32_t bootcore_session_start_array(bootcore_session *session, uint8_t *memory,
-                                      size_t memory_length, uint32_t base);
+bootcore_block rattle_realloc(void *at, size_t kept, size_t length, size_t alignment);
 BOOTCORE_CALL
-uint32_t bootcore_session_piece_arrays(bootcore_session *session, uint8_t *memory,
-                                       size_t memory_length, uint32_t base,
-                                       const bootcore_request *request, const uint8_t *bytes,
-                                       size_t length);
-BOOTCORE_CALL
-uint32_t bootcore_session_fault_array(bootcore_session *session, uint8_t *memory,
-                                      size_t memory_length, uint32_t base,
-                                      const bootcore_request *request);
-BOOTCORE_CALL
-bool bootcore_session_missing_record(bootcore_session *session, bootcore_request *request);
-BOOTCORE_CALL
-bool bootcore_session_missing_after_record(bootcore_session *session, bootcore_request *request);
-BOOTCORE_CALL
-uint32_t bootcore_session_outcome_arrays(bootcore_session *session, bootcore_handoff *handoff,
-                                         bootcore_place *places, size_t place_count,
-                                         bootcore_refusal *refusals, size_t refusal_room,
-                                         uint64_t *refused);
-BOOTCORE_CALL
-void bootcore_session_free_kept(bootcore_session *session);
+void rattle_dealloc(void *at);
 
 #endif

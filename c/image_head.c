@@ -18,10 +18,10 @@ size_t bootcore_image_head(const bootcore_handoff *handoff, const bootcore_place
     static const char magic[8] = "BLIMAGE";
     const unsigned char *registers;
     size_t wanted, i;
-    if (!handoff || (!places && handoff->places)) {
+    if (!handoff || (!places && handoff->place_count)) {
         return 0;
     }
-    wanted = HEAD + (size_t)RECORD * handoff->places;
+    wanted = HEAD + (size_t)RECORD * handoff->place_count;
     if (!head || length < wanted) {
         return wanted;
     }
@@ -35,9 +35,9 @@ size_t bootcore_image_head(const bootcore_handoff *handoff, const bootcore_place
     for (i = 0; i < REGISTER_BYTES; i++) {
         *head++ = registers[i];
     }
-    head = put(head, handoff->places, 4);
+    head = put(head, handoff->place_count, 4);
     head = put(head, 0, 4);
-    for (i = 0; i < handoff->places; i++) {
+    for (i = 0; i < handoff->place_count; i++) {
         head = put(head, places[i].role, 4);
         head = put(head, places[i].index, 4);
         head = put(head, places[i].address, 8);

@@ -1,25 +1,24 @@
 /*
- * bootcore: what a boot loader does with memory, for C.
+ * bootcore: what a boot loader does with memory, for C99 and later, and C++98 and later.
  *
- * To load one entry into memory: bootcore_machine, bootcore_entry, bootcore_load. To learn first what
- * goes where, and read files straight to their places, as a virtual machine monitor does:
+ * To load one entry into memory: bootcore_machine, bootcore_entry, bootcore_load. To learn first
+ * what goes where, and read files straight to their places, as a virtual machine monitor does:
  * bootcore_plan. To boot a menu with fallbacks: bootcore_boot, or bootcore_session_make and what
- * follows it if a disk still reads. To check an image: bootcore_walk. docs/EMBED.md has a program
- * for each.
+ * follows it if a disk still reads. To check an image: bootcore_walk. docs/EMBED.md shows each.
  *
  * Archive. Link libbootcore.a, which ./install puts into a prefix, with bootcore.pc for pkg-config,
- * and examples/c/build makes in a checkout. It wants memmove, memset and memcpy, and malloc, realloc
- * and free, which align as the C library's and always return; nothing else: no file, no clock, no
- * thread. Each function of this file is a symbol of the archive. What else has a name there that
- * begins with bootcore_ is no interface.
+ * and examples/c/build makes in a checkout. It wants memmove, memset and memcpy, and malloc,
+ * realloc and free, which align as the C library's and always return; nothing else: no file, no
+ * clock, no thread. libbootcore_freestanding.a, for firmware and kernels, wants nothing at all:
+ * bootcore_arena.h gives it memory for its tables. Each function of this file is a symbol of both.
+ * What else has a name there that begins with bootcore_ is no interface.
  *
  * Target. x86-64 (x86-64-v2, with SSE enabled) and the System V calling convention. A call needs at
- * most BOOTCORE_STACK bytes of stack, and keeps values in the 128 bytes below the stack pointer (the
- * red zone): if interrupts use the same stack, as in firmware, call with interrupts off.
+ * most BOOTCORE_STACK bytes of stack. libbootcore.a keeps values in the 128 bytes below the stack
+ * pointer (the red zone): if interrupts use the same stack, call with interrupts off.
  *
  * Units. Addresses and lengths are in bytes, and addresses are those of the machine that is booted.
  * An index counts from 0.
- *
  * Memory. All of it is the caller's before, during and after a call. What a call takes from malloc
  * it frees before it returns, but for what a session keeps. No pointer is kept, and none is handed
  * out but to constant text. Nothing is read but what is given, and nothing written but parts, the
@@ -39,8 +38,6 @@
  * Versions. BOOTCORE_VERSION is that of this file, bootcore_version() that of the archive. Within
  * 1.x a struct keeps its size and its fields, and a number its meaning. A reserved word must be 0;
  * a later version may give another value a meaning. New functions, statuses and refusals may come.
- *
- * This file is C99 and later, and C++98 and later.
  */
 #ifndef BOOTCORE_H
 #define BOOTCORE_H
@@ -63,55 +60,51 @@ extern "C" {
 #endif
 
 typedef char bootcore_is_for_64_bits[sizeof(size_t) == 8 ? 1 : -1];
-
-/* The version: major * 10000 + minor * 100 + patch. */
-#define BOOTCORE_VERSION 10000
-
-BOOTCORE_CALL
-uint32_t bootcore_version(void);
+#define BOOTCORE_VERSION 10000 /* major * 10000 + minor * 100 + patch */
+BOOTCORE_CALL uint32_t bootcore_version(void);
 
 enum {
     BOOTCORE_MAX_REGIONS = 128,
     BOOTCORE_MAX_ENTRIES = 32,
-    BOOTCORE_MAX_MODULES = 64,   /* of an entry */
-    BOOTCORE_MAX_LINE = 4095,    /* bytes of a line; a Linux kernel may take fewer */
-    BOOTCORE_MAX_RSDP = 256,     /* bytes of a copy of an RSDP */
-    BOOTCORE_MAX_PLACES = 256,   /* an entry has no more parts */
-    BOOTCORE_MAX_REFUSALS = 32,  /* a boot refuses no more entries */
+    BOOTCORE_MAX_MODULES = 64,  /* of an entry */
+    BOOTCORE_MAX_LINE = 4095,   /* bytes of a line; a Linux kernel may take fewer */
+    BOOTCORE_MAX_RSDP = 256,    /* bytes of a copy of an RSDP */
+    BOOTCORE_MAX_PLACES = 256,  /* an entry has no more parts */
+    BOOTCORE_MAX_REFUSALS = 32, /* a boot refuses no more entries */
     BOOTCORE_STACK = 16384
 };
 
-/* What a call answers. A misuse, from 101 on, has changed nothing; of several the first in the order
- * of these lines is told, with one exception: the two of an entry's protocol and size are looked for
- * entry by entry. */
+/* What a call answers. A misuse, from 101 on, has changed nothing. Of several the first in the
+ * order of these lines is told. */
 enum {
     BOOTCORE_DONE = 0,
-    BOOTCORE_REFUSED = 1,   /* the entry is refused; of a boot: no entry is left; of a walk: the image */
+    BOOTCORE_REFUSED = 1,   /* the entry is refused; a boot: no entry is left; a walk: the image */
     BOOTCORE_WAITING = 2,   /* a session: pieces are awaited, or it was not started */
-    BOOTCORE_NEXT = 3,      /* a session: an entry or more was refused, and pieces of another are awaited */
+    BOOTCORE_NEXT = 3,      /* a session: entries were refused, pieces of another are awaited */
     BOOTCORE_NO_MEMORY = 4, /* malloc or realloc gave none; may come in place of any other but
                              * BOOTCORE_NULL to BOOTCORE_SMALL_ROOM */
-    BOOTCORE_FAILED = 5,    /* a session: no entry is left, or memory ran out; the outcome says which */
+    BOOTCORE_FAILED = 5,    /* a session: no entry is left, or memory ran out; see its outcome */
     BOOTCORE_OUTSIDE = 6,   /* a load: a part begins below the memory that is given; of
-                             * bootcore_carry_out: a step does not lie in the memory that is given */
+                             * bootcore_carry_out: not all of a step lies in it */
 
-    BOOTCORE_NULL = 101,     /* a null pointer, where one may not be */
-    BOOTCORE_BAD_RESERVED,   /* a reserved word is not 0 */
-    BOOTCORE_BAD_FILE,       /* a file has the length BOOTCORE_UNREADABLE, where all are wanted, or
-                              * other files are given than were planned for */
-    BOOTCORE_SMALL_ROOM,     /* an array of the caller's has too little room */
-    BOOTCORE_BAD_KIND,       /* a region's kind is none of BOOTCORE_USABLE and so on */
-    BOOTCORE_BAD_SIZE,       /* the size is no multiple of 4096 from 1 MiB to 4 GiB */
-    BOOTCORE_TOO_MANY_REGIONS,
-    BOOTCORE_BAD_REGION,     /* a region ends above 2^52 */
-    BOOTCORE_BAD_POOL,       /* the pool is not of whole frames, or not all of it is usable */
-    BOOTCORE_BAD_MEMORY,     /* memory ends below the machine's size; of a boot: not at it. Memory that
-                              * begins at 4 GiB or above is told before any line behind BOOTCORE_NULL */
-    BOOTCORE_BAD_PROTOCOL,   /* an entry's protocol is none of BOOTCORE_MULTIBOOT2 and so on */
-    BOOTCORE_TOO_MANY,       /* too many entries, too many modules, or too long a copy of an RSDP */
-    BOOTCORE_BAD_INDEX,      /* a menu's first entry or a fallback is no entry */
-    BOOTCORE_NO_SESSION,     /* none is kept: it was not made, or it was freed */
-    BOOTCORE_LOW_POOL        /* a session: the pool begins below the memory that is given */
+    BOOTCORE_NULL = 101,         /* a null pointer, where one may not be */
+    BOOTCORE_BAD_RESERVED = 102, /* a reserved word is not 0 */
+    BOOTCORE_BAD_FILE = 103,     /* a file has the length BOOTCORE_UNREADABLE, where all are
+                                  * wanted; of bootcore_carry_out: see there */
+    BOOTCORE_SMALL_ROOM = 104,   /* an array of the caller's has too little room; of a plan's steps
+                                  * and bytes it is told last of all */
+    BOOTCORE_BAD_KIND = 105,     /* a region's kind is none of BOOTCORE_USABLE and so on */
+    BOOTCORE_BAD_SIZE = 106,     /* the size is no multiple of 4096 from 1 MiB to 4 GiB */
+    BOOTCORE_TOO_MANY_REGIONS = 107,
+    BOOTCORE_BAD_REGION = 108,   /* a region ends above 2^52 */
+    BOOTCORE_BAD_POOL = 109,     /* the pool is not of whole frames, or not all of it is usable */
+    BOOTCORE_BAD_MEMORY = 110,   /* memory ends below the machine's size (of a boot: not at it), or
+                                  * begins at 4 GiB or above */
+    BOOTCORE_BAD_PROTOCOL = 111, /* an entry's protocol is none of BOOTCORE_MULTIBOOT2 and so on */
+    BOOTCORE_TOO_MANY = 112,     /* too many entries or modules, or too long a copy of an RSDP */
+    BOOTCORE_BAD_INDEX = 113,    /* a menu's first entry or a fallback is no entry */
+    BOOTCORE_NO_SESSION = 114,   /* none is kept: it was not made, or it was freed */
+    BOOTCORE_LOW_POOL = 115      /* a session: the pool begins below the memory that is given */
 };
 
 /* ---- what is booted, and on what */
@@ -126,8 +119,8 @@ typedef struct bootcore_bytes {
 #define BOOTCORE_UNREADABLE (~(size_t)0)
 
 /* Kinds of memory: the numbers of an e820 entry. Where regions overlap, the greatest counts. An
- * address is usable if its kind is BOOTCORE_USABLE and it lies from 4096 on, below the machine's size
- * and below 0xFFFFF000; one in no region is not. */
+ * address is usable if its kind is BOOTCORE_USABLE and it lies from 4096 on, below the machine's
+ * size and below 0xFFFFF000; one in no region is not. */
 enum {
     BOOTCORE_USABLE = 1,
     BOOTCORE_RESERVED = 2,
@@ -144,10 +137,10 @@ typedef struct bootcore_region {
 } bootcore_region;
 
 /* A machine. Its size is where its memory below 4 GiB ends: no part lies above. Regions come in any
- * order, may overlap, and may lie above the size, as a guest's memory above 4 GiB does; the kernel is
- * told the runs of memory that they make, all of them. The pool is where a boot keeps what it has read
- * of files: usable whole frames, as many as the files of one entry have together. A load or a plan
- * needs none: its length may be 0, and its base is any multiple of 4096 then. */
+ * order, may overlap, and may lie above the size, as a guest's memory above 4 GiB does; the kernel
+ * is told the runs of memory that they make, all of them. The pool is where a boot keeps what it
+ * has read of files: usable whole frames, as many as the files of one entry have together. A load
+ * or a plan needs none: its length may be 0, and its base is any multiple of 4096 then. */
 typedef struct bootcore_machine {
     uint64_t size;
     uint64_t pool_base;
@@ -170,22 +163,20 @@ typedef struct bootcore_module {
 } bootcore_module;
 
 /* An entry. What its protocol has no use for is not looked at.
- *
- * A Multiboot2 kernel is an ELF file, or a file with an address tag. A Linux kernel is a bzImage (never
- * a vmlinux) of boot protocol 2.10 or later, for the 64-bit entry 2.12 with bit 0 of xloadflags. Copies
- * of the RSDP are for Multiboot2 alone: on a machine without a BIOS a Linux kernel finds ACPI's tables
- * by acpi_rsdp= in its line.
- *
+ * A Multiboot2 kernel is an ELF file, or a file with an address tag. A Linux kernel is a bzImage
+ * (never a vmlinux) of boot protocol 2.10 or later, for the 64-bit entry 2.12 with bit 0 of
+ * xloadflags. Copies of the RSDP are for Multiboot2 alone: on a machine without a BIOS a Linux
+ * kernel finds ACPI's tables by acpi_rsdp= in its line.
  * Where files are told by their lengths alone (a plan, a session), a file's bytes may be null. An
  * initial ramdisk whose bytes are null and whose length is 0 is none. */
 typedef struct bootcore_entry {
     uint32_t protocol;
     uint32_t reserved; /* 0 */
     bootcore_bytes kernel;
-    bootcore_bytes line;     /* without a zero byte */
-    bootcore_bytes initrd;   /* Linux */
-    bootcore_bytes rsdp_old; /* Multiboot2: a copy of the RSDP of ACPI 1.0; without bytes: none */
-    bootcore_bytes rsdp_new; /* and of that of ACPI 2.0 or later */
+    bootcore_bytes line;            /* without a zero byte */
+    bootcore_bytes initrd;          /* Linux */
+    bootcore_bytes rsdp_old;        /* Multiboot2: a copy of the RSDP of ACPI 1.0, */
+    bootcore_bytes rsdp_new;        /* and of that of ACPI 2.0 or later; without bytes: none */
     const bootcore_module *modules; /* Multiboot2 */
     size_t module_count;
 } bootcore_entry;
@@ -203,8 +194,8 @@ typedef struct bootcore_memory {
  * hold, and so on; r8 to r15, cr3, cr4 and efer are 0 then: no rule gives them, so choose them. A
  * segment register's number is its selector: bootcore_segments has the rest. TR, LDTR, IDTR and the
  * debug registers are yours to choose under each protocol: no kernel may count on them. A20 is 1 if
- * the gate is to be open. gdt_limit is the offset of the table's last byte; under Multiboot2 there is
- * no table, and base and limit are 0. */
+ * the gate is to be open. gdt_limit is the offset of the table's last byte; under Multiboot2 there
+ * is no table, and base and limit are 0. */
 typedef struct bootcore_registers {
     uint64_t bits; /* 32 or 64 */
     uint64_t rip, rax, rbx, rcx, rdx, rsi, rdi, rbp, rsp;
@@ -222,20 +213,16 @@ typedef struct bootcore_segment {
     uint8_t type, s, dpl, p, avl, l, db, g;
 } bootcore_segment;
 
-/* Tells CS, DS, ES, FS, GS and SS, in this order. */
-BOOTCORE_CALL
-void bootcore_segments(const bootcore_registers *registers, bootcore_segment segments[6]);
+/* Tells CS, DS, ES, FS, GS and SS, in this order; nothing if a pointer is null. */
+BOOTCORE_CALL void bootcore_segments(const bootcore_registers *registers,
+    bootcore_segment segments[6]);
 
 /* What a part in memory is. */
 enum {
-    BOOTCORE_KERNEL = 1,
-    BOOTCORE_MODULE = 2,
-    BOOTCORE_INFORMATION = 3,
-    BOOTCORE_BOOT_PARAMS = 4,
-    BOOTCORE_COMMAND_LINE = 5,
-    BOOTCORE_GDT = 6,
-    BOOTCORE_INITRD = 7,
-    BOOTCORE_PAGE_TABLES = 8
+    BOOTCORE_KERNEL = 1,        BOOTCORE_COMMAND_LINE = 5,
+    BOOTCORE_MODULE = 2,        BOOTCORE_GDT = 6,
+    BOOTCORE_INFORMATION = 3,   BOOTCORE_INITRD = 7,
+    BOOTCORE_BOOT_PARAMS = 4,   BOOTCORE_PAGE_TABLES = 8
 };
 
 /* A part in memory. The length of all but a kernel's part is a multiple of 4096; what a part has no
@@ -276,37 +263,28 @@ typedef struct bootcore_outcome {
 
 /* ---- one entry */
 
-/*
- * Loads one entry into memory, and tells how its kernel is entered. There is no menu and no pool.
- *
- * `memory` reaches at least to the machine's size. Below its address it may begin, where no part goes.
- *
+/* Loads one entry into memory, and tells how its kernel is entered. There is no menu and no pool.
+ * `memory` reaches at least to the machine's size. It may begin above 0, where no part goes below.
  * - BOOTCORE_DONE: memory holds each part at its place, and each other byte as before; the handoff
  *   and the first places are told (with entry 0), and refusal_count is 0.
- * - BOOTCORE_REFUSED: refusal_count is 1, and the first of the refusals is told, if there is room.
- * - BOOTCORE_OUTSIDE, BOOTCORE_NO_MEMORY, a misuse.
- * What is not told, and after any answer but BOOTCORE_DONE all of memory, is as before.
- */
-BOOTCORE_CALL
-uint32_t bootcore_load(const bootcore_memory *memory, const bootcore_machine *machine,
-                       const bootcore_entry *entry, bootcore_outcome *outcome);
+ * - BOOTCORE_REFUSED: refusal_count is 1, and the refusal is told, if there is room.
+ * - BOOTCORE_OUTSIDE, BOOTCORE_NO_MEMORY, or a misuse.
+ * What is not told, and after any answer but BOOTCORE_DONE all of memory, is as before. */
+BOOTCORE_CALL uint32_t bootcore_load(const bootcore_memory *memory, const bootcore_machine *machine,
+    const bootcore_entry *entry, bootcore_outcome *outcome);
 
-/*
- * Tells what bootcore_load would hand over, or why it would not, from the kernel's bytes and the
- * other files' lengths: it reads no other byte of a file, and no memory.
- *
- * The answers are those of bootcore_load, but BOOTCORE_OUTSIDE and BOOTCORE_BAD_MEMORY. After
- * BOOTCORE_DONE a load of the same entry, with files of these lengths, into memory from address 0
- * up to the machine's size, tells the same handoff and places, or memory runs out. After
- * BOOTCORE_REFUSED none is done, and one that is refused has the same refusal.
- */
-BOOTCORE_CALL
-uint32_t bootcore_prepare(const bootcore_machine *machine, const bootcore_entry *entry,
-                          bootcore_outcome *outcome);
+/* Tells what bootcore_load would hand over, or why it would not, from the kernel's bytes and the
+ * other files' lengths: it reads no other byte of a file, and no memory. The answers are those
+ * of bootcore_load, but BOOTCORE_OUTSIDE and BOOTCORE_BAD_MEMORY. After BOOTCORE_DONE a load of the
+ * same entry, with files of these lengths, into memory from address 0 up to the machine's size,
+ * tells the same handoff and places, or memory runs out. After BOOTCORE_REFUSED none is done, and
+ * one that is refused has the same refusal. */
+BOOTCORE_CALL uint32_t bootcore_prepare(const bootcore_machine *machine,
+    const bootcore_entry *entry, bootcore_outcome *outcome);
 
 /* Where the bytes of a step come from. */
 enum {
-    BOOTCORE_FROM_FILE = 1,   /* the file of the entry: 0 is the kernel, k module k - 1, or 1 the initrd */
+    BOOTCORE_FROM_FILE = 1,   /* file 0 is the kernel, k module k - 1, or 1 the initial ramdisk */
     BOOTCORE_FROM_LAYOUT = 2, /* the layout's own bytes */
     BOOTCORE_ZEROS = 3
 };
@@ -334,44 +312,37 @@ typedef struct bootcore_layout {
     bootcore_refusal refusal;
 } bootcore_layout;
 
-/*
- * Tells what bootcore_load would do, as steps, from the kernel's bytes and the other files' lengths:
- * it reads no other byte of a file, and no memory.
- *
- * Whoever carries out the steps, in any order, has loaded the entry: whatever the other files' bytes
- * are and memory held, each part is at its place then, and each other byte as before. Together the
- * steps are exactly the parts. Steps of zeros may be left out where memory is known to be zero, as a
- * fresh mapping is, and nowhere else. If the kernel's file may change meanwhile, read from a copy of
- * it, for which the plan was made.
- *
- * - BOOTCORE_DONE: all but the refusal is told.
+/* Tells what bootcore_load would do, as steps, from the kernel's bytes and the other files'
+ * lengths: it reads no other byte of a file, and no memory. Whoever carries out the steps, in any
+ * order, has loaded the entry: whatever the other files' bytes are and memory held, each part is at
+ * its place then, and each other byte as before. Together the steps are exactly the parts. Steps of
+ * zeros may be left out where memory is known to be zero, as a fresh mapping is, and nowhere else.
+ * If the kernel's file may change meanwhile, read from a copy of it, for which the plan was made.
+ * - BOOTCORE_DONE: all but the refusal is told (with entry 0).
  * - BOOTCORE_REFUSED: the refusal is told.
  * - BOOTCORE_SMALL_ROOM: with places for BOOTCORE_MAX_PLACES, step_count and own_length say what is
  *   wanted, and nothing else is told: a call without room for steps and bytes asks for it.
- * - BOOTCORE_NO_MEMORY, another misuse.
- * What is not told is as before. Equal machines, entries, kernels and lengths have equal plans.
- */
-BOOTCORE_CALL
-uint32_t bootcore_plan(const bootcore_machine *machine, const bootcore_entry *entry,
-                       bootcore_layout *layout);
+ * - BOOTCORE_NO_MEMORY, or another misuse.
+ * What is not told is as before. Equal machines, entries, kernels and lengths have equal plans. */
+BOOTCORE_CALL uint32_t bootcore_plan(const bootcore_machine *machine, const bootcore_entry *entry,
+    bootcore_layout *layout);
 
-/*
- * Carries out the steps of a plan, from files in memory into memory in one piece or more, which may
- * lie anywhere and in any order, and may have holes where no part goes. `files` are the entry's: the
- * kernel, then the modules or the initial ramdisk, of the lengths that were planned for.
- *
- * Either all steps are carried out (BOOTCORE_DONE), or nothing is written: BOOTCORE_NULL,
- * BOOTCORE_BAD_FILE, or BOOTCORE_OUTSIDE if a byte of a step lies in no piece. A step may go over
- * several pieces; a byte that is in two goes to the first.
- */
-BOOTCORE_CALL
-uint32_t bootcore_carry_out(const bootcore_layout *layout, const bootcore_bytes *files,
-                            size_t file_count, const bootcore_memory *memory, size_t memory_count);
+/* Carries out the steps of a plan, from files in memory into memory in one piece or more, which may
+ * lie anywhere and in any order, and may have holes where no part goes. `files` are the entry's:
+ * the kernel, then the modules or the initial ramdisk, of the lengths that were planned for.
+ * Either all steps are carried out (BOOTCORE_DONE), or nothing is written: BOOTCORE_NULL;
+ * BOOTCORE_BAD_FILE if a file is unreadable, or a step's source is none or has no such bytes;
+ * BOOTCORE_SMALL_ROOM if the layout wants more room than it has; or BOOTCORE_OUTSIDE if a byte of a
+ * step lies in no piece. A step may go over several pieces; a byte that is in two goes to the
+ * first. */
+BOOTCORE_CALL uint32_t bootcore_carry_out(const bootcore_layout *layout,
+    const bootcore_bytes *files, size_t file_count, const bootcore_memory *memory,
+    size_t memory_count);
 
 /* ---- a menu */
 
-/* The entries of a menu, and the order in which they are attempted: `first`, then the fallbacks, each
- * entry once. */
+/* The entries of a menu, and the order in which they are attempted: `first`, then the fallbacks,
+ * each entry once. */
 typedef struct bootcore_menu {
     const bootcore_entry *entries;
     size_t entry_count;
@@ -381,38 +352,30 @@ typedef struct bootcore_menu {
     uint32_t reserved; /* 0 */
 } bootcore_menu;
 
-/*
- * Boots the first entry of a menu, in the order of attempts, that is not refused. Its files come into
- * the machine's pool, a piece at a time, and from there to their places, as if a disk gave them.
- *
- * `memory` ends at the machine's size. Let no usable byte lie below it: a part or a pool that begins
- * there ends the boot as if memory ran out.
- *
- * - BOOTCORE_DONE: memory holds each part at its place, 0 elsewhere in the pool, and each other byte
- *   as before; the handoff and the places are told.
+/* Boots the first entry of a menu, in the order of attempts, that is not refused. Its files come
+ * into the machine's pool, a piece at a time, and from there to their places, as if a disk gave
+ * them. `memory` ends at the machine's size. Let no usable byte lie below it: a part or a pool that
+ * begins there ends the boot as if memory ran out.
+ * - BOOTCORE_DONE: memory holds each part at its place, 0 elsewhere in the pool, and each other
+ *   byte as before; the handoff and the places are told.
  * - BOOTCORE_REFUSED: no entry is left. Memory holds 0 in the pool, and each other byte as before.
  * - BOOTCORE_NO_MEMORY: bytes of the pool may have changed, and no other.
  * - A misuse.
- * After the first two the refusals are told in order, as many as there is room for, and their number.
- * What is not told is as before.
- */
-BOOTCORE_CALL
-uint32_t bootcore_boot(const bootcore_memory *memory, const bootcore_machine *machine,
-                       const bootcore_menu *menu, bootcore_outcome *outcome);
+ * After the first two the refusals are told in order, as many as there is room for, and their
+ * number. What is not told is as before. */
+BOOTCORE_CALL uint32_t bootcore_boot(const bootcore_memory *memory, const bootcore_machine *machine,
+    const bootcore_menu *menu, bootcore_outcome *outcome);
 
 /* ---- a menu, whose files come piece by piece */
 
-enum {
-    BOOTCORE_PIECE = 4096 /* how long each piece of a file is, but for the last one */
-};
+/* How long each piece of a file is, but for the last one. */
+enum { BOOTCORE_PIECE = 4096 };
 
 /* A boot that is told the pieces of its files as they come. Set `kept` to null at first; after that
  * only these calls write it. The struct may be moved, but use no copy of it. Call
- * bootcore_session_free in the end, however the boot ended. Make one call at a time on a session, on
- * whichever thread. */
-typedef struct bootcore_session {
-    void *kept;
-} bootcore_session;
+ * bootcore_session_free in the end, however the boot ended. Make one call at a time on a session,
+ * on whichever thread. */
+typedef struct bootcore_session { void *kept; } bootcore_session;
 
 /* Pieces that are awaited, one after the other in a file: `length` bytes from the offset
  * piece * BOOTCORE_PIECE on. */
@@ -424,141 +387,109 @@ typedef struct bootcore_request {
     uint64_t length;
 } bootcore_request;
 
-/*
- * Makes a session of a menu, and keeps it; one that was kept before is freed then. It is not yet
+/* Makes a session of a menu, and keeps it; one that was kept before is freed then. It is not yet
  * started. Of each file the length is looked at; its bytes come later. What is given is read during
- * this call alone.
- *
- * BOOTCORE_DONE: the session is kept. Any other: what was kept before is still kept.
- */
-BOOTCORE_CALL
-uint32_t bootcore_session_make(bootcore_session *session, const bootcore_machine *machine,
-                               const bootcore_menu *menu);
+ * this call alone. BOOTCORE_DONE: the session is kept. Any other answer: what was kept before is
+ * still kept. */
+BOOTCORE_CALL uint32_t bootcore_session_make(bootcore_session *session,
+    const bootcore_machine *machine, const bootcore_menu *menu);
 
-/*
- * Starts a session: the first attempt begins. One that was started before stays as it is.
- *
- * `memory` is as for bootcore_boot. The pieces that came lie in the pool: hand the same memory to each
- * call of a session, and don't write to its pool before the boot ended.
- *
- * What this call and the next two answer:
+/* Starts a session: the first attempt begins. One that was started before stays as it is. `memory`
+ * is as for bootcore_boot. The pieces that came lie in the pool: hand the same memory to each call
+ * of a session, and don't write to its pool before the boot ended. This call and the next two
+ * answer:
  * - BOOTCORE_WAITING: pieces are awaited. No byte outside the pool changed.
  * - BOOTCORE_NEXT: the same, after one refusal or more. Ask again what is missing.
  * - BOOTCORE_DONE: an entry is handed over. Memory is as after bootcore_boot.
- * - BOOTCORE_FAILED: no entry is left, and the pool is 0; or memory ran out. No byte outside the pool
- *   changed.
- * - BOOTCORE_NULL, BOOTCORE_NO_SESSION, BOOTCORE_BAD_MEMORY, BOOTCORE_LOW_POOL: all is as before.
- * After the end each further call without a misuse answers BOOTCORE_DONE or BOOTCORE_FAILED again, and
- * changes nothing. Pieces or a fault before the start answer BOOTCORE_WAITING, and change nothing.
- */
-BOOTCORE_CALL
-uint32_t bootcore_session_start(bootcore_session *session, const bootcore_memory *memory);
+ * - BOOTCORE_FAILED: no entry is left, and the pool is 0; or memory ran out. No byte outside the
+ *   pool changed.
+ * - BOOTCORE_NULL, BOOTCORE_BAD_MEMORY, BOOTCORE_NO_SESSION, BOOTCORE_LOW_POOL: all is as before.
+ * After the end each further call without a misuse answers BOOTCORE_DONE or BOOTCORE_FAILED again,
+ * and changes nothing. Pieces or a fault before the start answer BOOTCORE_WAITING, and change
+ * nothing. */
+BOOTCORE_CALL uint32_t bootcore_session_start(bootcore_session *session,
+    const bootcore_memory *memory);
 
-/*
- * Tells a session that pieces came: the bytes of a request, which are copied. `length` bytes are told,
- * of which each BOOTCORE_PIECE are a piece, the rest too; they may be fewer than were asked for. In
- * whatever order pieces come, the boot ends in the same way, unless memory runs out. A piece that is
- * not awaited changes nothing: one that came before, one of an earlier attempt, or one of another
- * length.
- */
-BOOTCORE_CALL
-uint32_t bootcore_session_pieces(bootcore_session *session, const bootcore_memory *memory,
-                                 const bootcore_request *request, const void *bytes, size_t length);
+/* Tells a session that pieces came: the bytes of a request, which are copied. `length` bytes are
+ * told, of which each BOOTCORE_PIECE are a piece, the rest too; they may be fewer than were asked
+ * for. In whatever order pieces come, the boot ends in the same way, unless memory runs out. A
+ * piece that is not awaited changes nothing: one that came before, one of an earlier attempt, or
+ * one of another length. */
+BOOTCORE_CALL uint32_t bootcore_session_pieces(bootcore_session *session,
+    const bootcore_memory *memory, const bootcore_request *request, const void *bytes,
+    size_t length);
 
-/* Tells a session that the first piece of a request can't be read: its entry is refused, and the next
- * attempt begins, if there is one. A fault of a piece that is not awaited changes nothing. */
-BOOTCORE_CALL
-uint32_t bootcore_session_fault(bootcore_session *session, const bootcore_memory *memory,
-                                const bootcore_request *request);
+/* Tells a session that the first piece of a request can't be read: its entry is refused, and the
+ * next attempt begins, if there is one. A fault of a piece that is not awaited changes nothing. */
+BOOTCORE_CALL uint32_t bootcore_session_fault(bootcore_session *session,
+    const bootcore_memory *memory, const bootcore_request *request);
 
-/* Tells the first pieces that the running attempt awaits, files and pieces ascending, at most so many
- * bytes of one file (at least a piece), and whether there are some. If there are none, or no session,
- * *request is as before. */
-BOOTCORE_CALL
-bool bootcore_session_missing(const bootcore_session *session, size_t most,
-                              bootcore_request *request);
+/* Tells the first pieces that the running attempt awaits, files and pieces ascending, at most so
+ * many bytes of one file (at least a piece), and whether there are some. If there are none, or no
+ * session, *request is as before. */
+BOOTCORE_CALL bool bootcore_session_missing(const bootcore_session *session, size_t most,
+    bootcore_request *request);
 
-/* Tells the first ones behind those of *request, so that repeated calls tell all of them. Begin anew by
- * bootcore_session_missing after BOOTCORE_NEXT. */
-BOOTCORE_CALL
-bool bootcore_session_missing_after(const bootcore_session *session, size_t most,
-                                    bootcore_request *request);
+/* Tells the first ones behind those of *request, so that repeated calls tell all of them. Begin
+ * anew by bootcore_session_missing after BOOTCORE_NEXT. */
+BOOTCORE_CALL bool bootcore_session_missing_after(const bootcore_session *session, size_t most,
+    bootcore_request *request);
 
-/* Tells how a session ended; it stays as it is. BOOTCORE_DONE and BOOTCORE_REFUSED as by bootcore_boot,
- * BOOTCORE_WAITING: it has not ended, BOOTCORE_NO_MEMORY: memory ran out on the way, or a misuse. */
-BOOTCORE_CALL
-uint32_t bootcore_session_outcome(const bootcore_session *session, bootcore_outcome *outcome);
+/* Tells how a session ended; it stays as it is. BOOTCORE_DONE and BOOTCORE_REFUSED as by
+ * bootcore_boot, BOOTCORE_WAITING: it has not ended, BOOTCORE_NO_MEMORY: memory ran out on the way,
+ * or a misuse. */
+BOOTCORE_CALL uint32_t bootcore_session_outcome(const bootcore_session *session,
+    bootcore_outcome *outcome);
 
-/* Frees what a session keeps, if there is something; one may be made again. A session that is freed, or
- * made anew, before its end leaves in the pool what came. */
-BOOTCORE_CALL
-void bootcore_session_free(bootcore_session *session);
+/* Frees what a session keeps, if there is something; one may be made again. A session that is
+ * freed, or made anew, before its end leaves in the pool what came. */
+BOOTCORE_CALL void bootcore_session_free(bootcore_session *session);
 
 /* ---- refusals, and what an image has wrong */
 
-/* Why an entry is refused: the numbers of a bootcore_refusal. docs/REFUSALS.md says more of each, and what
- * to do; bootcore_text says it in words. Beside a number: what `first`, and `second`, of the refusal are,
- * where they are something: `file` is a file's place in its entry, of which the kernel's is 0; `offset`
- * that of a tag in the kernel's file; `type` a tag's; `i` and `j` are program headers by their index. */
+/* Why an entry is refused: the numbers of a bootcore_refusal. docs/REFUSALS.md says more of each,
+ * and what to do; bootcore_text says it in words. `first` is of 1 to 3 a file's place in its entry,
+ * of which the kernel's is 0; of 7 a tag's offset in the kernel's file, of 8 and 9 a tag's type; of
+ * 13 to 15 the index of a program header, and `second` of 15 that of another. */
 enum {
-    BOOTCORE_REFUSAL_NO_FILE = 1, /* file */
-    BOOTCORE_REFUSAL_FILE_FAULT = 2, /* file */
-    BOOTCORE_REFUSAL_FILE_TOO_LONG = 3, /* file */
-    BOOTCORE_REFUSAL_NO_HEADER = 4,
-    BOOTCORE_REFUSAL_HEADER_CUT = 5,
-    BOOTCORE_REFUSAL_BAD_ARCHITECTURE = 6,
-    BOOTCORE_REFUSAL_BAD_TAG = 7, /* offset */
-    BOOTCORE_REFUSAL_UNSUPPORTED_TAG = 8, /* type */
-    BOOTCORE_REFUSAL_UNSUPPORTED_REQUEST = 9, /* type */
-    BOOTCORE_REFUSAL_NO_CONSOLE = 10,
-    BOOTCORE_REFUSAL_NOT_ELF = 11,
-    BOOTCORE_REFUSAL_BAD_ELF = 12,
-    BOOTCORE_REFUSAL_SEGMENT_CUT = 13, /* i */
-    BOOTCORE_REFUSAL_ADDRESS_TOO_HIGH = 14, /* i */
-    BOOTCORE_REFUSAL_SEGMENTS_OVERLAP = 15, /* i, j */
-    BOOTCORE_REFUSAL_NO_ENTRY = 16,
-    BOOTCORE_REFUSAL_ENTRY_OUTSIDE = 17,
-    BOOTCORE_REFUSAL_BAD_ALIGN = 18,
-    BOOTCORE_REFUSAL_NOT_USABLE = 19,
-    BOOTCORE_REFUSAL_NO_ROOM = 20,
-    BOOTCORE_REFUSAL_NO_POOL = 21,
-    BOOTCORE_REFUSAL_NOT_BZ_IMAGE = 22,
-    BOOTCORE_REFUSAL_OLD_PROTOCOL = 23,
-    BOOTCORE_REFUSAL_NOT_HIGH = 24,
-    BOOTCORE_REFUSAL_SETUP_CUT = 25,
-    BOOTCORE_REFUSAL_BAD_PREFERRED = 26,
-    BOOTCORE_REFUSAL_LINE_TOO_LONG = 27,
-    BOOTCORE_REFUSAL_LINE_HAS_NUL = 28,
-    BOOTCORE_REFUSAL_MAP_TOO_LONG = 29,
-    BOOTCORE_REFUSAL_NO_64_ENTRY = 30
+    BOOTCORE_REFUSAL_NO_FILE = 1,               BOOTCORE_REFUSAL_NO_ENTRY = 16,
+    BOOTCORE_REFUSAL_FILE_FAULT = 2,            BOOTCORE_REFUSAL_ENTRY_OUTSIDE = 17,
+    BOOTCORE_REFUSAL_FILE_TOO_LONG = 3,         BOOTCORE_REFUSAL_BAD_ALIGN = 18,
+    BOOTCORE_REFUSAL_NO_HEADER = 4,             BOOTCORE_REFUSAL_NOT_USABLE = 19,
+    BOOTCORE_REFUSAL_HEADER_CUT = 5,            BOOTCORE_REFUSAL_NO_ROOM = 20,
+    BOOTCORE_REFUSAL_BAD_ARCHITECTURE = 6,      BOOTCORE_REFUSAL_NO_POOL = 21,
+    BOOTCORE_REFUSAL_BAD_TAG = 7,               BOOTCORE_REFUSAL_NOT_BZ_IMAGE = 22,
+    BOOTCORE_REFUSAL_UNSUPPORTED_TAG = 8,       BOOTCORE_REFUSAL_OLD_PROTOCOL = 23,
+    BOOTCORE_REFUSAL_UNSUPPORTED_REQUEST = 9,   BOOTCORE_REFUSAL_NOT_HIGH = 24,
+    BOOTCORE_REFUSAL_NO_CONSOLE = 10,           BOOTCORE_REFUSAL_SETUP_CUT = 25,
+    BOOTCORE_REFUSAL_NOT_ELF = 11,              BOOTCORE_REFUSAL_BAD_PREFERRED = 26,
+    BOOTCORE_REFUSAL_BAD_ELF = 12,              BOOTCORE_REFUSAL_LINE_TOO_LONG = 27,
+    BOOTCORE_REFUSAL_SEGMENT_CUT = 13,          BOOTCORE_REFUSAL_LINE_HAS_NUL = 28,
+    BOOTCORE_REFUSAL_ADDRESS_TOO_HIGH = 14,     BOOTCORE_REFUSAL_MAP_TOO_LONG = 29,
+    BOOTCORE_REFUSAL_SEGMENTS_OVERLAP = 15,     BOOTCORE_REFUSAL_NO_64_ENTRY = 30
 };
 
-/* Why an image is refused by a walk: 71 to 75, it is no image; 81 to 83, no kernel can be entered with it. */
+/* Why an image is refused by a walk: 71 to 75, it is no image (`first` is of 74 a part's index); 81
+ * to 83, no kernel can be entered with it. At 77 and 84 memory ran out. */
 enum {
-    BOOTCORE_FAULT_BAD_MAGIC = 71,
-    BOOTCORE_FAULT_BAD_VERSION = 72,
-    BOOTCORE_FAULT_BAD_HEADER = 73,
-    BOOTCORE_FAULT_BAD_PART = 74, /* i */
-    BOOTCORE_FAULT_WRONG_LENGTH = 75,
-    BOOTCORE_FAULT_READ_NO_MEMORY = 77,
-    BOOTCORE_FAULT_OUTSIDE_IMAGE = 81,
-    BOOTCORE_FAULT_BAD_INFO = 82,
-    BOOTCORE_FAULT_BAD_STATE = 83,
-    BOOTCORE_FAULT_WALK_NO_MEMORY = 84
+    BOOTCORE_FAULT_BAD_MAGIC = 71,              BOOTCORE_FAULT_READ_NO_MEMORY = 77,
+    BOOTCORE_FAULT_BAD_VERSION = 72,            BOOTCORE_FAULT_OUTSIDE_IMAGE = 81,
+    BOOTCORE_FAULT_BAD_HEADER = 73,             BOOTCORE_FAULT_BAD_INFO = 82,
+    BOOTCORE_FAULT_BAD_PART = 74,               BOOTCORE_FAULT_BAD_STATE = 83,
+    BOOTCORE_FAULT_WRONG_LENGTH = 75,           BOOTCORE_FAULT_WALK_NO_MEMORY = 84
 };
 
 /* What a refusal's number means, in the words of `bootcore explain`; of a walk's fault, in those of
  * docs/REFUSALS.md. Of any other number it says that there is none. The text is constant. */
-BOOTCORE_CALL
-const char *bootcore_text(uint32_t number);
+BOOTCORE_CALL const char *bootcore_text(uint32_t number);
 
-/* Writes a refusal, or a walk's fault, as a line of text without its end: as `bootcore explain` has it,
- * `refused NUMBER NAME(WHAT IT CARRIES): MEANING`, or `bad image ..`. At most `length` bytes are written,
- * the last one a zero byte; the answer is the whole text's length without that byte, so a buffer that is
- * longer than the answer has all of it. `buffer` may be null where `length` is 0. A null refusal gives an
- * empty text. */
-BOOTCORE_CALL
-size_t bootcore_describe(const bootcore_refusal *refusal, char *buffer, size_t length);
+/* Writes a refusal, or a walk's fault, as a line of text without its end: as `bootcore explain` has
+ * it, `refused NUMBER NAME(WHAT IT CARRIES): MEANING`, or `bad image ..`. At most `length` bytes
+ * are written, the last one a zero byte; the answer is the whole text's length without that byte,
+ * so a buffer that is longer than the answer has all of it. `buffer` may be null where `length` is
+ * 0. A null refusal gives an empty text. */
+BOOTCORE_CALL size_t bootcore_describe(const bootcore_refusal *refusal, char *buffer,
+    size_t length);
 
 #ifdef __cplusplus
 }

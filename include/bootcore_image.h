@@ -15,15 +15,15 @@ enum {
     BOOTCORE_MAX_IMAGE_HEAD = 6416 /* with BOOTCORE_MAX_PLACES places */
 };
 
-/* Writes the head of a handoff image, of version 2: all that stands before the bytes of the parts, which
- * follow in the order of the places. `places` has as many elements as the handoff says. The answer is the
- * head's length; where `head` is null or has fewer bytes nothing is written. It is 0 after a null handoff,
- * and after null places where the handoff has some. */
-BOOTCORE_CALL
-size_t bootcore_image_head(const bootcore_handoff *handoff, const bootcore_place *places,
-                           uint8_t *head, size_t length);
+/* Writes the head of a handoff image, of version 2: all that stands before the bytes of the parts,
+ * which follow in the order of the places. `places` has as many elements as the handoff says. The
+ * answer is the head's length; where `head` is null or has fewer bytes nothing is written. It is 0
+ * after a null handoff, and after null places where the handoff has some. */
+BOOTCORE_CALL size_t bootcore_image_head(const bootcore_handoff *handoff,
+    const bootcore_place *places, uint8_t *head, size_t length);
 
-#define BOOTCORE_ABSENT (~(uint64_t)0) /* the offset of a copy of an RSDP that is not there */
+/* The offset of a copy of an RSDP that is not there. */
+#define BOOTCORE_ABSENT (~(uint64_t)0)
 
 /* Bytes of what a walk tells as text. */
 typedef struct bootcore_range {
@@ -31,8 +31,8 @@ typedef struct bootcore_range {
     uint64_t length;
 } bootcore_range;
 
-/* What a kernel sees in an image. Its text is its line, the modules' lines in order, the old copy of
- * the RSDP and the new one, one after the other. */
+/* What a kernel sees in an image. Its text is its line, the modules' lines in order, the old copy
+ * of the RSDP and the new one, one after the other. */
 typedef struct bootcore_seen {
     uint32_t protocol;
     uint32_t reserved;       /* 0 */
@@ -61,8 +61,8 @@ typedef struct bootcore_seen_module {
     bootcore_range line; /* of the text, without a zero byte */
 } bootcore_seen_module;
 
-/* Where a walk tells all that is seen: the caller's arrays, each with the number of elements that it
- * has room for. A run of memory is told as a region. */
+/* Where a walk tells all that is seen: the caller's arrays, each with the number of elements that
+ * it has room for. A run of memory is told as a region. */
 typedef struct bootcore_seen_arrays {
     bootcore_seen_part *kernel_parts; /* ascending by their addresses */
     size_t kernel_part_room;
@@ -74,36 +74,31 @@ typedef struct bootcore_seen_arrays {
     size_t text_room;
 } bootcore_seen_arrays;
 
-/*
- * Walks an image in memory, as a measured boot does before it trusts what an image hands over: reads
- * it, and follows the addresses in its registers as its kernel would. Its parts are copied on the way.
- *
+/* Walks an image in memory, as a measured boot does before it trusts what an image hands over:
+ * reads it, and follows the addresses in its registers as its kernel would. Its parts are copied on
+ * the way.
  * - BOOTCORE_DONE: the bytes are an image, a kernel can be entered with it, and *seen is told.
- * - BOOTCORE_REFUSED: fault->number is 71 to 75 if the bytes are no image (with 74 `first` is the index
- *   of the part), 81 to 83 if no kernel can be entered with it; docs/REFUSALS.md says which is which.
- *   (76, a source that can't be read, does not come: memory can be.)
+ * - BOOTCORE_REFUSED: fault->number is 71 to 75 if the bytes are no image (with 74 `first` is the
+ *   index of the part), 81 to 83 if no kernel can be entered with it; docs/REFUSALS.md says which
+ *   is which. (76, a source that can't be read, does not come: memory can be.)
  * - BOOTCORE_NO_MEMORY: fault->number is 77 or 84.
- * What is not told is as before.
- */
-BOOTCORE_CALL
-uint32_t bootcore_walk(const void *image, size_t image_length, bootcore_seen *seen,
-                       bootcore_refusal *fault);
+ * - BOOTCORE_NULL.
+ * What is not told is as before. */
+BOOTCORE_CALL uint32_t bootcore_walk(const void *image, size_t image_length, bootcore_seen *seen,
+    bootcore_refusal *fault);
 
-/*
- * Walks an image in memory as bootcore_walk does, and tells all that its kernel sees.
- *
+/* Walks an image in memory as bootcore_walk does, and tells all that its kernel sees.
  * - BOOTCORE_DONE: as bootcore_walk; besides, the first elements of the arrays are told, as many as
  *   *seen says. The others are as before.
- * - BOOTCORE_SMALL_ROOM: an array has room for fewer elements than there are. *seen is told, and says
- *   how many there are; all arrays are as before. So a call without any room asks how much is wanted.
- * - BOOTCORE_REFUSED, BOOTCORE_NO_MEMORY: as bootcore_walk. The arrays are as before.
- *
+ * - BOOTCORE_SMALL_ROOM: an array has room for fewer elements than there are. *seen is told, and
+ *   says how many there are; all arrays are as before. So a call without any room asks how much is
+ *   wanted.
+ * - BOOTCORE_REFUSED, BOOTCORE_NO_MEMORY, BOOTCORE_NULL: as bootcore_walk, and the arrays are as
+ *   before.
  * The bytes of modules and of an initial ramdisk are not told. They lie in the image, in the part
- * that has their address.
- */
-BOOTCORE_CALL
-uint32_t bootcore_walk_all(const void *image, size_t image_length, bootcore_seen *seen,
-                           const bootcore_seen_arrays *arrays, bootcore_refusal *fault);
+ * that has their address. */
+BOOTCORE_CALL uint32_t bootcore_walk_all(const void *image, size_t image_length,
+    bootcore_seen *seen, const bootcore_seen_arrays *arrays, bootcore_refusal *fault);
 
 #ifdef __cplusplus
 }

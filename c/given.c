@@ -1,0 +1,236 @@
+/* What a caller gives, as the core takes it. */
+#include "given.h"
+
+const void *bootcore_given_array(const void *array) {
+    static const uint64_t nothing = 0;
+    return array ? array : &nothing;
+}
+
+bool bootcore_is_null(const void *array, size_t count) {
+    return !array && count;
+}
+
+static bool is_null_bytes(bootcore_bytes bytes) {
+    return bootcore_is_null(bytes.bytes, bytes.length);
+}
+
+static bool is_unreadable(bootcore_bytes file) {
+    return file.length == BOOTCORE_UNREADABLE;
+}
+
+/* A file's bytes are null, though it can be read, and the call reads them. */
+static bool is_null_file(bootcore_bytes file, bool is_read) {
+    return is_read && !is_unreadable(file) && is_null_bytes(file);
+}
+
+static bool is_linux(const bootcore_entry *entry) {
+    return entry->protocol == BOOTCORE_LINUX || entry->protocol == BOOTCORE_LINUX64;
+}
+
+static bool has_initrd(const bootcore_entry *entry) {
+    return is_linux(entry) && (entry->initrd.bytes || entry->initrd.length);
+}
+
+/* What an entry of another protocol has of modules is not looked at. */
+static size_t count_modules(const bootcore_entry *entry) {
+    return entry->protocol == BOOTCORE_MULTIBOOT2 ? entry->module_count : 0;
+}
+
+/* ---- null */
+
+bool bootcore_memory_has_null(const bootcore_memory *memory) {
+    return !memory || bootcore_is_null(memory->bytes, memory->length);
+}
+
+bool bootcore_machine_has_null(const bootcore_machine *machine) {
+    return !machine || bootcore_is_null(machine->regions, machine->region_count);
+}
+
+static bool has_null_modules(const bootcore_entry *entry, bool is_read) {
+    size_t i;
+    if (bootcore_is_null(entry->modules, entry->module_count)) {
+        return true;
+    }
+    for (i = 0; i < entry->module_count; i++) {
+        if (is_null_file(entry->modules[i].file, is_read) ||
+            is_null_bytes(entry->modules[i].line)) {
+            return true;
+        }
+    }
+    return false;
+}
+
+bool bootcore_entry_has_null(const bootcore_entry *entry, bootcore_reading reading) {
+    bool are_read = reading == BOOTCORE_READS_ALL;
+    if (!entry || is_null_bytes(entry->line) ||
+        is_null_file(entry->kernel, reading != BOOTCORE_READS_NONE)) {
+        return true;
+    }
+    if (entry->protocol == BOOTCORE_MULTIBOOT2) {
+        return is_null_bytes(entry->rsdp_old) || is_null_bytes(entry->rsdp_new) ||
+               has_null_modules(entry, are_read);
+    }
+    return is_linux(entry) && is_null_file(entry->initrd, are_read);
+}
+
+bool bootcore_menu_has_null(const bootcore_menu *menu, bootcore_reading reading) {
+    size_t i;
+    if (!menu || bootcore_is_null(menu->entries, menu->entry_count) ||
+        bootcore_is_null(menu->fallbacks, menu->fallback_count)) {
+        return true;
+    }
+    for (i = 0; i < menu->entry_count; i++) {
+        if (bootcore_entry_has_null(&menu->entries[i], reading)) {
+            return true;
+        }
+    }
+    return false;
+}
+
+bool bootcore_outcome_has_null(const bootcore_outcome *outcome) {
+    return !outcome || bootcore_is_null(outcome->places, outcome->place_room) ||
+           bootcore_is_null(outcome->refusals, outcome->refusal_room);
+}
+
+/* ---- reserved words, and files that can't be read */
+
+bool bootcore_machine_has_reserved(const bootcore_machine *machine) {
+    size_t i;
+    for (i = 0; i < machine->region_count; i++) {
+        if (machine->regions[i].reserved) {
+            return true;
+        }
+    }
+    return machine->reserved != 0;
+}
+
+bool bootcore_menu_has_reserved(const bootcore_menu *menu) {
+    size_t i;
+    for (i = 0; i < menu->entry_count; i++) {
+        if (menu->entries[i].reserved) {
+            return true;
+        }
+    }
+    return menu->reserved != 0;
+}
+
+bool bootcore_entry_has_unreadable(const bootcore_entry *entry) {
+    size_t i;
+    for (i = 0; i < count_modules(entry); i++) {
+        if (is_unreadable(entry->modules[i].file)) {
+            return true;
+        }
+    }
+    return is_unreadable(entry->kernel) || (is_linux(entry) && is_unreadable(entry->initrd));
+}
+
+uint32_t bootcore_entry_misuse(const bootcore_machine *machine, const bootcore_entry *entry) {
+    if (entry->reserved || bootcore_machine_has_reserved(machine)) {
+        return BOOTCORE_BAD_RESERVED;
+    }
+    return bootcore_entry_has_unreadable(entry) ? BOOTCORE_BAD_FILE : BOOTCORE_DONE;
+}
+
+/* ---- what crosses */
+
+/* Memory that begins where no machine has an address crosses as memory without bytes, which is too
+ * short for each machine: so it is told in the same place of the order. */
+bootcore_given_memory bootcore_memory_crossing(const bootcore_memory *memory) {
+    static uint8_t nothing[1];
+    bootcore_given_memory given = {nothing, 0, 0};
+    if (memory->address <= UINT32_MAX && memory->length) {
+        given.bytes = memory->bytes;
+        given.length = memory->length;
+    }
+    if (memory->address <= UINT32_MAX) {
+        given.base = (uint32_t)memory->address;
+    }
+    return given;
+}
+
+bootcore_crossing_machine bootcore_machine_crossing(const bootcore_machine *machine) {
+    bootcore_crossing_machine crossing;
+    crossing.size = machine->size;
+    crossing.pool_base = machine->pool_base;
+    crossing.pool_length = machine->pool_length;
+    return crossing;
+}
+
+const bootcore_region *bootcore_regions_crossing(const bootcore_machine *machine) {
+    return bootcore_given_array(machine->regions);
+}
+
+static bootcore_slice slice_of(const void *array, size_t count) {
+    bootcore_slice slice;
+    slice.at = bootcore_given_array(array);
+    slice.count = count;
+    return slice;
+}
+
+static bootcore_slice slice_of_bytes(bootcore_bytes bytes) {
+    return slice_of(bytes.bytes, bytes.length);
+}
+
+static bootcore_file file_of(bootcore_bytes bytes, bool is_read) {
+    bootcore_file file;
+    file.bytes = is_read && !is_unreadable(bytes) ? slice_of_bytes(bytes) : slice_of(NULL, 0);
+    file.length = bytes.length;
+    return file;
+}
+
+static size_t count_crossing_modules(const bootcore_entry *entry) {
+    size_t count = count_modules(entry);
+    return count <= BOOTCORE_MAX_MODULES ? count : BOOTCORE_MAX_MODULES + 1;
+}
+
+static void cross_entry(const bootcore_entry *entry, bootcore_reading reading,
+                        bootcore_crossing_entry *crossing, bootcore_crossing_module *modules) {
+    const bootcore_bytes none = {NULL, 0};
+    bool is_multiboot2 = entry->protocol == BOOTCORE_MULTIBOOT2;
+    bool are_read = reading == BOOTCORE_READS_ALL;
+    size_t count = count_crossing_modules(entry), i;
+    crossing->protocol = entry->protocol;
+    crossing->has_initrd = has_initrd(entry);
+    crossing->kernel = file_of(entry->kernel, reading != BOOTCORE_READS_NONE);
+    crossing->line = slice_of_bytes(entry->line);
+    crossing->initrd = file_of(has_initrd(entry) ? entry->initrd : none, are_read);
+    for (i = 0; i < count; i++) {
+        modules[i].file = file_of(entry->modules[i].file, are_read);
+        modules[i].line = slice_of_bytes(entry->modules[i].line);
+    }
+    crossing->modules = slice_of(count ? modules : NULL, count);
+    crossing->rsdp_old = slice_of_bytes(is_multiboot2 ? entry->rsdp_old : none);
+    crossing->rsdp_new = slice_of_bytes(is_multiboot2 ? entry->rsdp_new : none);
+}
+
+void bootcore_entry_crossing(const bootcore_entry *entry, bootcore_reading reading,
+                             bootcore_given_entry *given) {
+    cross_entry(entry, reading, &given->entry, given->modules);
+}
+
+bootcore_crossing_entry *bootcore_menu_crossing(const bootcore_menu *menu,
+                                                bootcore_reading reading) {
+    const size_t most = SIZE_MAX / sizeof(bootcore_given_entry);
+    bootcore_crossing_entry *entries;
+    bootcore_crossing_module *modules;
+    bootcore_block block;
+    size_t module_count = 0, i;
+    if (menu->entry_count >= most) {
+        return NULL;
+    }
+    for (i = 0; i < menu->entry_count; i++) {
+        module_count += count_crossing_modules(&menu->entries[i]);
+    }
+    block = rattle_alloc(menu->entry_count * sizeof *entries + module_count * sizeof *modules,
+                         sizeof(void *));
+    if (!block.is_there) {
+        return NULL;
+    }
+    entries = block.at;
+    modules = (bootcore_crossing_module *)(entries + menu->entry_count);
+    for (i = 0; i < menu->entry_count; i++) {
+        cross_entry(&menu->entries[i], reading, &entries[i], modules);
+        modules += count_crossing_modules(&menu->entries[i]);
+    }
+    return entries;
+}

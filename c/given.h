@@ -1,0 +1,65 @@
+/* What a caller gives: the tests that no pointer is null, no reserved word set and no file unreadable,
+ * and the records that cross. */
+#ifndef BOOTCORE_GIVEN_H
+#define BOOTCORE_GIVEN_H
+
+#include "crossing.h"
+
+/* Of which files the bytes cross: a load and a boot read all, a plan the kernel's, a session none. */
+typedef enum bootcore_reading {
+    BOOTCORE_READS_ALL,
+    BOOTCORE_READS_KERNEL,
+    BOOTCORE_READS_NONE
+} bootcore_reading;
+
+/* An entry that crosses, with its modules: one more than there may be, so that the core refuses too
+ * many of them in its order. */
+typedef struct bootcore_given_entry {
+    bootcore_crossing_entry entry;
+    bootcore_crossing_module modules[BOOTCORE_MAX_MODULES + 1];
+} bootcore_given_entry;
+
+/* Memory that crosses. */
+typedef struct bootcore_given_memory {
+    uint8_t *bytes;
+    size_t length;
+    uint32_t base;
+} bootcore_given_memory;
+
+/* What stands for an array without elements. */
+const void *bootcore_given_array(const void *array);
+
+/* An array that is null with one element or more. */
+bool bootcore_is_null(const void *array, size_t count);
+
+/* A null pointer where one may not be. */
+bool bootcore_memory_has_null(const bootcore_memory *memory);
+bool bootcore_machine_has_null(const bootcore_machine *machine);
+bool bootcore_entry_has_null(const bootcore_entry *entry, bootcore_reading reading);
+bool bootcore_menu_has_null(const bootcore_menu *menu, bootcore_reading reading);
+bool bootcore_outcome_has_null(const bootcore_outcome *outcome);
+
+/* A reserved word that is not 0. */
+bool bootcore_machine_has_reserved(const bootcore_machine *machine);
+bool bootcore_menu_has_reserved(const bootcore_menu *menu);
+
+/* A file that can't be read. */
+bool bootcore_entry_has_unreadable(const bootcore_entry *entry);
+
+/* The first that stands of an entry without null: a reserved word of it or its machine, a file that
+ * can't be read; or BOOTCORE_DONE. */
+uint32_t bootcore_entry_misuse(const bootcore_machine *machine, const bootcore_entry *entry);
+
+/* What crosses of what was tested. */
+bootcore_given_memory bootcore_memory_crossing(const bootcore_memory *memory);
+bootcore_crossing_machine bootcore_machine_crossing(const bootcore_machine *machine);
+const bootcore_region *bootcore_regions_crossing(const bootcore_machine *machine);
+void bootcore_entry_crossing(const bootcore_entry *entry, bootcore_reading reading,
+                             bootcore_given_entry *given);
+
+/* The entries of a menu, in a block that the caller gives back by rattle_dealloc; null if there is no
+ * memory. */
+bootcore_crossing_entry *bootcore_menu_crossing(const bootcore_menu *menu,
+                                                bootcore_reading reading);
+
+#endif

@@ -1,0 +1,28 @@
+/* Memory for the tables of libbootcore_freestanding.a, which has no malloc: an arena, a block of the
+ * caller's that the calls of bootcore.h take their memory from. docs/EMBED.md has how long it must be.
+ * libbootcore.a has none of this.
+ *
+ * The arena belongs to all calls together, and is not safe with threads: make one call at a time, of
+ * whichever function of the library. */
+#ifndef BOOTCORE_ARENA_H
+#define BOOTCORE_ARENA_H
+
+#include "bootcore.h"
+
+#ifdef __cplusplus
+extern "C" {
+#endif
+
+/* Gives the arena its memory, in place of what it had before: first free the sessions that are kept
+ * in that. Before this call, and with a length of 0, each call that wants memory answers
+ * BOOTCORE_NO_MEMORY. */
+BOOTCORE_CALL void bootcore_arena(void *memory, size_t length);
+
+/* How long an arena at the same address would have been enough for the calls since it was given. */
+BOOTCORE_CALL size_t bootcore_arena_peak(void);
+
+#ifdef __cplusplus
+}
+#endif
+
+#endif
