@@ -26,8 +26,8 @@ entry 0 refused 2 1
 entry 1 ip 100010 bx 1000
 part 3 0 at 1000, 4096 bytes
 part 1 0 at 100000, 80 bytes
-part 2 0 at 101000, 16384 bytes
-17 answers
+part 2 0 at 101000, 40960 bytes
+19 answers
 memory as after bootcore_boot
 """
 
@@ -35,8 +35,13 @@ memory as after bootcore_boot
 GUEST = """\
 bits 32
 ip 100010 ax 36d76289 bx 1000 si 0
-cr0 11 cr3 0 cr4 0 efer 0
-cs 10 ds 18 gdt 0
+cr0 11 cr3 0 cr4 0 efer 0 gdt 0
+cs 10 base 0 limit ffffffff type b s 1 dpl 0 p 1 avl 0 l 0 db 1 g 1
+ds 18 base 0 limit ffffffff type 3 s 1 dpl 0 p 1 avl 0 l 0 db 1 g 1
+es 18 base 0 limit ffffffff type 3 s 1 dpl 0 p 1 avl 0 l 0 db 1 g 1
+fs 18 base 0 limit ffffffff type 3 s 1 dpl 0 p 1 avl 0 l 0 db 1 g 1
+gs 18 base 0 limit ffffffff type 3 s 1 dpl 0 p 1 avl 0 l 0 db 1 g 1
+ss 18 base 0 limit ffffffff type 3 s 1 dpl 0 p 1 avl 0 l 0 db 1 g 1
 part 3 0 at 1000, 4096 bytes
 part 1 0 at 100000, 80 bytes
 part 2 0 at 101000, 4096 bytes
@@ -126,9 +131,9 @@ class Texts(CoreChecks):
 class Statuses(CoreChecks):
     def test_statuses(self) -> None:
         for sentence, ran, tried in [
-            ("each misuse of a load or a preparation from C has its status", self.example("statuses"), 56),
-            ("each end of a boot from C has its status", self.example("menu", self.kernel), 14),
-            ("each misuse of a session's calls from C has its status", self.example("sessions"), 104),
+            ("each answer of a load, a preparation and a plan from C has its status", self.example("statuses"), 160),
+            ("each end of a boot from C has its status", self.example("menu", self.kernel), 26),
+            ("each answer of a session's calls from C has its status", self.example("sessions"), 127),
             ("each end of a walk from C has its status", self.example("walks", self.images["first.2"]), 21),
         ]:
             self.ends(sentence, ran, 0, f"{tried} tried, 0 wrong\n")

@@ -1,132 +1,120 @@
 /*
- * A guest loader: maps a guest's memory, loads a kernel into it, and prints how the kernel is entered
- * and what stands where, which is all that a virtual processor is set from.
+ * A guest loader: plans what goes where in a guest's memory, reads files straight to their places, and
+ * prints how the kernel is entered and what stands where: all that a virtual processor is set from.
  *
- *     guest multiboot2|linux|linux64 KERNEL LINE [FILE..]
- *
- * With multiboot2 the files are modules, and a module's line is its file's name; else the first one
- * is the initial ramdisk.
+ *     guest multiboot2 KERNEL LINE [MODULE..]      a module's line is its file's name
+ *     guest linux|linux64 KERNEL LINE [INITRD]
  */
 #define _DEFAULT_SOURCE
 #include "bootcore.h"
 
+#include <errno.h>
+#include <fcntl.h>
 #include <inttypes.h>
 #include <stdio.h>
 #include <stdlib.h>
 #include <string.h>
 #include <sys/mman.h>
+#include <sys/stat.h>
+#include <unistd.h>
 
-enum { MAX_FILES = 64 };
+enum { GUEST_SIZE = 0x20000000, MAX_FILES = 1 + BOOTCORE_MAX_MODULES };
 
-static const uint64_t guest_size = 0x20000000; /* 512 MiB */
-
-static uint8_t *contents; /* the files, one after the other */
-static size_t contents_length;
-static bootcore_range files[MAX_FILES];
-static size_t file_count;
-
-/* Appends a file to the contents; 0 where it can't be read. */
-static int add_file(const char *path) {
-    FILE *file = fopen(path, "rb");
-    long length = file && !fseek(file, 0, SEEK_END) ? ftell(file) : -1;
-    uint8_t *grown = length < 0 ? NULL : realloc(contents, contents_length + (size_t)length + 1);
-    if (!grown) {
-        if (file) {
-            fclose(file);
-        }
-        return 0;
+static void check(bool holds, const char *what, const char *why) {
+    if (!holds) {
+        fprintf(stderr, "guest: %s: %s\n", what, why);
+        exit(2);
     }
-    contents = grown;
-    rewind(file);
-    files[file_count].offset = contents_length;
-    files[file_count].length = (uint64_t)length;
-    file_count++;
-    contents_length += (size_t)length;
-    int whole = fread(contents + contents_length - length, 1, (size_t)length, file) == (size_t)length;
-    fclose(file);
-    return whole;
 }
 
-static uint32_t protocol_named(const char *name) {
-    return !strcmp(name, "linux64")  ? BOOTCORE_LINUX64
-           : !strcmp(name, "linux") ? BOOTCORE_LINUX
-                                    : BOOTCORE_MULTIBOOT2;
+static int open_file(const char *path, size_t *length) {
+    struct stat about;
+    int file = open(path, O_RDONLY);
+    check(file >= 0 && !fstat(file, &about), path, strerror(errno));
+    *length = (size_t)about.st_size;
+    return file;
 }
 
-static void print_handoff(const bootcore_handoff *handoff, const bootcore_place *places) {
-    const bootcore_registers *r = &handoff->registers;
-    printf("bits %" PRIu64 "\n", r->bits);
-    printf("ip %" PRIx64 " ax %" PRIx64 " bx %" PRIx64 " si %" PRIx64 "\n", r->rip, r->rax, r->rbx,
-           r->rsi);
-    printf("cr0 %" PRIx64 " cr3 %" PRIx64 " cr4 %" PRIx64 " efer %" PRIx64 "\n", r->cr0, r->cr3,
-           r->cr4, r->efer);
-    printf("cs %" PRIx64 " ds %" PRIx64 " gdt %" PRIx64 "\n", r->cs, r->ds, r->gdt_base);
-    for (uint32_t i = 0; i < handoff->places; i++) {
+static void read_at(const char *path, int file, uint64_t offset, uint8_t *to, size_t length) {
+    for (ssize_t count; length; to += count, offset += (size_t)count, length -= (size_t)count) {
+        count = pread(file, to, length, (off_t)offset);
+        check(count > 0, path, count ? strerror(errno) : "it became shorter");
+    }
+}
+
+static void print_entering(const bootcore_registers *r, const bootcore_place *places, uint32_t count) {
+    static const char *const names[] = {"cs", "ds", "es", "fs", "gs", "ss"};
+    bootcore_segment s[6];
+    printf("bits %" PRIu64 "\nip %" PRIx64 " ax %" PRIx64 " bx %" PRIx64 " si %" PRIx64 "\n", r->bits,
+           r->rip, r->rax, r->rbx, r->rsi);
+    printf("cr0 %" PRIx64 " cr3 %" PRIx64 " cr4 %" PRIx64 " efer %" PRIx64 " gdt %" PRIx64 "\n", r->cr0,
+           r->cr3, r->cr4, r->efer, r->gdt_base);
+    bootcore_segments(r, s);
+    for (int i = 0; i < 6; i++) {
+        printf("%s %x base %" PRIx64 " limit %" PRIx32 " type %x s %d dpl %d p %d avl %d l %d db %d g %d\n",
+               names[i], s[i].selector, s[i].base, s[i].limit, s[i].type, s[i].s, s[i].dpl, s[i].p,
+               s[i].avl, s[i].l, s[i].db, s[i].g);
+    }
+    for (uint32_t i = 0; i < count; i++) {
         printf("part %" PRIu32 " %" PRIu32 " at %" PRIx64 ", %" PRIu64 " bytes\n", places[i].role,
                places[i].index, places[i].address, places[i].length);
     }
 }
 
 int main(int argc, char **argv) {
-    if (argc < 4 || argc - 3 > MAX_FILES) {
-        fputs("guest multiboot2|linux|linux64 KERNEL LINE [FILE..]\n", stderr);
-        return 2;
+    static bootcore_module modules[BOOTCORE_MAX_MODULES];
+    static bootcore_place places[BOOTCORE_MAX_PLACES];
+    int files[MAX_FILES], count = argc - 3;
+    const char *name = count < 1 ? "" : argv[1];
+    uint32_t protocol = !strcmp(name, "multiboot2") ? BOOTCORE_MULTIBOOT2 : !strcmp(name, "linux") ? BOOTCORE_LINUX
+                        : !strcmp(name, "linux64") ? BOOTCORE_LINUX64 : 0;
+    check(protocol && count <= (protocol == BOOTCORE_MULTIBOOT2 ? MAX_FILES : 2), "usage",
+          "guest multiboot2 KERNEL LINE [MODULE..], guest linux|linux64 KERNEL LINE [INITRD]");
+    bootcore_entry entry = {.protocol = protocol, .line = {argv[3], strlen(argv[3])},
+                            .modules = modules, .module_count = (size_t)count - 1};
+    char **paths = argv + 3; /* the kernel's, and behind it the others */
+    paths[0] = argv[2];
+    files[0] = open_file(paths[0], &entry.kernel.length);
+    uint8_t *kernel = malloc(entry.kernel.length + 1);
+    check(kernel, paths[0], strerror(errno));
+    read_at(paths[0], files[0], 0, kernel, entry.kernel.length);
+    entry.kernel.bytes = kernel;
+    for (int i = 1; i < count; i++) { /* of the others the length is enough */
+        modules[i - 1].line = (bootcore_bytes){paths[i], strlen(paths[i])};
+        files[i] = open_file(paths[i], &modules[i - 1].file.length);
     }
-    bootcore_entry entry = {.protocol = protocol_named(argv[1]), .initrd = BOOTCORE_NO_FILE};
-    bootcore_module modules[MAX_FILES] = {{0}};
-    char text[4096] = "";
-    size_t text_length = strlen(argv[3]);
-    if (text_length > sizeof text || !add_file(argv[2])) {
-        return 2;
-    }
-    memcpy(text, argv[3], text_length);
-    entry.line.length = text_length;
-    for (int i = 4; i < argc; i++) {
-        size_t length = strlen(argv[i]);
-        if (length > sizeof text - text_length || !add_file(argv[i])) {
-            return 2;
-        }
-        bootcore_module *module = &modules[entry.module_count++];
-        module->file = (uint32_t)i - 3;
-        module->line.offset = text_length;
-        module->line.length = length;
-        memcpy(text + text_length, argv[i], length);
-        text_length += length;
-        entry.initrd = 1;
-    }
+    entry.initrd = modules[0].file; /* one protocol looks at modules, the other two at this */
     const bootcore_region regions[] = {{0, 0x9F000, BOOTCORE_USABLE, 0},
-                                       {0x100000, guest_size - 0x100000, BOOTCORE_USABLE, 0}};
-    bootcore_given given = {.machine = {.size = guest_size},
-                            .regions = regions, .region_count = 2,
-                            .modules = modules, .module_count = entry.module_count,
-                            .text = (const uint8_t *)text, .text_length = text_length,
-                            .files = files, .file_count = file_count,
-                            .contents = contents, .contents_length = contents_length};
-    bootcore_handoff prepared, handoff;
-    bootcore_place places[BOOTCORE_MAX_PARTS];
-    bootcore_refusal refusal;
-    uint32_t status = bootcore_prepare(&given, &entry, &prepared, places, BOOTCORE_MAX_PARTS,
-                                       &refusal);
-    if (status == BOOTCORE_DONE) { /* what is refused needs no memory */
-        uint8_t *memory = mmap(NULL, guest_size, PROT_READ | PROT_WRITE,
-                               MAP_PRIVATE | MAP_ANONYMOUS | MAP_NORESERVE, -1, 0);
-        if (memory == MAP_FAILED) {
-            return 2;
-        }
-        status = bootcore_load(memory, guest_size, 0, &given, &entry, &handoff, places,
-                               BOOTCORE_MAX_PARTS, &refusal);
-        if (status == BOOTCORE_DONE && memcmp(&prepared, &handoff, sizeof handoff)) {
-            return 3; /* the header promises that this does not happen */
-        }
+                                       {0x100000, GUEST_SIZE - 0x100000, BOOTCORE_USABLE, 0}};
+    const bootcore_machine machine = {.size = GUEST_SIZE, .regions = regions, .region_count = 2};
+    bootcore_layout layout = {.places = places, .place_room = BOOTCORE_MAX_PLACES};
+    uint32_t status = bootcore_plan(&machine, &entry, &layout);
+    if (status == BOOTCORE_SMALL_ROOM) { /* now it is known how much room is wanted */
+        layout.steps = calloc(layout.step_room = layout.step_count, sizeof *layout.steps);
+        layout.own = calloc(layout.own_room = layout.own_length, 1);
+        check(layout.steps && layout.own, "plan", strerror(errno));
+        status = bootcore_plan(&machine, &entry, &layout);
     }
-    if (status == BOOTCORE_DONE) {
-        print_handoff(&handoff, places);
-    } else if (status == BOOTCORE_REFUSED) {
+    if (status == BOOTCORE_REFUSED) {
         char words[256];
-        bootcore_describe(&refusal, words, sizeof words);
+        bootcore_describe(&layout.refusal, words, sizeof words);
         puts(words);
-    } else {
-        printf("status %" PRIu32 "\n", status);
+        return 1;
     }
-    return (int)status;
+    check(status == BOOTCORE_DONE, "plan", status == BOOTCORE_NO_MEMORY ? "memory ran out" : "a misuse");
+    uint8_t *memory = mmap(NULL, GUEST_SIZE, PROT_READ | PROT_WRITE,
+                           MAP_PRIVATE | MAP_ANONYMOUS | MAP_NORESERVE, -1, 0);
+    check(memory != MAP_FAILED, "the guest's memory", strerror(errno));
+    for (const bootcore_step *step = layout.steps; step < layout.steps + layout.step_count; step++) {
+        if (step->source == BOOTCORE_FROM_LAYOUT) {
+            memcpy(memory + step->address, layout.own + step->offset, step->length);
+        } else if (step->source == BOOTCORE_FROM_FILE && step->file == 0) {
+            memcpy(memory + step->address, kernel + step->offset, step->length);
+        } else if (step->source == BOOTCORE_FROM_FILE) {
+            read_at(paths[step->file], files[step->file], step->offset, memory + step->address,
+                    step->length);
+        } /* zeros: the mapping is fresh */
+    }
+    print_entering(&layout.handoff.registers, places, layout.handoff.place_count);
+    return 0;
 }

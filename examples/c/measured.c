@@ -15,45 +15,42 @@
 #include <stdlib.h>
 #include <string.h>
 
-enum {
-    MAX_FILES = 66,
-    MAX_RUNS = 256, /* of a map that is printed; the core refuses more than 128 regions */
-    ROOM = 0x20000000
-};
+enum { MAX_RUNS = 256 }; /* of a map that is printed; the core refuses more than 128 regions */
 
-static uint8_t contents[ROOM]; /* the bytes of all lines and files, the image's last */
-static size_t length;
-static bootcore_range files[MAX_FILES];
-static bootcore_module modules[MAX_FILES];
 static bootcore_region regions[MAX_RUNS];
-static bootcore_given given = {
-    .regions = regions, .modules = modules, .files = files, .text = contents, .contents = contents};
-static const uint8_t *image; /* what of the image is not compared yet */
-static uint64_t left;
+static bootcore_machine machine = {.regions = regions};
+static bootcore_module modules[BOOTCORE_MAX_MODULES];
+static bootcore_place places[BOOTCORE_MAX_PLACES];
+static bootcore_layout layout = {.places = places, .place_room = BOOTCORE_MAX_PLACES};
+static const uint8_t *rest; /* what of the image is not compared yet */
+static size_t rest_length;
 
 static void give_up(const char *why) {
     fprintf(stderr, "measured: %s\n", why);
     exit(2);
 }
 
-static bootcore_range add_file(const char *path) {
-    FILE *file = fopen(path, "rb");
-    bootcore_range range = {length, file ? fread(contents + length, 1, ROOM - length, file) : 0};
-    length += range.length;
-    if (!file || ferror(file) || fclose(file) || length == ROOM) {
-        give_up(path);
+static void *allocate(size_t length) {
+    void *room = malloc(length ? length : 1);
+    if (!room) {
+        give_up("no memory");
     }
-    return range;
+    return room;
 }
 
-static bootcore_range add_line(const char *line) {
-    bootcore_range range = {length, strlen(line)};
-    if (range.length >= ROOM - length) {
-        give_up(line);
+static bootcore_bytes read_file(const char *path) {
+    FILE *file = fopen(path, "rb");
+    long end = file && !fseek(file, 0, SEEK_END) ? ftell(file) : -1;
+    if (end < 0) {
+        give_up(path);
     }
-    memcpy(contents + length, line, range.length);
-    length += range.length;
-    return range;
+    size_t length = (size_t)end;
+    void *bytes = allocate(length);
+    rewind(file);
+    if (fread(bytes, 1, length, file) != length || fclose(file)) {
+        give_up(path);
+    }
+    return (bootcore_bytes){bytes, length};
 }
 
 /* Lines of a start, an end and a kind, which its first letter tells; nothing behind them is read. */
@@ -61,9 +58,9 @@ static void read_map(const char *path) {
     FILE *file = fopen(path, "r");
     uint64_t start, end;
     char kind[2];
-    while (file && given.region_count < MAX_RUNS &&
+    while (file && machine.region_count < MAX_RUNS &&
            fscanf(file, "%" SCNx64 " %" SCNx64 " %1s%*[a-z]", &start, &end, kind) == 3) {
-        regions[given.region_count++] =
+        regions[machine.region_count++] =
             (bootcore_region){start, end - start, (uint32_t)strcspn(" uranb", kind), 0};
     }
     if (!file || fclose(file)) {
@@ -71,79 +68,93 @@ static void read_map(const char *path) {
     }
 }
 
-/* Whether the image goes on with these bytes; tells where it does not. */
-static int goes_on(const char *what, uint64_t at, const void *wanted, uint64_t count) {
+/* Plans the entry, in arrays that are as long as it wants. */
+static void plan(const bootcore_entry *entry) {
+    uint32_t status = bootcore_plan(&machine, entry, &layout);
+    if (status == BOOTCORE_SMALL_ROOM) {
+        layout.step_room = layout.step_count;
+        layout.steps = allocate(layout.step_room * sizeof *layout.steps);
+        layout.own_room = layout.own_length;
+        layout.own = allocate(layout.own_room);
+        status = bootcore_plan(&machine, entry, &layout);
+    }
+    char words[256] = "no memory";
+    if (status == BOOTCORE_REFUSED) {
+        bootcore_describe(&layout.refusal, words, sizeof words);
+    } else if (status != BOOTCORE_NO_MEMORY) {
+        snprintf(words, sizeof words, "a misuse of bootcore_plan, %" PRIu32, status);
+    }
+    if (status != BOOTCORE_DONE) {
+        give_up(words);
+    }
+}
+
+/* Whether the image goes on with these bytes, or zeros if they are null; tells where it does not. */
+static bool goes_on(const char *what, uint64_t at, const uint8_t *wanted, uint64_t count) {
     uint64_t i = 0;
-    while (i < count && i < left && image[i] == ((const uint8_t *)wanted)[i]) {
+    while (i < count && i < rest_length && rest[i] == (wanted ? wanted[i] : 0)) {
         i++;
     }
     if (i < count) {
         printf("differs: %s at 0x%" PRIx64 "\n", what, at + i);
     }
-    image += i;
-    left -= i;
+    rest += i;
+    rest_length -= i;
     return i == count;
 }
 
-/* An image has its head with the registers, the places, and the parts' bytes: docs/FORMATS.md. */
-static int is_image(const bootcore_handoff *h, const bootcore_place *places,
-                    const uint8_t *memory) {
+/* An image has its head with the registers and the places, and then the parts' bytes, which the steps
+ * give in the same order: docs/FORMATS.md. */
+static bool is_image(const bootcore_bytes *files) {
     static uint8_t head[BOOTCORE_MAX_IMAGE_HEAD];
-    int same = goes_on("head", 0, head, bootcore_image_head(h, places, head, sizeof head));
-    for (uint32_t i = 0; same && i < h->places; i++) {
-        uint64_t at = places[i].address;
-        same = goes_on("memory", at, memory + at, places[i].length);
+    size_t length = bootcore_image_head(&layout.handoff, places, head, sizeof head);
+    bool same = goes_on("head", 0, head, length);
+    for (size_t i = 0; same && i < layout.step_count; i++) {
+        const bootcore_step *step = &layout.steps[i];
+        const uint8_t *source = step->source == BOOTCORE_FROM_FILE     ? files[step->file].bytes
+                                : step->source == BOOTCORE_FROM_LAYOUT ? layout.own
+                                                                       : NULL;
+        same = goes_on("memory", step->address, source ? source + step->offset : NULL, step->length);
     }
     if (same) {
-        printf(left ? "differs: more bytes behind the parts\n" : "equal\n");
+        puts(rest_length ? "differs: more bytes behind the parts" : "equal");
     }
-    return same && !left;
+    return same && !rest_length;
 }
 
 int main(int argc, char **argv) {
-    bootcore_entry entry = {.protocol = BOOTCORE_MULTIBOOT2, .initrd = BOOTCORE_NO_FILE};
-    bootcore_place places[BOOTCORE_MAX_PARTS];
-    bootcore_handoff handoff;
-    bootcore_refusal refusal;
+    bootcore_bytes files[1 + BOOTCORE_MAX_MODULES];
+    bootcore_refusal fault;
     bootcore_seen seen;
-    if (argc < 7 || argc > 7 + 2 * 64) { /* 64 modules */
+    bool is_linux = argc > 4 && !strncmp(argv[4], "linux", 5);
+    if (argc < 7 || argc > (is_linux ? 8 : 7 + 2 * BOOTCORE_MAX_MODULES)) {
         give_up("SIZE MAP IMAGE multiboot2|linux|linux64 LINE KERNEL [FILE ..]");
     }
-    given.machine.size = strtoull(argv[1], NULL, 0);
+    machine.size = strtoull(argv[1], NULL, 0);
     read_map(argv[2]);
-    if (!strncmp(argv[4], "linux", 5)) {
+    bootcore_bytes image = read_file(argv[3]);
+    bootcore_entry entry = {.protocol = BOOTCORE_MULTIBOOT2, .line = {argv[5], strlen(argv[5])},
+                            .modules = modules};
+    if (is_linux) {
         entry.protocol = argv[4][5] ? BOOTCORE_LINUX64 : BOOTCORE_LINUX;
-        entry.initrd = argc > 7 ? 1 : BOOTCORE_NO_FILE;
     }
-    entry.line = add_line(argv[5]);
-    files[given.file_count++] = add_file(argv[6]);
+    entry.kernel = files[0] = read_file(argv[6]);
     for (int i = 7; i < argc; i += 2) {
-        bootcore_range line = add_line(i + 1 < argc ? argv[i + 1] : "");
-        modules[entry.module_count++] = (bootcore_module){(uint32_t)given.file_count, 0, line};
-        files[given.file_count++] = add_file(argv[i]);
+        const char *line = i + 1 < argc ? argv[i + 1] : "";
+        bootcore_module *module = &modules[entry.module_count++];
+        module->line = (bootcore_bytes){line, strlen(line)};
+        files[entry.module_count] = module->file = read_file(argv[i]);
     }
-    bootcore_range whole = add_file(argv[3]);
-    given.module_count = entry.module_count;
-    given.text_length = given.contents_length = length;
-    image = contents + whole.offset;
-    left = whole.length;
-    uint8_t *memory = calloc(given.machine.size ? given.machine.size : 1, 1);
-    if (!memory) {
-        give_up("no memory");
-    }
-    uint32_t status = bootcore_load(memory, given.machine.size, 0, &given, &entry, &handoff, places,
-                                    BOOTCORE_MAX_PARTS, &refusal);
-    if (status != BOOTCORE_DONE) {
-        printf("nothing is handed over: status %" PRIu32 "\n", status);
-        return 2;
-    }
-    int same = is_image(&handoff, places, memory);
-    free(memory);
-    if (bootcore_walk(contents + whole.offset, whole.length, &seen, &refusal) == BOOTCORE_DONE) {
+    entry.initrd = modules[0].file; /* one protocol looks at the modules, the others at this */
+    plan(&entry);
+    rest = image.bytes;
+    rest_length = image.length;
+    bool same = is_image(files);
+    if (bootcore_walk(image.bytes, image.length, &seen, &fault) == BOOTCORE_DONE) {
         printf("a kernel sees: entry %" PRIx64 ", line of %" PRIu64 " bytes, %" PRIu64 " modules, %"
-               PRIu64 " runs\n", seen.entry, seen.line_length, seen.modules, seen.runs);
+               PRIu64 " runs\n", seen.entry_address, seen.line_length, seen.module_count, seen.run_count);
     } else {
-        printf("no kernel can be entered: %" PRIu32 "\n", refusal.number);
+        printf("no kernel can be entered: %" PRIu32 "\n", fault.number);
     }
     return !same;
 }

@@ -6,7 +6,6 @@
 
 #include <inttypes.h>
 #include <stdio.h>
-#include <stdlib.h>
 #include <string.h>
 
 enum { SIZE = 0x200000, POOL = 0x100000 };
@@ -15,46 +14,37 @@ static const bootcore_region usable[] = {{0, SIZE, BOOTCORE_USABLE, 0}};
 static const bootcore_region no_kind[] = {{0, SIZE, 6, 0}};
 static const bootcore_region high[] = {{0, SIZE, BOOTCORE_USABLE, 0},
                                        {UINT64_MAX, 1, BOOTCORE_USABLE, 0}};
-static bootcore_region many_regions[129];
-static bootcore_module modules[65];
-static const uint8_t text[300] = "line";
-static bootcore_range files[2];
-static bootcore_entry entries[33];
+static bootcore_region many[BOOTCORE_MAX_REGIONS + 1];
+static bootcore_module modules[BOOTCORE_MAX_MODULES + 1];
+static bootcore_entry entries[BOOTCORE_MAX_ENTRIES + 1];
+static const uint32_t second[] = {1};
+static const uint8_t bytes[2 * BOOTCORE_PIECE];
+/* A kernel of Multiboot2 that is a header alone, with where it lies and where it is entered. */
+static const uint32_t kernel[] = {0xE85250D6, 0, 64, 0u - 0xE85250D6 - 64,
+                                  2, 24, 0x100000, 0x100000, 0, 0,
+                                  3, 12, 0x100000, 0,
+                                  0, 8};
 
-static bootcore_given given;
+static bootcore_machine machine;
 static bootcore_menu menu;
 static bootcore_session session;
 static bootcore_request request;
-static uint8_t *memory;
-static bootcore_handoff handoff;
-static bootcore_place places[BOOTCORE_MAX_PARTS];
+static uint8_t memory[SIZE];
+static bootcore_place places[BOOTCORE_MAX_PLACES];
 static bootcore_refusal refusals[BOOTCORE_MAX_REFUSALS];
-static uint64_t refused;
+static bootcore_outcome outcome;
 
-/* One entry, a kernel of two pieces that is none. */
+/* One entry, a kernel of two pieces that is none; nothing is given of its bytes. */
 static void right(void) {
-    memset(&given, 0, sizeof given);
-    memset(&menu, 0, sizeof menu);
-    memset(entries, 0, sizeof entries);
-    given.machine.size = SIZE;
-    given.machine.pool_base = POOL;
-    given.machine.pool_length = SIZE - POOL;
-    given.regions = usable;
-    given.region_count = 1;
-    given.modules = modules;
-    given.module_count = 65;
-    given.text = text;
-    given.text_length = sizeof text;
-    given.files = files;
-    given.file_count = 2;
-    files[0].offset = 0;
-    files[0].length = BOOTCORE_PIECE + 9;
-    for (int i = 0; i < 33; i++) {
-        entries[i].protocol = BOOTCORE_MULTIBOOT2;
-        entries[i].line.length = 4;
+    machine = (bootcore_machine){.size = SIZE, .pool_base = POOL, .pool_length = SIZE - POOL,
+                                 .regions = usable, .region_count = 1};
+    for (int i = 0; i <= BOOTCORE_MAX_ENTRIES; i++) {
+        entries[i] = (bootcore_entry){.protocol = BOOTCORE_MULTIBOOT2, .line = {"line", 4},
+                                      .kernel = {NULL, BOOTCORE_PIECE + 9}};
     }
-    menu.entries = entries;
-    menu.entry_count = 1;
+    menu = (bootcore_menu){.entries = entries, .entry_count = 1};
+    outcome = (bootcore_outcome){.places = places, .place_room = BOOTCORE_MAX_PLACES,
+                                 .refusals = refusals, .refusal_room = BOOTCORE_MAX_REFUSALS};
 }
 
 static int tried, wrong;
@@ -68,142 +58,185 @@ static void expect(int line, uint32_t status, uint32_t wanted) {
 }
 #define EXPECT(wanted, call) expect(__LINE__, call, wanted)
 
-#define MAKE() bootcore_session_make(&session, &given, &menu)
-#define START(length, base) bootcore_session_start(&session, memory, length, base)
-#define PIECE(bytes, length) \
-    bootcore_session_piece(&session, memory, SIZE, 0, &request, bytes, length)
-#define FAULT(length) bootcore_session_fault(&session, memory, length, 0, &request)
-#define OUTCOME(count)                                                                      \
-    bootcore_session_outcome(&session, &handoff, places, count, refusals, BOOTCORE_MAX_REFUSALS, \
-                             &refused)
+#define MAKE() bootcore_session_make(&session, &machine, &menu)
+#define START(address, length) \
+    bootcore_session_start(&session, &(bootcore_memory){address, memory, length})
+#define PIECES(from, length) \
+    bootcore_session_pieces(&session, &(bootcore_memory){0, memory, SIZE}, &request, from, length)
+#define FAULT(length) bootcore_session_fault(&session, &(bootcore_memory){0, memory, length}, &request)
+#define MISSING(most) bootcore_session_missing(&session, most, &request)
+#define MISSING_AFTER(most) bootcore_session_missing_after(&session, most, &request)
+#define OUTCOME() bootcore_session_outcome(&session, &outcome)
+#define IS_REQUEST(first, count) (request.piece == (first) && request.length == (count))
 
 /* Makes a session with one thing changed; the one that is kept stays so, unless it is made. */
-#define CHANGED(wanted, change)                                                      \
-    do {                                                                             \
-        uintptr_t kept = (uintptr_t)session.kept;                                    \
-        right();                                                                     \
-        change;                                                                      \
-        EXPECT(wanted, MAKE());                                                      \
-        EXPECT(1, ((uintptr_t)session.kept == kept) == ((wanted) != BOOTCORE_DONE)); \
+#define CHANGED(wanted, change)                                                         \
+    do {                                                                                \
+        uintptr_t kept = (uintptr_t)session.kept;                                       \
+        right();                                                                        \
+        change;                                                                         \
+        EXPECT(wanted, MAKE());                                                         \
+        EXPECT(true, ((uintptr_t)session.kept == kept) == ((wanted) != BOOTCORE_DONE)); \
     } while (0)
 
 static void try_make(void) {
-    for (int i = 0; i < 129; i++) {
-        many_regions[i] = usable[0];
+    for (int i = 0; i <= BOOTCORE_MAX_REGIONS; i++) {
+        many[i] = usable[0];
     }
     CHANGED(BOOTCORE_DONE, (void)0);
-    CHANGED(BOOTCORE_NULL, given.regions = NULL);
-    CHANGED(BOOTCORE_NULL, given.modules = NULL);
-    CHANGED(BOOTCORE_NULL, given.text = NULL);
-    CHANGED(BOOTCORE_NULL, given.files = NULL);
+    CHANGED(BOOTCORE_DONE, entries[0].kernel.length = BOOTCORE_UNREADABLE);
+    CHANGED(BOOTCORE_DONE, entries[0].initrd.length = 1; entries[0].protocol = BOOTCORE_LINUX);
+    CHANGED(BOOTCORE_NULL, machine.regions = NULL);
+    CHANGED(BOOTCORE_NULL, entries[0].modules = NULL; entries[0].module_count = 1);
+    CHANGED(BOOTCORE_NULL, entries[0].line.bytes = NULL);
     CHANGED(BOOTCORE_NULL, menu.entries = NULL);
     CHANGED(BOOTCORE_NULL, menu.fallback_count = 1);
-    CHANGED(BOOTCORE_BAD_KIND, given.regions = no_kind);
-    CHANGED(BOOTCORE_BAD_SIZE, given.machine.size = SIZE + 1);
-    CHANGED(BOOTCORE_TOO_MANY_REGIONS, given.regions = many_regions; given.region_count = 129);
-    CHANGED(BOOTCORE_BAD_REGION, given.regions = high; given.region_count = 2);
-    CHANGED(BOOTCORE_BAD_POOL, given.machine.pool_length = 1);
+    CHANGED(BOOTCORE_BAD_RESERVED, machine.reserved = 1);
+    CHANGED(BOOTCORE_BAD_RESERVED, entries[0].reserved = 1);
+    CHANGED(BOOTCORE_BAD_RESERVED, menu.reserved = 1);
+    CHANGED(BOOTCORE_BAD_KIND, machine.regions = no_kind);
+    CHANGED(BOOTCORE_BAD_SIZE, machine.size = SIZE + 1);
+    CHANGED(BOOTCORE_TOO_MANY_REGIONS, machine.regions = many;
+            machine.region_count = BOOTCORE_MAX_REGIONS + 1);
+    CHANGED(BOOTCORE_BAD_REGION, machine.regions = high; machine.region_count = 2);
+    CHANGED(BOOTCORE_BAD_POOL, machine.pool_length = 1);
     CHANGED(BOOTCORE_BAD_PROTOCOL, entries[0].protocol = 4);
-    CHANGED(BOOTCORE_BAD_MODULES, entries[0].first_module = 65; entries[0].module_count = 1);
-    CHANGED(BOOTCORE_BAD_TEXT, entries[0].line.offset = 297);
-    CHANGED(BOOTCORE_BAD_FILE, entries[0].kernel = 2);
-    CHANGED(BOOTCORE_TOO_MANY, menu.entry_count = 33);
-    CHANGED(BOOTCORE_TOO_MANY, entries[0].module_count = 65);
+    CHANGED(BOOTCORE_TOO_MANY, menu.entry_count = BOOTCORE_MAX_ENTRIES + 1);
+    CHANGED(BOOTCORE_TOO_MANY, entries[0].modules = modules;
+            entries[0].module_count = BOOTCORE_MAX_MODULES + 1);
     CHANGED(BOOTCORE_BAD_INDEX, menu.first = 1);
-    EXPECT(BOOTCORE_NULL, bootcore_session_make(NULL, &given, &menu));
-    EXPECT(BOOTCORE_NULL, bootcore_session_make(&session, NULL, &menu));
-    EXPECT(BOOTCORE_NULL, bootcore_session_make(&session, &given, NULL));
-    /* where a file lies is not looked at */
+    CHANGED(BOOTCORE_BAD_INDEX, menu.fallbacks = second; menu.fallback_count = 1);
     right();
-    files[0].offset = UINT64_MAX - 1;
-    given.contents_length = 1;
-    EXPECT(BOOTCORE_DONE, MAKE());
+    EXPECT(BOOTCORE_NULL, bootcore_session_make(NULL, &machine, &menu));
+    EXPECT(BOOTCORE_NULL, bootcore_session_make(&session, NULL, &menu));
+    EXPECT(BOOTCORE_NULL, bootcore_session_make(&session, &machine, NULL));
 }
 
-/* A handle that keeps no session. */
+/* A struct that keeps no session. */
 static void try_none(void) {
-    EXPECT(BOOTCORE_NO_SESSION, START(SIZE, 0));
+    right();
+    EXPECT(BOOTCORE_NO_SESSION, START(0, SIZE));
     EXPECT(BOOTCORE_NO_SESSION, START(0, 0));
-    EXPECT(BOOTCORE_NO_SESSION, PIECE(text, 1));
+    EXPECT(BOOTCORE_BAD_MEMORY, START((uint64_t)1 << 32, SIZE));
+    EXPECT(BOOTCORE_NO_SESSION, PIECES(bytes, 1));
     EXPECT(BOOTCORE_NO_SESSION, FAULT(SIZE));
-    EXPECT(BOOTCORE_NO_SESSION, OUTCOME(BOOTCORE_MAX_PARTS));
-    EXPECT(BOOTCORE_NO_SESSION, OUTCOME(0));
-    EXPECT(false, bootcore_session_missing(&session, &request));
-    EXPECT(false, bootcore_session_missing_after(&session, &request));
+    EXPECT(BOOTCORE_NO_SESSION, OUTCOME());
+    EXPECT(false, MISSING(SIZE));
+    EXPECT(false, MISSING_AFTER(SIZE));
     bootcore_session_free(&session);
 }
 
 static void try_null(void) {
-    EXPECT(BOOTCORE_NULL, bootcore_session_start(NULL, memory, SIZE, 0));
-    EXPECT(BOOTCORE_NULL, bootcore_session_start(&session, NULL, SIZE, 0));
-    EXPECT(BOOTCORE_NULL, bootcore_session_piece(NULL, memory, SIZE, 0, &request, text, 1));
-    EXPECT(BOOTCORE_NULL, bootcore_session_piece(&session, NULL, SIZE, 0, &request, text, 1));
-    EXPECT(BOOTCORE_NULL, bootcore_session_piece(&session, memory, SIZE, 0, NULL, text, 1));
-    EXPECT(BOOTCORE_NULL, PIECE(NULL, 1));
-    EXPECT(BOOTCORE_NULL, bootcore_session_fault(NULL, memory, SIZE, 0, &request));
-    EXPECT(BOOTCORE_NULL, bootcore_session_fault(&session, NULL, SIZE, 0, &request));
-    EXPECT(BOOTCORE_NULL, bootcore_session_fault(&session, memory, SIZE, 0, NULL));
-    EXPECT(false, bootcore_session_missing(NULL, &request));
-    EXPECT(false, bootcore_session_missing(&session, NULL));
-    EXPECT(false, bootcore_session_missing_after(NULL, &request));
-    EXPECT(false, bootcore_session_missing_after(&session, NULL));
-    EXPECT(BOOTCORE_NULL, bootcore_session_outcome(NULL, &handoff, places, 256, NULL, 0, &refused));
-    EXPECT(BOOTCORE_NULL, bootcore_session_outcome(&session, NULL, places, 256, NULL, 0, &refused));
-    EXPECT(BOOTCORE_NULL, bootcore_session_outcome(&session, &handoff, NULL, 256, NULL, 0, &refused));
-    EXPECT(BOOTCORE_NULL, bootcore_session_outcome(&session, &handoff, places, 256, NULL, 1, &refused));
-    EXPECT(BOOTCORE_NULL, bootcore_session_outcome(&session, &handoff, places, 256, NULL, 0, NULL));
+    const bootcore_memory whole = {0, memory, SIZE}, none = {0, NULL, SIZE};
+    right();
+    EXPECT(BOOTCORE_NULL, bootcore_session_start(NULL, &whole));
+    EXPECT(BOOTCORE_NULL, bootcore_session_start(&session, NULL));
+    EXPECT(BOOTCORE_NULL, bootcore_session_start(&session, &none));
+    EXPECT(BOOTCORE_NULL, bootcore_session_pieces(NULL, &whole, &request, bytes, 1));
+    EXPECT(BOOTCORE_NULL, bootcore_session_pieces(&session, NULL, &request, bytes, 1));
+    EXPECT(BOOTCORE_NULL, bootcore_session_pieces(&session, &none, &request, bytes, 1));
+    EXPECT(BOOTCORE_NULL, bootcore_session_pieces(&session, &whole, NULL, bytes, 1));
+    EXPECT(BOOTCORE_NULL, bootcore_session_pieces(&session, &whole, &request, NULL, 1));
+    EXPECT(BOOTCORE_NULL, bootcore_session_fault(NULL, &whole, &request));
+    EXPECT(BOOTCORE_NULL, bootcore_session_fault(&session, NULL, &request));
+    EXPECT(BOOTCORE_NULL, bootcore_session_fault(&session, &none, &request));
+    EXPECT(BOOTCORE_NULL, bootcore_session_fault(&session, &whole, NULL));
+    EXPECT(false, bootcore_session_missing(NULL, SIZE, &request));
+    EXPECT(false, bootcore_session_missing(&session, SIZE, NULL));
+    EXPECT(false, bootcore_session_missing_after(NULL, SIZE, &request));
+    EXPECT(false, bootcore_session_missing_after(&session, SIZE, NULL));
+    EXPECT(BOOTCORE_NULL, bootcore_session_outcome(NULL, &outcome));
+    EXPECT(BOOTCORE_NULL, bootcore_session_outcome(&session, NULL));
+    outcome.places = NULL;
+    EXPECT(BOOTCORE_NULL, OUTCOME());
+    right();
+    outcome.refusals = NULL;
+    EXPECT(BOOTCORE_NULL, OUTCOME());
     bootcore_session_free(NULL);
 }
 
-/* A session, call after call, whose one entry is refused in the end. */
-static void try_boot(void) {
+/* A pool below the memory that is given, and all that is told before the start. */
+static void try_start(void) {
     right();
-    given.machine.pool_base = 4096;
-    given.machine.pool_length = POOL;
+    machine.pool_base = 4096;
+    machine.pool_length = POOL;
     EXPECT(BOOTCORE_DONE, MAKE());
-    EXPECT(BOOTCORE_LOW_POOL, START(SIZE - 8192, 8192));
+    EXPECT(BOOTCORE_LOW_POOL, START(8192, SIZE - 8192));
     right();
     EXPECT(BOOTCORE_DONE, MAKE());
-    EXPECT(BOOTCORE_WAITING, PIECE(text, 9));
-    EXPECT(BOOTCORE_WAITING, OUTCOME(BOOTCORE_MAX_PARTS));
-    EXPECT(BOOTCORE_FEW_PLACES, OUTCOME(BOOTCORE_MAX_PARTS - 1));
-    EXPECT(false, bootcore_session_missing(&session, &request));
-    EXPECT(BOOTCORE_BAD_MEMORY, START(SIZE - 1, 0));
-    EXPECT(BOOTCORE_BAD_MEMORY, START(SIZE, 4096));
-    EXPECT(BOOTCORE_WAITING, START(SIZE, 0));
-    EXPECT(BOOTCORE_WAITING, START(SIZE, 0));
-    EXPECT(true, bootcore_session_missing(&session, &request));
-    EXPECT(true, bootcore_session_missing_after(&session, &request));
-    EXPECT(true, request.file == 0 && request.piece == 1 && request.length == 9);
-    EXPECT(BOOTCORE_WAITING, PIECE(text, 8));
-    EXPECT(BOOTCORE_WAITING, PIECE(text, 9));
+    EXPECT(BOOTCORE_WAITING, PIECES(bytes, 9));
     EXPECT(BOOTCORE_WAITING, FAULT(SIZE));
-    EXPECT(false, bootcore_session_missing_after(&session, &request));
-    EXPECT(true, bootcore_session_missing(&session, &request));
-    EXPECT(BOOTCORE_WAITING, OUTCOME(BOOTCORE_MAX_PARTS));
+    EXPECT(BOOTCORE_WAITING, OUTCOME());
+    EXPECT(false, MISSING(SIZE));
+    EXPECT(BOOTCORE_BAD_MEMORY, START(0, SIZE - 1));
+    EXPECT(BOOTCORE_BAD_MEMORY, START(4096, SIZE));
+    EXPECT(BOOTCORE_BAD_MEMORY, START((uint64_t)1 << 32, SIZE));
+    EXPECT(BOOTCORE_WAITING, START(0, SIZE));
+    EXPECT(BOOTCORE_WAITING, START(0, SIZE));
+}
+
+/* What is awaited, how pieces are told, and a fault of the only entry. */
+static void try_refused(void) {
+    EXPECT(true, MISSING(SIZE) && IS_REQUEST(0, BOOTCORE_PIECE + 9));
+    EXPECT(false, MISSING_AFTER(SIZE));
+    EXPECT(true, MISSING(BOOTCORE_PIECE + 8) && IS_REQUEST(0, BOOTCORE_PIECE));
+    EXPECT(true, MISSING(0) && IS_REQUEST(0, BOOTCORE_PIECE));
+    EXPECT(true, MISSING_AFTER(0) && IS_REQUEST(1, 9));
+    EXPECT(BOOTCORE_WAITING, PIECES(bytes, 8)); /* of another length */
+    EXPECT(BOOTCORE_WAITING, PIECES(NULL, 0));
+    EXPECT(true, MISSING(SIZE) && IS_REQUEST(0, BOOTCORE_PIECE + 9));
+    EXPECT(BOOTCORE_WAITING, PIECES(bytes, BOOTCORE_PIECE + 8)); /* the second one is */
+    EXPECT(true, MISSING(SIZE) && IS_REQUEST(1, 9));
+    request.piece = 0;
+    EXPECT(BOOTCORE_WAITING, FAULT(SIZE)); /* of a piece that came */
+    request.piece = 1;
+    EXPECT(BOOTCORE_WAITING, OUTCOME());
     EXPECT(BOOTCORE_BAD_MEMORY, FAULT(SIZE - 1));
     EXPECT(BOOTCORE_FAILED, FAULT(SIZE));
-    EXPECT(BOOTCORE_FAILED, PIECE(text, 9));
-    EXPECT(BOOTCORE_FAILED, START(SIZE, 0));
-    EXPECT(BOOTCORE_REFUSED, OUTCOME(BOOTCORE_MAX_PARTS));
-    EXPECT(1, refused == 1 && refusals[0].entry == 0 && refusals[0].number == 2);
-    EXPECT(BOOTCORE_REFUSED, bootcore_session_outcome(&session, &handoff, places, 256, NULL, 0, &refused));
+    EXPECT(BOOTCORE_FAILED, PIECES(bytes, 9));
+    EXPECT(BOOTCORE_FAILED, START(0, SIZE));
+    EXPECT(false, MISSING(SIZE));
+    EXPECT(BOOTCORE_REFUSED, OUTCOME());
+    EXPECT(true, outcome.refusal_count == 1 && refusals[0].entry == 0 && refusals[0].number == 2);
+    outcome.refusals = NULL;
+    outcome.refusal_room = 0;
+    EXPECT(BOOTCORE_REFUSED, OUTCOME());
+    outcome.place_room = BOOTCORE_MAX_PLACES - 1;
+    EXPECT(BOOTCORE_SMALL_ROOM, OUTCOME());
+}
+
+/* An entry that can't be read, one that is none, and one that is handed over. */
+static void try_done(void) {
+    right();
+    entries[0].kernel.length = BOOTCORE_UNREADABLE;
+    entries[2].kernel.length = sizeof kernel;
+    menu.entry_count = 3;
+    menu.fallbacks = (const uint32_t[]){1, 2};
+    menu.fallback_count = 2;
+    EXPECT(BOOTCORE_DONE, MAKE());
+    EXPECT(BOOTCORE_NEXT, START(0, SIZE));
+    EXPECT(true, MISSING(SIZE) && request.entry == 1 && request.attempt == 1);
+    EXPECT(BOOTCORE_NEXT, PIECES(bytes, BOOTCORE_PIECE + 9));
+    EXPECT(true, MISSING(SIZE) && request.entry == 2 && request.attempt == 2);
+    EXPECT(BOOTCORE_DONE, PIECES(kernel, sizeof kernel));
+    EXPECT(BOOTCORE_DONE, START(0, SIZE));
+    EXPECT(BOOTCORE_DONE, PIECES(bytes, 9));
+    EXPECT(BOOTCORE_DONE, FAULT(SIZE));
+    EXPECT(BOOTCORE_DONE, OUTCOME());
+    EXPECT(true, outcome.handoff.entry == 2 && outcome.refusal_count == 2);
+    EXPECT(true, refusals[0].number == 1 && refusals[1].entry == 1 && refusals[1].number == 4);
 }
 
 int main(void) {
-    memory = malloc(SIZE);
-    if (!memory) {
-        return 2;
-    }
-    memset(memory, 0xA5, SIZE);
     try_none();
     try_make();
     try_null();
-    try_boot();
+    try_start();
+    try_refused();
+    try_done();
     bootcore_session_free(&session);
-    EXPECT(1, session.kept == NULL);
+    EXPECT(true, session.kept == NULL);
     try_none();
-    free(memory);
     printf("%d tried, %d wrong\n", tried, wrong);
     return wrong != 0;
 }

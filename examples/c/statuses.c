@@ -1,133 +1,272 @@
 /*
- * Each status of bootcore_load and bootcore_prepare: a call that is right, and that call with one thing
- * changed. Prints the name of each change whose status is another than it should be, and then how many
- * were tried.
+ * Each status of bootcore_load, bootcore_prepare, bootcore_plan and bootcore_carry_out but that of no
+ * memory: calls that are right, and these with one thing changed. Prints the name of each change whose
+ * status is another than it should be, or after which a byte is, and then how many were tried.
  */
 #include "bootcore.h"
 
 #include <inttypes.h>
 #include <stdio.h>
-#include <stdlib.h>
 #include <string.h>
 
-enum { SIZE = 0x200000 };
+enum { SIZE = 0x200000, STEPS = 16, OWN = 4096 };
 
-/* What a call is given; each change starts from `right`. */
-typedef struct call {
-    bootcore_given given;
-    bootcore_entry entry;
-    size_t memory_length;
-    size_t place_count;
-} call;
-
+/* A kernel of Multiboot2 that is a header alone, with where it lies and where it is entered. */
+static const uint32_t kernel[] = {0xE85250D6, 0, 64, 0u - 0xE85250D6 - 64,
+                                  2, 24, 0x100000, 0x100000, 0, 0x102000,
+                                  3, 12, 0x100000, 0,
+                                  0, 8};
 static const bootcore_region usable[] = {{0, SIZE, BOOTCORE_USABLE, 0}};
+static const bootcore_region reserved[] = {{0, SIZE, BOOTCORE_USABLE, 1}};
 static const bootcore_region no_kind[] = {{0, SIZE, 6, 0}};
 static const bootcore_region high[] = {{0, SIZE, BOOTCORE_USABLE, 0},
                                        {UINT64_MAX, 1, BOOTCORE_USABLE, 0}};
-static bootcore_region many_regions[129];
-static bootcore_module modules[65];
-static const uint8_t text[300] = "line";
-static const bootcore_range files[] = {{0, 9}, {9, 3}, {9, 4}};
-static const uint8_t contents[12] = "no kernel...";
+static bootcore_region many[BOOTCORE_MAX_REGIONS + 1];
+static const bootcore_module one[] = {{{"hello", 5}, {"m", 1}}};
+static const bootcore_module no_file[] = {{{NULL, 5}, {"m", 1}}};
+static const bootcore_module no_line[] = {{{"hello", 5}, {NULL, 1}}};
+static const bootcore_module unreadable[] = {{{"", BOOTCORE_UNREADABLE}, {"m", 1}}};
+static const bootcore_module none[BOOTCORE_MAX_MODULES + 1];
+
+/* What calls write: `told` is, and `before` is what it is at first. */
+typedef struct telling {
+    uint8_t memory[SIZE];
+    uint8_t second[SIZE];
+    bootcore_place places[BOOTCORE_MAX_PLACES];
+    bootcore_refusal refusals[1];
+    bootcore_step steps[STEPS];
+    uint8_t own[OWN];
+} telling;
+
+static telling told, before;
+static uint8_t loaded[SIZE];
+
+/* What calls are given; each change starts from `right`. */
+typedef struct call {
+    bootcore_memory memory;
+    bootcore_machine machine;
+    bootcore_entry entry;
+    bootcore_outcome outcome;
+    bootcore_layout layout;
+} call;
 
 static call right(void) {
     call c;
     memset(&c, 0, sizeof c);
-    c.given.machine.size = SIZE;
-    c.given.regions = usable;
-    c.given.region_count = 1;
-    c.given.modules = modules;
-    c.given.module_count = 65;
-    c.given.text = text;
-    c.given.text_length = sizeof text;
-    c.given.files = files;
-    c.given.file_count = 3;
-    c.given.contents = contents;
-    c.given.contents_length = sizeof contents;
+    c.memory = (bootcore_memory){0, told.memory, SIZE};
+    c.machine.size = SIZE;
+    c.machine.regions = usable;
+    c.machine.region_count = 1;
     c.entry.protocol = BOOTCORE_MULTIBOOT2;
-    c.entry.line.length = 4;
-    c.memory_length = SIZE;
-    c.place_count = BOOTCORE_MAX_PARTS;
+    c.entry.kernel = (bootcore_bytes){kernel, sizeof kernel};
+    c.entry.line = (bootcore_bytes){"line", 4};
+    c.entry.modules = one;
+    c.entry.module_count = 1;
+    c.outcome.places = c.layout.places = told.places;
+    c.outcome.place_room = c.layout.place_room = BOOTCORE_MAX_PLACES;
+    c.outcome.refusals = told.refusals;
+    c.outcome.refusal_room = 1;
+    c.layout.steps = told.steps;
+    c.layout.step_room = STEPS;
+    c.layout.own = told.own;
+    c.layout.own_room = OWN;
     return c;
 }
 
 static int tried, wrong;
 
-static void count(const char *call_name, const char *name, uint32_t status, uint32_t wanted) {
-    if (status != wanted) {
-        printf("%s, %s: %" PRIu32 ", not %" PRIu32 "\n", call_name, name, status, wanted);
+static void count(const char *call_name, const char *name, uint32_t status, uint32_t wanted,
+                  bool holds) {
+    if (status != wanted || !holds) {
+        printf("%s, %s: %" PRIu32 ", not %" PRIu32 "%s\n", call_name, name, status, wanted,
+               holds ? "" : ", and what is told is wrong");
         wrong++;
     }
     tried++;
 }
 
-static void expect(const char *name, call c, uint32_t wanted) {
-    uint8_t *memory = malloc(SIZE);
-    bootcore_place *places = malloc(BOOTCORE_MAX_PARTS * sizeof *places);
-    bootcore_handoff handoff;
-    bootcore_refusal refusal = {0, 0, 0, 0}, prepared = {0, 0, 0, 0};
-    if (!memory || !places) {
-        exit(2);
-    }
-    memset(memory, 0xA5, SIZE);
-    uint32_t status = bootcore_load(memory, c.memory_length, 0, &c.given, &c.entry, &handoff, places,
-                                    c.place_count, &refusal);
-    int same = 1;
-    for (size_t i = 0; i < SIZE; i++) {
-        same = same && memory[i] == 0xA5;
-    }
-    count("load", name, same ? status : UINT32_MAX, wanted);
-    /* a preparation has no memory that may be too short, and is refused as a load is */
-    status = bootcore_prepare(&c.given, &c.entry, &handoff, places, c.place_count, &prepared);
-    same = wanted == BOOTCORE_BAD_MEMORY || !memcmp(&prepared, &refusal, sizeof refusal);
-    count("prepare", name, same ? status : UINT32_MAX,
-          wanted == BOOTCORE_BAD_MEMORY ? BOOTCORE_REFUSED : wanted);
-    free(memory);
-    free(places);
+/* Whether a call has written nothing that its answer does not permit; `now` is where it tells, and
+ * `was` what stood there. */
+static bool is_kept(uint32_t status, const void *now, const void *was, size_t length) {
+    bool is_told = status == BOOTCORE_REFUSED || status == BOOTCORE_SMALL_ROOM;
+    bool is_same = !memcmp(told.places, before.places, sizeof told.places) &&
+                   !memcmp(told.steps, before.steps, sizeof told.steps) &&
+                   !memcmp(told.own, before.own, sizeof told.own);
+    return status == BOOTCORE_DONE ||
+           (is_same && !memcmp(told.memory, before.memory, SIZE) &&
+            (is_told || !memcmp(now, was, length)));
 }
 
-#define CHANGED(wanted, change) \
-    do {                        \
-        call c = right();       \
-        change;                 \
-        expect(#change, c, wanted); \
+/* The three calls, each with its status; what two of them tell, both tell alike. */
+static void expect(const char *name, call c, uint32_t loads, uint32_t prepares, uint32_t plans) {
+    call load = c, prepare = c;
+    told = before;
+    uint32_t status = bootcore_load(&load.memory, &load.machine, &load.entry, &load.outcome);
+    bootcore_refusal refusal = told.refusals[0];
+    count("load", name, status, loads, is_kept(status, &load.outcome, &c.outcome, sizeof c.outcome));
+    told = before;
+    status = bootcore_prepare(&prepare.machine, &prepare.entry, &prepare.outcome);
+    bool same = loads != prepares || (!memcmp(&load.outcome, &prepare.outcome, sizeof load.outcome) &&
+                                      !memcmp(&refusal, told.refusals, sizeof refusal));
+    same = same && !memcmp(told.memory, before.memory, SIZE);
+    refusal = told.refusals[0];
+    count("prepare", name, status, prepares,
+          same && is_kept(status, &prepare.outcome, &c.outcome, sizeof c.outcome));
+    told = before;
+    call plan = c;
+    status = bootcore_plan(&plan.machine, &plan.entry, &plan.layout);
+    const bootcore_layout *layout = &plan.layout;
+    same = prepares != plans || status > BOOTCORE_REFUSED ||
+           (status == BOOTCORE_DONE
+                ? !memcmp(&layout->handoff, &prepare.outcome.handoff, sizeof layout->handoff)
+                : !memcmp(&layout->refusal, &refusal, sizeof refusal));
+    count("plan", name, status, plans,
+          same && !memcmp(told.memory, before.memory, SIZE) &&
+              is_kept(status, &plan.layout, &c.layout, sizeof c.layout));
+}
+
+#define EACH(loads, prepares, plans, change)        \
+    do {                                            \
+        call c = right();                           \
+        change;                                     \
+        expect(#change, c, loads, prepares, plans); \
+    } while (0)
+#define ALL(wanted, change) EACH(wanted, wanted, wanted, change)
+#define LOAD(wanted, change) EACH(wanted, BOOTCORE_DONE, BOOTCORE_DONE, change)
+#define PLAN(wanted, change) EACH(BOOTCORE_DONE, BOOTCORE_DONE, wanted, change)
+
+static void try_changes(void) {
+    ALL(BOOTCORE_DONE, (void)c);
+    ALL(BOOTCORE_DONE, c.entry.initrd.length = 5); /* is not looked at */
+    ALL(BOOTCORE_DONE, c.outcome.refusals = NULL; c.outcome.refusal_room = 0);
+    ALL(BOOTCORE_DONE, c.machine.size = SIZE - 4096);
+    ALL(BOOTCORE_REFUSED, c.entry.kernel.length = 9);
+    ALL(BOOTCORE_REFUSED, c.entry.protocol = BOOTCORE_LINUX64);
+    ALL(BOOTCORE_REFUSED, c.entry.protocol = BOOTCORE_LINUX; c.entry.modules = NULL);
+    ALL(BOOTCORE_NULL, c.machine.regions = NULL);
+    ALL(BOOTCORE_NULL, c.outcome.places = c.layout.places = NULL);
+    ALL(BOOTCORE_NULL, c.entry.kernel.bytes = NULL);
+    ALL(BOOTCORE_NULL, c.entry.line.bytes = NULL);
+    ALL(BOOTCORE_NULL, c.entry.rsdp_old.length = 20);
+    ALL(BOOTCORE_NULL, c.entry.modules = NULL);
+    ALL(BOOTCORE_NULL, c.entry.modules = no_line);
+    LOAD(BOOTCORE_NULL, c.entry.modules = no_file);
+    LOAD(BOOTCORE_NULL, c.memory.bytes = NULL);
+    EACH(BOOTCORE_NULL, BOOTCORE_REFUSED, BOOTCORE_REFUSED, c.entry.protocol = BOOTCORE_LINUX;
+         c.entry.initrd.length = 5);
+    EACH(BOOTCORE_NULL, BOOTCORE_NULL, BOOTCORE_DONE, c.outcome.refusals = NULL);
+    PLAN(BOOTCORE_NULL, c.layout.steps = NULL);
+    PLAN(BOOTCORE_NULL, c.layout.own = NULL);
+    ALL(BOOTCORE_BAD_RESERVED, c.machine.reserved = 1);
+    ALL(BOOTCORE_BAD_RESERVED, c.machine.regions = reserved);
+    ALL(BOOTCORE_BAD_RESERVED, c.entry.reserved = 1);
+    ALL(BOOTCORE_BAD_FILE, c.entry.kernel.length = BOOTCORE_UNREADABLE);
+    ALL(BOOTCORE_BAD_FILE, c.entry.modules = unreadable);
+    ALL(BOOTCORE_BAD_FILE, c.entry.protocol = BOOTCORE_LINUX; c.entry.initrd = unreadable[0].file);
+    ALL(BOOTCORE_SMALL_ROOM, c.outcome.place_room = c.layout.place_room = BOOTCORE_MAX_PLACES - 1);
+    PLAN(BOOTCORE_SMALL_ROOM, c.layout.step_room = 1);
+    PLAN(BOOTCORE_SMALL_ROOM, c.layout.own_room = 0; c.layout.own = NULL);
+    ALL(BOOTCORE_BAD_KIND, c.machine.regions = no_kind);
+    ALL(BOOTCORE_BAD_SIZE, c.machine.size = SIZE + 1);
+    ALL(BOOTCORE_BAD_SIZE, c.machine.size = UINT64_MAX);
+    ALL(BOOTCORE_TOO_MANY_REGIONS, c.machine.regions = many;
+        c.machine.region_count = BOOTCORE_MAX_REGIONS + 1);
+    ALL(BOOTCORE_BAD_REGION, c.machine.regions = high; c.machine.region_count = 2);
+    ALL(BOOTCORE_BAD_POOL, c.machine.pool_length = 1);
+    ALL(BOOTCORE_BAD_POOL, c.machine.pool_base = 1);
+    ALL(BOOTCORE_BAD_POOL, c.machine.pool_base = 4096; c.machine.pool_length = UINT64_MAX);
+    LOAD(BOOTCORE_BAD_MEMORY, c.memory.length = SIZE - 1);
+    LOAD(BOOTCORE_BAD_MEMORY, c.memory.address = (uint64_t)1 << 32);
+    LOAD(BOOTCORE_OUTSIDE, c.memory = ((bootcore_memory){0x2000, told.memory, SIZE - 0x2000}));
+    ALL(BOOTCORE_BAD_PROTOCOL, c.entry.protocol = 0);
+    ALL(BOOTCORE_BAD_PROTOCOL, c.entry.protocol = 4);
+    ALL(BOOTCORE_TOO_MANY, c.entry.modules = none; c.entry.module_count = BOOTCORE_MAX_MODULES + 1);
+    ALL(BOOTCORE_TOO_MANY, c.entry.rsdp_new = ((bootcore_bytes){many, BOOTCORE_MAX_RSDP + 1}));
+}
+
+#define NO_POINTER(call) count(#call, "", call, BOOTCORE_NULL, true)
+
+static void try_no_pointers(void) {
+    call c = right();
+    NO_POINTER(bootcore_load(NULL, &c.machine, &c.entry, &c.outcome));
+    NO_POINTER(bootcore_load(&c.memory, NULL, &c.entry, &c.outcome));
+    NO_POINTER(bootcore_load(&c.memory, &c.machine, NULL, &c.outcome));
+    NO_POINTER(bootcore_load(&c.memory, &c.machine, &c.entry, NULL));
+    NO_POINTER(bootcore_prepare(NULL, &c.entry, &c.outcome));
+    NO_POINTER(bootcore_prepare(&c.machine, NULL, &c.outcome));
+    NO_POINTER(bootcore_prepare(&c.machine, &c.entry, NULL));
+    NO_POINTER(bootcore_plan(NULL, &c.entry, &c.layout));
+    NO_POINTER(bootcore_plan(&c.machine, NULL, &c.layout));
+    NO_POINTER(bootcore_plan(&c.machine, &c.entry, NULL));
+}
+
+/* What the right plan is carried out with; each change starts from `right_carrying`. */
+typedef struct carrying {
+    bootcore_layout layout;
+    bootcore_bytes files[2];
+    size_t file_count;
+    bootcore_memory pieces[3]; /* that meet in the kernel */
+    size_t piece_count;
+} carrying;
+
+static carrying right_carrying(void) {
+    call c = right();
+    told = before;
+    (void)bootcore_plan(&c.machine, &c.entry, &c.layout);
+    return (carrying){c.layout, {c.entry.kernel, one[0].file}, 2,
+                      {{0x100020, told.memory + 0x100020, SIZE - 0x100020}, {0, told.memory, 0x100020}},
+                      2};
+}
+
+static void carry_out(const char *name, carrying c, uint32_t wanted) {
+    uint32_t status = bootcore_carry_out(&c.layout, c.files, c.file_count, c.pieces, c.piece_count);
+    count("carry_out", name, status, wanted,
+          !memcmp(told.memory, wanted == BOOTCORE_DONE ? loaded : before.memory, SIZE) &&
+              !memcmp(told.second, before.second, SIZE));
+}
+
+#define CARRY(wanted, change)          \
+    do {                               \
+        carrying c = right_carrying(); \
+        change;                        \
+        carry_out(#change, c, wanted); \
     } while (0)
 
+static void try_carrying(void) {
+    call c = right();
+    told = before;
+    uint32_t status = bootcore_load(&c.memory, &c.machine, &c.entry, &c.outcome);
+    count("load", "what carrying out is compared with", status, BOOTCORE_DONE, true);
+    memcpy(loaded, told.memory, SIZE);
+    CARRY(BOOTCORE_DONE, (void)c);
+    CARRY(BOOTCORE_DONE, c.pieces[c.piece_count++] = ((bootcore_memory){0, told.second, SIZE}));
+    CARRY(BOOTCORE_DONE, c.pieces[c.piece_count++] = c.pieces[0];
+          c.pieces[0] = ((bootcore_memory){UINT64_MAX, told.second, SIZE}));
+    CARRY(BOOTCORE_DONE, c.pieces[0] = ((bootcore_memory){0x100000, told.memory + 0x100000, 0x3000});
+          c.pieces[1] = ((bootcore_memory){0x1000, told.memory + 0x1000, 0x1000}));
+    CARRY(BOOTCORE_OUTSIDE, c.pieces[1].length--);
+    CARRY(BOOTCORE_OUTSIDE, c.piece_count = 1);
+    CARRY(BOOTCORE_OUTSIDE, c.piece_count = 0);
+    CARRY(BOOTCORE_BAD_FILE, c.file_count = 1);
+    CARRY(BOOTCORE_BAD_FILE, c.files[1].length = 4);
+    CARRY(BOOTCORE_BAD_FILE, c.files[1].length = BOOTCORE_UNREADABLE);
+    CARRY(BOOTCORE_NULL, c.files[1].bytes = NULL);
+    CARRY(BOOTCORE_NULL, c.pieces[0].bytes = NULL);
+    CARRY(BOOTCORE_NULL, c.layout.steps = NULL);
+    CARRY(BOOTCORE_NULL, c.layout.own = NULL);
+    NO_POINTER(bootcore_carry_out(NULL, &c.entry.kernel, 1, &c.memory, 1));
+    NO_POINTER(bootcore_carry_out(&c.layout, NULL, 1, &c.memory, 1));
+    NO_POINTER(bootcore_carry_out(&c.layout, &c.entry.kernel, 1, NULL, 1));
+}
+
 int main(void) {
-    for (int i = 0; i < 129; i++) {
-        many_regions[i] = usable[0];
+    memset(&before, 0xA5, sizeof before);
+    for (int i = 0; i <= BOOTCORE_MAX_REGIONS; i++) {
+        many[i] = usable[0];
     }
-    modules[64].file = 3;
-    CHANGED(BOOTCORE_REFUSED, (void)c);
-    CHANGED(BOOTCORE_NULL, c.given.text = NULL);
-    CHANGED(BOOTCORE_NULL, c.given.contents = NULL);
-    CHANGED(BOOTCORE_FEW_PLACES, c.place_count = BOOTCORE_MAX_PARTS - 1);
-    CHANGED(BOOTCORE_BAD_KIND, c.given.regions = no_kind);
-    CHANGED(BOOTCORE_BAD_SIZE, c.given.machine.size = SIZE + 1);
-    CHANGED(BOOTCORE_BAD_SIZE, c.given.machine.size = UINT64_MAX);
-    CHANGED(BOOTCORE_TOO_MANY_REGIONS, c.given.regions = many_regions; c.given.region_count = 129);
-    CHANGED(BOOTCORE_BAD_REGION, c.given.regions = high; c.given.region_count = 2);
-    CHANGED(BOOTCORE_BAD_POOL, c.given.machine.pool_length = 1);
-    CHANGED(BOOTCORE_BAD_POOL, c.given.machine.pool_base = 1);
-    CHANGED(BOOTCORE_BAD_POOL, c.given.machine.pool_base = 4096;
-            c.given.machine.pool_length = UINT64_MAX);
-    CHANGED(BOOTCORE_BAD_MEMORY, c.memory_length = SIZE - 1);
-    CHANGED(BOOTCORE_BAD_PROTOCOL, c.entry.protocol = 0);
-    CHANGED(BOOTCORE_BAD_PROTOCOL, c.entry.protocol = 4);
-    CHANGED(BOOTCORE_BAD_MODULES, c.entry.first_module = 65; c.entry.module_count = 1);
-    CHANGED(BOOTCORE_BAD_MODULES, c.entry.first_module = 66);
-    CHANGED(BOOTCORE_BAD_MODULES, c.entry.first_module = UINT32_MAX;
-            c.entry.module_count = UINT32_MAX);
-    CHANGED(BOOTCORE_BAD_TEXT, c.entry.line.offset = 297);
-    CHANGED(BOOTCORE_BAD_TEXT, c.entry.line.offset = UINT64_MAX);
-    CHANGED(BOOTCORE_BAD_TEXT, c.entry.rsdp_old.length = UINT64_MAX);
-    CHANGED(BOOTCORE_BAD_TEXT, c.entry.rsdp_new.offset = BOOTCORE_MISSING);
-    CHANGED(BOOTCORE_BAD_FILE, c.entry.kernel = 3);
-    CHANGED(BOOTCORE_BAD_FILE, c.entry.first_module = 64; c.entry.module_count = 1);
-    CHANGED(BOOTCORE_BAD_FILE, c.entry.protocol = BOOTCORE_LINUX; c.entry.initrd = 3);
-    CHANGED(BOOTCORE_BAD_CONTENTS, c.entry.kernel = 2);
-    CHANGED(BOOTCORE_TOO_MANY, modules[64].file = 0; c.entry.module_count = 65);
-    CHANGED(BOOTCORE_TOO_MANY, c.entry.rsdp_new.length = 257);
+    try_changes();
+    try_no_pointers();
+    try_carrying();
     printf("%d tried, %d wrong\n", tried, wrong);
     return wrong != 0;
 }

@@ -36,12 +36,12 @@ static uint8_t *read_file(const char *path, size_t *length) {
 /* Arrays with room for all that is seen; one that there is no memory for stays null. */
 static bootcore_seen_arrays arrays_for(const bootcore_seen *seen) {
     bootcore_seen_arrays arrays;
-    arrays.kernel_parts = calloc(seen->kernel_parts, sizeof *arrays.kernel_parts);
-    arrays.kernel_part_room = seen->kernel_parts;
-    arrays.modules = calloc(seen->modules, sizeof *arrays.modules);
-    arrays.module_room = seen->modules;
-    arrays.runs = calloc(seen->runs, sizeof *arrays.runs);
-    arrays.run_room = seen->runs;
+    arrays.kernel_parts = calloc(seen->kernel_part_count, sizeof *arrays.kernel_parts);
+    arrays.kernel_part_room = seen->kernel_part_count;
+    arrays.modules = calloc(seen->module_count, sizeof *arrays.modules);
+    arrays.module_room = seen->module_count;
+    arrays.runs = calloc(seen->run_count, sizeof *arrays.runs);
+    arrays.run_room = seen->run_count;
     arrays.text = calloc(seen->text_length, 1);
     arrays.text_room = seen->text_length;
     return arrays;
@@ -57,7 +57,7 @@ static void print_text(const uint8_t *text, bootcore_range range) {
 }
 
 static void print_copy(const char *name, const uint8_t *text, bootcore_range range) {
-    if (range.offset != BOOTCORE_MISSING) {
+    if (range.offset != BOOTCORE_ABSENT) {
         printf("%s ", name);
         print_text(text, range);
     }
@@ -65,13 +65,13 @@ static void print_copy(const char *name, const uint8_t *text, bootcore_range ran
 
 static void print_seen(const bootcore_seen *seen, const bootcore_seen_arrays *arrays) {
     bootcore_range line = {0, seen->line_length};
-    printf("protocol %s\nentry %08" PRIx64 "\nline ", protocols[seen->protocol], seen->entry);
+    printf("protocol %s\nentry %08" PRIx64 "\nline ", protocols[seen->protocol], seen->entry_address);
     print_text(arrays->text, line);
-    for (uint64_t i = 0; i < seen->kernel_parts; i++) {
+    for (uint64_t i = 0; i < seen->kernel_part_count; i++) {
         const bootcore_seen_part *part = &arrays->kernel_parts[i];
         printf("kernel %08" PRIx64 " %" PRIu64 "\n", part->address, part->length);
     }
-    for (uint64_t i = 0; i < seen->modules; i++) {
+    for (uint64_t i = 0; i < seen->module_count; i++) {
         const bootcore_seen_module *module = &arrays->modules[i];
         printf("module %08" PRIx64 " %" PRIu64 " ", module->address, module->length);
         print_text(arrays->text, module->line);
@@ -79,7 +79,7 @@ static void print_seen(const bootcore_seen *seen, const bootcore_seen_arrays *ar
     if (seen->initrd_length) {
         printf("initrd %08" PRIx64 " %" PRIu64 "\n", seen->initrd, seen->initrd_length);
     }
-    for (uint64_t i = 0; i < seen->runs; i++) {
+    for (uint64_t i = 0; i < seen->run_count; i++) {
         const bootcore_region *run = &arrays->runs[i];
         printf("map %016" PRIx64 " %016" PRIx64 " %" PRIu32 "\n", run->base,
                run->base + run->length, run->kind);
@@ -114,7 +114,7 @@ int main(int argc, char **argv) {
         return 3;
     }
     uint32_t status = bootcore_walk_all(image, length, &seen, &arrays, &fault);
-    if (status == BOOTCORE_FEW_PLACES) {
+    if (status == BOOTCORE_SMALL_ROOM) {
         arrays = arrays_for(&seen);
         status = bootcore_walk_all(image, length, &seen, &arrays, &fault);
     }

@@ -58,7 +58,7 @@ static int tried, wrong;
 static void expect(const char *name, call c, uint32_t wanted) {
     uint32_t status = walk_all(c);
     telling after = wanted == BOOTCORE_DONE ? all : before;
-    if (wanted == BOOTCORE_FEW_PLACES) {
+    if (wanted == BOOTCORE_SMALL_ROOM) {
         after.seen = all.seen;
     }
     if (wanted == BOOTCORE_REFUSED) {
@@ -83,14 +83,14 @@ static int is_right(void) {
     bootcore_seen seen;
     bootcore_refusal fault;
     if (bootcore_walk(image, length, &seen, &fault) != BOOTCORE_DONE ||
-        walk_all(right()) != BOOTCORE_DONE || seen.kernel_parts > ROOM || seen.modules > ROOM ||
-        seen.runs > ROOM || seen.text_length > ROOM || !seen.modules || !seen.text_length) {
+        walk_all(right()) != BOOTCORE_DONE || seen.kernel_part_count > ROOM || seen.module_count > ROOM ||
+        seen.run_count > ROOM || seen.text_length > ROOM || !seen.module_count || !seen.text_length) {
         return 0;
     }
     all = told;
-    memcpy(told.parts, before.parts, seen.kernel_parts * sizeof *told.parts);
-    memcpy(told.modules, before.modules, seen.modules * sizeof *told.modules);
-    memcpy(told.runs, before.runs, seen.runs * sizeof *told.runs);
+    memcpy(told.parts, before.parts, seen.kernel_part_count * sizeof *told.parts);
+    memcpy(told.modules, before.modules, seen.module_count * sizeof *told.modules);
+    memcpy(told.runs, before.runs, seen.run_count * sizeof *told.runs);
     memcpy(told.text, before.text, seen.text_length);
     told.seen = before.seen;
     return !memcmp(&all.seen, &seen, sizeof seen) && !memcmp(&told, &before, sizeof told);
@@ -106,9 +106,9 @@ int main(int argc, char **argv) {
     }
     bootcore_seen seen = all.seen;
     CHANGED(BOOTCORE_DONE, (void)c);
-    CHANGED(BOOTCORE_DONE, c.arrays.kernel_part_room = seen.kernel_parts);
-    CHANGED(BOOTCORE_DONE, c.arrays.module_room = seen.modules);
-    CHANGED(BOOTCORE_DONE, c.arrays.run_room = seen.runs);
+    CHANGED(BOOTCORE_DONE, c.arrays.kernel_part_room = seen.kernel_part_count);
+    CHANGED(BOOTCORE_DONE, c.arrays.module_room = seen.module_count);
+    CHANGED(BOOTCORE_DONE, c.arrays.run_room = seen.run_count);
     CHANGED(BOOTCORE_DONE, c.arrays.text_room = seen.text_length);
     CHANGED(BOOTCORE_NULL, c.image = NULL);
     CHANGED(BOOTCORE_NULL, c.seen = NULL);
@@ -118,11 +118,11 @@ int main(int argc, char **argv) {
     CHANGED(BOOTCORE_NULL, c.arrays.runs = NULL);
     CHANGED(BOOTCORE_NULL, c.arrays.text = NULL);
     CHANGED(BOOTCORE_NULL, c.fault = NULL);
-    CHANGED(BOOTCORE_FEW_PLACES, c.arrays.kernel_part_room = seen.kernel_parts - 1);
-    CHANGED(BOOTCORE_FEW_PLACES, c.arrays.module_room = seen.modules - 1);
-    CHANGED(BOOTCORE_FEW_PLACES, c.arrays.run_room = seen.runs - 1);
-    CHANGED(BOOTCORE_FEW_PLACES, c.arrays.text_room = seen.text_length - 1);
-    CHANGED(BOOTCORE_FEW_PLACES, memset(&c.arrays, 0, sizeof c.arrays));
+    CHANGED(BOOTCORE_SMALL_ROOM, c.arrays.kernel_part_room = seen.kernel_part_count - 1);
+    CHANGED(BOOTCORE_SMALL_ROOM, c.arrays.module_room = seen.module_count - 1);
+    CHANGED(BOOTCORE_SMALL_ROOM, c.arrays.run_room = seen.run_count - 1);
+    CHANGED(BOOTCORE_SMALL_ROOM, c.arrays.text_room = seen.text_length - 1);
+    CHANGED(BOOTCORE_SMALL_ROOM, memset(&c.arrays, 0, sizeof c.arrays));
     CHANGED(BOOTCORE_REFUSED, c.length = length - 1);
     CHANGED(BOOTCORE_REFUSED, c.length = 0; c.image = NULL);
     CHANGED(BOOTCORE_REFUSED, c.length = 0; memset(&c.arrays, 0, sizeof c.arrays));
