@@ -1,21 +1,43 @@
-/* Included by the programs in C beside it: files, one after the other in one array. */
+/* Included by the programs in C beside it, after _XOPEN_SOURCE is set: a file that is open, and reads from it. */
+#include <fcntl.h>
 #include <stdio.h>
 #include <stdlib.h>
+#include <unistd.h>
 
-static unsigned char *contents; /* both files, one after the other */
-static size_t contents_length;
+enum { SIZE = 0x20000000 }; /* of the guest's memory */
 
-static size_t add_file(const char *path)
-{
-    FILE *file = fopen(path, "rb");
+typedef struct input {
+    int descriptor;
     size_t length;
-    long end;
-    if (file == NULL || fseek(file, 0, SEEK_END) != 0 || (end = ftell(file)) < 0) exit(1);
-    length = (size_t)end;
-    rewind(file);
-    contents = realloc(contents, contents_length + length);
-    if (contents == NULL || fread(contents + contents_length, 1, length, file) != length) exit(1);
-    fclose(file);
-    contents_length += length;
-    return length;
+} input;
+
+static input open_file(const char *path)
+{
+    input file;
+    off_t end;
+    file.descriptor = open(path, O_RDONLY);
+    end = lseek(file.descriptor, 0, SEEK_END);
+    if (end < 0) exit(1);
+    file.length = (size_t)end;
+    return file;
+}
+
+/* Reads so many bytes of a file to where they belong. */
+static void read_at(const input *file, size_t offset, unsigned char *to, size_t length)
+{
+    while (length > 0) {
+        ssize_t count = pread(file->descriptor, to, length, (off_t)offset);
+        if (count <= 0) exit(1);
+        to += count;
+        offset += (size_t)count;
+        length -= (size_t)count;
+    }
+}
+
+static unsigned char *read_file(const input *file)
+{
+    unsigned char *bytes = malloc(file->length);
+    if (bytes == NULL) exit(1);
+    read_at(file, 0, bytes, file->length);
+    return bytes;
 }

@@ -1,48 +1,41 @@
 /*
- * Copies a kernel's payload and an initial ramdisk each once to their places in a guest's memory of 512 MiB, as often as is
- * told: the least that a loader must do.
+ * Takes a kernel's payload and an initial ramdisk each once to their places in a guest's memory of 512 MiB, as often as is told:
+ * the least that a loader must do.
  *
- *     plain_guest KERNEL INITRD ROUNDS
+ *     plain_guest copy|read KERNEL INITRD ROUNDS
+ *
+ * Both files are copied from bytes that were read before; with `read` the ramdisk is read from its file straight to its place.
  */
-#include <stdint.h>
-#include <stdio.h>
-#include <stdlib.h>
+#define _XOPEN_SOURCE 700
+#include "files.h"
+
 #include <string.h>
 
-enum { SIZE = 0x20000000, PAYLOAD = 1024, KERNEL_AT = 0x1000000 };
-
-static unsigned char *read_file(const char *path, size_t *length)
-{
-    FILE *file = fopen(path, "rb");
-    unsigned char *bytes;
-    long end;
-    if (file == NULL || fseek(file, 0, SEEK_END) != 0 || (end = ftell(file)) < 0) exit(1);
-    *length = (size_t)end;
-    rewind(file);
-    bytes = malloc(*length);
-    if (bytes == NULL || fread(bytes, 1, *length, file) != *length) exit(1);
-    fclose(file);
-    return bytes;
-}
+enum { PAYLOAD = 1024, KERNEL_AT = 0x1000000 };
 
 int main(int argc, char **argv)
 {
-    size_t kernel_length, initrd_length, initrd_at;
-    unsigned char *kernel, *initrd, *memory;
+    size_t length, initrd_at;
+    unsigned char *kernel, *initrd = NULL, *memory = calloc(SIZE, 1);
+    input kernel_file, initrd_file;
     long rounds, round;
-    if (argc != 4) return 1;
-    kernel = read_file(argv[1], &kernel_length);
-    initrd = read_file(argv[2], &initrd_length);
-    rounds = strtol(argv[3], NULL, 10);
-    memory = calloc(SIZE, 1);
-    if (memory == NULL) return 1;
-    initrd_at = (SIZE - initrd_length) & ~(size_t)0xFFF;
-    kernel_length -= PAYLOAD;
+    if (argc != 5 || memory == NULL) return 1;
+    kernel_file = open_file(argv[2]);
+    initrd_file = open_file(argv[3]);
+    rounds = strtol(argv[4], NULL, 10);
+    kernel = read_file(&kernel_file);
+    if (strcmp(argv[1], "read") != 0) initrd = read_file(&initrd_file);
+    initrd_at = (SIZE - initrd_file.length) & ~(size_t)0xFFF;
+    length = kernel_file.length - PAYLOAD;
     for (round = 0; round < rounds; round++) {
-        memcpy(memory + KERNEL_AT, kernel + PAYLOAD, kernel_length);
+        memcpy(memory + KERNEL_AT, kernel + PAYLOAD, length);
         /* what the kernel needs behind its payload is cleared, as any loader must */
-        memset(memory + KERNEL_AT + kernel_length, 0, kernel_length);
-        memcpy(memory + initrd_at, initrd, initrd_length);
+        memset(memory + KERNEL_AT + length, 0, length);
+        if (initrd != NULL) {
+            memcpy(memory + initrd_at, initrd, initrd_file.length);
+        } else {
+            read_at(&initrd_file, 0, memory + initrd_at, initrd_file.length);
+        }
         printf("%ld %d\n", round, memory[initrd_at + (size_t)round]);
     }
     return 0;
