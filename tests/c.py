@@ -203,6 +203,13 @@ class Examples(CoreChecks):
             "differs: memory at 0x100014\n" + SEEN,
         )
 
+    def test_first(self) -> None:
+        folder = self.room / "first"
+        folder.mkdir()
+        examples.write_linux(folder, examples.linux_kernel())
+        entered = self.example("first", "vmlinuz", "initrd.img", cwd=folder)
+        self.ends("the first program of docs/EMBED.md loads its guest", entered, 0, "entered at 100000, boot parameters at 1000\n")
+
     def test_guest(self) -> None:
         entered = self.example("guest", "multiboot2", "kernel.elf", "k", "settings.cfg", cwd=self.modules)
         self.ends("the guest loader prints how its guest is entered", entered, 0, GUEST)
