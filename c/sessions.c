@@ -29,11 +29,20 @@ uint32_t bootcore_session_make(bootcore_session *session, const bootcore_machine
 
 /* ---- steps */
 
+/* Memory that begins where no machine has an address; without a session the core would say first that
+ * there is none. */
+static bool is_high(const bootcore_memory *memory) {
+    return memory->address > UINT32_MAX;
+}
+
 BOOTCORE_CALL
 uint32_t bootcore_session_start(bootcore_session *session, const bootcore_memory *memory) {
     bootcore_given_memory given;
     if (!session || bootcore_memory_has_null(memory)) {
         return BOOTCORE_NULL;
+    }
+    if (is_high(memory)) {
+        return BOOTCORE_BAD_MEMORY;
     }
     given = bootcore_memory_crossing(memory);
     return bootcore_session_start_array(session, given.bytes, given.length, given.base);
@@ -62,6 +71,9 @@ uint32_t bootcore_session_pieces(bootcore_session *session, const bootcore_memor
         bootcore_is_null(bytes, length)) {
         return BOOTCORE_NULL;
     }
+    if (is_high(memory)) {
+        return BOOTCORE_BAD_MEMORY;
+    }
     given = bootcore_memory_crossing(memory);
     at = bootcore_given_array(bytes);
     piece = first_piece(request, 0);
@@ -86,6 +98,9 @@ uint32_t bootcore_session_fault(bootcore_session *session, const bootcore_memory
     bootcore_crossing_request piece;
     if (!session || bootcore_memory_has_null(memory) || !request) {
         return BOOTCORE_NULL;
+    }
+    if (is_high(memory)) {
+        return BOOTCORE_BAD_MEMORY;
     }
     given = bootcore_memory_crossing(memory);
     piece = first_piece(request, BOOTCORE_PIECE);

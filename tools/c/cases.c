@@ -4,35 +4,56 @@
  *     cases load ENTRY IMAGE <CASE       loads this entry by bootcore_load
  *     cases boot MOST IMAGE <CASE        boots the menu by bootcore_boot
  *
- * CASE has twelve numbers of 64 bits, as written below, and then the arrays as they lie in memory: regions, modules, ranges of
- * files, entries, text, contents, fallbacks. So each case is a test of the layouts too. It prints `refused ENTRY NUMBER FIRST SECOND`
- * for each entry that is refused, and then `done ENTRY`, `no entry left` or `status NUMBER`. If an entry is handed over, its image
- * is written, and walked by bootcore_walk_all: a walk that does not see the handoff is one line more.
+ * CASE has ten numbers of 64 bits, as written below, and then arrays: regions as they lie in memory; files, entries and modules in
+ * numbers of 64 bits, as the structs below; fallbacks of 32 bits; bytes, of which all files and lines are. It prints
+ * `refused ENTRY NUMBER FIRST SECOND` for each entry that is refused, and then `done ENTRY`, `no entry left` or `status NUMBER`. If
+ * an entry is handed over, its image is written, and walked by bootcore_walk_all. What goes another way than it should is one line
+ * more:
+ * - a walk that does not see the handoff;
+ * - segment registers that are not the descriptors that their selectors pick, but for the accessed bit;
+ * - of a load: a preparation or a plan that tells anything else; a plan that is carried out over one mapping, over frames in reversed
+ *   order, or by pread from files, and does not leave all of memory as the load does;
+ * - of a boot: a session that is told its pieces backwards, and leaves other memory or tells another outcome.
  *
  * Before that, if memory is small, the same call is made with each of its requests to malloc and realloc refused in turn, and all
  * after it; of a boot the first MOST. The answer must be BOOTCORE_NO_MEMORY, and memory as before, of a boot outside the pool. So
- * is the walk of an image. The linker is told to wrap the two.
+ * it is with the walk of an image, and with a plan. The linker is told to wrap the two.
  */
+#define _XOPEN_SOURCE 700
 #include "bootcore.h"
 
 #include <inttypes.h>
 #include <stdio.h>
 #include <stdlib.h>
 #include <string.h>
+#include <unistd.h>
 
-enum { SIZE, POOL_BASE, POOL_LENGTH, FILL, REGIONS, MODULES, FILES, ENTRIES, TEXT, CONTENTS, DEFAULT, FALLBACKS, NUMBERS };
+enum { SIZE, POOL_BASE, POOL_LENGTH, FILL, REGIONS, FILES, ENTRIES, DEFAULT, FALLBACKS, BYTES, NUMBERS };
+enum { NO_FILE = -1, SMALL = 0x400000, FRAME = 4096, MOST_STEPS = 2048 };
+
+struct range { uint64_t offset, length; };
+struct spelled_entry { uint64_t protocol, kernel, initrd, modules; struct range line, rsdp_old, rsdp_new; };
+struct spelled_module { uint64_t file; struct range line; };
 
 static uint64_t numbers[NUMBERS];
-static bootcore_given given;
+static struct range *ranges;
+static uint8_t *bytes;
+static bootcore_machine machine;
 static bootcore_menu menu;
-static uint8_t *memory;
-static bootcore_place places[BOOTCORE_MAX_PARTS];
-static bootcore_handoff handoff;
+static bootcore_entry *entries;
+static uint8_t *memory, *other, *frames;
+static bootcore_place places[BOOTCORE_MAX_PLACES];
 static bootcore_refusal refusals[BOOTCORE_MAX_REFUSALS];
-static uint64_t refused;
+static bootcore_outcome outcome;
 
-/* How many requests are still granted. */
-static size_t granted = SIZE_MAX;
+static void stop(const char *why) {
+    fprintf(stderr, "cases: %s\n", why);
+    exit(2);
+}
+
+/* ---- requests that are refused */
+
+static size_t granted = SIZE_MAX; /* how many still are not */
 
 void *__real_malloc(size_t size);
 void *__wrap_malloc(size_t size);
@@ -55,7 +76,9 @@ void *__wrap_realloc(void *old, size_t size) {
     return is_granted() ? __real_realloc(old, size) : NULL;
 }
 
-/* So many elements of the input, or null for none. */
+/* ---- the case */
+
+/* So many elements of the input, or null for none. Each array is a block of its own, which ends where it should. */
 static void *read_array(uint64_t count, size_t size) {
     void *array;
     if (count == 0) {
@@ -63,43 +86,96 @@ static void *read_array(uint64_t count, size_t size) {
     }
     array = malloc(count * size);
     if (!array || fread(array, size, count, stdin) != count) {
-        exit(2);
+        stop("the case ends early");
     }
     return array;
 }
 
-static void write_image(const char *path) {
-    static uint8_t head[BOOTCORE_MAX_IMAGE_HEAD];
-    size_t length = bootcore_image_head(&handoff, places, NULL, 0);
-    FILE *image = fopen(path, "wb");
-    uint32_t i;
-    if (!image || length > sizeof head || bootcore_image_head(&handoff, places, head, length - 1) != length || head[0] ||
-        bootcore_image_head(&handoff, places, head, length) != length) {
-        exit(2);
+/* A block of its own with these bytes of the case, or null for none. */
+static bootcore_bytes in_bytes(struct range range) {
+    bootcore_bytes copy = {NULL, range.length};
+    if (range.length) {
+        void *block = malloc(range.length);
+        if (!block) {
+            stop("no memory");
+        }
+        copy.bytes = memcpy(block, bytes + range.offset, range.length);
     }
-    fwrite(head, 1, length, image);
-    memset(head, 0, sizeof head);
-    for (i = 0; i < handoff.places; i++) {
-        fwrite(memory + places[i].address, 1, places[i].length, image);
-    }
-    if (fclose(image)) {
-        exit(2);
-    }
+    return copy;
 }
 
-/* Makes the call over memory that was just filled, with so many requests granted: a load of this entry, or a boot if it is
- * null. */
-static uint32_t call(const bootcore_entry *entry, size_t grants) {
-    uint32_t status;
-    memset(memory, (int)numbers[FILL], numbers[SIZE]);
-    refused = 0;
-    granted = grants;
-    if (entry) {
-        status = bootcore_load(memory, numbers[SIZE], 0, &given, entry, &handoff, places, BOOTCORE_MAX_PARTS, refusals);
-    } else {
-        status = bootcore_boot(memory, numbers[SIZE], 0, &given, &menu, &handoff, places, BOOTCORE_MAX_PARTS, refusals,
-                               BOOTCORE_MAX_REFUSALS, &refused);
+static bootcore_bytes file(uint64_t index) {
+    static const uint8_t nothing[1] = {0};
+    const bootcore_bytes unreadable = {NULL, BOOTCORE_UNREADABLE}, empty = {nothing, 0}, none = {NULL, 0};
+    if (index == (uint64_t)NO_FILE) {
+        return none;
     }
+    if (ranges[index].offset == UINT64_MAX) {
+        return unreadable;
+    }
+    return ranges[index].length ? in_bytes(ranges[index]) : empty;
+}
+
+static void read_case(void) {
+    struct spelled_entry *spelled;
+    size_t i, k;
+    if (fread(numbers, 8, NUMBERS, stdin) != NUMBERS) {
+        stop("the case ends early");
+    }
+    machine.size = numbers[SIZE];
+    machine.pool_base = numbers[POOL_BASE];
+    machine.pool_length = numbers[POOL_LENGTH];
+    machine.region_count = numbers[REGIONS];
+    machine.regions = read_array(numbers[REGIONS], sizeof(bootcore_region));
+    ranges = read_array(numbers[FILES], sizeof *ranges);
+    spelled = read_array(numbers[ENTRIES], sizeof *spelled);
+    bytes = read_array(numbers[BYTES], 1);
+    menu.entry_count = numbers[ENTRIES];
+    menu.entries = entries = calloc(numbers[ENTRIES], sizeof *entries);
+    menu.first = (uint32_t)numbers[DEFAULT];
+    for (i = 0; i < menu.entry_count; i++) {
+        struct spelled_module *modules = read_array(spelled[i].modules, sizeof *modules);
+        bootcore_module *given = spelled[i].modules ? calloc(spelled[i].modules, sizeof *given) : NULL;
+        for (k = 0; k < spelled[i].modules; k++) {
+            given[k].file = file(modules[k].file);
+            given[k].line = in_bytes(modules[k].line);
+        }
+        entries[i].protocol = (uint32_t)spelled[i].protocol;
+        entries[i].kernel = file(spelled[i].kernel);
+        entries[i].line = in_bytes(spelled[i].line);
+        entries[i].initrd = file(spelled[i].initrd);
+        entries[i].rsdp_old = in_bytes(spelled[i].rsdp_old);
+        entries[i].rsdp_new = in_bytes(spelled[i].rsdp_new);
+        entries[i].modules = given;
+        entries[i].module_count = spelled[i].modules;
+    }
+    menu.fallback_count = numbers[FALLBACKS];
+    menu.fallbacks = read_array(numbers[FALLBACKS], sizeof(uint32_t));
+}
+
+/* ---- the call */
+
+static bootcore_outcome empty_outcome(void) {
+    bootcore_outcome empty;
+    memset(&empty, 0, sizeof empty);
+    empty.places = places;
+    empty.place_room = BOOTCORE_MAX_PLACES;
+    empty.refusals = refusals;
+    empty.refusal_room = BOOTCORE_MAX_REFUSALS;
+    return empty;
+}
+
+/* Makes the call over memory that was just filled, with so many requests granted: a load of this entry, or a boot if it is null. */
+static uint32_t call(const bootcore_entry *entry, size_t grants) {
+    bootcore_memory whole;
+    uint32_t status;
+    whole.address = 0;
+    whole.bytes = memory;
+    whole.length = numbers[SIZE];
+    memset(memory, (int)numbers[FILL], numbers[SIZE]);
+    outcome = empty_outcome();
+    granted = grants;
+    status = entry ? bootcore_load(&whole, &machine, entry, &outcome) : bootcore_boot(&whole, &machine, &menu, &outcome);
     granted = SIZE_MAX;
     return status;
 }
@@ -117,42 +193,40 @@ static int is_as_before(int is_load) {
     return is_fill(0, pool) && is_fill(end, numbers[SIZE]);
 }
 
-static void read_case(void) {
-    if (fread(numbers, 8, NUMBERS, stdin) != NUMBERS) {
-        exit(2);
+/* ---- the image */
+
+static void write_image(const char *path) {
+    static uint8_t head[BOOTCORE_MAX_IMAGE_HEAD];
+    size_t length = bootcore_image_head(&outcome.handoff, places, NULL, 0);
+    FILE *image = fopen(path, "wb");
+    uint32_t i;
+    if (!image || length > sizeof head || bootcore_image_head(&outcome.handoff, places, head, length - 1) != length || head[0] ||
+        bootcore_image_head(&outcome.handoff, places, head, length) != length) {
+        stop("the image's head is wrong");
     }
-    given.machine.size = numbers[SIZE];
-    given.machine.pool_base = numbers[POOL_BASE];
-    given.machine.pool_length = numbers[POOL_LENGTH];
-    given.region_count = numbers[REGIONS];
-    given.regions = read_array(numbers[REGIONS], sizeof(bootcore_region));
-    given.module_count = numbers[MODULES];
-    given.modules = read_array(numbers[MODULES], sizeof(bootcore_module));
-    given.file_count = numbers[FILES];
-    given.files = read_array(numbers[FILES], sizeof(bootcore_range));
-    menu.entry_count = numbers[ENTRIES];
-    menu.entries = read_array(numbers[ENTRIES], sizeof(bootcore_entry));
-    given.text_length = numbers[TEXT];
-    given.text = read_array(numbers[TEXT], 1);
-    given.contents_length = numbers[CONTENTS];
-    given.contents = read_array(numbers[CONTENTS], 1);
-    menu.first = (uint32_t)numbers[DEFAULT];
-    menu.fallback_count = numbers[FALLBACKS];
-    menu.fallbacks = read_array(numbers[FALLBACKS], sizeof(uint32_t));
+    fwrite(head, 1, length, image);
+    memset(head, 0, sizeof head);
+    for (i = 0; i < outcome.handoff.place_count; i++) {
+        fwrite(memory + places[i].address, 1, places[i].length, image);
+    }
+    if (fclose(image)) {
+        stop("the image can't be written");
+    }
 }
 
 /* What a walk tells, but for the text, which lies behind it: room for all that an entry may have. */
 static struct {
     bootcore_seen seen;
-    bootcore_seen_part parts[BOOTCORE_MAX_PARTS];
-    bootcore_seen_module modules[64];
+    bootcore_seen_part parts[BOOTCORE_MAX_PLACES];
+    bootcore_seen_module modules[BOOTCORE_MAX_MODULES];
     bootcore_region runs[512];
 } told, before;
 static uint8_t text[0x50000];
 
 /* Walks an image, with so many requests granted. */
 static uint32_t walk(const uint8_t *image, size_t length, size_t grants) {
-    const bootcore_seen_arrays arrays = {told.parts, BOOTCORE_MAX_PARTS, told.modules, 64, told.runs, 512, text, sizeof text};
+    const bootcore_seen_arrays arrays = {told.parts, BOOTCORE_MAX_PLACES, told.modules, BOOTCORE_MAX_MODULES,
+                                         told.runs,  512,                 text,         sizeof text};
     bootcore_refusal fault;
     uint32_t status;
     memset(&told, 0xA5, sizeof told);
@@ -165,70 +239,394 @@ static uint32_t walk(const uint8_t *image, size_t length, size_t grants) {
 
 /* Whether the parts of the kernel that are seen are those that were handed over, and as many modules. */
 static int are_seen(void) {
-    const bootcore_entry *entry = &menu.entries[handoff.entry];
+    const bootcore_entry *entry = &menu.entries[outcome.handoff.entry];
     uint64_t parts = 0;
     uint32_t i;
-    for (i = 0; i < handoff.places; i++) {
+    for (i = 0; i < outcome.handoff.place_count; i++) {
         if (places[i].role != BOOTCORE_KERNEL) {
             continue;
         }
-        if (parts >= told.seen.kernel_parts || told.parts[parts].address != places[i].address ||
+        if (parts >= told.seen.kernel_part_count || told.parts[parts].address != places[i].address ||
             told.parts[parts].length != places[i].length) {
             return 0;
         }
         parts++;
     }
-    return parts > 0 && parts == told.seen.kernel_parts &&
-           told.seen.modules == (entry->protocol == BOOTCORE_MULTIBOOT2 ? entry->module_count : 0);
+    return parts > 0 && parts == told.seen.kernel_part_count &&
+           told.seen.module_count == (entry->protocol == BOOTCORE_MULTIBOOT2 ? entry->module_count : 0);
 }
 
 /* Whether a walk sees the handoff in its image, and tells nothing if a request was refused. */
 static int is_walked(const char *path) {
-    FILE *file = fopen(path, "rb");
-    uint8_t *image;
+    FILE *image = fopen(path, "rb");
+    uint8_t *whole;
     size_t length, grants;
     long end;
     int is_told;
-    if (!file || fseek(file, 0, SEEK_END) || (end = ftell(file)) < 0) {
+    if (!image || fseek(image, 0, SEEK_END) || (end = ftell(image)) < 0) {
         return 0;
     }
     length = (size_t)end;
-    rewind(file);
-    image = malloc(length);
-    if (!image || fread(image, 1, length, file) != length || fclose(file)) {
+    rewind(image);
+    whole = malloc(length);
+    if (!whole || fread(whole, 1, length, image) != length || fclose(image)) {
         return 0;
     }
     memset(&before, 0xA5, sizeof before);
-    for (grants = 0; length <= 0x40000 && walk(image, length, grants) == BOOTCORE_NO_MEMORY; grants++) {
+    for (grants = 0; length <= 0x40000 && walk(whole, length, grants) == BOOTCORE_NO_MEMORY; grants++) {
         if (memcmp(&told, &before, sizeof told) || text[0] != 0xA5) {
             return 0;
         }
     }
-    is_told = walk(image, length, SIZE_MAX) == BOOTCORE_DONE && told.seen.protocol == handoff.protocol &&
-              told.seen.entry == handoff.registers.rip && are_seen();
-    free(image);
+    is_told = walk(whole, length, SIZE_MAX) == BOOTCORE_DONE && told.seen.protocol == outcome.handoff.protocol &&
+              told.seen.entry_address == outcome.handoff.registers.rip && are_seen();
+    free(whole);
     return is_told;
 }
 
-/* What came of the call. */
-static void tell(uint32_t status, const char *image) {
-    uint64_t i;
+/* ---- segment registers */
+
+/* Whether a segment is the descriptor that its selector picks from the table in memory, which a processor would mark as accessed. */
+static int is_descriptor(const bootcore_segment *segment) {
+    const bootcore_registers *registers = &outcome.handoff.registers;
+    uint64_t descriptor = 0, limit;
+    size_t i;
+    if (segment->selector + 7u > registers->gdt_limit) {
+        return 0;
+    }
+    for (i = 8; i > 0; i--) {
+        descriptor = descriptor << 8 | memory[registers->gdt_base + segment->selector + i - 1];
+    }
+    limit = (descriptor & 0xFFFF) | (descriptor >> 32 & 0xF0000);
+    limit = segment->g ? limit << 12 | 0xFFF : limit;
+    return segment->limit == limit && segment->base == ((descriptor >> 16 & 0xFFFFFF) | (descriptor >> 56 << 24)) &&
+           segment->type == ((descriptor >> 40 & 15) | 1) && segment->s == (descriptor >> 44 & 1) &&
+           segment->dpl == (descriptor >> 45 & 3) && segment->p == (descriptor >> 47 & 1) && segment->avl == (descriptor >> 52 & 1) &&
+           segment->l == (descriptor >> 53 & 1) && segment->db == (descriptor >> 54 & 1) && segment->g == (descriptor >> 55 & 1);
+}
+
+static int are_segments(void) {
+    const bootcore_registers *r = &outcome.handoff.registers;
+    const uint64_t selectors[6] = {r->cs, r->ds, r->es, r->fs, r->gs, r->ss};
+    bootcore_segment segments[6];
+    size_t i;
+    bootcore_segments(NULL, segments);
+    bootcore_segments(r, NULL);
+    bootcore_segments(r, segments);
+    for (i = 0; i < 6; i++) {
+        int is_right = outcome.handoff.protocol == BOOTCORE_MULTIBOOT2
+                           ? segments[i].base == 0 && segments[i].limit == UINT32_MAX && segments[i].db == 1 && segments[i].l == 0
+                           : is_descriptor(&segments[i]);
+        if (!is_right || segments[i].selector != selectors[i]) {
+            return 0;
+        }
+    }
+    return 1;
+}
+
+/* ---- plans of what is loaded */
+
+static bootcore_step steps[MOST_STEPS];
+static bootcore_place planned_places[BOOTCORE_MAX_PLACES];
+static bootcore_bytes planned_files[BOOTCORE_MAX_MODULES + 1];
+static size_t planned_file_count;
+
+/* The entry as a plan takes it: of the files beside the kernel no byte can be read. */
+static bootcore_entry without_bytes(const bootcore_entry *entry) {
+    static bootcore_module modules[BOOTCORE_MAX_MODULES];
+    bootcore_entry bare = *entry;
+    size_t i;
+    planned_files[0] = entry->kernel;
+    planned_file_count = 1;
+    if (entry->protocol != BOOTCORE_MULTIBOOT2) {
+        if (entry->initrd.bytes) {
+            planned_files[planned_file_count++] = entry->initrd;
+        }
+        bare.initrd.bytes = entry->initrd.length ? NULL : entry->initrd.bytes;
+        return bare;
+    }
+    for (i = 0; i < entry->module_count; i++) {
+        planned_files[planned_file_count++] = entry->modules[i].file;
+        modules[i].file.bytes = NULL;
+        modules[i].file.length = entry->modules[i].file.length;
+        modules[i].line = entry->modules[i].line;
+    }
+    bare.modules = entry->module_count ? modules : NULL;
+    return bare;
+}
+
+static bootcore_layout empty_layout(void) {
+    bootcore_layout empty;
+    memset(&empty, 0, sizeof empty);
+    empty.places = planned_places;
+    empty.place_room = BOOTCORE_MAX_PLACES;
+    return empty;
+}
+
+/* The entry's plan with just the room that it asks for, and a status. */
+static bootcore_layout plan(const bootcore_entry *entry, uint32_t *status) {
+    bootcore_layout layout = empty_layout(), untold = empty_layout();
+    *status = bootcore_plan(&machine, entry, &layout);
+    if (*status == BOOTCORE_SMALL_ROOM) {
+        untold.step_count = layout.step_count;
+        untold.own_length = layout.own_length;
+        if (memcmp(&layout, &untold, sizeof layout) || layout.step_count > MOST_STEPS) {
+            *status = UINT32_MAX;
+            return layout;
+        }
+        layout.steps = steps;
+        layout.step_room = layout.step_count;
+        layout.own = malloc(layout.own_length + !layout.own_length);
+        layout.own_room = layout.own_length;
+        *status = bootcore_plan(&machine, entry, &layout);
+    }
+    return layout;
+}
+
+/* Whether a carried out plan left in `other` what the load left in memory. */
+static int is_loaded(const char *how) {
+    if (memcmp(memory, other, numbers[SIZE])) {
+        printf("a plan that is carried out %s leaves other memory than a load\n", how);
+        return 0;
+    }
+    return 1;
+}
+
+static void fill_other(void) {
+    memset(other, (int)numbers[FILL], numbers[SIZE]);
+}
+
+/* Over one mapping; over frames that lie in reversed order, told in an order of their own. */
+static void carry_out(const bootcore_layout *layout) {
+    size_t count = numbers[SIZE] / FRAME, i;
+    bootcore_memory *pieces = calloc(count, sizeof *pieces);
+    bootcore_memory whole = {0, NULL, 0};
+    if (!pieces) {
+        stop("no memory");
+    }
+    whole.bytes = other;
+    whole.length = numbers[SIZE];
+    fill_other();
+    if (bootcore_carry_out(layout, planned_files, planned_file_count, &whole, 1) != BOOTCORE_DONE) {
+        puts("a plan is not carried out over one mapping");
+    }
+    is_loaded("over one mapping");
+    memset(frames, (int)numbers[FILL], numbers[SIZE]);
+    for (i = 0; i < count; i++) {
+        size_t frame = i * 2 < count ? i * 2 : (i * 2 - count) | 1; /* the even ones, then the odd ones */
+        frame = frame < count ? frame : i;
+        pieces[i].address = frame * FRAME;
+        pieces[i].bytes = frames + (count - 1 - frame) * FRAME;
+        pieces[i].length = FRAME;
+    }
+    if (count % 2 == 0 && bootcore_carry_out(layout, planned_files, planned_file_count, pieces, count) != BOOTCORE_DONE) {
+        puts("a plan is not carried out over frames");
+    }
+    for (i = 0; i < count; i++) {
+        memcpy(other + i * FRAME, frames + (count - 1 - i) * FRAME, FRAME);
+    }
+    is_loaded("over frames");
+    free(pieces);
+}
+
+/* Step after step, from the last one on, each byte of a file by pread. */
+static void carry_out_by_pread(const bootcore_layout *layout) {
+    FILE *opened[BOOTCORE_MAX_MODULES + 1];
+    size_t i;
+    for (i = 0; i < planned_file_count; i++) {
+        opened[i] = tmpfile();
+        if (!opened[i] || fwrite(planned_files[i].bytes, 1, planned_files[i].length, opened[i]) != planned_files[i].length ||
+            fflush(opened[i])) {
+            stop("a file can't be written");
+        }
+    }
+    fill_other();
+    for (i = layout->step_count; i > 0; i--) {
+        const bootcore_step *step = &layout->steps[i - 1];
+        if (step->source == BOOTCORE_FROM_FILE) {
+            if (pread(fileno(opened[step->file]), other + step->address, step->length, (off_t)step->offset) != (ssize_t)step->length) {
+                puts("a step wants bytes that a file does not have");
+            }
+        } else if (step->source == BOOTCORE_FROM_LAYOUT) {
+            memcpy(other + step->address, layout->own + step->offset, step->length);
+        } else {
+            memset(other + step->address, 0, step->length);
+        }
+    }
+    is_loaded("by pread");
+    for (i = 0; i < planned_file_count; i++) {
+        fclose(opened[i]);
+    }
+}
+
+/* The steps ascend, don't meet, and together are the places. */
+static int are_the_parts(const bootcore_layout *layout) {
+    size_t place = 0, i;
+    uint64_t at = 0;
+    for (i = 0; i < layout->step_count; i++) {
+        const bootcore_step *step = &layout->steps[i];
+        while (place < layout->handoff.place_count && at == layout->places[place].length) {
+            place++;
+            at = 0;
+        }
+        if (place == layout->handoff.place_count || step->length == 0 || step->address != layout->places[place].address + at ||
+            step->length > layout->places[place].length - at) {
+            return 0;
+        }
+        at += step->length;
+    }
+    while (place < layout->handoff.place_count && at == layout->places[place].length) {
+        place++;
+        at = 0;
+    }
+    return place == layout->handoff.place_count;
+}
+
+/* Compares a load that ended so with the preparation and the plan of its entry, of which only the lengths are given. */
+static void compare_plan(const bootcore_entry *entry, uint32_t status) {
+    bootcore_entry bare = without_bytes(entry);
+    bootcore_outcome loaded = outcome, prepared = empty_outcome();
+    bootcore_refusal refusal = refusals[0];
+    static bootcore_place loaded_places[BOOTCORE_MAX_PLACES];
+    bootcore_layout layout;
+    uint32_t came;
+    size_t grants;
+    memcpy(loaded_places, places, sizeof places);
+    came = bootcore_prepare(&machine, &bare, &prepared);
+    if (came != status || memcmp(&prepared, &loaded, sizeof loaded) || memcmp(loaded_places, places, sizeof places) ||
+        memcmp(&refusal, refusals, sizeof refusal)) {
+        puts("a preparation tells otherwise");
+    }
+    for (grants = 0; numbers[SIZE] <= SMALL; grants++) {
+        bootcore_layout untold = empty_layout();
+        granted = grants;
+        layout = empty_layout();
+        came = bootcore_plan(&machine, &bare, &layout);
+        granted = SIZE_MAX;
+        if (came != BOOTCORE_NO_MEMORY) {
+            break;
+        }
+        if (memcmp(&layout, &untold, sizeof layout)) {
+            puts("a plan tells something, though memory ran out");
+        }
+    }
+    layout = plan(&bare, &came);
+    if (came != status) {
+        printf("a plan ends with the status %" PRIu32 "\n", came);
+    } else if (came == BOOTCORE_REFUSED) {
+        if (memcmp(&layout.refusal, &refusal, sizeof refusal)) {
+            puts("a plan has another refusal");
+        }
+    } else {
+        if (memcmp(&layout.handoff, &loaded.handoff, sizeof loaded.handoff) ||
+            memcmp(planned_places, loaded_places, loaded.handoff.place_count * sizeof *places)) {
+            puts("a plan tells another handoff");
+        }
+        if (!are_the_parts(&layout)) {
+            puts("the steps are not the parts");
+        }
+        carry_out(&layout);
+        carry_out_by_pread(&layout);
+        free(layout.own);
+    }
+}
+
+/* ---- a session of what is booted */
+
+static bootcore_bytes file_of(uint32_t entry, uint32_t index) {
+    const bootcore_entry *of = &menu.entries[entry];
+    if (index == 0) {
+        return of->kernel;
+    }
+    return of->protocol == BOOTCORE_MULTIBOOT2 ? of->modules[index - 1].file : of->initrd;
+}
+
+/* Tells a session its pieces, the last run of what is missing first; each run is one of at most so many bytes. */
+static uint32_t tell_pieces(bootcore_session *session, const bootcore_memory *whole, size_t most) {
+    uint32_t status = bootcore_session_start(session, whole);
+    while (status == BOOTCORE_WAITING || status == BOOTCORE_NEXT) {
+        const void *kept = session->kept;
+        bootcore_request request, next;
+        bootcore_bytes of;
+        if (!bootcore_session_missing(session, most, &request)) {
+            puts("a session waits for nothing");
+            return status;
+        }
+        for (next = request; bootcore_session_missing_after(session, most, &next); request = next) {
+            if (next.length == 0 || (next.length > most && next.length > BOOTCORE_PIECE)) {
+                puts("a run has another length than it may");
+            }
+        }
+        if (session->kept != kept) {
+            puts("a session is another after it was asked");
+        }
+        of = file_of(request.entry, request.file);
+        status = bootcore_session_pieces(session, whole, &request,
+                                         (const uint8_t *)of.bytes + (size_t)request.piece * BOOTCORE_PIECE, request.length);
+    }
+    return status;
+}
+
+/* Compares a boot that ended so with a session that is told pieces in another order. */
+static void compare_session(uint32_t status) {
+    static bootcore_place booted_places[BOOTCORE_MAX_PLACES];
+    static bootcore_refusal booted_refusals[BOOTCORE_MAX_REFUSALS];
+    bootcore_outcome booted = outcome, ended;
+    bootcore_session session = {NULL};
+    bootcore_memory whole = {0, NULL, 0};
+    size_t most;
+    memcpy(booted_places, places, sizeof places);
+    memcpy(booted_refusals, refusals, sizeof refusals);
+    whole.bytes = other;
+    whole.length = numbers[SIZE];
+    for (most = 0; most <= 0x10000; most += 0x4321) {
+        uint32_t came;
+        fill_other();
+        memset(places, 0, sizeof places);
+        memset(refusals, 0, sizeof refusals);
+        ended = empty_outcome();
+        came = bootcore_session_make(&session, &machine, &menu);
+        if (came == BOOTCORE_DONE) {
+            came = tell_pieces(&session, &whole, most);
+        }
+        if (came != (status == BOOTCORE_DONE ? BOOTCORE_DONE : BOOTCORE_FAILED) ||
+            bootcore_session_outcome(&session, &ended) != status || memcmp(&ended, &booted, sizeof ended) ||
+            memcmp(places, booted_places, booted.handoff.place_count * sizeof *places) ||
+            memcmp(refusals, booted_refusals, sizeof refusals)) {
+            printf("a session in runs of %zu bytes ends otherwise\n", most);
+        }
+        if (memcmp(memory, other, numbers[SIZE])) {
+            printf("a session in runs of %zu bytes leaves other memory\n", most);
+        }
+    }
+    bootcore_session_free(&session);
+    memcpy(places, booted_places, sizeof places);
+}
+
+/* ---- what came of the call */
+
+static void tell(uint32_t status, uint32_t entry, const char *image) {
+    size_t i;
     if (status != BOOTCORE_DONE && status != BOOTCORE_REFUSED) {
         printf("status %" PRIu32 "\n", status);
         return;
     }
-    for (i = 0; i < refused; i++) {
-        printf("refused %" PRIu32 " %" PRIu32 " %" PRIu64 " %" PRIu64 "\n", refusals[i].entry, refusals[i].number,
+    for (i = 0; i < outcome.refusal_count; i++) {
+        printf("refused %" PRIu32 " %" PRIu32 " %" PRIu64 " %" PRIu64 "\n", refusals[i].entry + entry, refusals[i].number,
                refusals[i].first, refusals[i].second);
     }
-    if (status == BOOTCORE_DONE) {
-        printf("done %" PRIu32 "\n", handoff.entry);
-        write_image(image);
-        if (!is_walked(image)) {
-            printf("the walk tells otherwise\n");
-        }
-    } else {
-        printf("no entry left\n");
+    if (status == BOOTCORE_REFUSED) {
+        puts("no entry left");
+        return;
+    }
+    outcome.handoff.entry += entry; /* a load tells 0 for its one entry */
+    printf("done %" PRIu32 "\n", outcome.handoff.entry);
+    write_image(image);
+    if (!is_walked(image)) {
+        puts("the walk tells otherwise");
+    }
+    if (!are_segments()) {
+        puts("the segment registers are not those of the table");
     }
 }
 
@@ -244,16 +642,18 @@ int main(int argc, char **argv) {
     number = strtoul(argv[2], NULL, 10);
     read_case();
     memory = malloc(numbers[SIZE]);
-    if (!memory) {
-        return 2;
+    other = malloc(numbers[SIZE]);
+    frames = malloc(numbers[SIZE]);
+    if (!memory || !other || !frames) {
+        stop("no memory");
     }
     if (is_load) {
         if (number >= menu.entry_count) {
-            return 2;
+            stop("no such entry");
         }
         entry = &menu.entries[number];
     }
-    for (grants = 0; numbers[SIZE] <= 0x400000 && (is_load || grants < number); grants++) {
+    for (grants = 0; numbers[SIZE] <= SMALL && (is_load || grants < number); grants++) {
         if (call(entry, grants) != BOOTCORE_NO_MEMORY) {
             break;
         }
@@ -262,12 +662,17 @@ int main(int argc, char **argv) {
             return 0;
         }
     }
+    memset(places, 0, sizeof places);
+    memset(refusals, 0, sizeof refusals);
     status = call(entry, SIZE_MAX);
-    if (is_load) {
-        handoff.entry = (uint32_t)number; /* a load tells 0 for its one entry */
-        refusals[0].entry = (uint32_t)number;
-        refused = status == BOOTCORE_REFUSED;
+    tell(status, is_load ? (uint32_t)number : 0, argv[3]);
+    if (status == BOOTCORE_DONE || status == BOOTCORE_REFUSED) {
+        outcome.handoff.entry -= is_load && status == BOOTCORE_DONE ? (uint32_t)number : 0;
+        if (is_load) {
+            compare_plan(entry, status);
+        } else {
+            compare_session(status);
+        }
     }
-    tell(status, argv[3]);
     return 0;
 }
