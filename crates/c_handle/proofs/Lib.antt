@@ -1,3 +1,2 @@
 pub mod HandleSteps
 pub mod RawBoxSteps
-pub mod ToldLemmas

@@ -1,5 +1,6 @@
 -- What a call through a handle answers in C. Own.
-use Rattle.std.specs.Prelude.{◌≡◌, ℕ, Bool, true, false, Option, None, Some, Result, Ok, Err}
+use Rattle.std.specs.Prelude.{◌≡◌, ℕ, Bool, true, false, List, slice_index_or, Option, None, Some}
+use Rattle.std.specs.Prelude.{Result, Ok, Err}
 use Rattle.bl_session.specs.declared.session.outcome.Progress.{Progress}
 use Rattle.bl_session.specs.declared.session.outcome.Progress.TheVariants.{Waiting, Next, Done}
 use Rattle.bl_session.specs.declared.session.outcome.Progress.TheVariants.{Failed}
@@ -16,14 +17,14 @@ progress_status (Ok Done) = 0
 progress_status (Ok Failed) = 5
 progress_status (Ok Waiting) = 2
 progress_status (Ok (Next attempt)) = 3
-progress_status (Err NoSession) = 31
-progress_status (Err WrongSize) = 23
-progress_status (Err BelowBase) = 32
+progress_status (Err NoSession) = 114
+progress_status (Err WrongSize) = 110
+progress_status (Err BelowBase) = 115
 
--- a piece that is awaited, as a record
-abbrev pub request_record : Request → RequestRecord
-request_record request = record {
-  file = request.file;
+-- a piece that is awaited, as a record, where these entries are attempted
+abbrev pub request_record : List ℕ → Request → RequestRecord
+request_record attempts request = record {
+  entry = slice_index_or attempts request.ticket.attempt 0;
   attempt = request.ticket.attempt;
   place = request.ticket.file;
   piece = request.ticket.piece;
@@ -39,6 +40,8 @@ record_ticket request = record {
 }
 
 -- a piece that is awaited is told, and that there is one; else the record stays as it was
-abbrev pub TellsRequest : Option Request → (told : Bool) → (old new : RequestRecord) → Type 0
-TellsRequest None told old new = (told ≡ false) × (new ≡ old)
-TellsRequest (Some request) told old new = (told ≡ true) × (new ≡ request_record request)
+abbrev pub TellsRequest : List ℕ → Option Request → (told : Bool) → (old new : RequestRecord)
+    → Type 0
+TellsRequest attempts None told old new = (told ≡ false) × (new ≡ old)
+TellsRequest attempts (Some request) told old new =
+    (told ≡ true) × (new ≡ request_record attempts request)

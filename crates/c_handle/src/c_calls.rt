@@ -1,5 +1,5 @@
 //! The calls of a session through its handle, with the numbers and records of C.
-ghost use Rattle.std.specs.Prelude.{◌≡◌, ℕ, List, None, Result};
+ghost use Rattle.std.specs.Prelude.{◌≡◌, ℕ, List, [], None, Result};
 ghost use Rattle.std.specs.Option.{MatchOption};
 ghost use Rattle.bl_session.specs.declared.session.outcome.Progress.{Progress as Progressed};
 ghost use Rattle.bl_session.specs.session.BootSteps.{piece, fault};
@@ -75,12 +75,19 @@ impl Handle {
     pub fn missing_told(&mut self, alloc: Global, told: &mut RequestRecord) -> bool
         ensures kept { self.new.kept ≡ self.old.kept }
         ensures told { (bytes : List ℕ) → MatchOption self.old.kept
-            (TellsRequest None result told.old told.new)
-            (λ session. TellsRequest
+            (TellsRequest [] None result told.old told.new)
+            (λ session. TellsRequest session.boot.menu.attempts
             (first_request session.boot (state_at bytes session.phase))
             result told.old told.new) }
     {
-        tell_request(self.missing(alloc), told)
+        match self.take(alloc) {
+            Some(session) => {
+                let is_told = tell_request(session.menu(), session.missing(), told);
+                self.keep(session);
+                is_told
+            }
+            None => false,
+        }
     }
 
     /// Tells the first piece that the session awaits after that of a record, which it then is, and
@@ -88,12 +95,19 @@ impl Handle {
     pub fn missing_after_told(&mut self, alloc: Global, told: &mut RequestRecord) -> bool
         ensures kept { self.new.kept ≡ self.old.kept }
         ensures told { (bytes : List ℕ) → MatchOption self.old.kept
-            (TellsRequest None result told.old told.new)
-            (λ session. TellsRequest
+            (TellsRequest [] None result told.old told.new)
+            (λ session. TellsRequest session.boot.menu.attempts
             (request_after session.boot (state_at bytes session.phase) (record_ticket told.old))
             result told.old told.new) }
     {
         let ticket = ticket_in(told);
-        tell_request(self.missing_after(alloc, ticket), told)
+        match self.take(alloc) {
+            Some(session) => {
+                let is_told = tell_request(session.menu(), session.missing_after(ticket), told);
+                self.keep(session);
+                is_told
+            }
+            None => false,
+        }
     }
 }
