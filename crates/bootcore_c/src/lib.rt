@@ -110,25 +110,14 @@ pub extern "C" fn bootcore_boot_arrays(
     entries: &[EntryRecord],
     default: u32,
     fallbacks: &[u32],
-    modules: &[ModuleRecord],
-    text: &[u8],
-    files: &[ByteRange],
-    contents: &[u8],
     told: &mut HandoffRecord,
     places: &mut [PlaceRecord],
     refusals: &mut [RefusalRecord],
     count: &mut u64,
 ) -> u32
     ensures { (end : Result PhaseFacts GivenFault)
-        × IsGivenBootEnd machine.now regions.now
-        (record {
-          modules = modules.now;
-          text = text.now;
-          files = files.now;
-          contents = contents.now;
-        })
-        entries.now default fallbacks.now (length places.old)
-        (memory_from base memory.old) (memory_from base memory.new) end
+        × IsGivenBootEnd machine.now regions.now entries.now default fallbacks.now
+        (length places.old) (memory_from base memory.old) (memory_from base memory.new) end
         × TellsBoot end result
         (record {
           handoff = told.old;
@@ -143,14 +132,8 @@ pub extern "C" fn bootcore_boot_arrays(
           count = count.new;
         }) }
 {
-    let given = Given {
-        modules,
-        text,
-        files,
-        contents,
-    };
     boot_told(
-        alloc, memory, base, machine, regions, &given, entries, default, fallbacks, told, places,
-        refusals, count,
+        alloc, memory, base, machine, regions, entries, default, fallbacks, told, places, refusals,
+        count,
     )
 }

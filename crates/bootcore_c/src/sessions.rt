@@ -14,8 +14,8 @@ ghost use Rattle.c_handle.specs.HandleTold.{TellsRequest, progress_status, recor
 ghost use Rattle.c_handle.specs.SessionSteps.{IsStarted, IsStepped};
 
 use c_abi::{
-    ByteRange, EntryRecord, Given, GivenFault, HandoffRecord, MachineRecord, ModuleRecord,
-    PlaceRecord, RefusalRecord, RegionRecord, given_status, outcome_told, session_given,
+    EntryRecord, GivenFault, HandoffRecord, MachineRecord, PlaceRecord, RefusalRecord,
+    RegionRecord, given_status, outcome_told, session_given,
 };
 use c_handle::{Handle, HandleFault, RequestRecord, status_of};
 use std::alloc::Global;
@@ -30,28 +30,12 @@ pub extern "C" fn bootcore_session_make_arrays(
     entries: &[EntryRecord],
     default: u32,
     fallbacks: &[u32],
-    modules: &[ModuleRecord],
-    text: &[u8],
-    files: &[ByteRange],
 ) -> u32
     ensures { (made : Result SessionFacts GivenFault)
-        × IsSessionMade machine.now regions.now
-        (record {
-          modules = modules.now;
-          text = text.now;
-          files = files.now;
-          contents = [];
-        })
-        entries.now default fallbacks.now made
+        × IsSessionMade machine.now regions.now entries.now default fallbacks.now made
         × TellsSession made result session.old.kept session.new.kept }
 {
-    let given = Given {
-        modules,
-        text,
-        files,
-        contents: &[],
-    };
-    match session_given(alloc, machine, regions, &given, entries, default, fallbacks) {
+    match session_given(alloc, machine, regions, entries, default, fallbacks) {
         Ok(made) => match session.make(alloc, made) {
             Ok(()) => 0,
             Err(_) => given_status(GivenFault::NoMemory),
@@ -119,8 +103,8 @@ pub extern "C" fn bootcore_session_missing_record(
 ) -> bool
     ensures kept { session.new.kept ≡ session.old.kept }
     ensures told { (bytes : List ℕ) → MatchOption session.old.kept
-        (TellsRequest None result request.old request.new)
-        (λ session. TellsRequest
+        (TellsRequest [] None result request.old request.new)
+        (λ session. TellsRequest session.boot.menu.attempts
         (first_request session.boot (state_at bytes session.phase))
         result request.old request.new) }
 {
@@ -137,8 +121,8 @@ pub extern "C" fn bootcore_session_missing_after_record(
 ) -> bool
     ensures kept { session.new.kept ≡ session.old.kept }
     ensures told { (bytes : List ℕ) → MatchOption session.old.kept
-        (TellsRequest None result request.old request.new)
-        (λ session. TellsRequest
+        (TellsRequest [] None result request.old request.new)
+        (λ session. TellsRequest session.boot.menu.attempts
         (request_after session.boot (state_at bytes session.phase) (record_ticket request.old))
         result request.old request.new) }
 {

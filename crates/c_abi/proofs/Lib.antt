@@ -2,7 +2,7 @@ mod TellLemmas
 mod ValueLemmas
 mod ListLemmas
 mod LoadLemmas
-mod BootLemmas
+mod MenuLemmas
 mod PrepareLemmas
 mod MachineLaws
 mod FaultLaws

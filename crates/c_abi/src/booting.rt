@@ -1,25 +1,21 @@
 //! A menu is booted in memory of the caller's own.
-ghost use Rattle.std.specs.Prelude.{◌≡◌, ◌+◌, ◌≤◌, None, OnOk, Result, map, length};
+ghost use Rattle.std.specs.Prelude.{◌≡◌, ◌+◌, ◌≤◌, OnOk, Result, map, length};
 ghost use Rattle.std.specs.Prelude.{option_copied};
 ghost use Rattle.bl_mem.specs.Memory.{KeepsSizeAndRoom, memory_from};
 ghost use Rattle.bl_session.specs.store.Ledger.{sliced_file};
 ghost use Rattle.bl_session.specs.runs.Run.{final_phase};
 ghost use Rattle.bl_session.specs.session.Phases.{PhaseFacts};
-ghost use Rattle.c_abi.specs.Boot.{HasBootEnded, IsGivenBootEnd, IsBootMenuFault};
-ghost use Rattle.c_abi.specs.Boot.{files_misuse, typed_end};
-ghost use Rattle.c_abi.specs.Boot as spec;
+ghost use Rattle.c_abi.specs.Boot.{HasBootEnded, IsGivenBootEnd, given_files, typed_end};
 ghost use Rattle.c_abi.specs.BootTold.{TellsBoot};
 ghost use Rattle.c_abi.specs.declared.given_fault.GivenFault.{GivenFault};
-ghost use Rattle.c_abi.specs.internal.Menus.{MakesMenu};
 
 use crate::boot_telling::tell_boot;
 use crate::end_records::{HandoffRecord, PlaceRecord, RefusalRecord};
-use crate::given_arrays::Given;
 use crate::given_fault::GivenFault;
 use crate::given_records::{EntryRecord, MachineRecord, RegionRecord};
 use crate::machines::machine_of;
-use crate::menu_files::{check_menu, stored_files};
-use crate::menus::menu_made;
+use crate::menu_files::stored_files;
+use crate::menus::menu_of;
 use crate::misuse::Misuse;
 use bl_map::Machine;
 use bl_mem::{PhysMem, SliceMemory};
@@ -71,36 +67,18 @@ fn boot_given<A: Allocator + Copy>(
     alloc: A,
     memory: &mut [u8],
     base: u32,
-    given: &Given,
+    entries: &[EntryRecord],
     machine: &Machine<A>,
     menu: &Menu<A>,
 ) -> Result<Outcome<A>, BootFault<A>>
     requires { base + length memory.old ≡ machine.now.size }
-    ensures { HasBootEnded machine.now menu.now (spec.given_files given.now)
+    ensures { HasBootEnded machine.now menu.now (given_files entries.now)
         (memory_from base memory.old) (memory_from base memory.new) (final_phase result) }
 {
-    let Ok(files) = stored_files(alloc, given) else {
+    let Ok(files) = stored_files(alloc, entries) else {
         return Err(BootFault::NoMemory);
     };
     boot_files(alloc, memory, base, &files, machine, menu)
-}
-
-/// The menu that is given, if it may be.
-fn menu_of<A: Allocator + Copy>(
-    alloc: A,
-    given: &Given,
-    entries: &[EntryRecord],
-    default: u32,
-    fallbacks: &[u32],
-) -> Result<Menu<A>, GivenFault>
-    ensures made { MakesMenu given.now entries.now default fallbacks.now
-        (IsBootMenuFault given.now entries.now default fallbacks.now) result }
-    ensures stored { OnOk result (files_misuse given.now ≡ None) }
-{
-    if let Err(misuse) = check_menu(given, entries) {
-        return Err(GivenFault::Misused(misuse));
-    }
-    menu_made(alloc, given, entries, default, fallbacks)
 }
 
 /// Boots a menu in memory that begins at a base, with room for so many places.
@@ -110,18 +88,17 @@ pub(crate) fn boot<A: Allocator + Copy>(
     base: u32,
     machine: &MachineRecord,
     regions: &[RegionRecord],
-    given: &Given,
     entries: &[EntryRecord],
     default: u32,
     fallbacks: &[u32],
     room: usize,
 ) -> Result<Result<Outcome<A>, BootFault<A>>, GivenFault>
-    ensures end { IsGivenBootEnd machine.now regions.now given.now entries.now default fallbacks.now
+    ensures end { IsGivenBootEnd machine.now regions.now entries.now default fallbacks.now
         room (memory_from base memory.old) (memory_from base memory.new) (typed_end result) }
     ensures room { OnOk result (MAX_PARTS ≤ room) }
 {
     if room < MAX_PARTS {
-        return Err(GivenFault::Misused(Misuse::FewPlaces));
+        return Err(GivenFault::Misused(Misuse::SmallRoom));
     }
     let made = match machine_of(alloc, machine, regions) {
         Ok(made) => made,
@@ -131,11 +108,11 @@ pub(crate) fn boot<A: Allocator + Copy>(
     if end != made.size() {
         return Err(GivenFault::Misused(Misuse::BadMemory));
     }
-    let menu = match menu_of(alloc, given, entries, default, fallbacks) {
+    let menu = match menu_of(alloc, entries, default, fallbacks) {
         Ok(menu) => menu,
         Err(fault) => return Err(fault),
     };
-    Ok(boot_given(alloc, memory, base, given, &made, &menu))
+    Ok(boot_given(alloc, memory, base, entries, &made, &menu))
 }
 
 /// Boots a menu, and tells what comes of it.
@@ -145,7 +122,6 @@ pub fn boot_told<A: Allocator + Copy>(
     base: u32,
     machine: &MachineRecord,
     regions: &[RegionRecord],
-    given: &Given,
     entries: &[EntryRecord],
     default: u32,
     fallbacks: &[u32],
@@ -155,7 +131,7 @@ pub fn boot_told<A: Allocator + Copy>(
     count: &mut u64,
 ) -> u32
     ensures { (end : Result PhaseFacts GivenFault)
-        × IsGivenBootEnd machine.now regions.now given.now entries.now default fallbacks.now
+        × IsGivenBootEnd machine.now regions.now entries.now default fallbacks.now
         (length places.old) (memory_from base memory.old) (memory_from base memory.new) end
         × TellsBoot end result
         (record {
@@ -173,7 +149,7 @@ pub fn boot_told<A: Allocator + Copy>(
 {
     let room = places.len();
     let end = boot(
-        alloc, memory, base, machine, regions, given, entries, default, fallbacks, room,
+        alloc, memory, base, machine, regions, entries, default, fallbacks, room,
     );
     tell_boot(end, told, places, refusals, count)
 }

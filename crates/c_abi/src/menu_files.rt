@@ -1,73 +1,81 @@
 //! The files of a menu.
-ghost use Rattle.std.specs.Prelude.{◌≡◌, IfOk, map, option_copied};
+ghost use Rattle.std.specs.Prelude.{◌≡◌, ◌++◌, IfOk, OnOk, map, option_copied};
 ghost use Rattle.bl_session.specs.store.Ledger.{sliced_file};
 ghost use Rattle.c_abi.specs.Boot as spec;
-ghost use Rattle.c_abi.specs.internal.Checks.{FindsMisuse};
+ghost use Rattle.c_abi.specs.Given.{files_given};
+ghost use Rattle.c_abi.specs.MenuGiven.{menu_files};
 
-use crate::array_ranges::range_bytes;
-use crate::entries::check_entries;
-use crate::given_arrays::Given;
-use crate::given_records::{ByteRange, EntryRecord, MISSING};
-use crate::misuse::Misuse;
+use crate::given_records::{EntryRecord, FileRecord, ModuleRecord, UNREADABLE};
+use bl_plan::Protocol;
 use std::alloc::{AllocError, Allocator};
 
-/// A file; none if it can't be read.
-fn stored_of<'a>(given: &Given<'a>, range: ByteRange) -> Option<&'a [u8]>
-    ensures { sliced_file (option_copied result) ≡ spec.stored_given given.now range }
+/// Appends the files of modules.
+fn add_module_files<'a, A: Allocator>(
+    modules: &[ModuleRecord<'a>],
+    files: &mut Vec<FileRecord<'a>, A>,
+) -> Result<(), AllocError>
+    ensures { OnOk result (files.new.items ≡ files.old.items ++ map (λ m. m.file) modules.now) }
 {
-    if range.offset == MISSING {
-        return None;
-    }
-    Some(range_bytes(given.contents, range))
-}
-
-/// All files.
-pub(crate) fn stored_files<'a, A: Allocator>(
-    alloc: A,
-    given: &Given<'a>,
-) -> Result<Vec<Option<&'a [u8]>, A>, AllocError>
-    ensures { IfOk result (λ files. map (λ file. sliced_file (option_copied file)) files.items
-        ≡ spec.given_files given.now) }
-{
-    let mut files = Vec::new(alloc);
-    for range in given.files {
-        files.push(stored_of(given, *range))?;
-    }
-    Ok(files)
-}
-
-/// Whether a file is missing or lies in the contents.
-fn is_missing_or_within(given: &Given, range: ByteRange) -> bool
-    ensures { result ≡ spec.is_missing_or_within given.now range }
-{
-    if range.offset == MISSING {
-        return true;
-    }
-    given.is_in_contents(range)
-}
-
-fn are_missing_or_within(given: &Given, files: &[ByteRange]) -> bool
-    ensures { result ≡ spec.are_missing_or_within given.now files.now }
-{
-    files
-        .iter()
-        .all(|range| is_missing_or_within(given, *range))
-}
-
-#[tactic(auto, unfolding(crate::specs::Boot::files_misuse))]
-fn check_stored(given: &Given) -> Result<(), Misuse>
-    ensures { FindsMisuse (spec.files_misuse given.now) result }
-{
-    if !are_missing_or_within(given, given.files) {
-        return Err(Misuse::BadContents);
+    for module in modules {
+        files.push(module.file)?;
     }
     Ok(())
 }
 
-/// Checks the entries and the files of a menu: the first misuse.
-pub(crate) fn check_menu(given: &Given, entries: &[EntryRecord]) -> Result<(), Misuse>
-    ensures { FindsMisuse (spec.entries_or_files_misuse given.now entries.now) result }
+/// Appends the files of an entry, in order.
+fn add_files<'a, A: Allocator>(
+    entry: &EntryRecord<'a>,
+    files: &mut Vec<FileRecord<'a>, A>,
+) -> Result<(), AllocError>
+    ensures { OnOk result (files.new.items ≡ files.old.items ++ files_given entry.now) }
 {
-    check_entries(given, entries)?;
-    check_stored(given)
+    files.push(entry.kernel)?;
+    if entry.is_of(Protocol::Multiboot2) {
+        return add_module_files(entry.modules, files);
+    }
+    if entry.has_initrd == 0 {
+        return Ok(());
+    }
+    files.push(entry.initrd)?;
+    Ok(())
+}
+
+/// The files of all entries, one entry's after the other's.
+pub(crate) fn files_of<'a, A: Allocator>(
+    alloc: A,
+    entries: &[EntryRecord<'a>],
+) -> Result<Vec<FileRecord<'a>, A>, AllocError>
+    ensures { IfOk result (λ files. files.items ≡ menu_files entries.now) }
+{
+    let mut files = Vec::new(alloc);
+    for entry in entries {
+        add_files(entry, &mut files)?;
+    }
+    Ok(files)
+}
+
+/// A file; none if it can't be read.
+fn stored_of<'a>(file: &FileRecord<'a>) -> Option<&'a [u8]>
+    ensures { sliced_file (option_copied result) ≡ spec.stored_given file.now }
+{
+    if file.length == UNREADABLE {
+        return None;
+    }
+    Some(file.bytes)
+}
+
+/// The files of a menu, for a boot.
+pub(crate) fn stored_files<'a, A: Allocator + Copy>(
+    alloc: A,
+    entries: &[EntryRecord<'a>],
+) -> Result<Vec<Option<&'a [u8]>, A>, AllocError>
+    ensures { IfOk result (λ files. map (λ file. sliced_file (option_copied file)) files.items
+        ≡ spec.given_files entries.now) }
+{
+    let files = files_of(alloc, entries)?;
+    let mut stored = Vec::new(alloc);
+    for file in &files {
+        stored.push(stored_of(file))?;
+    }
+    Ok(stored)
 }

@@ -1,16 +1,48 @@
 //! A menu as the libraries take it.
-ghost use Rattle.std.specs.Prelude.{◌≡◌, IfOk, IfErr, OnOk, length};
+ghost use Rattle.std.specs.Prelude.{◌≡◌, IfOk, IfErr, OnOk, length, map};
+ghost use Rattle.bl_session.specs.menu.Menu.{facts_of};
 ghost use Rattle.bl_session.specs.menu.MenuFaults.{AreEntryIndices};
-ghost use Rattle.c_abi.specs.Boot.{AreFewGiven, IsNoMenu, menu_given};
-ghost use Rattle.c_abi.specs.Boot as spec;
+ghost use Rattle.c_abi.specs.MenuGiven.{AreFewGiven, IsMenuAllowed, IsMenuFault, IsNoMenu};
+ghost use Rattle.c_abi.specs.MenuGiven.{entries_facts, menu_given};
+ghost use Rattle.c_abi.specs.MenuGiven as spec;
+ghost use Rattle.c_abi.specs.internal.Menus.{AreTooMany};
 
-use crate::entries::entries_of;
-use crate::given_arrays::Given;
+use crate::entries::entry_of;
+use crate::given_checks::check_entries;
 use crate::given_fault::GivenFault;
 use crate::given_records::EntryRecord;
 use crate::misuse::Misuse;
+use bl_load::Entry;
+use bl_plan::MAX_ENTRIES;
 use bl_session::{Menu, MenuFault};
 use std::alloc::Allocator;
+
+/// The entries of a menu; the files of each come after those of the entries before it.
+fn entries_of<A: Allocator + Copy>(
+    alloc: A,
+    records: &[EntryRecord],
+) -> Result<Vec<Entry<A>, A>, GivenFault>
+    ensures facts { IfOk result
+        (λ entries. map facts_of entries.items ≡ entries_facts 0 records.now) }
+    ensures fault { IfErr result (AreTooMany records.now) }
+{
+    if records.len() > MAX_ENTRIES {
+        return Err(GivenFault::Misused(Misuse::TooMany));
+    }
+    let mut entries = Vec::new(alloc);
+    let mut before: u32 = 0;
+    for record in records {
+        let entry = match entry_of(alloc, record, before) {
+            Ok(entry) => entry,
+            Err(fault) => return Err(fault),
+        };
+        before += entry.file_count() as u32;
+        let Ok(()) = entries.push(entry) else {
+            return Err(GivenFault::NoMemory);
+        };
+    }
+    Ok(entries)
+}
 
 fn given_fault_of_menu(fault: MenuFault) -> GivenFault
     ensures { result ≡ spec.given_fault_of_menu fault }
@@ -23,24 +55,40 @@ fn given_fault_of_menu(fault: MenuFault) -> GivenFault
 }
 
 /// The menu of entries that have no misuse.
-pub(crate) fn menu_made<A: Allocator + Copy>(
+fn menu_made<A: Allocator + Copy>(
     alloc: A,
-    given: &Given,
     entries: &[EntryRecord],
     default: u32,
     fallbacks: &[u32],
 ) -> Result<Menu<A>, GivenFault>
-    ensures menu { IfOk result (λ menu.
-        menu ≡ menu_given given.now entries.now default fallbacks.now) }
-    ensures few { OnOk result (AreFewGiven given.now entries.now) }
+    ensures menu { IfOk result (λ menu. menu ≡ menu_given entries.now default fallbacks.now) }
+    ensures few { OnOk result (AreFewGiven entries.now) }
     ensures named { OnOk result (AreEntryIndices (length entries.now) default fallbacks.now) }
-    ensures fault { IfErr result (IsNoMenu given.now entries.now default fallbacks.now) }
+    ensures fault { IfErr result (IsNoMenu entries.now default fallbacks.now) }
 {
-    let Ok(typed) = entries_of(alloc, given, entries) else {
-        return Err(GivenFault::NoMemory);
+    let typed = match entries_of(alloc, entries) {
+        Ok(typed) => typed,
+        Err(fault) => return Err(fault),
     };
     match Menu::new(alloc, typed, default, fallbacks) {
         Ok(menu) => Ok(menu),
         Err(fault) => Err(given_fault_of_menu(fault)),
     }
+}
+
+/// The menu that is given, if it may be.
+pub(crate) fn menu_of<A: Allocator + Copy>(
+    alloc: A,
+    entries: &[EntryRecord],
+    default: u32,
+    fallbacks: &[u32],
+) -> Result<Menu<A>, GivenFault>
+    ensures menu { IfOk result (λ menu. menu ≡ menu_given entries.now default fallbacks.now) }
+    ensures allowed { OnOk result (IsMenuAllowed entries.now default fallbacks.now) }
+    ensures fault { IfErr result (IsMenuFault entries.now default fallbacks.now) }
+{
+    if let Err(misuse) = check_entries(entries) {
+        return Err(GivenFault::Misused(misuse));
+    }
+    menu_made(alloc, entries, default, fallbacks)
 }

@@ -1,81 +1,67 @@
 //! A session of what C gives, and what C is told of its outcome.
-ghost use Rattle.std.specs.Prelude.{◌≡◌, IfOk, map};
-ghost use Rattle.c_abi.specs.Sessions.{IsSessionMenuFault, IsSessionMade, TellsOutcome};
+ghost use Rattle.std.specs.Prelude.{◌≡◌, IfOk};
+ghost use Rattle.c_abi.specs.Sessions.{IsSessionMade, TellsOutcome};
 ghost use Rattle.c_abi.specs.Sessions as spec;
-ghost use Rattle.c_abi.specs.internal.Menus.{MakesMenu};
 
 use crate::boot_telling::{tell_boot_fault, tell_outcome};
 use crate::end_records::{HandoffRecord, PlaceRecord, RefusalRecord};
-use crate::entries::check_entries;
-use crate::given_arrays::Given;
 use crate::given_fault::GivenFault;
-use crate::given_records::{ByteRange, EntryRecord, MISSING, MachineRecord, RegionRecord};
+use crate::given_records::{EntryRecord, FileRecord, MachineRecord, RegionRecord, UNREADABLE};
 use crate::machines::machine_of;
-use crate::menus::menu_made;
+use crate::menu_files::files_of;
+use crate::menus::menu_of;
 use crate::misuse::Misuse;
 use bl_plan::MAX_PARTS;
-use bl_session::{Menu, OwnedSession};
+use bl_session::OwnedSession;
 use std::alloc::{AllocError, Allocator};
 
 /// How long a file is; none if it can't be read.
-fn length_of(range: &ByteRange) -> Option<u64>
-    ensures { result ≡ spec.size_given range.now }
+fn length_of(file: &FileRecord) -> Option<u64>
+    ensures { result ≡ spec.size_given file.now }
 {
-    if range.offset == MISSING {
+    if file.length == UNREADABLE {
         return None;
     }
-    Some(range.length)
+    Some(file.length)
 }
 
-/// How long each file is.
-fn sizes_of<A: Allocator>(alloc: A, files: &[ByteRange]) -> Result<Vec<Option<u64>, A>, AllocError>
-    ensures { IfOk result (λ sizes. sizes.items ≡ map spec.size_given files.now) }
-{
-    files.iter().map(length_of).collect(alloc)
-}
-
-/// The menu that is given, wherever its files lie, if it may be.
-fn menu_without_files<A: Allocator + Copy>(
+/// How long each file of a menu is.
+fn sizes_of<A: Allocator + Copy>(
     alloc: A,
-    given: &Given,
     entries: &[EntryRecord],
-    default: u32,
-    fallbacks: &[u32],
-) -> Result<Menu<A>, GivenFault>
-    ensures { MakesMenu given.now entries.now default fallbacks.now
-        (IsSessionMenuFault given.now entries.now default fallbacks.now) result }
+) -> Result<Vec<Option<u64>, A>, AllocError>
+    ensures { IfOk result (λ sizes. sizes.items ≡ spec.sizes_given entries.now) }
 {
-    if let Err(misuse) = check_entries(given, entries) {
-        return Err(GivenFault::Misused(misuse));
+    let files = files_of(alloc, entries)?;
+    let mut sizes = Vec::new(alloc);
+    for file in &files {
+        sizes.push(length_of(file))?;
     }
-    menu_made(alloc, given, entries, default, fallbacks)
+    Ok(sizes)
 }
 
-/// The session of a menu whose files' bytes come later. Of a file its length alone is looked at,
-/// and whether its offset is `MISSING`.
+/// The session of a menu whose files' bytes come later. Of a file its length alone is looked at.
 ///
 /// The first fault that stands: of the machine, of the entries in order, `TooMany`, `BadIndex`.
 pub fn session_given<A: Allocator + Copy>(
     alloc: A,
     machine: &MachineRecord,
     regions: &[RegionRecord],
-    given: &Given,
     entries: &[EntryRecord],
     default: u32,
     fallbacks: &[u32],
 ) -> Result<OwnedSession<A>, GivenFault>
-    ensures { IsSessionMade machine.now regions.now given.now entries.now default fallbacks.now
-        result }
+    ensures { IsSessionMade machine.now regions.now entries.now default fallbacks.now result }
 {
     let made = match machine_of(alloc, machine, regions) {
         Ok(made) => made,
         Err(fault) => return Err(fault),
     };
-    let menu = match menu_without_files(alloc, given, entries, default, fallbacks) {
+    let menu = match menu_of(alloc, entries, default, fallbacks) {
         Ok(menu) => menu,
         Err(fault) => return Err(fault),
     };
-    let Ok(sizes) = sizes_of(alloc, given.files) else {
+    let Ok(sizes) = sizes_of(alloc, entries) else {
         return Err(GivenFault::NoMemory);
     };
     Ok(OwnedSession::new(alloc, made, menu, sizes))
@@ -104,7 +90,7 @@ pub fn outcome_told<A: Allocator + Copy>(
         }) }
 {
     if places.len() < MAX_PARTS {
-        return Misuse::FewPlaces.status();
+        return Misuse::SmallRoom.status();
     }
     match session.outcome() {
         Some(Ok(outcome)) => tell_outcome(outcome, told, places, refusals, count),

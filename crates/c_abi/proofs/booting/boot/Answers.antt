@@ -42,7 +42,7 @@ returns-in-Err-menu_of-clause-end g c =
     let same = c.if-end-size.false in (
       bad_menu (omega (arith, many)) c.in-Ok.ensures.sound
           (omega (arith, length-append {A = ℕ}, length-replicate {A = ℕ}, size, told, same))
-          c.in-Err-menu_of.fault c.in-Err-menu_of.ensures.made.fault,
+          c.in-Err-menu_of.fault c.in-Err-menu_of.ensures.fault,
       refl,
     )
 
@@ -59,14 +59,13 @@ returns-clause-end g c =
       machine_sound = c.in-Ok.ensures.sound;
       has_memory =
           omega (arith, length-append {A = ℕ}, length-replicate {A = ℕ}, size, told, same);
-      allowed = c.in-Ok-menu_of.ensures.made.allowed;
-      stored = c.in-Ok-menu_of.ensures.stored;
+      allowed = c.in-Ok-menu_of.ensures.allowed;
       booted =
-          let files = given_files c.args.given.now in
+          let files = given_files c.args.entries.now in
           let old = memory_from c.args.base c.args.memory.now in
           let new = memory_from c.args.base c.boot_given.new.memory in
           subst
           (λ (menu : MenuFacts).
           HasBootEnded c.in-Ok.made menu files old new (final_phase c.boot_given.result))
-          c.in-Ok-menu_of.ensures.made.menu c.boot_given.ensures;
+          c.in-Ok-menu_of.ensures.menu c.boot_given.ensures;
     }

@@ -5,7 +5,7 @@ use Rattle.c_abi.specs.Boot.{stored_given}
 use Rattle.c_abi.proofs.menu_files.stored_files.Given as goal
 
 -- the files so far
-abbrev pub invariant-loop-range : goal.invariant-loop-range
-invariant-loop-range g l =
-    map (λ file. sliced_file (option_copied file)) l.files.items
-    ≡ map (stored_given l.given) (take l.range-index l.given.files)
+abbrev pub invariant-loop-file : goal.invariant-loop-file
+invariant-loop-file g l =
+    map (λ file. sliced_file (option_copied file)) l.stored.items
+    ≡ map stored_given (take l.file-index l.file-items)
