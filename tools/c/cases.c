@@ -4,8 +4,8 @@
  *     cases load ENTRY IMAGE <CASE       loads this entry by bootcore_load
  *     cases boot MOST IMAGE <CASE        boots the menu by bootcore_boot
  *
- * CASE has ten numbers of 64 bits, as written below, and then arrays: regions as they lie in memory; files, entries and modules in
- * numbers of 64 bits, as the structs below; fallbacks of 32 bits; bytes, of which all files and lines are. It prints
+ * CASE has ten numbers of 64 bits, as written below, and then arrays: regions as they lie in memory; files, entries, the bytes of all
+ * files and lines, and modules, as the structs below; fallbacks of 32 bits. It prints
  * `refused ENTRY NUMBER FIRST SECOND` for each entry that is refused, and then `done ENTRY`, `no entry left` or `status NUMBER`. If
  * an entry is handed over, its image is written, and walked by bootcore_walk_all. What goes another way than it should is one line
  * more:
