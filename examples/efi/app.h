@@ -8,146 +8,143 @@
 #include <efi.h>
 
 #include "bootcore.h"
+#include "bootcore_arena.h"
 
 extern EFI_SYSTEM_TABLE *ST; /* the firmware's tables, as its manuals call them */
 extern EFI_BOOT_SERVICES *BS;
 
 enum {
-    max_entries = 32, /* the core's limits */
-    max_modules = 64,
-    max_regions = 128,
-    max_files = 128, /* our own: files that the menu names */
-    max_all_modules = 256,
-    max_text = 65536, /* our own: bytes of all lines, and copies of the RSDP */
     page = 4096,
-    base_address = 4096 /* of the memory that is lent to the core: no kernel gets page 0 */
+    max_text = 65536 /* bytes of all lines, and copies of the RSDP */
 };
 #define no_limit UINT32_MAX
 
 /* ---- menu.c: the menu file */
 
+typedef struct {
+    const char *title;
+    const char *paths[1 + BOOTCORE_MAX_MODULES]; /* of its files in order, the kernel's first */
+    uint32_t file_count;
+    bootcore_module modules[BOOTCORE_MAX_MODULES];
+    bootcore_entry core; /* as the core takes it; read_files puts the files in */
+} menu_entry;
+
 extern struct menu_file {
-    const char *titles[max_entries];
-    bootcore_entry entries[max_entries]; /* as the core takes them */
-    uint32_t chosen;                     /* `default`, until a key chooses another */
-    uint32_t fallbacks[max_entries];
-    uint32_t attempts[max_entries]; /* each once: the chosen one, then the fallbacks */
+    menu_entry entries[BOOTCORE_MAX_ENTRIES];
+    uint32_t fallbacks[BOOTCORE_MAX_ENTRIES];
+    uint32_t attempts[BOOTCORE_MAX_ENTRIES]; /* each once, in order */
+    uint32_t chosen;                         /* `default`, until a key chooses another */
     uint32_t entry_count, fallback_count, attempt_count;
     uint32_t seconds; /* the time limit of the choice, no_limit for none */
     uint64_t arena;   /* bytes for the core's own tables */
-    int writes;       /* the handover is written to the disk as well */
-    const char *paths[max_files];
-    bootcore_module modules[max_all_modules];
-    uint32_t path_count, module_count;
+    int writes;       /* for tests: the handover is written to the disk as well */
+    int changes;      /* for tests: the memory map changes as the firmware is to end */
     uint8_t text[max_text];
-    uint64_t text_length;
+    size_t text_length;
 } menu;
 extern const char *const protocols[4]; /* their words, by the core's numbers */
 
 /* Reads the menu out of a text, which it keeps and changes. NULL, or what is wrong: in a line, or
    with line 0 in the whole. */
 const char *read_menu(char *text, uint32_t *line);
-void list_attempts(void);
-/* The file at a position in an entry, the kernel's being 0; BOOTCORE_NO_FILE behind the last. */
-uint32_t file_at(const bootcore_entry *entry, uint32_t position);
+/* The chosen entry, and the fallbacks if they are wanted. */
+void list_attempts(int with_fallbacks);
 
 /* ---- files.c: files of the disk that the application was started from */
 
-extern struct file_store {
-    uint8_t *bytes; /* one array for all */
-    uint64_t length;
-    bootcore_range ranges[max_files];
-    uint32_t faults[max_files]; /* 0, or the refusal: 1 not there, 2 cut, 3 too long */
-} files;
+extern struct entry_files {
+    bootcore_bytes read[1 + BOOTCORE_MAX_MODULES]; /* in the order of the entry's paths */
+    size_t count;
+} files; /* of the entry that is attempted */
 
-int open_disk(EFI_HANDLE image);
+int open_disk(EFI_HANDLE device);
+void close_disk(void);
 /* A whole file, which has no zero byte, with one behind it; or NULL. */
 char *read_text(const char *path);
-/* Reads the files of all attempts into one array. */
-int read_files(void);
-void free_files(void);
-/* For tests: a new file of these ranges of memory, one behind the other. */
-int write_file(const char *path, const bootcore_range *ranges, uint32_t count);
+/* Reads an entry's files, each into pages of its own. NULL, or what is wrong. */
+const char *read_files(menu_entry *entry);
+/* For tests: a new file, and bytes at its end. */
+EFI_FILE *create_file(const char *path);
+int append(EFI_FILE *file, const void *bytes, uint64_t length);
+
+/* ---- pages.c: pages of the firmware's memory, and page tables of our own */
+
+/* Pages below 4 GiB, or NULL. */
+void *take_low_pages(uint64_t count);
+/* Pages there if there is room, or anywhere; or NULL. */
+void *take_pages(uint64_t count);
+extern uint32_t taken_count; /* how many times pages were taken, and not given back */
+/* Gives back all but what was taken first, so many times. */
+void give_back(uint32_t kept_count);
+/* Page tables that map all addresses below 4 GiB, all that was taken, and this range, each to
+   itself, to be read, written and executed. 0 if there is too little memory. */
+int make_tables(const void *start, uint64_t length);
+/* What CR3 is to hold. */
+uint64_t tables_address(void);
 
 /* ---- map.c: the firmware's memory map as the core's machine */
 
 typedef struct {
-    bootcore_machine core;
-    bootcore_region regions[max_regions];
-    bootcore_range free[max_regions]; /* what may be loaded into */
-    uint32_t region_count, free_count;
-    uint64_t firmware; /* bytes that boot services keep, and no kernel gets */
-    UINTN key;         /* of the map, for ExitBootServices */
+    bootcore_machine machine;
+    bootcore_region regions[BOOTCORE_MAX_REGIONS];
+    uint64_t own; /* bytes of the loader's, which no kernel gets */
+    UINTN key;    /* of the map, for ExitBootServices */
 } machine_map;
 
-extern uint64_t lowest_own; /* the lowest page of what the application itself uses */
-
-/* What begins here is the application's own. */
-void keep_own(const void *start);
-/* Pages below 4 GiB that are the application's own, or NULL. */
-void *take_own(uint64_t pages, EFI_MEMORY_TYPE type);
-/* NULL, or why the firmware's map gives no machine. */
+/* NULL, or why the firmware's map gives no machine. The firmware is asked for nothing else. */
 const char *read_map(machine_map *map);
 
-/* ---- memory.c: what the core and the compiler want of a C library */
+/* ---- memory.c */
 
 void *memcpy(void *to, const void *from, size_t length);
 void *memset(void *to, int byte, size_t length);
 int memcmp(const void *one, const void *other, size_t length);
 size_t strlen(const char *text);
 
-int take_arena(uint64_t length);
-void empty_arena(void);
-/* The most bytes that were in use since the arena was emptied. */
-uint64_t arena_peak(void);
-
-/* ---- boot.c: the core's calls */
+/* ---- boot.c: the plan, and the end of the firmware */
 
 extern struct boot_state {
     machine_map map;
-    bootcore_handoff handoff;
-    bootcore_place places[BOOTCORE_MAX_PARTS];
-    bootcore_refusal refusals[max_entries];
-    uint32_t refusal_count;
-    uint32_t entry; /* the one that is booted */
+    bootcore_layout layout;
 } boot;
 
-/* Sees which entry is booted, and why those before it are refused. The core's status. */
-uint32_t prepare(void);
-uint32_t load_entry(void);
-extern int is_leaving; /* services of the firmware may have ended */
-/* NULL, or why the firmware's services have not ended. */
-const char *leave_firmware(EFI_HANDLE image);
-/* Starts the machine anew. It never returns. */
-void restart(void);
-/* Loads the entry and enters it. It never returns. */
-void boot_alone(void);
+/* Room for a plan, and for the core's tables while it makes one. */
+int take_plan_room(void);
+const char *refusal_words(const bootcore_refusal *refusal);
+/* Plans an entry, whose files were read, on the firmware's map as it is now. NULL, or why it can't
+   be booted. The firmware is asked for nothing but the map. */
+const char *plan_entry(const menu_entry *entry);
+/* Ends the firmware and enters the entry's kernel. It returns, with what is wrong, only while the
+   firmware serves. */
+const char *leave_firmware(EFI_HANDLE image, const menu_entry *entry);
 
-/* ---- refusals.c */
+/* ---- entry.c, entry.S: what is left to do without the firmware */
 
-/* Those of the last preparation. */
-void say_refusals(void);
-const char *status_words(uint32_t status);
+int take_entry_room(void);
+/* Loads by the plan, and enters the kernel. It never returns. */
+void enter_alone(void);
+/* Calls a function on another stack, by these page tables, with no handler of interrupts or faults.
+   It never returns. */
+void run_alone(void (*function)(void), void *stack_end, uint64_t tables);
 
 /* ---- screen.c */
 
 /* `%s` a text, `%c` a letter; `%u` and `%x` a uint64_t, by ten and by sixteen. */
 void print(const char *form, ...);
+/* A line, or more where a row has no room for it: what it is about, and a sentence. */
+void print_sentence(const char *about, const char *sentence);
 extern char *kept, *kept_end; /* room where text is kept; it is shown if there is none */
-/* The choice, by key or by time, in menu.chosen; 0 if the firmware is wanted instead. */
-int choose_entry(void);
+
+enum choice { chosen_by_time, chosen_by_hand, to_firmware };
+int open_screen(void);
+void close_screen(void);
+/* The choice, in menu.chosen. */
+enum choice choose_entry(void);
 void wait_key(void);
 
 /* ---- write.c: for tests: the handover as files on the disk */
 
 /* What came of it, in words. */
-const char *write_handover(void);
-
-/* ---- entry.c, entry.S: the last jump */
-
-extern uint8_t *entry_page; /* a page of our own */
-/* Calls a function on another stack. It never returns. */
-void on_own_stack(void (*function)(void), void *stack_end);
-void enter_kernel(const bootcore_registers *registers);
+const char *write_handover(const menu_entry *entry);
 
 #endif

@@ -1,7 +1,7 @@
-# The last instructions before a kernel's first: from the state in which a firmware leaves its
-# application (64-bit mode, paging) to the registers that the core hands over. enter_kernel in
-# entry.c copies all between trampoline and trampoline_end to a page of its own below 4 GiB, which no
-# part of the kernel overlaps, and puts the registers into it.
+# From the state in which a firmware leaves its application (64-bit mode, paging) to the registers
+# that the core hands over: run_alone begins what is left to do without the firmware, and the
+# trampoline ends it. entry.c copies all between trampoline and trampoline_end to a page of its own
+# below 4 GiB, which no part of the kernel overlaps, and puts the registers into it.
 #
 # Each entry leaves 64-bit mode: the one of 64 bits too, since only so the paging that the firmware
 # chose (of five levels, say) can be changed for that of the handover.
@@ -19,17 +19,28 @@
     .endr
 
     .text
-    .globl on_own_stack
-on_own_stack:                       # (function, end of the stack); it never returns
+    # Of CR4 it leaves the paging in use, and SSE for the core. The rest is the firmware's: global
+    # pages, by which its page tables would last, shadow stacks, and what else limits what tables allow.
+    .globl run_alone
+run_alone:                          # (function, end of the stack, page tables); it never returns
+    cli
+    lidt no_handlers(%rip)          # the firmware's handlers may be written over
+    movq %cr4, %rax
+    andl $0x1620, %eax
+    movq %rax, %cr4
+    movq %rdx, %cr3                 # these map the code here to where it runs
     movq %rsi, %rsp
     xorl %ebp, %ebp
     call *%rdi
+    ud2
+no_handlers:
+    .word 0
+    .quad 0
 
     .globl trampoline, trampoline_registers, trampoline_end
     .balign 16
     .code64
-trampoline:
-    cli
+trampoline:                         # interrupts are off, and there are no handlers
     cld
     leaq trampoline(%rip), %rbx     # the page: 32-bit code finds all by its offset from here
     leaq table32(%rip), %rax        # what LGDT takes has addresses: of the two tables below, and of
@@ -49,7 +60,6 @@ trampoline:
     andl $0x1020, %eax
     movq %rax, %cr4
     lgdt table32_at(%rip)
-    lidt no_table(%rip)             # there are no handlers: interrupts stay off
     leaq stack_end(%rip), %rsp
     movl $data, %eax
     movw %ax, %ss
@@ -156,9 +166,6 @@ table64_at:
     .word 31
     .quad 0
 gdt_at:
-    .word 0
-    .quad 0
-no_table:
     .word 0
     .quad 0
 

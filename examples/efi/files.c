@@ -1,20 +1,21 @@
 /* Files of the disk that the application was started from, through the firmware's file system. */
 #include "app.h"
 
-struct file_store files;
+struct entry_files files;
 
 static EFI_FILE *root;
 
 enum { most_bytes = 0x40000000, chunk = 1 << 20 };
 
-int open_disk(EFI_HANDLE image) {
-    static EFI_GUID loaded = LOADED_IMAGE_PROTOCOL, system = SIMPLE_FILE_SYSTEM_PROTOCOL;
-    EFI_LOADED_IMAGE *self;
+int open_disk(EFI_HANDLE device) {
+    static EFI_GUID system = SIMPLE_FILE_SYSTEM_PROTOCOL;
     EFI_FILE_IO_INTERFACE *volume;
-    if (EFI_ERROR(BS->HandleProtocol(image, &loaded, (void **)&self))) return 0;
-    keep_own(self->ImageBase);
-    return !EFI_ERROR(BS->HandleProtocol(self->DeviceHandle, &system, (void **)&volume)) &&
+    return !EFI_ERROR(BS->HandleProtocol(device, &system, (void **)&volume)) &&
            !EFI_ERROR(volume->OpenVolume(volume, &root));
+}
+
+void close_disk(void) {
+    if (root != NULL) root->Close(root);
 }
 
 /* A file, or NULL. The firmware's files have names of 16-bit letters, and backslashes. */
@@ -28,88 +29,83 @@ static EFI_FILE *open(const char *path, uint64_t mode) {
     return path[i] || EFI_ERROR(root->Open(root, &file, name, mode, 0)) ? NULL : file;
 }
 
-/* 0 with a file's length, or the number of the refusal. */
-static uint32_t measure(const char *path, uint64_t *length) {
+/* ---- reading: each answers 0, or the number of a refusal, or that there is no room for a file */
+
+enum { no_room = 255 };
+
+static uint32_t measure(EFI_FILE *file, uint64_t *length) {
     static EFI_GUID id = EFI_FILE_INFO_ID;
     static uint64_t room[256];
     EFI_FILE_INFO *info = (EFI_FILE_INFO *)room;
     UINTN size = sizeof room;
-    EFI_FILE *file = open(path, EFI_FILE_MODE_READ);
-    if (file == NULL) return 1;
     EFI_STATUS status = file->GetInfo(file, &id, &size, info);
-    file->Close(file);
-    if (EFI_ERROR(status) || info->Attribute & EFI_FILE_DIRECTORY) return 1;
+    if (EFI_ERROR(status) || info->Attribute & EFI_FILE_DIRECTORY) return BOOTCORE_REFUSAL_NO_FILE;
     *length = info->FileSize;
-    return *length > most_bytes ? 3 : 0;
+    return *length > most_bytes ? BOOTCORE_REFUSAL_FILE_TOO_LONG : 0;
 }
 
-/* 0 with so many bytes, or the refusal: a file may end before its length as the disk tells it. */
-static uint32_t fill(const char *path, uint8_t *bytes, uint64_t length) {
-    EFI_FILE *file = open(path, EFI_FILE_MODE_READ);
-    UINTN came = file != NULL;
+/* A file may end before its length as the disk tells it. */
+static uint32_t fill(EFI_FILE *file, uint8_t *bytes, uint64_t length) {
+    UINTN came = 1;
     while (length && came) {
         came = length < chunk ? length : chunk;
         if (EFI_ERROR(file->Read(file, &came, bytes))) came = 0;
         bytes += came;
         length -= came;
     }
-    if (file != NULL) file->Close(file);
-    return length ? 2 : 0;
+    return length ? BOOTCORE_REFUSAL_FILE_FAULT : 0;
+}
+
+/* Into pages of its own, with a byte or more of room behind its end. */
+static uint32_t read_file(const char *path, uint8_t **bytes, uint64_t *length) {
+    EFI_FILE *file = open(path, EFI_FILE_MODE_READ);
+    if (file == NULL) return BOOTCORE_REFUSAL_NO_FILE;
+    uint32_t fault = measure(file, length);
+    if (!fault) {
+        *bytes = take_pages(*length / page + 1);
+        fault = *bytes == NULL ? no_room : fill(file, *bytes, *length);
+    }
+    file->Close(file);
+    return fault;
 }
 
 char *read_text(const char *path) {
+    uint8_t *bytes;
     uint64_t length;
-    char *text = measure(path, &length) ? NULL : take_own(length / page + 1, EfiLoaderData);
-    if (text == NULL || fill(path, (uint8_t *)text, length)) return NULL;
-    text[length] = 0;
-    return strlen(text) == length ? text : NULL;
+    if (read_file(path, &bytes, &length)) return NULL;
+    bytes[length] = 0;
+    return strlen((char *)bytes) == length ? (char *)bytes : NULL;
 }
 
-/* ---- the files of all attempts, in one array: they cross to the core as ranges of it */
+/* ---- the files of an entry */
 
-static uint64_t lowest_before; /* what was the lowest of our own without the array */
-
-int read_files(void) {
-    uint8_t wanted[max_files] = {0};
-    uint32_t file;
-    for (uint32_t i = 0; i < menu.attempt_count; i++) {
-        const bootcore_entry *entry = &menu.entries[menu.attempts[i]];
-        for (uint32_t k = 0; (file = file_at(entry, k)) != BOOTCORE_NO_FILE; k++) wanted[file] = 1;
+const char *read_files(menu_entry *entry) {
+    for (files.count = 0; files.count < entry->file_count; files.count++) {
+        uint32_t i = (uint32_t)files.count;
+        uint8_t *bytes;
+        uint64_t length;
+        print("    Reading %s.\n", entry->paths[i]);
+        uint32_t fault = read_file(entry->paths[i], &bytes, &length);
+        if (fault == no_room) return "There is too little memory for the files.";
+        if (fault) return refusal_words(&(bootcore_refusal){.number = fault, .first = i});
+        files.read[i] = (bootcore_bytes){bytes, length};
+        if (i == 0) entry->core.kernel = files.read[i];
+        else if (entry->core.module_count) entry->modules[i - 1].file = files.read[i];
+        else entry->core.initrd = files.read[i];
     }
-    files.length = 0;
-    for (uint32_t i = 0; i < menu.path_count; i++) {
-        bootcore_range *range = &files.ranges[i];
-        range->offset = files.length;
-        files.faults[i] = wanted[i] ? measure(menu.paths[i], &range->length) : 1;
-        if (!files.faults[i]) files.length += (range->length + page - 1) / page * page;
-    }
-    lowest_before = lowest_own;
-    files.bytes = take_own(files.length / page + 1, EfiLoaderData);
-    for (uint32_t i = 0; files.bytes != NULL && i < menu.path_count; i++)
-        if (!files.faults[i])
-            files.faults[i] = fill(menu.paths[i], files.bytes + files.ranges[i].offset,
-                                   files.ranges[i].length);
-    return files.bytes != NULL;
-}
-
-void free_files(void) {
-    if (files.bytes != NULL) BS->FreePages((UINTN)files.bytes, files.length / page + 1);
-    lowest_own = lowest_before;
+    return NULL;
 }
 
 /* ---- writing, for tests */
 
-int write_file(const char *path, const bootcore_range *ranges, uint32_t count) {
+EFI_FILE *create_file(const char *path) {
     uint64_t mode = EFI_FILE_MODE_READ | EFI_FILE_MODE_WRITE;
     EFI_FILE *file = open(path, mode);
     if (file != NULL) file->Delete(file);
-    file = open(path, mode | EFI_FILE_MODE_CREATE);
-    if (file == NULL) return 0;
-    int good = 1;
-    for (uint32_t i = 0; good && i < count; i++) {
-        UINTN size = ranges[i].length;
-        good = !EFI_ERROR(file->Write(file, &size, (void *)(UINTN)ranges[i].offset)) &&
-               size == ranges[i].length;
-    }
-    return !EFI_ERROR(file->Close(file)) && good;
+    return open(path, mode | EFI_FILE_MODE_CREATE);
+}
+
+int append(EFI_FILE *file, const void *bytes, uint64_t length) {
+    UINTN size = length;
+    return !EFI_ERROR(file->Write(file, &size, (void *)(UINTN)bytes)) && size == length;
 }

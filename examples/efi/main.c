@@ -1,14 +1,12 @@
 /* A boot manager on the loader core: reads a menu from the disk, lets one choose, and boots through
    the core. The order is what makes it safe: all that can fail does so while the firmware still
-   serves, and then the menu is shown again. Once the firmware was asked to end, a failure starts the
-   machine anew. */
+   serves, and then the menu is shown again. What is left after its end are copies and a jump. */
 #include "app.h"
 
 EFI_SYSTEM_TABLE *ST;
 EFI_BOOT_SERVICES *BS;
 
-enum { stack_pages = 64 };
-static uint8_t *stack;
+static EFI_LOADED_IMAGE *self;
 
 /* 0, so that a test can end with what it says. */
 static int say(const char *what) {
@@ -25,9 +23,12 @@ static int has_instructions(void) {
 
 /* The menu, and memory that is taken once. */
 static int begin(EFI_HANDLE image) {
+    static EFI_GUID loaded = LOADED_IMAGE_PROTOCOL;
     uint32_t line = 0;
     if (!has_instructions()) return say("This processor is older than x86-64-v2.");
-    if (!open_disk(image)) return say("The disk that this was started from can't be read.");
+    if (EFI_ERROR(BS->HandleProtocol(image, &loaded, (void **)&self)) ||
+        !open_disk(self->DeviceHandle))
+        return say("The disk that this was started from can't be read.");
     char *text = read_text("bootcore/menu.txt");
     if (text == NULL) return say("There is no bootcore/menu.txt, or it is no text.");
     const char *wrong = read_menu(text, &line);
@@ -36,50 +37,49 @@ static int begin(EFI_HANDLE image) {
         if (line) print(", line %u", (uint64_t)line);
         return print(": %s\n", wrong), 0;
     }
-    stack = take_own(stack_pages, EfiLoaderData);
-    entry_page = take_own(1, EfiLoaderCode);
-    if (stack == NULL || entry_page == NULL || !take_arena(menu.arena))
-        return say("There is too little memory.");
-    return 1;
+    return (open_screen() && take_plan_room() && take_entry_room()) ||
+           say("There is too little memory.");
 }
 
-/* Sees what is booted. A refused entry is said, and the next one attempted. */
-static int prepare_choice(void) {
-    const char *wrong = read_map(&boot.map);
-    if (wrong != NULL) return say(wrong);
-    uint32_t status = prepare();
-    say_refusals();
-    return status == BOOTCORE_DONE || say(status_words(status));
+/* Returns only if the entry can't be booted, with the reason. */
+static const char *attempt(EFI_HANDLE image, menu_entry *entry) {
+    const char *wrong = read_files(entry);
+    if (wrong != NULL) return wrong;
+    if (!make_tables(self->ImageBase, self->ImageSize)) return "There is too little memory.";
+    wrong = plan_entry(entry);
+    if (wrong != NULL) return wrong;
+    if (menu.writes) say(write_handover(entry));
+    print("    Booting %s. %u KiB are the loader's, the core took %u bytes.\n", entry->title,
+          boot.map.own / 1024, (uint64_t)bootcore_arena_peak());
+    return leave_firmware(image, entry);
 }
 
-/* Returns if the choice can't be booted. */
-static void boot_choice(EFI_HANDLE image) {
-    list_attempts();
-    print("\n    Reading files.\n");
-    if ((read_files() || say("There is too little memory for the files.")) && prepare_choice()) {
-        if (menu.writes) say(write_handover());
-        print("\n    Booting %s. The firmware keeps %u KiB, the core took %u bytes.\n",
-              menu.titles[boot.entry], boot.map.firmware / 1024, arena_peak());
-        const char *wrong = leave_firmware(image);
-        if (wrong == NULL) on_own_stack(boot_alone, stack + stack_pages * page);
-        say(wrong);
-        if (is_leaving) restart();
+/* Fallbacks are for the machine that starts alone: who chose an entry wants no other. */
+static void boot_choice(EFI_HANDLE image, enum choice how) {
+    list_attempts(how == chosen_by_time);
+    for (uint32_t i = 0; i < menu.attempt_count; i++) {
+        menu_entry *entry = &menu.entries[menu.attempts[i]];
+        uint32_t kept_count = taken_count;
+        print("\n");
+        print_sentence(entry->title, attempt(image, entry));
+        give_back(kept_count);
     }
-    free_files();
 }
 
 EFI_STATUS efi_main(EFI_HANDLE image, EFI_SYSTEM_TABLE *table) {
+    enum choice how;
     ST = table;
     BS = table->BootServices;
     BS->SetWatchdogTimer(0, 0, 0, NULL);
-    if (!begin(image)) {
-        wait_key();
-        return EFI_LOAD_ERROR;
-    }
-    while (choose_entry()) {
-        boot_choice(image);
+    int has_begun = begin(image);
+    if (!has_begun) wait_key();
+    while (has_begun && (how = choose_entry()) != to_firmware) {
+        boot_choice(image, how);
         menu.seconds = no_limit; /* from here on a person decides */
         wait_key();
     }
-    return EFI_SUCCESS;
+    close_screen();
+    close_disk();
+    give_back(0);
+    return has_begun ? EFI_SUCCESS : EFI_LOAD_ERROR;
 }

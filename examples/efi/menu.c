@@ -38,24 +38,19 @@ static uint32_t take_number(const char *text) {
 
 /* ---- what an entry is made of */
 
-/* The index of a file, each path once. */
-static uint32_t take_file(char *path) {
-    uint32_t index = 0;
+static const char *take_path(char *path) {
     while (*path == '/') path++;
     check(*path != 0, "a file is wanted");
-    while (index < menu.path_count && !is_word(menu.paths[index], path)) index++;
-    if (index == menu.path_count && check(index < max_files, "too many files"))
-        menu.paths[menu.path_count++] = path;
-    return index;
+    return path;
 }
 
-static bootcore_range take_bytes(const void *bytes, uint64_t length) {
-    bootcore_range range = {menu.text_length, 0};
-    if (!check(length <= max_text - menu.text_length, "too much text")) return range;
+static bootcore_bytes take_bytes(const void *bytes, size_t length) {
+    bootcore_bytes taken = {menu.text + menu.text_length, 0};
+    if (!check(length <= max_text - menu.text_length, "too much text")) return taken;
     memcpy(menu.text + menu.text_length, bytes, length);
     menu.text_length += length;
-    range.length = length;
-    return range;
+    taken.length = length;
+    return taken;
 }
 
 static EFI_GUID old_acpi = ACPI_TABLE_GUID, new_acpi = ACPI_20_TABLE_GUID;
@@ -69,98 +64,102 @@ static const uint8_t *find_rsdp(const EFI_GUID *version) {
 }
 
 /* A line for a kernel. `@rsdp@` in it stands for the address of the firmware's RSDP. */
-static bootcore_range take_line(const char *line) {
+static bootcore_bytes take_line(const char *text) {
     static const char mark[] = "@rsdp@";
-    bootcore_range range = {menu.text_length, 0};
+    bootcore_bytes line = take_bytes(text, 0);
+    size_t start = menu.text_length;
     const uint8_t *rsdp = find_rsdp(&new_acpi) ? find_rsdp(&new_acpi) : find_rsdp(&old_acpi);
-    while (*line) {
-        if (strlen(line) < strlen(mark) || memcmp(line, mark, strlen(mark)) != 0) {
-            take_bytes(line++, 1);
+    while (*text) {
+        if (strlen(text) < strlen(mark) || memcmp(text, mark, strlen(mark)) != 0) {
+            take_bytes(text++, 1);
             continue;
         }
         take_bytes("0x", 2);
         for (int shift = 60; shift >= 0; shift -= 4)
             take_bytes(&"0123456789abcdef"[(uint64_t)(UINTN)rsdp >> shift & 15], 1);
-        line += strlen(mark);
+        text += strlen(mark);
     }
-    range.length = menu.text_length - range.offset;
-    return range;
+    line.length = menu.text_length - start;
+    return line;
 }
 
 /* A Multiboot2 kernel is given copies of the RSDPs, in the tags 14 and 15 of its information. */
-static void take_protocol(const char *word, bootcore_entry *entry) {
+static void take_protocol(const char *word, bootcore_entry *core) {
     const uint8_t *old = find_rsdp(&old_acpi), *new = find_rsdp(&new_acpi);
     uint32_t length = new ? *(const uint32_t *)(new + 20) : 0; /* the table's own field */
-    if (!check(entry->protocol == 0, "an entry has one protocol")) return;
+    if (!check(core->protocol == 0, "an entry has one protocol")) return;
     for (uint32_t i = BOOTCORE_MULTIBOOT2; i <= BOOTCORE_LINUX64; i++)
-        if (is_word(word, protocols[i])) entry->protocol = i;
-    check(entry->protocol != 0, "no such protocol");
-    if (entry->protocol != BOOTCORE_MULTIBOOT2) return;
-    if (old) entry->rsdp_old = take_bytes(old, 20);
-    if (length >= 36 && length <= 256) entry->rsdp_new = take_bytes(new, length);
+        if (is_word(word, protocols[i])) core->protocol = i;
+    check(core->protocol != 0, "no such protocol");
+    if (core->protocol != BOOTCORE_MULTIBOOT2) return;
+    if (old) core->rsdp_old = take_bytes(old, 20);
+    if (length >= 36 && length <= BOOTCORE_MAX_RSDP) core->rsdp_new = take_bytes(new, length);
 }
 
-static void take_module(char *text, bootcore_entry *entry) {
-    check(entry->protocol == BOOTCORE_MULTIBOOT2, "only a multiboot2 kernel has modules");
-    check(entry->module_count < max_modules, "too many modules of an entry");
-    check(menu.module_count < max_all_modules, "too many modules");
+static void take_module(char *text, menu_entry *entry) {
+    check(entry->core.protocol == BOOTCORE_MULTIBOOT2, "only a multiboot2 kernel has modules");
+    check(entry->core.module_count < BOOTCORE_MAX_MODULES, "too many modules of an entry");
     if (wrong != NULL) return;
-    if (entry->module_count++ == 0) entry->first_module = menu.module_count;
-    bootcore_module *module = &menu.modules[menu.module_count++];
-    module->line = take_line(cut_word(text));
-    module->file = take_file(text);
+    entry->core.modules = entry->modules;
+    entry->modules[entry->core.module_count++].line = take_line(cut_word(text));
+    entry->paths[entry->file_count++] = take_path(text);
 }
 
 /* ---- lines */
 
 static void take_fallbacks(char *text) {
-    while (*text && check(menu.fallback_count < max_entries, "too many fallbacks")) {
+    while (*text && check(menu.fallback_count < BOOTCORE_MAX_ENTRIES, "too many fallbacks")) {
         char *rest = cut_word(text);
         menu.fallbacks[menu.fallback_count++] = take_number(text);
         text = rest;
     }
 }
 
-static void take_kernel(char *path, bootcore_entry *entry) {
-    if (check(entry->kernel == BOOTCORE_NO_FILE, "an entry has one kernel"))
-        entry->kernel = take_file(path);
+static void take_kernel(char *path, menu_entry *entry) {
+    if (check(entry->paths[0] == NULL, "an entry has one kernel"))
+        entry->paths[0] = take_path(path);
 }
 
-static void take_ramdisk(char *path, bootcore_entry *entry) {
-    check(entry->protocol != BOOTCORE_MULTIBOOT2, "a multiboot2 kernel has modules");
-    if (check(entry->initrd == BOOTCORE_NO_FILE, "an entry has one ramdisk"))
-        entry->initrd = take_file(path);
+static void take_ramdisk(char *path, menu_entry *entry) {
+    check(entry->core.protocol != BOOTCORE_MULTIBOOT2, "a multiboot2 kernel has modules");
+    if (check(entry->file_count == 1, "an entry has one ramdisk"))
+        entry->paths[entry->file_count++] = take_path(path);
+}
+
+static void take_entry_line(const char *text, bootcore_entry *core) {
+    check(*text != 0, "a line is wanted");
+    if (check(core->line.bytes == NULL, "an entry has one line")) core->line = take_line(text);
 }
 
 static void begin_entry(const char *title) {
-    if (!check(menu.entry_count < max_entries, "too many entries")) return;
+    if (!check(menu.entry_count < BOOTCORE_MAX_ENTRIES, "too many entries")) return;
     check(*title != 0, "a title is wanted");
-    menu.titles[menu.entry_count] = title;
-    bootcore_entry *entry = &menu.entries[menu.entry_count++];
-    entry->kernel = entry->initrd = BOOTCORE_NO_FILE;
+    menu_entry *entry = &menu.entries[menu.entry_count++];
+    entry->title = title;
+    entry->file_count = 1; /* the kernel, which is named somewhere below */
 }
 
 static void take(const char *word, char *rest) {
-    bootcore_entry *entry = &menu.entries[menu.entry_count ? menu.entry_count - 1 : 0];
+    menu_entry *entry = &menu.entries[menu.entry_count ? menu.entry_count - 1 : 0];
     if (is_word(word, "timeout")) menu.seconds = take_number(rest);
     else if (is_word(word, "default")) menu.chosen = take_number(rest);
     else if (is_word(word, "fallback")) take_fallbacks(rest);
     else if (is_word(word, "arena")) menu.arena = (uint64_t)take_number(rest) * 1024;
     else if (is_word(word, "write")) menu.writes = 1;
+    else if (is_word(word, "change")) menu.changes = 1;
     else if (is_word(word, "title")) begin_entry(rest);
     else if (!check(menu.entry_count != 0, "an entry begins with its title")) return;
-    else if (is_word(word, "protocol")) take_protocol(rest, entry);
-    else if (!check(entry->protocol != 0, "the protocol comes behind the title")) return;
+    else if (is_word(word, "protocol")) take_protocol(rest, &entry->core);
+    else if (!check(entry->core.protocol != 0, "the protocol comes behind the title")) return;
     else if (is_word(word, "kernel")) take_kernel(rest, entry);
     else if (is_word(word, "module")) take_module(rest, entry);
     else if (is_word(word, "ramdisk")) take_ramdisk(rest, entry);
-    else if (!check(is_word(word, "line"), "no such word")) return;
-    else if (check(entry->line.length == 0, "an entry has one line")) entry->line = take_line(rest);
+    else if (check(is_word(word, "line"), "no such word")) take_entry_line(rest, &entry->core);
 }
 
 const char *read_menu(char *text, uint32_t *line) {
     menu.seconds = no_limit;
-    menu.arena = 4 << 20;
+    menu.arena = 1 << 20;
     if (strlen(text) >= 3 && memcmp(text, "\xef\xbb\xbf", 3) == 0) text += 3; /* a mark of UTF-8 */
     for (*line = 1; *text; ++*line) {
         char *next = text;
@@ -178,24 +177,17 @@ const char *read_menu(char *text, uint32_t *line) {
     for (uint32_t i = 0; i < menu.fallback_count; i++)
         check(menu.fallbacks[i] < menu.entry_count, "a fallback is no entry");
     for (uint32_t i = 0; i < menu.entry_count; i++)
-        check(menu.entries[i].kernel != BOOTCORE_NO_FILE, "an entry has no kernel");
+        check(menu.entries[i].paths[0] != NULL, "an entry has no kernel");
     return wrong;
 }
 
 /* ---- the menu, once it is read */
 
-void list_attempts(void) {
-    uint32_t seen[max_entries] = {0};
+void list_attempts(int with_fallbacks) {
+    uint32_t seen[BOOTCORE_MAX_ENTRIES] = {0};
     menu.attempt_count = 0;
-    for (uint32_t i = 0; i <= menu.fallback_count; i++) {
+    for (uint32_t i = 0; i <= (with_fallbacks ? menu.fallback_count : 0); i++) {
         uint32_t entry = i == 0 ? menu.chosen : menu.fallbacks[i - 1];
         if (!seen[entry]++) menu.attempts[menu.attempt_count++] = entry;
     }
-}
-
-uint32_t file_at(const bootcore_entry *entry, uint32_t position) {
-    if (position == 0) return entry->kernel;
-    if (position <= entry->module_count)
-        return menu.modules[entry->first_module + position - 1].file;
-    return position == 1 ? entry->initrd : BOOTCORE_NO_FILE;
 }

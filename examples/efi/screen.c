@@ -32,6 +32,30 @@ void print(const char *form, ...) {
     va_end(given);
 }
 
+static void measure_screen(UINTN *columns, UINTN *rows) {
+    if (EFI_ERROR(ST->ConOut->QueryMode(ST->ConOut, ST->ConOut->Mode->Mode, columns, rows)))
+        *columns = 80, *rows = 25;
+}
+
+/* A row that is full ends before a word, which begins the next one. */
+void print_sentence(const char *about, const char *sentence) {
+    UINTN columns, rows, column = 6 + strlen(about);
+    size_t length;
+    measure_screen(&columns, &rows);
+    print("    %s: ", about);
+    for (; *sentence; sentence += length) {
+        for (length = 1; sentence[length] && sentence[length] != ' '; length++) continue;
+        if (column + length >= columns) {
+            print("\n      ");
+            column = 6;
+            if (*sentence == ' ') sentence++, length--;
+        }
+        for (size_t i = 0; i < length; i++) put(sentence[i]);
+        column += length;
+    }
+    print("\n");
+}
+
 /* ---- the menu */
 
 /* In so many columns: a longer text is cut. */
@@ -45,8 +69,9 @@ static void show_row(uint32_t index, int is_marked) {
     print("   ");
     if (is_marked) ST->ConOut->SetAttribute(ST->ConOut, EFI_TEXT_ATTR(EFI_WHITE, EFI_BLUE));
     print(" ");
-    show_wide(menu.titles[index], 50);
-    show_wide(names[menu.entries[index].protocol], 16);
+    show_wide(menu.entries[index].title, 49);
+    put(' ');
+    show_wide(names[menu.entries[index].core.protocol], 16);
     ST->ConOut->SetAttribute(ST->ConOut, EFI_TEXT_ATTR(EFI_LIGHTGRAY, EFI_BLACK));
     print("\n");
 }
@@ -54,8 +79,7 @@ static void show_row(uint32_t index, int is_marked) {
 /* How many entries are shown at once, so that nothing scrolls: beside them there are seven rows. */
 static uint32_t count_rows(void) {
     UINTN columns, rows;
-    if (EFI_ERROR(ST->ConOut->QueryMode(ST->ConOut, ST->ConOut->Mode->Mode, &columns, &rows)))
-        rows = 25;
+    measure_screen(&columns, &rows);
     return rows > 8 ? (uint32_t)rows - 7 : 1;
 }
 
@@ -73,43 +97,61 @@ static void show_menu(uint32_t marked, uint32_t left) {
 /* ---- keys */
 
 static EFI_INPUT_KEY key; /* the last one that was pressed */
+static EFI_EVENT timer;
 
-/* Whether one is pressed within a second. */
-static int read_key(void) {
-    static EFI_EVENT timer;
-    UINTN index;
-    if (timer != NULL || !EFI_ERROR(BS->CreateEvent(EVT_TIMER, 0, NULL, NULL, &timer))) {
-        EFI_EVENT events[2] = {ST->ConIn->WaitForKey, timer};
-        BS->SetTimer(timer, TimerRelative, 10000000); /* in steps of 100 ns */
-        BS->WaitForEvent(2, events, &index);
-    } else {
-        timer = NULL;
-        BS->Stall(1000000); /* microseconds */
-    }
-    /* a Shift alone may end the wait, and is no key */
-    return !EFI_ERROR(ST->ConIn->ReadKeyStroke(ST->ConIn, &key));
+int open_screen(void) {
+    if (EFI_ERROR(BS->CreateEvent(EVT_TIMER, 0, NULL, NULL, &timer))) timer = NULL;
+    return timer != NULL;
 }
 
-int choose_entry(void) {
-    uint32_t left = menu.seconds == no_limit ? 0 : menu.seconds;
-    ST->ConOut->EnableCursor(ST->ConOut, FALSE);
-    ST->ConOut->ClearScreen(ST->ConOut);
-    if (menu.seconds == 0) return 1;
+void close_screen(void) {
+    if (timer != NULL) BS->CloseEvent(timer);
+}
+
+static int read_key(void) { return !EFI_ERROR(ST->ConIn->ReadKeyStroke(ST->ConIn, &key)); }
+
+/* Whether a key is pressed within this time. A Shift alone ends a wait too, and is no key: the time
+   goes on. */
+static int is_pressed_within(uint64_t milliseconds) {
+    EFI_EVENT events[2] = {timer, ST->ConIn->WaitForKey};
+    UINTN index = 1;
+    BS->SetTimer(timer, TimerRelative, milliseconds * 10000); /* in steps of 100 ns */
+    while (index != 0) {
+        BS->WaitForEvent(2, events, &index);
+        if (read_key()) return 1;
+    }
+    return 0;
+}
+
+void wait_key(void) {
+    UINTN index;
+    print("\n    Press a key.\n");
+    do BS->WaitForEvent(1, &ST->ConIn->WaitForKey, &index);
+    while (!read_key());
+}
+
+/* ---- the choice */
+
+/* The menu until a key ends it or the time is over. */
+static enum choice ask(uint32_t left) {
     for (;;) {
         show_menu(menu.chosen, left);
-        if (!read_key()) {
-            if (left && --left == 0) return 1;
+        if (!is_pressed_within(1000)) {
+            if (left && --left == 0) return chosen_by_time;
             continue;
         }
         left = 0; /* a key ends the time limit */
-        if (key.UnicodeChar == '\r') return 1;
-        if (key.ScanCode == SCAN_ESC) return 0;
+        if (key.UnicodeChar == '\r') return chosen_by_hand;
+        if (key.ScanCode == SCAN_ESC) return to_firmware;
         if (key.ScanCode == SCAN_UP && menu.chosen > 0) menu.chosen--;
         if (key.ScanCode == SCAN_DOWN && menu.chosen + 1 < menu.entry_count) menu.chosen++;
     }
 }
 
-void wait_key(void) {
-    print("\n    Press a key.\n");
-    while (!read_key()) continue;
+/* Without time to choose the menu is shown to who holds a key down, which repeats in this time. */
+enum choice choose_entry(void) {
+    ST->ConOut->EnableCursor(ST->ConOut, FALSE);
+    ST->ConOut->ClearScreen(ST->ConOut);
+    if (menu.seconds == 0 && !is_pressed_within(100)) return chosen_by_time;
+    return ask(menu.seconds == no_limit ? 0 : menu.seconds);
 }

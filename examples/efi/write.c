@@ -7,80 +7,108 @@
 
 /* A TOML text: letters below 0x20, quotes and backslashes by their number. Of a copy each byte in
    hexadecimal digits. */
-static void add_text(const char *key, bootcore_range range, int is_copy) {
+static void add_text(const char *key, bootcore_bytes text, int is_copy) {
     print("%s = \"", key);
-    for (uint64_t i = 0; i < range.length; i++) {
-        uint64_t byte = menu.text[range.offset + i];
+    for (size_t i = 0; i < text.length; i++) {
+        uint64_t byte = ((const uint8_t *)text.bytes)[i];
         if (!is_copy && byte >= 0x20 && byte != '"' && byte != '\\') print("%c", (int)byte);
         else print("%s%x%x", is_copy ? "" : "\\u00", byte >> 4, byte & 15);
     }
     print("\"\n");
 }
 
-static void describe_entry(const bootcore_entry *entry) {
-    print("[[entry]]\ntitle = \"written\"\nprotocol = \"%s\"\n", protocols[entry->protocol]);
-    print("kernel = \"%s\"\n", menu.paths[entry->kernel]);
-    add_text("line", entry->line, 0);
-    if (entry->initrd != BOOTCORE_NO_FILE) print("initrd = \"%s\"\n", menu.paths[entry->initrd]);
-    if (entry->rsdp_old.length) add_text("rsdp_old", entry->rsdp_old, 1);
-    if (entry->rsdp_new.length) add_text("rsdp_new", entry->rsdp_new, 1);
-    for (uint32_t i = 0; i < entry->module_count; i++) {
-        const bootcore_module *module = &menu.modules[entry->first_module + i];
-        print("[[entry.module]]\nfile = \"%s\"\n", menu.paths[module->file]);
-        add_text("line", module->line, 0);
+static void describe_entry(const menu_entry *entry) {
+    const bootcore_entry *core = &entry->core;
+    print("[[entry]]\ntitle = \"written\"\nprotocol = \"%s\"\n", protocols[core->protocol]);
+    print("kernel = \"%s\"\n", entry->paths[0]);
+    add_text("line", core->line, 0);
+    if (core->rsdp_old.length) add_text("rsdp_old", core->rsdp_old, 1);
+    if (core->rsdp_new.length) add_text("rsdp_new", core->rsdp_new, 1);
+    for (size_t i = 0; i < core->module_count; i++) {
+        print("[[entry.module]]\nfile = \"%s\"\n", entry->paths[1 + i]);
+        add_text("line", core->modules[i].line, 0);
     }
+    if (core->module_count == 0 && entry->file_count > 1)
+        print("initrd = \"%s\"\n", entry->paths[1]);
 }
 
-static int write_description(void) {
+/* A boot of a description reads its files into a pool, which a plan has no use for: the largest
+   range that may be loaded into. */
+static bootcore_region find_pool(const bootcore_machine *machine) {
+    const uint64_t lowest = page, highest = machine->size - page;
+    bootcore_region pool = {lowest, 0, BOOTCORE_USABLE, 0};
+    for (size_t i = 0; i < machine->region_count; i++) {
+        uint64_t start = machine->regions[i].base, end = start + machine->regions[i].length;
+        if (start < lowest) start = lowest;
+        if (end > highest) end = highest;
+        if (machine->regions[i].kind != BOOTCORE_USABLE || start >= end) continue;
+        if (end - start > pool.length) pool.base = start, pool.length = end - start;
+    }
+    return pool;
+}
+
+static void describe_machine(const bootcore_machine *machine) {
     static const char *const kinds[] = {"", "usable", "reserved", "acpi", "nvs", "bad"};
-    static char lines[65536];
-    const bootcore_machine *core = &boot.map.core;
-    kept = lines;
-    kept_end = lines + sizeof lines;
-    print("size = 0x%x\npool = [0x%x, 0x%x]\n", core->size, core->pool_base,
-          core->pool_base + core->pool_length);
-    for (uint32_t i = 0; i < boot.map.region_count; i++) {
-        const bootcore_region *region = &boot.map.regions[i];
+    bootcore_region pool = find_pool(machine);
+    print("size = 0x%x\npool = [0x%x, 0x%x]\n", machine->size, pool.base, pool.base + pool.length);
+    for (size_t i = 0; i < machine->region_count; i++) {
+        const bootcore_region *region = &machine->regions[i];
         print("[[region]]\nbase = 0x%x\nlength = 0x%x\nkind = \"%s\"\n", region->base,
               region->length, kinds[region->kind]);
     }
-    describe_entry(&menu.entries[boot.entry]);
-    bootcore_range text = {(UINTN)lines, (uint64_t)(kept - lines)};
+}
+
+static int write_description(EFI_FILE *file, const menu_entry *entry) {
+    static char lines[max_text];
+    kept = lines;
+    kept_end = lines + sizeof lines;
+    describe_machine(&boot.map.machine);
+    describe_entry(entry);
+    uint64_t length = (uint64_t)(kept - lines);
     kept = NULL;
-    return write_file("bootcore/handover.toml", &text, 1);
+    return append(file, lines, length);
 }
 
-/* ---- the image */
+/* ---- the image: its head, then the parts' bytes, as the steps have them in order */
 
-static int write_image(void) {
-    static bootcore_range ranges[1 + BOOTCORE_MAX_PARTS];
+static int append_zeros(EFI_FILE *file, uint64_t length) {
+    static const uint8_t zeros[page];
+    int good = 1;
+    for (; good && length > page; length -= page) good = append(file, zeros, page);
+    return good && append(file, zeros, length);
+}
+
+static int append_step(EFI_FILE *file, const bootcore_step *step) {
+    if (step->source == BOOTCORE_ZEROS) return append_zeros(file, step->length);
+    const uint8_t *bytes = step->source == BOOTCORE_FROM_FILE ? files.read[step->file].bytes
+                                                              : boot.layout.own;
+    return append(file, bytes + step->offset, step->length);
+}
+
+static int write_image(EFI_FILE *file, const menu_entry *entry) {
     static uint8_t head[BOOTCORE_MAX_IMAGE_HEAD];
-    size_t length = bootcore_image_head(&boot.handoff, boot.places, head, sizeof head);
-    ranges[0] = (bootcore_range){(UINTN)head, length};
-    for (uint32_t i = 0; i < boot.handoff.places; i++)
-        ranges[1 + i] = (bootcore_range){boot.places[i].address, boot.places[i].length};
-    return write_file("bootcore/handover.image", ranges, 1 + boot.handoff.places);
+    const bootcore_layout *layout = &boot.layout;
+    (void)entry;
+    size_t length = bootcore_image_head(&layout->handoff, layout->places, head, sizeof head);
+    int good = append(file, head, length);
+    for (size_t i = 0; good && i < layout->step_count; i++)
+        good = append_step(file, &layout->steps[i]);
+    return good;
 }
 
-/* A free range as the application's own, or given back. Only whole ranges: else the firmware takes
-   memory for its map, and the map is no longer the one that is described. */
-static int take_free(uint32_t i, int is_taken) {
-    EFI_PHYSICAL_ADDRESS at = boot.map.free[i].offset;
-    UINTN pages = boot.map.free[i].length / page;
-    if (!is_taken) return !EFI_ERROR(BS->FreePages(at, pages));
-    return !EFI_ERROR(BS->AllocatePages(AllocateAddress, EfiLoaderData, pages, &at));
+static int write_by(int (*write)(EFI_FILE *, const menu_entry *), const char *path,
+                    const menu_entry *entry) {
+    EFI_FILE *file = create_file(path);
+    if (file == NULL) return 0;
+    int good = write(file, entry);
+    return !EFI_ERROR(file->Close(file)) && good;
 }
 
-/* Loads the entry while the firmware serves, into memory that the firmware gave for it. The core
-   runs on the firmware's stack here, which must not lie in what is lent. */
-const char *write_handover(void) {
-    uint32_t taken = 0;
-    if ((UINTN)&taken < boot.map.core.size) return "The handover can't be written.";
-    while (taken < boot.map.free_count && take_free(taken, 1)) taken++;
-    int good = taken == boot.map.free_count && write_description() &&
-               load_entry() == BOOTCORE_DONE;
-    __asm__ volatile("sti"); /* which load_entry ended */
-    good = good && write_image();
-    while (taken > 0) take_free(--taken, 0);
-    return good ? "The handover was written to bootcore/." : "The handover can't be written.";
+/* By the plan that was made last: it is made again, on a map that must be this one still, as the
+   firmware ends. */
+const char *write_handover(const menu_entry *entry) {
+    return write_by(write_description, "bootcore/handover.toml", entry) &&
+                   write_by(write_image, "bootcore/handover.image", entry)
+               ? "The handover was written to bootcore/."
+               : "The handover can't be written.";
 }
