@@ -48,7 +48,7 @@ class BootManager(Checks):
     def setUpClass(cls) -> None:
         super().setUpClass()
         if C_ARCHIVE.exists():
-            cls.built = run(TOP / "examples/efi/build", timeout=600)
+            cls.built = run(TOP / "examples/efi/build", timeout=1800)
         else:
             cls.built = Ran(["examples/efi/build"], TOP, NOT_AT_HAND, b"", b"the core for C is not built\n")
 
