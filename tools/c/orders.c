@@ -1,0 +1,348 @@
+/*
+ * Each misuse of each call, and which of two is told: a call that is right, with one thing changed, and with each two. Prints the
+ * name of each change, or of each two, whose status is another than the first of the two in the order of the header, or after which
+ * something is told that should not be; and then how many were tried.
+ */
+#include "bootcore.h"
+
+#include <inttypes.h>
+#include <stdio.h>
+#include <stdlib.h>
+#include <string.h>
+
+enum { MEMORY = 0x200000, POOL = 0x100000, REGION_ROOM = BOOTCORE_MAX_REGIONS + 9, STEP_ROOM = 64, OWN_ROOM = 8192 };
+
+/* A kernel of Multiboot2 that is a header alone, with where it lies and where it is entered. */
+static const uint32_t kernel[] = {0xE85250D6, 0, 64, 0u - 0xE85250D6 - 64, 2, 24, 0x100000, 0x100000, 0, 0x102000, 3, 12, 0x100000, 0,
+                                  0, 8};
+
+/* All that calls are given and write. Each try begins with `right`. */
+static bootcore_memory memory;
+static uint8_t bytes[MEMORY], bytes_before[MEMORY];
+static bootcore_machine machine;
+static bootcore_region regions[REGION_ROOM];
+static bootcore_entry entries[BOOTCORE_MAX_ENTRIES + 1];
+static bootcore_module modules[BOOTCORE_MAX_MODULES + 9];
+static bootcore_menu menu;
+static uint32_t fallbacks[2];
+static bootcore_outcome outcome, outcome_before;
+static bootcore_layout layout, layout_before;
+static bootcore_place places[BOOTCORE_MAX_PLACES], places_before[BOOTCORE_MAX_PLACES];
+static bootcore_refusal refusals[BOOTCORE_MAX_REFUSALS], refusals_before[BOOTCORE_MAX_REFUSALS];
+static bootcore_step steps[STEP_ROOM];
+static uint8_t own[OWN_ROOM];
+static bootcore_session kept;
+static bootcore_session *session;
+static bootcore_request request;
+static bootcore_bytes files[2];
+static size_t file_count;
+static const uint8_t *piece;
+
+static void right(void) {
+    size_t i;
+    memset(bytes, 0xA5, MEMORY);
+    memset(places, 0xA5, sizeof places);
+    memset(refusals, 0xA5, sizeof refusals);
+    memset(&machine, 0, sizeof machine);
+    memset(entries, 0, sizeof entries);
+    memset(modules, 0, sizeof modules);
+    memset(&menu, 0, sizeof menu);
+    memset(&outcome, 0xA5, sizeof outcome);
+    memset(&request, 0, sizeof request);
+    memory.address = 0;
+    memory.bytes = bytes;
+    memory.length = MEMORY;
+    machine.size = MEMORY;
+    machine.pool_base = POOL;
+    machine.pool_length = MEMORY - POOL;
+    machine.regions = regions;
+    machine.region_count = 3;
+    for (i = 0; i < REGION_ROOM; i++) {
+        regions[i].base = 0;
+        regions[i].length = MEMORY;
+        regions[i].kind = BOOTCORE_USABLE;
+        regions[i].reserved = 0;
+    }
+    for (i = 0; i <= BOOTCORE_MAX_ENTRIES; i++) {
+        entries[i].protocol = BOOTCORE_MULTIBOOT2;
+        entries[i].kernel.bytes = kernel;
+        entries[i].kernel.length = sizeof kernel;
+        entries[i].line.bytes = "line";
+        entries[i].line.length = 4;
+        entries[i].modules = modules;
+        entries[i].module_count = 1;
+    }
+    menu.entries = entries;
+    menu.entry_count = 2;
+    menu.fallbacks = fallbacks;
+    menu.fallback_count = 2;
+    fallbacks[0] = 1;
+    fallbacks[1] = 0;
+    outcome.places = places;
+    outcome.place_room = BOOTCORE_MAX_PLACES;
+    outcome.refusals = refusals;
+    outcome.refusal_room = BOOTCORE_MAX_REFUSALS;
+    session = &kept;
+    piece = (const uint8_t *)kernel;
+    request.length = sizeof kernel;
+    files[0].bytes = kernel;
+    files[0].length = sizeof kernel;
+    files[1].bytes = "";
+    files[1].length = 0;
+    file_count = 2;
+}
+
+static void right_layout(void) {
+    memset(&layout, 0xA5, sizeof layout);
+    layout.places = places;
+    layout.place_room = BOOTCORE_MAX_PLACES;
+    layout.steps = steps;
+    layout.step_room = STEP_ROOM;
+    layout.own = own;
+    layout.own_room = OWN_ROOM;
+}
+
+/* ---- what is changed */
+
+static void null_memory(void) { memory.bytes = NULL; }
+static void null_regions(void) { machine.regions = NULL; }
+static void null_line(void) { entries[0].line.bytes = NULL; }
+static void null_kernel(void) { entries[0].kernel.bytes = NULL; }
+static void null_module(void) { modules[0].file.length = 1; }
+static void null_places(void) { outcome.places = layout.places = NULL; }
+static void null_entries(void) { menu.entries = NULL; }
+static void null_session(void) { session = NULL; }
+static void null_piece(void) { piece = NULL; }
+static void null_files(void) { files[0].bytes = NULL; }
+static void null_own(void) { layout.own = NULL; }
+static void set_machine(void) { machine.reserved = 1; }
+static void set_region(void) { regions[2].reserved = 1; }
+static void set_entry(void) { entries[0].reserved = 1; }
+static void set_last_entry(void) { entries[1].reserved = (uint32_t)1 << 31; }
+static void set_menu(void) { menu.reserved = 1; }
+static void unreadable_kernel(void) { entries[0].kernel.length = BOOTCORE_UNREADABLE; }
+static void unreadable_module(void) { modules[0].file.length = BOOTCORE_UNREADABLE; }
+static void few_places(void) { outcome.place_room = layout.place_room = BOOTCORE_MAX_PLACES - 1; }
+static void few_steps(void) { layout.step_room = 1; }
+static void few_bytes(void) { layout.own_room = 1; }
+static void bad_kind(void) { regions[0].kind = 6; }
+static void bad_size(void) { machine.size = (uint64_t)1 << 33; }
+static void many_regions(void) { machine.region_count = BOOTCORE_MAX_REGIONS + 1; }
+static void bad_region(void) {
+    regions[1].base = UINT64_MAX;
+    regions[1].length = 1;
+}
+static void bad_pool(void) { machine.pool_length++; }
+static void short_memory(void) { memory.length--; }
+static void high_memory(void) { memory.address = (uint64_t)1 << 32; }
+static void bad_protocol(void) { entries[0].protocol = 4; }
+static void bad_last_protocol(void) { entries[1].protocol = 0; }
+static void many_modules(void) { entries[0].module_count = BOOTCORE_MAX_MODULES + 1; }
+static void more_modules(void) { entries[0].module_count = BOOTCORE_MAX_MODULES + 9; }
+static void long_rsdp(void) {
+    entries[0].rsdp_new.bytes = bytes_before;
+    entries[0].rsdp_new.length = BOOTCORE_MAX_RSDP + 1;
+}
+static void many_entries(void) { menu.entry_count = BOOTCORE_MAX_ENTRIES + 1; }
+static void bad_first(void) { menu.first = BOOTCORE_MAX_ENTRIES + 9; }
+static void bad_fallback(void) { fallbacks[1] = BOOTCORE_MAX_ENTRIES + 9; }
+static void no_kernel(void) { entries[0].kernel.length = entries[1].kernel.length = 9; }
+static void file_too_short(void) { files[0].length--; }
+static void file_too_few(void) { file_count = 0; }
+static void file_unreadable(void) { files[1].length = BOOTCORE_UNREADABLE; }
+static void no_source(void) { steps[0].source = 4; }
+static void wrapped(void) { steps[0].address = UINT64_MAX; }
+static void nothing(void) {}
+
+typedef struct change {
+    const char *name;
+    void (*make)(void);
+    uint32_t status; /* that the header gives it, in whose order they stand in a table */
+} change;
+
+#define CHANGE(make, status) {#make, make, status}
+
+static const change of_load[] = {
+    CHANGE(null_memory, BOOTCORE_NULL), CHANGE(null_regions, BOOTCORE_NULL), CHANGE(null_line, BOOTCORE_NULL),
+    CHANGE(null_kernel, BOOTCORE_NULL), CHANGE(null_module, BOOTCORE_NULL), CHANGE(null_places, BOOTCORE_NULL),
+    CHANGE(set_machine, BOOTCORE_BAD_RESERVED), CHANGE(set_region, BOOTCORE_BAD_RESERVED), CHANGE(set_entry, BOOTCORE_BAD_RESERVED),
+    CHANGE(unreadable_kernel, BOOTCORE_BAD_FILE), CHANGE(unreadable_module, BOOTCORE_BAD_FILE),
+    CHANGE(few_places, BOOTCORE_SMALL_ROOM), CHANGE(bad_kind, BOOTCORE_BAD_KIND), CHANGE(bad_size, BOOTCORE_BAD_SIZE),
+    CHANGE(many_regions, BOOTCORE_TOO_MANY_REGIONS), CHANGE(bad_region, BOOTCORE_BAD_REGION), CHANGE(bad_pool, BOOTCORE_BAD_POOL),
+    CHANGE(short_memory, BOOTCORE_BAD_MEMORY), CHANGE(high_memory, BOOTCORE_BAD_MEMORY),
+    CHANGE(bad_protocol, BOOTCORE_BAD_PROTOCOL), CHANGE(many_modules, BOOTCORE_TOO_MANY), CHANGE(more_modules, BOOTCORE_TOO_MANY),
+    CHANGE(long_rsdp, BOOTCORE_TOO_MANY), CHANGE(no_kernel, BOOTCORE_REFUSED), CHANGE(nothing, BOOTCORE_DONE)};
+/* the same, but for memory and bytes beside the kernel's, which are not looked at; the room for steps is looked at last */
+static const change of_plan[] = {
+    CHANGE(null_regions, BOOTCORE_NULL), CHANGE(null_line, BOOTCORE_NULL), CHANGE(null_kernel, BOOTCORE_NULL),
+    CHANGE(null_places, BOOTCORE_NULL), CHANGE(null_own, BOOTCORE_NULL), CHANGE(set_machine, BOOTCORE_BAD_RESERVED),
+    CHANGE(set_region, BOOTCORE_BAD_RESERVED), CHANGE(set_entry, BOOTCORE_BAD_RESERVED),
+    CHANGE(unreadable_kernel, BOOTCORE_BAD_FILE), CHANGE(unreadable_module, BOOTCORE_BAD_FILE),
+    CHANGE(few_places, BOOTCORE_SMALL_ROOM), CHANGE(bad_kind, BOOTCORE_BAD_KIND), CHANGE(bad_size, BOOTCORE_BAD_SIZE),
+    CHANGE(many_regions, BOOTCORE_TOO_MANY_REGIONS), CHANGE(bad_region, BOOTCORE_BAD_REGION), CHANGE(bad_pool, BOOTCORE_BAD_POOL),
+    CHANGE(bad_protocol, BOOTCORE_BAD_PROTOCOL), CHANGE(many_modules, BOOTCORE_TOO_MANY), CHANGE(more_modules, BOOTCORE_TOO_MANY),
+    CHANGE(long_rsdp, BOOTCORE_TOO_MANY), CHANGE(no_kernel, BOOTCORE_REFUSED), CHANGE(few_steps, BOOTCORE_SMALL_ROOM),
+    CHANGE(few_bytes, BOOTCORE_SMALL_ROOM), CHANGE(nothing, BOOTCORE_DONE)};
+static const change of_boot[] = {
+    CHANGE(null_memory, BOOTCORE_NULL), CHANGE(null_regions, BOOTCORE_NULL), CHANGE(null_entries, BOOTCORE_NULL),
+    CHANGE(null_line, BOOTCORE_NULL), CHANGE(null_kernel, BOOTCORE_NULL), CHANGE(null_module, BOOTCORE_NULL),
+    CHANGE(null_places, BOOTCORE_NULL), CHANGE(set_machine, BOOTCORE_BAD_RESERVED), CHANGE(set_region, BOOTCORE_BAD_RESERVED),
+    CHANGE(set_menu, BOOTCORE_BAD_RESERVED), CHANGE(set_last_entry, BOOTCORE_BAD_RESERVED),
+    CHANGE(few_places, BOOTCORE_SMALL_ROOM), CHANGE(bad_kind, BOOTCORE_BAD_KIND), CHANGE(bad_size, BOOTCORE_BAD_SIZE),
+    CHANGE(many_regions, BOOTCORE_TOO_MANY_REGIONS), CHANGE(bad_region, BOOTCORE_BAD_REGION), CHANGE(bad_pool, BOOTCORE_BAD_POOL),
+    CHANGE(short_memory, BOOTCORE_BAD_MEMORY), CHANGE(high_memory, BOOTCORE_BAD_MEMORY),
+    CHANGE(bad_protocol, BOOTCORE_BAD_PROTOCOL), CHANGE(bad_last_protocol, BOOTCORE_BAD_PROTOCOL),
+    CHANGE(many_modules, BOOTCORE_TOO_MANY), CHANGE(more_modules, BOOTCORE_TOO_MANY), CHANGE(long_rsdp, BOOTCORE_TOO_MANY),
+    CHANGE(many_entries, BOOTCORE_TOO_MANY), CHANGE(bad_first, BOOTCORE_BAD_INDEX), CHANGE(bad_fallback, BOOTCORE_BAD_INDEX),
+    CHANGE(no_kernel, BOOTCORE_REFUSED), CHANGE(unreadable_kernel, BOOTCORE_DONE), CHANGE(nothing, BOOTCORE_DONE)};
+static const change of_make[] = {
+    CHANGE(null_session, BOOTCORE_NULL), CHANGE(null_regions, BOOTCORE_NULL), CHANGE(null_entries, BOOTCORE_NULL),
+    CHANGE(null_line, BOOTCORE_NULL), CHANGE(set_machine, BOOTCORE_BAD_RESERVED), CHANGE(set_region, BOOTCORE_BAD_RESERVED),
+    CHANGE(set_menu, BOOTCORE_BAD_RESERVED), CHANGE(set_last_entry, BOOTCORE_BAD_RESERVED), CHANGE(bad_kind, BOOTCORE_BAD_KIND),
+    CHANGE(bad_size, BOOTCORE_BAD_SIZE), CHANGE(many_regions, BOOTCORE_TOO_MANY_REGIONS), CHANGE(bad_region, BOOTCORE_BAD_REGION),
+    CHANGE(bad_pool, BOOTCORE_BAD_POOL), CHANGE(bad_protocol, BOOTCORE_BAD_PROTOCOL),
+    CHANGE(bad_last_protocol, BOOTCORE_BAD_PROTOCOL), CHANGE(many_modules, BOOTCORE_TOO_MANY),
+    CHANGE(more_modules, BOOTCORE_TOO_MANY), CHANGE(long_rsdp, BOOTCORE_TOO_MANY), CHANGE(many_entries, BOOTCORE_TOO_MANY),
+    CHANGE(bad_first, BOOTCORE_BAD_INDEX), CHANGE(bad_fallback, BOOTCORE_BAD_INDEX), CHANGE(null_kernel, BOOTCORE_DONE),
+    CHANGE(null_module, BOOTCORE_DONE), CHANGE(unreadable_kernel, BOOTCORE_DONE), CHANGE(nothing, BOOTCORE_DONE)};
+/* a struct that keeps no session */
+static const change of_none[] = {CHANGE(null_session, BOOTCORE_NULL), CHANGE(null_memory, BOOTCORE_NULL),
+                                 CHANGE(high_memory, BOOTCORE_BAD_MEMORY), CHANGE(short_memory, BOOTCORE_NO_SESSION),
+                                 CHANGE(nothing, BOOTCORE_NO_SESSION)};
+static const change of_start[] = {CHANGE(null_session, BOOTCORE_NULL), CHANGE(null_memory, BOOTCORE_NULL),
+                                  CHANGE(high_memory, BOOTCORE_BAD_MEMORY), CHANGE(short_memory, BOOTCORE_BAD_MEMORY),
+                                  CHANGE(nothing, BOOTCORE_WAITING)};
+static const change of_pieces[] = {CHANGE(null_session, BOOTCORE_NULL), CHANGE(null_memory, BOOTCORE_NULL),
+                                   CHANGE(null_piece, BOOTCORE_NULL), CHANGE(high_memory, BOOTCORE_BAD_MEMORY),
+                                   CHANGE(short_memory, BOOTCORE_BAD_MEMORY), CHANGE(nothing, BOOTCORE_WAITING)};
+static const change of_outcome[] = {CHANGE(null_session, BOOTCORE_NULL), CHANGE(null_places, BOOTCORE_NULL),
+                                    CHANGE(few_places, BOOTCORE_SMALL_ROOM), CHANGE(nothing, BOOTCORE_NO_SESSION)};
+static const change of_carrying[] = {CHANGE(null_memory, BOOTCORE_NULL), CHANGE(null_files, BOOTCORE_NULL),
+                                     CHANGE(null_own, BOOTCORE_NULL), CHANGE(file_unreadable, BOOTCORE_BAD_FILE),
+                                     CHANGE(few_steps, BOOTCORE_SMALL_ROOM), CHANGE(few_bytes, BOOTCORE_SMALL_ROOM),
+                                     CHANGE(file_too_short, BOOTCORE_BAD_FILE), CHANGE(file_too_few, BOOTCORE_BAD_FILE),
+                                     CHANGE(no_source, BOOTCORE_BAD_FILE), CHANGE(high_memory, BOOTCORE_OUTSIDE),
+                                     CHANGE(wrapped, BOOTCORE_OUTSIDE), CHANGE(nothing, BOOTCORE_DONE)};
+
+/* ---- the calls */
+
+static uint32_t load(void) { return bootcore_load(&memory, &machine, entries, &outcome); }
+static uint32_t plan(void) { return bootcore_plan(&machine, entries, &layout); }
+static uint32_t prepare(void) { return bootcore_prepare(&machine, entries, &outcome); }
+static uint32_t boot(void) { return bootcore_boot(&memory, &machine, &menu, &outcome); }
+static uint32_t make(void) { return bootcore_session_make(session, &machine, &menu); }
+static uint32_t start(void) { return bootcore_session_start(session, &memory); }
+static uint32_t pieces(void) { return bootcore_session_pieces(session, &memory, &request, piece, 4); }
+static uint32_t fault(void) {
+    request.attempt = 9;
+    return bootcore_session_fault(session, &memory, &request);
+}
+static uint32_t end(void) { return bootcore_session_outcome(session, &outcome); }
+static uint32_t carry_out(void) { return bootcore_carry_out(&layout, files, file_count, &memory, 1); }
+
+static int tried, wrong;
+
+/* Whether a misuse has changed nothing; a plan without enough room for steps tells how much it wants. */
+static bool is_kept(void) {
+    layout_before.step_count = layout.step_count;
+    layout_before.own_length = layout.own_length;
+    return !memcmp(bytes, bytes_before, MEMORY) && !memcmp(places, places_before, sizeof places) &&
+           !memcmp(refusals, refusals_before, sizeof refusals) && !memcmp(&outcome, &outcome_before, sizeof outcome) &&
+           !memcmp(&layout, &layout_before, sizeof layout);
+}
+
+typedef void changing(void);
+
+static bool are(const change *one, const change *two, changing *first, changing *second) {
+    return (one->make == first && two->make == second) || (one->make == second && two->make == first);
+}
+
+/* Of some two changes one undoes the other: what can't be read has no pointer that is looked at, and so on. */
+static bool can_be_both(const change *one, const change *two) {
+    return !are(one, two, null_kernel, unreadable_kernel) && !are(one, two, null_module, unreadable_module) &&
+           !are(one, two, null_module, bad_protocol) && !are(one, two, unreadable_module, bad_protocol) &&
+           !are(one, two, null_files, file_too_few);
+}
+
+static void try_two(const char *call_name, uint32_t (*call)(void), const change *one, const change *two) {
+    uint32_t status;
+    bool holds;
+    right();
+    if (call == carry_out) {
+        right_layout();
+        (void)bootcore_plan(&machine, entries, &layout);
+        memset(places, 0xA5, sizeof places);
+    } else {
+        right_layout();
+    }
+    two->make();
+    one->make();
+    outcome_before = outcome;
+    layout_before = layout;
+    status = call();
+    holds = one->status < BOOTCORE_NULL || is_kept();
+    if (status != one->status || !holds) {
+        printf("%s, %s and %s: %" PRIu32 ", not %" PRIu32 "%s\n", call_name, one->name, two->name, status, one->status,
+               holds ? "" : ", and something is told");
+        wrong++;
+    }
+    tried++;
+}
+
+/* Each change alone, and before each one that comes behind it in the table. */
+static void try_all(const char *call_name, uint32_t (*call)(void), const change *changes, size_t count) {
+    size_t i, k;
+    for (i = 0; i < count; i++) {
+        try_two(call_name, call, &changes[i], &changes[i]);
+        for (k = i + 1; k < count; k++) {
+            if (changes[i].status != changes[k].status && can_be_both(&changes[i], &changes[k])) {
+                try_two(call_name, call, &changes[i], &changes[k]);
+            }
+        }
+    }
+}
+
+#define TRY(call, changes) try_all(#call, call, changes, sizeof changes / sizeof *changes)
+
+/* What only a load can prepare: without those of its misuses that a preparation does not look at. */
+static void try_preparations(void) {
+    size_t i, k, count = sizeof of_load / sizeof *of_load;
+    for (i = 0; i < count; i++) {
+        for (k = i + 1; k < count; k++) {
+            const change *both[2];
+            both[0] = &of_load[i];
+            both[1] = &of_load[k];
+            if (both[0]->make == null_memory || both[0]->status == BOOTCORE_BAD_MEMORY || both[0]->make == null_module ||
+                both[0]->status == both[1]->status || !can_be_both(both[0], both[1])) {
+                continue;
+            }
+            try_two("prepare", prepare, both[0], both[1]);
+        }
+    }
+}
+
+int main(void) {
+    memset(bytes_before, 0xA5, sizeof bytes_before);
+    memset(places_before, 0xA5, sizeof places_before);
+    memset(refusals_before, 0xA5, sizeof refusals_before);
+    TRY(load, of_load);
+    TRY(plan, of_plan);
+    try_preparations();
+    TRY(boot, of_boot);
+    TRY(carry_out, of_carrying);
+    TRY(start, of_none);
+    TRY(pieces, of_none);
+    TRY(fault, of_none);
+    TRY(end, of_outcome);
+    TRY(make, of_make);
+    right();
+    if (make() != BOOTCORE_DONE) {
+        puts("no session is made");
+    }
+    TRY(start, of_start);
+    TRY(pieces, of_pieces);
+    TRY(fault, of_start);
+    bootcore_session_free(&kept);
+    printf("%d tried, %d wrong\n", tried, wrong);
+    return wrong != 0;
+}
