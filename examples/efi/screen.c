@@ -114,12 +114,12 @@ static int read_key(void) { return !EFI_ERROR(ST->ConIn->ReadKeyStroke(ST->ConIn
    goes on. */
 static int is_pressed_within(uint64_t milliseconds) {
     EFI_EVENT events[2] = {timer, ST->ConIn->WaitForKey};
-    UINTN index = 1;
+    UINTN index;
     BS->SetTimer(timer, TimerRelative, milliseconds * 10000); /* in steps of 100 ns */
-    while (index != 0) {
-        BS->WaitForEvent(2, events, &index);
+    do {
+        if (EFI_ERROR(BS->WaitForEvent(2, events, &index))) return 0; /* no keyboard, say */
         if (read_key()) return 1;
-    }
+    } while (index != 0);
     return 0;
 }
 
