@@ -10,17 +10,6 @@ from tests.c_core import CC, HEADER, WARNINGS, CoreChecks, build, libraries, why
 from tests.changed_images import change, changed_images
 from tests.support import PROGRAM, TOP, Checks, Ran, has_tomllib, is_at_hand, need_built, run
 
-IN_CXX = """\
-#include "bootcore.h"
-int main() {
-    bootcore_session session = {nullptr};
-    bool missing = bootcore_session_missing(&session, nullptr);
-    uint32_t walked = bootcore_walk(nullptr, 0, nullptr, nullptr);
-    bootcore_session_free(&session);
-    return missing || walked != BOOTCORE_NULL;
-}
-"""
-
 DISK = """\
 entry 0 refused 2 1
 entry 1 ip 100010 bx 1000
@@ -49,7 +38,6 @@ part 2 0 at 101000, 4096 bytes
 
 SEEN = "a kernel sees: entry 100010, line of 1 bytes, 1 modules, 3 runs\n"
 
-SANITIZERS = ["-fsanitize=address,undefined", "-fno-sanitize-recover=all"]
 CASES_COUNT = re.compile(r"(\d+) boots and (\d+) loads of \d+ cases, (\d+) differ")
 
 
@@ -76,22 +64,35 @@ class Header(CoreChecks):
         self.ends(sentence, run(*words))
 
     def test_c(self) -> None:
-        self.reads("include/bootcore.h is accepted as C99 without a warning", CC, "c99", "c")
-        self.reads("include/bootcore.h is accepted as C11 without a warning", CC, "c11", "c")
+        for compiler in dict.fromkeys([" ".join(CC), "gcc", "clang"]):
+            if not is_at_hand(compiler.split()[0]):
+                self.leave_out(f"include/bootcore.h is accepted by {compiler} as C99 and C11 without a warning", "it is not at hand")
+                continue
+            for standard in ("c99", "c11"):
+                sentence = f"include/bootcore.h is accepted by {compiler} as {standard.upper()} without a warning"
+                self.reads(sentence, compiler.split(), standard, "c")
 
     def test_cxx(self) -> None:
-        if not is_at_hand("c++"):
-            self.leave_out("include/bootcore.h is accepted as C++98 and C++11 without a warning", "c++ is not at hand")
-            self.leave_out("a program in C++11 is linked with the core and runs", "c++ is not at hand")
+        for compiler in ("c++", "clang++"):
+            if not is_at_hand(compiler):
+                self.leave_out(f"include/bootcore.h is accepted by {compiler} as C++98 and C++11 without a warning", "it is not at hand")
+                continue
+            for standard in ("c++98", "c++11"):
+                sentence = f"include/bootcore.h is accepted by {compiler} as {standard.upper()} without a warning"
+                self.reads(sentence, [compiler], standard, "c++")
+
+    def test_uefi(self) -> None:
+        sentence = "include/bootcore.h is accepted for UEFI, where calls have another convention, without a warning"
+        if not is_at_hand("clang"):
+            self.leave_out(sentence, "clang is not at hand")
             return
-        self.reads("include/bootcore.h is accepted as C++98 without a warning", ["c++"], "c++98", "c++")
-        self.reads("include/bootcore.h is accepted as C++11 without a warning", ["c++"], "c++11", "c++")
-        source, linked = self.room / "linked.cc", self.room / "linked"
-        source.write_text(IN_CXX, encoding="utf-8")
-        with self.check("a program in C++11 is linked with the core and runs"):
-            words = ["c++", "-std=c++11", *WARNINGS, "-I", HEADER.parent, source, *libraries(), "-o", linked]
-            self.assert_ended(run(*words))
-            self.assert_ended(run(linked))
+        self.reads(sentence, ["clang", "--target=x86_64-unknown-windows", "-ffreestanding"], "c99", "c")
+
+    def test_length(self) -> None:
+        """include/bootcore.h has at most 500 lines, of at most 100 columns"""
+        lines = HEADER.read_text(encoding="utf-8").splitlines()
+        self.assertLessEqual(len(lines), 500)
+        self.assertEqual([line for line in lines if len(line) > 100], [])
 
 
 class Texts(CoreChecks):
@@ -218,24 +219,14 @@ class Examples(CoreChecks):
 
 
 class Cases(CoreChecks):
-    def sanitizers(self) -> List[str]:
-        """The sanitizers, if the compiler has them and what it makes with them runs."""
-        source, made = self.room / "none.c", self.room / "none"
-        source.write_text("int main(void) { return 0; }\n", encoding="utf-8")
-        if run(*CC, *SANITIZERS, source, "-o", made).status == 0 and run(made).status == 0:
-            return SANITIZERS
-        self.leave_out("the core for C runs the cases under the sanitizers", "this compiler has none")
-        return []
-
     def test_cases(self) -> None:
-        driver = self.room / "c_cases"
-        words = [*CC, "-std=c99", "-g", "-O2", *self.sanitizers(), "-I", HEADER.parent, TOP / "tools/c/cases.c"]
-        wrapped = "-Wl,--wrap=malloc,--wrap=realloc"
-        built = run(*words, *libraries(), wrapped, "-o", driver, timeout=600)
-        self.ends("the driver that takes the cases to the core for C is built", built)
-        if built.status != 0:
+        driver = self.driver("cases", *self.sanitizers(), "-Wl,--wrap=malloc,--wrap=realloc")
+        if driver is None:
             return
-        sentence = "each case ends as wanted by way of C, also with each growth of memory refused in turn"
+        sentence = (
+            "each case ends as wanted by way of C, by a boot and a session, a load and a plan carried out in three ways,"
+            " also with each growth of memory refused in turn"
+        )
         if not has_tomllib():
             self.leave_out(sentence, "python3 of 3.11 or later is not at hand")
             return

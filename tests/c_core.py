@@ -12,7 +12,9 @@ from tests.support import C_ARCHIVE, PROGRAM, TOP, ProgramChecks, Ran, run
 
 OUT = TOP / "examples/c/out"
 HEADER = TOP / "include/bootcore.h"
-WARNINGS = ["-Wall", "-Wextra", "-Werror"]
+FREESTANDING = OUT / "libbootcore_freestanding.a"
+WARNINGS = ["-Wall", "-Wextra", "-Wpedantic", "-Wconversion", "-Werror"]
+SANITIZERS = ["-fsanitize=address,undefined", "-fno-sanitize-recover=all"]
 CC = (os.environ.get("CC") or "cc").split()
 HOURS = 3600.0
 
@@ -33,6 +35,12 @@ def build() -> Ran:
     """The core and the examples, built once for all checks."""
     print("c: the static library for C is built: minutes, if its crates were not built before", flush=True)
     return run(TOP / "examples/c/build", timeout=3 * HOURS)
+
+
+@lru_cache(maxsize=None)
+def build_freestanding() -> Ran:
+    """The archive for firmware, built once for all checks."""
+    return run(TOP / "tools/c_archive", "--freestanding", FREESTANDING, timeout=3 * HOURS)
 
 
 @lru_cache(maxsize=None)
@@ -74,3 +82,20 @@ class CoreChecks(ProgramChecks):
     def example(self, name: str, *words: Union[str, Path], cwd: Path = TOP) -> Ran:
         """A run of a program that examples/c/build made."""
         return run(OUT / name, *words, cwd=cwd)
+
+    def sanitizers(self) -> List[str]:
+        """The sanitizers, if the compiler has them and what it makes with them runs."""
+        source, made = self.room / "none.c", self.room / "none"
+        source.write_text("int main(void) { return 0; }\n", encoding="utf-8")
+        if run(*CC, *SANITIZERS, source, "-o", made).status == 0 and run(made).status == 0:
+            return SANITIZERS
+        self.leave_out("a driver of the core for C runs under the sanitizers", "this compiler has none")
+        return []
+
+    def driver(self, name: str, *flags: str, archive: Optional[Path] = None) -> Optional[Path]:
+        """A program of tools/c over an archive, the one with a libc if none is named; None if it can't be built, as is reported."""
+        made = self.room / f"c_{name}"
+        words = [*CC, "-std=c99", "-g", "-O2", *WARNINGS, *flags, "-I", HEADER.parent, TOP / f"tools/c/{name}.c"]
+        built = run(*words, *([archive] if archive else libraries()), "-o", made, timeout=600)
+        self.ends(f"tools/c/{name}.c is built without a warning over {(archive or libraries()[0]).name}", built)
+        return made if built.status == 0 else None

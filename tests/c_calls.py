@@ -1,0 +1,150 @@
+"""the calls of the core for C: which misuse is told, what they need of stack and memory, random inputs, clients"""
+
+import re
+import unittest
+from pathlib import Path
+from typing import Dict, Optional, Tuple
+
+from tests import examples
+from tests.c_core import CC, FREESTANDING, HEADER, WARNINGS, CoreChecks, build_freestanding, libraries, why_left_out
+from tests.support import PROGRAM, TOP, has_tomllib, is_at_hand, need_built, run
+
+ONE_MINUTE = 60
+QUIET = {"PYTHONDONTWRITEBYTECODE": "1"}
+NO_TOMLLIB = "python3 of 3.11 or later is not at hand"
+
+CLIENT = """\
+version 10000
+load 0
+ip 100000, cs 10 of type 11
+part 3 at 1000, 4096 bytes
+part 1 at 100000, 8192 bytes
+part 2 at 102000, 4096 bytes
+outcome 114
+"""
+
+
+def setUpModule() -> None:
+    why = why_left_out()
+    if why:
+        raise unittest.SkipTest(why.replace("the core for C", "the calls of the core for C"))
+    need_built(PROGRAM, "tools/build")
+
+
+def constant(name: str, header: str = "bootcore.h") -> int:
+    """A number of a header."""
+    return int(re.search(rf"\b{name} = (\w+)", (HEADER.parent / header).read_text(encoding="utf-8"))[1], 0)
+
+
+class Misuses(CoreChecks):
+    def test_orders(self) -> None:
+        driver = self.driver("orders", *self.sanitizers())
+        if driver is not None:
+            ran = run(driver, timeout=600)
+            self.ends("of each two misuses of a call from C the first is told, and nothing is changed", ran, 0, "1682 tried, 0 wrong\n")
+
+
+class Needs(CoreChecks):
+    """What calls need of stack, and of an arena."""
+
+    def measured(self, sentence: str, driver: Optional[Path]) -> Dict[Tuple[str, ...], int]:
+        """What tools/c/needs prints of a driver: the number behind the words of each line."""
+        if driver is None:
+            return {}
+        if not has_tomllib():
+            self.leave_out(sentence, NO_TOMLLIB)
+            return {}
+        ran = run(TOP / "tools/c/needs", driver, timeout=1800, env=QUIET)
+        with self.check(sentence):
+            self.assert_ended(ran, 0, None)
+        lines = [line.split(" ") for line in ran.out.decode().splitlines()] if ran.status == 0 else []
+        return {tuple(line[:-1]): int(line[-1]) for line in lines}
+
+    def has_stack(self, needs: Dict[Tuple[str, ...], int], archive: str) -> None:
+        if needs:
+            most, stated = needs["stack",], constant("BOOTCORE_STACK")
+            with self.check(f"no call of {archive} needs more stack than the {stated} bytes of BOOTCORE_STACK: at most {most}"):
+                self.assertLessEqual(most, stated)
+
+    def test_stack(self) -> None:
+        needs = self.measured("the stack of calls is measured over the cases and the largest entries", self.driver("needs"))
+        self.has_stack(needs, "libbootcore.a")
+
+    def test_arena(self) -> None:
+        self.ends("the archive for firmware defines what the headers declare, and wants nothing", build_freestanding())
+        if not FREESTANDING.exists():
+            return
+        driver = self.driver("needs", "-DARENA", archive=FREESTANDING)
+        needs = self.measured("the arena of calls is measured over the cases and the largest entries, and just its peak is enough", driver)
+        self.has_stack(needs, FREESTANDING.name)
+        if needs:
+            most, stated = needs["arena",], constant("BOOTCORE_ARENA", "bootcore_arena.h")
+            with self.check(f"no call needs more of an arena than the {stated} bytes of BOOTCORE_ARENA: at most {most}"):
+                self.assertLessEqual(most, stated)
+
+
+class Freestanding(CoreChecks):
+    def test_bare(self) -> None:
+        build_freestanding()
+        if not FREESTANDING.exists():
+            return
+        made = self.room / "bare"
+        words = [*CC, "-std=c99", "-O2", *WARNINGS, "-ffreestanding", "-fno-stack-protector", "-fno-pic", "-mno-red-zone"]
+        built = run(*words, "-nostdlib", "-static", "-I", HEADER.parent, TOP / "tools/c/bare.c", FREESTANDING, "-o", made)
+        self.ends("a program that calls all of the archive for firmware is linked with nothing else", built)
+        if built.status == 0:
+            self.ends("it loads, plans, boots and walks with an arena, and has no memory without one", run(made))
+
+    def test_red_zone(self) -> None:
+        """no instruction of the archive for firmware reads or writes below the stack pointer"""
+        build_freestanding()
+        if not is_at_hand("objdump"):
+            self.skipTest("objdump is not at hand")
+        if not FREESTANDING.exists():
+            self.skipTest("the archive for firmware is not built, as is reported above")
+        code = run("objdump", "-d", "--no-show-raw-insn", FREESTANDING, timeout=600).out.decode(errors="replace")
+        self.assertGreater(code.count("(%rsp)"), 1000, "operands that begin at the stack pointer")
+        # `lea` computes an address alone
+        below = [line for line in code.splitlines() if re.search(r"-0x[0-9a-f]+\(%rsp", line) and "lea " not in line]
+        self.assertEqual(below[:20], [])
+
+
+class Fuzzed(CoreChecks):
+    def test_fuzz(self) -> None:
+        driver = self.driver("fuzz", *self.sanitizers())
+        if driver is None:
+            return
+        kernels = [self.room / name for name in ("kernel.linux", "kernel.linux64")]
+        kernels[0].write_bytes(examples.linux_kernel())
+        kernels[1].write_bytes(examples.linux64_kernel())
+        sentence = "a minute of random machines, entries and files ends as it should: loads, plans that are carried out, walks"
+        if has_tomllib():
+            of_cases = self.room / "kernels"
+            self.ends("the kernels of the cases are written", run(TOP / "tools/c/kernels", of_cases, env=QUIET))
+            kernels += sorted(of_cases.iterdir())
+        ran = run(driver, str(ONE_MINUTE), "1", self.kernel, *kernels, cwd=self.room, timeout=10 * ONE_MINUTE)
+        told = ran.out.decode(errors="replace").strip()
+        with self.check(f"{sentence}: {told}" if ran.status == 0 else sentence):
+            self.assert_ended(ran, 0, None)
+            counts = re.match(r"\d+ inputs from seed 1: (\d+) loaded, (\d+) refused", told)
+            self.assertTrue(counts and int(counts[1]) > 100 and int(counts[2]) > 100, told)
+
+
+class Clients(CoreChecks):
+    def test_cxx(self) -> None:
+        if not is_at_hand("c++"):
+            self.leave_out("a client in C++98 loads a kernel", "c++ is not at hand")
+            return
+        made = self.room / "client_cc"
+        words = ["c++", "-std=c++98", "-O2", *WARNINGS, "-I", HEADER.parent, TOP / "tools/c/client.cc", *libraries(), "-o", made]
+        self.ends("a client in C++98 is built without a warning", run(*words))
+        self.ends("a client in C++98 loads a kernel", run(made), 0, CLIENT)
+
+    def test_rust(self) -> None:
+        if not is_at_hand("rustc"):
+            self.leave_out("a client in Rust loads a kernel", "rustc is not at hand")
+            return
+        made, folder = self.room / "client_rs", libraries()[0].parent
+        words = ["rustc", "--edition", "2021", "-O", "-D", "warnings", TOP / "tools/c/client.rs", "-L", f"native={folder}"]
+        self.ends("a client in Rust is built without a warning", run(*words, "-l", "static=bootcore", "-o", made, timeout=300))
+        self.ends("a client in Rust loads a kernel", run(made), 0, CLIENT)
