@@ -23,18 +23,19 @@ static uint32_t load_guest(void *memory, bootcore_bytes kernel, bootcore_bytes i
     return bootcore_load(&guest, &machine, &entry, outcome);
 }
 
-static bootcore_bytes read_file(const char *path) {
+static void *read_file(const char *path, size_t *length) {
     FILE *file = fopen(path, "rb");
     long end = file && !fseek(file, 0, SEEK_END) ? ftell(file) : -1;
     void *bytes = end < 0 ? NULL : malloc((size_t)end + 1);
+    *length = (size_t)end;
     if (bytes) {
         rewind(file);
     }
-    if (!bytes || fread(bytes, 1, (size_t)end, file) != (size_t)end || fclose(file)) {
+    if (!bytes || fread(bytes, 1, *length, file) != *length || fclose(file)) {
         fprintf(stderr, "first: %s can't be read\n", path);
         exit(2);
     }
-    return (bootcore_bytes){bytes, (size_t)end};
+    return bytes;
 }
 
 int main(int argc, char **argv) {
@@ -42,23 +43,27 @@ int main(int argc, char **argv) {
     bootcore_refusal refusal;
     bootcore_outcome outcome = {.places = places, .place_room = BOOTCORE_MAX_PLACES,
                                 .refusals = &refusal, .refusal_room = 1};
+    size_t kernel_length, initrd_length;
     void *memory = calloc(SIZE, 1);
     if (argc != 3 || !memory) {
         fputs(memory ? "first KERNEL INITRD\n" : "first: no memory\n", stderr);
         return 2;
     }
-    uint32_t status = load_guest(memory, read_file(argv[1]), read_file(argv[2]), &outcome);
-    if (status == BOOTCORE_REFUSED) {
+    void *kernel = read_file(argv[1], &kernel_length), *initrd = read_file(argv[2], &initrd_length);
+    uint32_t status = load_guest(memory, (bootcore_bytes){kernel, kernel_length},
+                                 (bootcore_bytes){initrd, initrd_length}, &outcome);
+    if (status == BOOTCORE_DONE) {
+        const bootcore_registers *registers = &outcome.handoff.registers;
+        printf("entered at %" PRIx64 ", boot parameters at %" PRIx64 "\n", registers->rip, registers->rsi);
+    } else if (status == BOOTCORE_REFUSED) {
         char words[256];
         bootcore_describe(&refusal, words, sizeof words);
         puts(words);
-        return 1;
-    }
-    if (status != BOOTCORE_DONE) {
+    } else {
         fprintf(stderr, "first: status %" PRIu32 "\n", status);
-        return 2;
     }
-    const bootcore_registers *registers = &outcome.handoff.registers;
-    printf("entered at %" PRIx64 ", boot parameters at %" PRIx64 "\n", registers->rip, registers->rsi);
-    return 0;
+    free(kernel);
+    free(initrd);
+    free(memory);
+    return status == BOOTCORE_DONE ? 0 : status == BOOTCORE_REFUSED ? 1 : 2;
 }

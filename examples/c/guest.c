@@ -1,7 +1,6 @@
 /*
  * A guest loader: plans what goes where in a guest's memory, reads files straight to their places, and
  * prints how the kernel is entered and what stands where: all that a virtual processor is set from.
- *
  *     guest multiboot2 KERNEL LINE [MODULE..]      a module's line is its file's name
  *     guest linux|linux64 KERNEL LINE [INITRD]
  */
@@ -66,22 +65,22 @@ int main(int argc, char **argv) {
     static bootcore_place places[BOOTCORE_MAX_PLACES];
     int files[MAX_FILES], count = argc - 3;
     const char *name = count < 1 ? "" : argv[1];
-    uint32_t protocol = !strcmp(name, "multiboot2") ? BOOTCORE_MULTIBOOT2 : !strcmp(name, "linux") ? BOOTCORE_LINUX
-                        : !strcmp(name, "linux64") ? BOOTCORE_LINUX64 : 0;
+    uint32_t protocol = !strcmp(name, "multiboot2") ? BOOTCORE_MULTIBOOT2
+                        : !strcmp(name, "linux")    ? BOOTCORE_LINUX
+                        : !strcmp(name, "linux64")  ? BOOTCORE_LINUX64
+                                                    : 0;
     check(protocol && count <= (protocol == BOOTCORE_MULTIBOOT2 ? MAX_FILES : 2), "usage",
           "guest multiboot2 KERNEL LINE [MODULE..], guest linux|linux64 KERNEL LINE [INITRD]");
     bootcore_entry entry = {.protocol = protocol, .line = {argv[3], strlen(argv[3])},
                             .modules = modules, .module_count = (size_t)count - 1};
-    char **paths = argv + 3; /* the kernel's, and behind it the others */
-    paths[0] = argv[2];
-    files[0] = open_file(paths[0], &entry.kernel.length);
+    files[0] = open_file(argv[2], &entry.kernel.length);
     uint8_t *kernel = malloc(entry.kernel.length + 1);
-    check(kernel, paths[0], strerror(errno));
-    read_at(paths[0], files[0], 0, kernel, entry.kernel.length);
+    check(kernel, argv[2], strerror(errno));
+    read_at(argv[2], files[0], 0, kernel, entry.kernel.length);
     entry.kernel.bytes = kernel;
     for (int i = 1; i < count; i++) { /* of the others the length is enough */
-        modules[i - 1].line = (bootcore_bytes){paths[i], strlen(paths[i])};
-        files[i] = open_file(paths[i], &modules[i - 1].file.length);
+        modules[i - 1].line = (bootcore_bytes){argv[i + 3], strlen(argv[i + 3])};
+        files[i] = open_file(argv[i + 3], &modules[i - 1].file.length);
     }
     entry.initrd = modules[0].file; /* one protocol looks at modules, the other two at this */
     const bootcore_region regions[] = {{0, 0x9F000, BOOTCORE_USABLE, 0},
@@ -99,7 +98,7 @@ int main(int argc, char **argv) {
         char words[256];
         bootcore_describe(&layout.refusal, words, sizeof words);
         puts(words);
-        return 1;
+        exit(1);
     }
     check(status == BOOTCORE_DONE, "plan", status == BOOTCORE_NO_MEMORY ? "memory ran out" : "a misuse");
     uint8_t *memory = mmap(NULL, GUEST_SIZE, PROT_READ | PROT_WRITE,
@@ -111,10 +110,11 @@ int main(int argc, char **argv) {
         } else if (step->source == BOOTCORE_FROM_FILE && step->file == 0) {
             memcpy(memory + step->address, kernel + step->offset, step->length);
         } else if (step->source == BOOTCORE_FROM_FILE) {
-            read_at(paths[step->file], files[step->file], step->offset, memory + step->address,
+            read_at(argv[step->file + 3], files[step->file], step->offset, memory + step->address,
                     step->length);
         } /* zeros: the mapping is fresh */
     }
     print_entering(&layout.handoff.registers, places, layout.handoff.place_count);
+    free(layout.steps), free(layout.own), free(kernel);
     return 0;
 }

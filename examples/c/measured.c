@@ -22,6 +22,7 @@ static bootcore_machine machine = {.regions = regions};
 static bootcore_module modules[BOOTCORE_MAX_MODULES];
 static bootcore_place places[BOOTCORE_MAX_PLACES];
 static bootcore_layout layout = {.places = places, .place_room = BOOTCORE_MAX_PLACES};
+static bootcore_bytes image, files[1 + BOOTCORE_MAX_MODULES];
 static const uint8_t *rest; /* what of the image is not compared yet */
 static size_t rest_length;
 
@@ -105,7 +106,7 @@ static bool goes_on(const char *what, uint64_t at, const uint8_t *wanted, uint64
 
 /* An image has its head with the registers and the places, and then the parts' bytes, which the steps
  * give in the same order: docs/FORMATS.md. */
-static bool is_image(const bootcore_bytes *files) {
+static bool is_image(void) {
     static uint8_t head[BOOTCORE_MAX_IMAGE_HEAD];
     size_t length = bootcore_image_head(&layout.handoff, places, head, sizeof head);
     bool same = goes_on("head", 0, head, length);
@@ -123,7 +124,6 @@ static bool is_image(const bootcore_bytes *files) {
 }
 
 int main(int argc, char **argv) {
-    bootcore_bytes files[1 + BOOTCORE_MAX_MODULES];
     bootcore_refusal fault;
     bootcore_seen seen;
     bool is_linux = argc > 4 && !strncmp(argv[4], "linux", 5);
@@ -132,7 +132,7 @@ int main(int argc, char **argv) {
     }
     machine.size = strtoull(argv[1], NULL, 0);
     read_map(argv[2]);
-    bootcore_bytes image = read_file(argv[3]);
+    image = read_file(argv[3]);
     bootcore_entry entry = {.protocol = BOOTCORE_MULTIBOOT2, .line = {argv[5], strlen(argv[5])},
                             .modules = modules};
     if (is_linux) {
@@ -149,7 +149,7 @@ int main(int argc, char **argv) {
     plan(&entry);
     rest = image.bytes;
     rest_length = image.length;
-    bool same = is_image(files);
+    bool same = is_image();
     if (bootcore_walk(image.bytes, image.length, &seen, &fault) == BOOTCORE_DONE) {
         printf("a kernel sees: entry %" PRIx64 ", line of %" PRIu64 " bytes, %" PRIu64 " modules, %"
                PRIu64 " runs\n", seen.entry_address, seen.line_length, seen.module_count, seen.run_count);

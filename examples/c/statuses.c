@@ -9,7 +9,7 @@
 #include <stdio.h>
 #include <string.h>
 
-enum { SIZE = 0x200000, STEPS = 16, OWN = 4096 };
+enum { SIZE = 0x200000, STEPS = 16, OWN = 4096, CUT = 0x100020 };
 
 /* A kernel of Multiboot2 that is a header alone, with where it lies and where it is entered. */
 static const uint32_t kernel[] = {0xE85250D6, 0, 64, 0u - 0xE85250D6 - 64,
@@ -66,6 +66,7 @@ static call right(void) {
     c.outcome.place_room = c.layout.place_room = BOOTCORE_MAX_PLACES;
     c.outcome.refusals = told.refusals;
     c.outcome.refusal_room = 1;
+    c.outcome.refusal_count = 9; /* none of the numbers that are told */
     c.layout.steps = told.steps;
     c.layout.step_room = STEPS;
     c.layout.own = told.own;
@@ -85,44 +86,51 @@ static void count(const char *call_name, const char *name, uint32_t status, uint
     tried++;
 }
 
-/* Whether a call has written nothing that its answer does not permit; `now` is where it tells, and
- * `was` what stood there. */
-static bool is_kept(uint32_t status, const void *now, const void *was, size_t length) {
-    bool is_told = status == BOOTCORE_REFUSED || status == BOOTCORE_SMALL_ROOM;
-    bool is_same = !memcmp(told.places, before.places, sizeof told.places) &&
-                   !memcmp(told.steps, before.steps, sizeof told.steps) &&
-                   !memcmp(told.own, before.own, sizeof told.own);
+/* Whether a call has written nothing that its answer does not permit: `now` is where it tells its
+ * numbers, `was` what stood there. */
+static bool is_kept(uint32_t status, bool are_numbers_told, const void *now, const void *was,
+                    size_t length) {
     return status == BOOTCORE_DONE ||
-           (is_same && !memcmp(told.memory, before.memory, SIZE) &&
-            (is_told || !memcmp(now, was, length)));
+           (!memcmp(told.memory, before.memory, SIZE) &&
+            !memcmp(told.places, before.places, sizeof told.places) &&
+            !memcmp(told.steps, before.steps, sizeof told.steps) &&
+            !memcmp(told.own, before.own, OWN) && (are_numbers_told || !memcmp(now, was, length)));
+}
+
+static bool is_outcome(uint32_t status, const bootcore_outcome *now, const bootcore_outcome *was) {
+    bool is_told = status <= BOOTCORE_REFUSED;
+    return is_kept(status, is_told, now, was, sizeof *now) && (!is_told || now->refusal_count == status);
 }
 
 /* The three calls, each with its status; what two of them tell, both tell alike. */
 static void expect(const char *name, call c, uint32_t loads, uint32_t prepares, uint32_t plans) {
-    call load = c, prepare = c;
+    call load = c, prepare = c, plan = c;
     told = before;
     uint32_t status = bootcore_load(&load.memory, &load.machine, &load.entry, &load.outcome);
     bootcore_refusal refusal = told.refusals[0];
-    count("load", name, status, loads, is_kept(status, &load.outcome, &c.outcome, sizeof c.outcome));
+    count("load", name, status, loads, is_outcome(status, &load.outcome, &c.outcome));
     told = before;
     status = bootcore_prepare(&prepare.machine, &prepare.entry, &prepare.outcome);
     bool same = loads != prepares || (!memcmp(&load.outcome, &prepare.outcome, sizeof load.outcome) &&
                                       !memcmp(&refusal, told.refusals, sizeof refusal));
-    same = same && !memcmp(told.memory, before.memory, SIZE);
-    refusal = told.refusals[0];
     count("prepare", name, status, prepares,
-          same && is_kept(status, &prepare.outcome, &c.outcome, sizeof c.outcome));
+          same && !memcmp(told.memory, before.memory, SIZE) &&
+              is_outcome(status, &prepare.outcome, &c.outcome));
+    refusal = told.refusals[0];
     told = before;
-    call plan = c;
     status = bootcore_plan(&plan.machine, &plan.entry, &plan.layout);
     const bootcore_layout *layout = &plan.layout;
-    same = prepares != plans || status > BOOTCORE_REFUSED ||
-           (status == BOOTCORE_DONE
-                ? !memcmp(&layout->handoff, &prepare.outcome.handoff, sizeof layout->handoff)
-                : !memcmp(&layout->refusal, &refusal, sizeof refusal));
+    if (status == BOOTCORE_DONE && prepares == plans) {
+        same = !memcmp(&layout->handoff, &prepare.outcome.handoff, sizeof layout->handoff);
+    } else {
+        same = status != BOOTCORE_REFUSED || !c.outcome.refusal_room ||
+               !memcmp(&layout->refusal, &refusal, sizeof refusal);
+    }
+    bool is_told = status == BOOTCORE_REFUSED ||
+                   (status == BOOTCORE_SMALL_ROOM && layout->place_room == BOOTCORE_MAX_PLACES);
     count("plan", name, status, plans,
           same && !memcmp(told.memory, before.memory, SIZE) &&
-              is_kept(status, &plan.layout, &c.layout, sizeof c.layout));
+              is_kept(status, is_told, layout, &c.layout, sizeof *layout));
 }
 
 #define EACH(loads, prepares, plans, change)        \
@@ -141,6 +149,8 @@ static void try_changes(void) {
     ALL(BOOTCORE_DONE, c.outcome.refusals = NULL; c.outcome.refusal_room = 0);
     ALL(BOOTCORE_DONE, c.machine.size = SIZE - 4096);
     ALL(BOOTCORE_REFUSED, c.entry.kernel.length = 9);
+    ALL(BOOTCORE_REFUSED, c.entry.kernel.length = 9; c.outcome.refusals = NULL;
+        c.outcome.refusal_room = 0);
     ALL(BOOTCORE_REFUSED, c.entry.protocol = BOOTCORE_LINUX64);
     ALL(BOOTCORE_REFUSED, c.entry.protocol = BOOTCORE_LINUX; c.entry.modules = NULL);
     ALL(BOOTCORE_NULL, c.machine.regions = NULL);
@@ -205,7 +215,7 @@ typedef struct carrying {
     bootcore_layout layout;
     bootcore_bytes files[2];
     size_t file_count;
-    bootcore_memory pieces[3]; /* that meet in the kernel */
+    bootcore_memory pieces[3]; /* two, which meet at CUT, in the kernel */
     size_t piece_count;
 } carrying;
 
@@ -214,8 +224,7 @@ static carrying right_carrying(void) {
     told = before;
     (void)bootcore_plan(&c.machine, &c.entry, &c.layout);
     return (carrying){c.layout, {c.entry.kernel, one[0].file}, 2,
-                      {{0x100020, told.memory + 0x100020, SIZE - 0x100020}, {0, told.memory, 0x100020}},
-                      2};
+                      {{CUT, told.memory + CUT, SIZE - CUT}, {0, told.memory, CUT}}, 2};
 }
 
 static void carry_out(const char *name, carrying c, uint32_t wanted) {
@@ -238,12 +247,21 @@ static void try_carrying(void) {
     uint32_t status = bootcore_load(&c.memory, &c.machine, &c.entry, &c.outcome);
     count("load", "what carrying out is compared with", status, BOOTCORE_DONE, true);
     memcpy(loaded, told.memory, SIZE);
+    carrying cut = right_carrying();
+    cut.pieces[1] = (bootcore_memory){0, told.second, SIZE}; /* of use up to the first piece alone */
+    status = bootcore_carry_out(&cut.layout, cut.files, 2, cut.pieces, 2);
+    count("carry_out", "a piece that an earlier one cuts", status, BOOTCORE_DONE,
+          !memcmp(told.memory, before.memory, CUT) && !memcmp(told.second, loaded, CUT) &&
+              !memcmp(told.memory + CUT, loaded + CUT, SIZE - CUT) &&
+              !memcmp(told.second + CUT, before.second + CUT, SIZE - CUT));
     CARRY(BOOTCORE_DONE, (void)c);
     CARRY(BOOTCORE_DONE, c.pieces[c.piece_count++] = ((bootcore_memory){0, told.second, SIZE}));
     CARRY(BOOTCORE_DONE, c.pieces[c.piece_count++] = c.pieces[0];
           c.pieces[0] = ((bootcore_memory){UINT64_MAX, told.second, SIZE}));
     CARRY(BOOTCORE_DONE, c.pieces[0] = ((bootcore_memory){0x100000, told.memory + 0x100000, 0x3000});
           c.pieces[1] = ((bootcore_memory){0x1000, told.memory + 0x1000, 0x1000}));
+    CARRY(BOOTCORE_OUTSIDE, c.layout.steps[0].address = UINT64_MAX;
+          c.pieces[c.piece_count++] = ((bootcore_memory){UINT64_MAX, told.second, SIZE}));
     CARRY(BOOTCORE_OUTSIDE, c.pieces[1].length--);
     CARRY(BOOTCORE_OUTSIDE, c.piece_count = 1);
     CARRY(BOOTCORE_OUTSIDE, c.piece_count = 0);
