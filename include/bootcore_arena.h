@@ -18,7 +18,7 @@ extern "C" {
  * BOOTCORE_NO_MEMORY. */
 BOOTCORE_CALL void bootcore_arena(void *memory, size_t length);
 
-/* How long an arena at the same address would have been enough for the calls since it was given. */
+/* How long an arena at the same address is enough for the same calls as since it was given. */
 BOOTCORE_CALL size_t bootcore_arena_peak(void);
 
 #ifdef __cplusplus

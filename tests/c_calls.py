@@ -84,6 +84,13 @@ class Needs(CoreChecks):
 
 
 class Freestanding(CoreChecks):
+    def test_allocator(self) -> None:
+        made = self.room / "arena"
+        sources = [TOP / "tools/c/arena.c", TOP / "c/freestanding/arena.c"]
+        words = [*CC, "-std=c99", "-g", "-O2", *WARNINGS, *self.sanitizers(), "-I", HEADER.parent, *sources, "-o", made]
+        self.ends("the allocator over an arena is built with its driver", run(*words))
+        self.ends("blocks of an arena are apart and keep their bytes, and an arena of the peak's length is enough", run(made))
+
     def test_bare(self) -> None:
         build_freestanding()
         if not FREESTANDING.exists():

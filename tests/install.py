@@ -44,11 +44,11 @@ class Installed(ProgramChecks):
         cls.ran = run(*words, timeout=HALF_AN_HOUR)
 
     def test_files(self) -> None:
-        with self.check("install puts eleven files into a prefix and reports each"):
+        with self.check("install puts fourteen files into a prefix and reports each"):
             self.assert_ended(self.ran, 0, None, None)
             reported = re.findall(rb"^installed (.+)$", self.ran.out, re.M)
             self.assertEqual(sorted(map(os.fsdecode, reported)), installed(self.prefix), f"ran: {self.ran}")
-            self.assertEqual(len(reported), 11, f"ran: {self.ran}\nfiles that it reports")
+            self.assertEqual(len(reported), 14, f"ran: {self.ran}\nfiles that it reports")
         with self.check("install --list names exactly the files that install puts there"):
             ran = run(INSTALL, "--list", "--prefix", self.prefix)
             self.assert_ended(ran, 0, None)

@@ -48,6 +48,7 @@ static void join(head *block) {
 /* Cuts a block that is long enough to this length, and takes it. */
 static bootcore_block take(head *block, size_t length) {
     bootcore_block taken;
+    size_t used;
     if (block->length - length >= 2 * sizeof(head)) {
         head *rest = (head *)(void *)((uint8_t *)(block + 1) + length);
         rest->length = block->length - length - sizeof(head);
@@ -55,11 +56,12 @@ static bootcore_block take(head *block, size_t length) {
         block->length = length;
     }
     block->is_used = 1;
-    if ((size_t)(behind(block) - given) > peak) {
-        peak = (size_t)(behind(block) - given);
-    }
     taken.is_there = true;
     taken.at = block + 1;
+    used = (size_t)((uint8_t *)taken.at - given) + length;
+    if (used > peak) {
+        peak = used;
+    }
     return taken;
 }
 
