@@ -19,13 +19,14 @@
  *
  * Units. Addresses and lengths are in bytes, and addresses are those of the machine that is booted.
  * An index counts from 0.
+ *
  * Memory. All of it is the caller's before, during and after a call. What a call takes from malloc
  * it frees before it returns, but for what a session keeps. No pointer is kept, and none is handed
  * out but to constant text. Nothing is read but what is given, and nothing written but parts, the
  * pool and what a call says that it tells.
  *
  * Threads. None is started, and two calls at once know nothing of each other, if they share nothing
- * that either may change. Call from no signal handler.
+ * that either may change; but all that use an arena share it. Call from no signal handler.
  *
  * What the caller keeps; no call can test it:
  * - a pointer that is not null points to as many elements as are told, of its type, aligned as it
@@ -74,15 +75,15 @@ enum {
     BOOTCORE_STACK = 16384
 };
 
-/* What a call answers. A misuse, from 101 on, has changed nothing. Of several the first in the
- * order of these lines is told. */
+/* What a call answers. A misuse, from 101 on, has changed nothing; where BOOTCORE_SMALL_ROOM tells
+ * what is wanted, the call says so. Of several the first in the order of these lines is told. */
 enum {
     BOOTCORE_DONE = 0,
     BOOTCORE_REFUSED = 1,   /* the entry is refused; a boot: no entry is left; a walk: the image */
     BOOTCORE_WAITING = 2,   /* a session: pieces are awaited, or it was not started */
     BOOTCORE_NEXT = 3,      /* a session: entries were refused, pieces of another are awaited */
-    BOOTCORE_NO_MEMORY = 4, /* malloc or realloc gave none; may come in place of any other but
-                             * BOOTCORE_NULL to BOOTCORE_SMALL_ROOM */
+    BOOTCORE_NO_MEMORY = 4, /* malloc or realloc gave none; may come in place of all that is told
+                             * after BOOTCORE_SMALL_ROOM of places */
     BOOTCORE_FAILED = 5,    /* a session: no entry is left, or memory ran out; see its outcome */
     BOOTCORE_OUTSIDE = 6,   /* a load: a part begins below the memory that is given; of
                              * bootcore_carry_out: not all of a step lies in it */
@@ -91,8 +92,8 @@ enum {
     BOOTCORE_BAD_RESERVED = 102, /* a reserved word is not 0 */
     BOOTCORE_BAD_FILE = 103,     /* a file has the length BOOTCORE_UNREADABLE, where all are
                                   * wanted; of bootcore_carry_out: see there */
-    BOOTCORE_SMALL_ROOM = 104,   /* an array of the caller's has too little room; of a plan's steps
-                                  * and bytes it is told last of all */
+    BOOTCORE_SMALL_ROOM = 104,   /* an array of the caller's has too little room; of all but places
+                                  * it is told last */
     BOOTCORE_BAD_KIND = 105,     /* a region's kind is none of BOOTCORE_USABLE and so on */
     BOOTCORE_BAD_SIZE = 106,     /* the size is no multiple of 4096 from 1 MiB to 4 GiB */
     BOOTCORE_TOO_MANY_REGIONS = 107,
@@ -115,8 +116,7 @@ typedef struct bootcore_bytes {
     size_t length;
 } bootcore_bytes;
 
-/* The length of a file that can't be read, in a menu: an entry with it is refused. */
-#define BOOTCORE_UNREADABLE (~(size_t)0)
+#define BOOTCORE_UNREADABLE (~(size_t)0) /* a menu's file can't be read: its entry is refused */
 
 /* Kinds of memory: the numbers of an e820 entry. Where regions overlap, the greatest counts. An
  * address is usable if its kind is BOOTCORE_USABLE and it lies from 4096 on, below the machine's
@@ -332,9 +332,9 @@ BOOTCORE_CALL uint32_t bootcore_plan(const bootcore_machine *machine, const boot
  * the kernel, then the modules or the initial ramdisk, of the lengths that were planned for.
  * Either all steps are carried out (BOOTCORE_DONE), or nothing is written: BOOTCORE_NULL;
  * BOOTCORE_BAD_FILE if a file is unreadable, or a step's source is none or has no such bytes;
- * BOOTCORE_SMALL_ROOM if the layout wants more room than it has; or BOOTCORE_OUTSIDE if a byte of a
- * step lies in no piece. A step may go over several pieces; a byte that is in two goes to the
- * first. */
+ * BOOTCORE_SMALL_ROOM if the layout wants more room than it has, so that it has no steps; or
+ * BOOTCORE_OUTSIDE if a byte of a step lies in no piece. A step may go over several pieces; a byte
+ * that is in two goes to the first. */
 BOOTCORE_CALL uint32_t bootcore_carry_out(const bootcore_layout *layout,
     const bootcore_bytes *files, size_t file_count, const bootcore_memory *memory,
     size_t memory_count);

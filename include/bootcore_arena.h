@@ -1,9 +1,9 @@
-/* Memory for the tables of libbootcore_freestanding.a, which has no malloc: an arena, a block of the
- * caller's that the calls of bootcore.h take their memory from. docs/EMBED.md has how long it must be.
- * libbootcore.a has none of this.
+/* Memory for the tables of libbootcore_freestanding.a, which has no malloc: an arena, a block of
+ * the caller's that the calls of bootcore.h take their memory from. docs/EMBED.md has how long it
+ * must be. libbootcore.a has none of this.
  *
- * The arena belongs to all calls together, and is not safe with threads: make one call at a time, of
- * whichever function of the library. */
+ * The arena belongs to all calls together, and is not safe with threads: make one call at a time,
+ * of whichever function of the library. */
 #ifndef BOOTCORE_ARENA_H
 #define BOOTCORE_ARENA_H
 
