@@ -1,6 +1,8 @@
 mod TellLemmas
 mod ValueLemmas
 mod ListLemmas
+mod NumberLemmas
+mod CheckLemmas
 mod LoadLemmas
 mod MenuLemmas
 mod PrepareLemmas

@@ -1,13 +1,14 @@
 -- A load ends as its preparation did.
 use Rattle.std.proofs.Common.{◌≡◌, ◌≤◌, ◌+◌, ◌∙◌, ℕ, suc, List, [], ◌∷◌, All, length, map, ap, sym}
-use Rattle.std.proofs.Common.{subst, refl, arith}
-use Rattle.std.proofs.lemmas.List.{length-take, length-drop}
+use Rattle.std.proofs.Common.{subst, refl, arith, inl, inr, ◌⊎◌}
+use Rattle.std.proofs.lemmas.List.{length-take, length-drop, length-map, get_or-map}
 use Rattle.std.proofs.lemmas.List.Elements.{All-map}
 use Rattle.bl_map.specs.MachineFacts.{MachineFacts}
 use Rattle.bl_plan.specs.declared.part.Place.{Place}
 use Rattle.bl_load.specs.declared.refusal.Refusal.{Refusal}
 use Rattle.bl_load.specs.HandoffFacts.{HandoffFacts, max_parts}
-use Rattle.bl_load.specs.Handover.{Handover}
+use Rattle.bl_load.specs.EntryValue.{EntryValue}
+use Rattle.bl_load.specs.Handover.{Handover, Part}
 use Rattle.bl_load.specs.Parts.{IsHandover, IsRefusal}
 use Rattle.bl_load.specs.PlanContents.{part_in, handover_in}
 use Rattle.bl_load.proofs.HandoverLaws as handovers
@@ -20,7 +21,8 @@ use Rattle.c_abi.specs.declared.given_fault.GivenFault.TheVariants as given_faul
 use Rattle.c_abi.specs.declared.given_records.EntryRecord.{EntryRecord}
 use Rattle.c_abi.specs.declared.given_records.MachineRecord.{MachineRecord}
 use Rattle.c_abi.specs.declared.given_records.RegionRecord.{RegionRecord}
-use Rattle.c_abi.specs.Given.{GivenFacts, value_given}
+use Rattle.c_abi.specs.declared.load_fault.LoadFault.TheVariants.{Outside}
+use Rattle.c_abi.specs.Given.{texts_given, value_given}
 use Rattle.c_abi.specs.Load.{IsEntryFault, IsEntrySound, IsLoaded, IsNotLoaded}
 use Rattle.c_abi.specs.Load.{few_places, bad_machine, bad_memory, bad_entry}
 use Rattle.c_abi.specs.Machines.{IsMachineGiven, IsMachineSound}
@@ -46,29 +48,43 @@ ends_within bytes size ps inside = All-map (EndsWithin size) (part_in bytes) ps 
     let end = inside k d within in
     omega (arith, length-take {A = ℕ}, length-drop {A = ℕ}, end))
 
-module _ (machine : MachineRecord) (regions : List RegionRecord) (given : GivenFacts)
-    (entry : EntryRecord) where
+-- where no place of a handover lies below an address, no part does
+none_low : (base : ℕ) (parts : List Part) → All (λ place. base ≤ place.address) (map part_place parts)
+    → All (λ part. base ≤ part.address) parts
+none_low base parts above = λ k d within.
+    subst (λ (p : Place). base ≤ p.address)
+    (get_or-map part_place parts k d (part_place d) within)
+    (above k (part_place d) (omega (arith, within, length-map parts part_place)))
+
+module _ (machine : MachineRecord) (regions : List RegionRecord) (entry : EntryRecord) where
+  abbrev pub texts : List (List ℕ)
+  texts = texts_given entry
+
+  abbrev pub value : EntryValue
+  value = value_given entry
+
   -- there is such a machine, and the entry is refused on it
   record IsRefusedOn (r : Refusal) : Type 0 where
     facts : MachineFacts
     machine_is : IsMachineGiven machine regions facts
-    is : IsRefusal facts (value_given given entry) r
+    is : IsRefusal facts value r
 
-  refused_on : (room end : ℕ) (r : Refusal) (fault : LoadFault) → fault ≡ Refused r
-      → IsNotLoaded machine regions given entry room end fault → IsRefusedOn r
-  refused_on room end r fault same (few_places few) = absurd cc
-  refused_on room end r fault same (bad_machine many (given_fault.Misused misuse) has) = absurd cc
-  refused_on room end r fault same (bad_machine many given_fault.NoMemory has) = absurd cc
-  refused_on room end r fault same (bad_memory many sound low) = absurd cc
-  refused_on room end r fault same (bad_entry many sound reaches found has) =
-      let moved : IsEntryFault has.facts given entry (Refused r) =
-      subst (IsEntryFault has.facts given entry) same has.is in
+  refused_on : (room base end : ℕ) (r : Refusal) (fault : LoadFault) → fault ≡ Refused r
+      → IsNotLoaded machine regions entry texts room base end fault → IsRefusedOn r
+  refused_on room base end r fault same (few_places few) = absurd cc
+  refused_on room base end r fault same (bad_machine many (given_fault.Misused misuse) has) =
+      absurd cc
+  refused_on room base end r fault same (bad_machine many given_fault.NoMemory has) = absurd cc
+  refused_on room base end r fault same (bad_memory many sound low) = absurd cc
+  refused_on room base end r fault same (bad_entry many sound reaches found has) =
+      let moved : IsEntryFault has.facts entry texts base (Refused r) =
+      subst (IsEntryFault has.facts entry texts base) same has.is in
       record { facts = has.facts; machine_is = has.machine_is; is = moved.1 }
 
   -- a load leaves memory as long as it was
-  length_loaded : (room : ℕ) (old new : List ℕ) (loaded : HandoffFacts)
-      → IsLoaded machine regions given entry room old new loaded → length new ≡ length old
-  length_loaded room old new loaded l =
+  length_loaded : (room base : ℕ) (old new : List ℕ) (loaded : HandoffFacts)
+      → IsLoaded machine regions entry room base old new loaded → length new ≡ length old
+  length_loaded room base old new loaded l =
       let size = l.machine_is.size in
       let reaches = l.has_memory in
       ap length l.handed.after
@@ -76,11 +92,10 @@ module _ (machine : MachineRecord) (regions : List RegionRecord) (given : GivenF
       (ends_within new (length old) loaded.places (λ k d within.
       let inside = l.handed.inside k d within in omega (arith, inside, size, reaches)))
 
-  pub one_handoff : (room space : ℕ) (old new : List ℕ) (prepared loaded : HandoffFacts)
-      → IsPrepared machine regions given entry room prepared
-      → IsLoaded machine regions given entry space old new loaded → loaded ≡ prepared
-  one_handoff room space old new prepared loaded p l =
-      let value = value_given given entry in
+  pub one_handoff : (room space base : ℕ) (old new : List ℕ) (prepared loaded : HandoffFacts)
+      → IsPrepared machine regions entry room prepared
+      → IsLoaded machine regions entry space base old new loaded → loaded ≡ prepared
+  one_handoff room space base old new prepared loaded p l =
       let held = handover_in new loaded.protocol loaded.registers loaded.places in
       let moved : IsHandover p.facts value held =
       subst (λ (f : MachineFacts). IsHandover f value held)
@@ -90,7 +105,7 @@ module _ (machine : MachineRecord) (regions : List RegionRecord) (given : GivenF
       handovers.one_handover p.facts value held p.handed.handover moved p.handed.handover_is in
       let size = l.machine_is.size in
       let reaches = l.has_memory in
-      let kept = length_loaded space old new loaded l in
+      let kept = length_loaded space base old new loaded l in
       let read : map part_place (map (part_in new) loaded.places) ≡ loaded.places =
       places_in new loaded.places (λ k d within.
       let inside = l.handed.inside k d within in omega (arith, inside, size, reaches, kept)) in
@@ -101,50 +116,92 @@ module _ (machine : MachineRecord) (regions : List RegionRecord) (given : GivenF
       (sym read)
       ∙ ap handoff_of one ∙ sym p.handed.handoff_is
 
-  -- where no misuse stands and something is handed over, only memory can run out
+  -- where no misuse stands and something is handed over, only memory can run out, or a part begins
+  -- below the base
   pub only_memory : (facts : MachineFacts) (handover : Handover)
       → IsMachineGiven machine regions facts → IsMachineSound machine regions
-      → IsEntrySound given entry → IsHandover facts (value_given given entry) handover
-      → (room end : ℕ) (fault : LoadFault) → machine.size ≤ end → max_parts ≤ room
-      → IsNotLoaded machine regions given entry room end fault → fault ≡ NoMemory
-  only_memory facts h is sound names handed room end fault large many (few_places few) =
+      → IsEntrySound entry → IsHandover facts value handover
+      → (room base end : ℕ) (fault : LoadFault) → machine.size ≤ end → max_parts ≤ room
+      → IsNotLoaded machine regions entry texts room base end fault
+      → (fault ≡ NoMemory)
+      ⊎ ((fault ≡ Outside) × (¬ All (λ part. base ≤ part.address) handover.parts))
+  only_memory facts h is sound names handed room base end fault large many (few_places few) =
       absurd (omega (arith, few, many))
-  only_memory facts h is sound names handed room end fault large many
+  only_memory facts h is sound names handed room base end fault large many
       (bad_machine roomy (given_fault.Misused m) has) =
       absurd (sound_machine machine regions m sound has)
-  only_memory facts h is sound names handed room end fault large many
-      (bad_machine roomy given_fault.NoMemory has) = refl
-  only_memory facts h is sound names handed room end fault large many (bad_memory roomy whole low) =
-      absurd (omega (arith, low, large))
-  only_memory facts h is sound names handed room end fault large many
+  only_memory facts h is sound names handed room base end fault large many
+      (bad_machine roomy given_fault.NoMemory has) = inl refl
+  only_memory facts h is sound names handed room base end fault large many
+      (bad_memory roomy whole low) = absurd (omega (arith, low, large))
+  only_memory facts h is sound names handed room base end fault large many
       (bad_entry roomy whole reaches (Misused misuse) has) =
-      absurd (sound_entry given entry misuse names has.is)
-  only_memory facts h is sound names handed room end fault large many
+      absurd (sound_entry entry misuse names has.is)
+  only_memory facts h is sound names handed room base end fault large many
       (bad_entry roomy whole reaches (Refused r) has) =
       absurd
-      (handovers.not_both facts (value_given given entry) h r handed
-      (subst (λ (f : MachineFacts). IsRefusal f (value_given given entry) r)
+      (handovers.not_both facts value h r handed
+      (subst (λ (f : MachineFacts). IsRefusal f value r)
       (one_machine machine regions has.facts facts has.machine_is is) has.is.1))
-  only_memory facts h is sound names handed room end fault large many
-      (bad_entry roomy whole reaches NoMemory has) = refl
+  only_memory facts h is sound names handed room base end fault large many
+      (bad_entry roomy whole reaches Outside has) =
+      let low = has.is.1 in
+      let moved : IsHandover facts value low.handover =
+      subst (λ (f : MachineFacts). IsHandover f value low.handover)
+      (one_machine machine regions has.facts facts has.machine_is is) low.handed in
+      let one : low.handover ≡ h =
+      handovers.one_handover facts value low.handover h moved handed in
+      inr (
+        refl,
+        subst (λ (x : Handover). ¬ All (λ part. base ≤ part.address) x.parts) one low.below,
+      )
+  only_memory facts h is sound names handed room base end fault large many
+      (bad_entry roomy whole reaches NoMemory has) = inl refl
 
-  pub one_refusal : (room end space last : ℕ) (r s : Refusal)
-      → IsNotLoaded machine regions given entry room end (Refused r)
-      → IsNotLoaded machine regions given entry space last (Refused s) → s ≡ r
-  one_refusal room end space last r s a b =
-      let on = refused_on room end r (Refused r) refl a in
-      let by = refused_on space last s (Refused s) refl b in
-      handovers.one_refusal on.facts (value_given given entry) s r
-      (subst (λ (f : MachineFacts). IsRefusal f (value_given given entry) s)
+  -- where no part begins below the base, only memory can run out
+  pub memory_alone : (base : ℕ) (handover : Handover) (fault : LoadFault)
+      → All (λ part. base ≤ part.address) handover.parts
+      → (fault ≡ NoMemory)
+      ⊎ ((fault ≡ Outside) × (¬ All (λ part. base ≤ part.address) handover.parts))
+      → fault ≡ NoMemory
+  memory_alone base handover fault above (inl is) = is
+  memory_alone base handover fault above (inr (is, below)) = absurd (below above)
+
+  pub one_of_two : (base : ℕ) (handover : Handover) (fault : LoadFault)
+      → (fault ≡ NoMemory)
+      ⊎ ((fault ≡ Outside) × (¬ All (λ part. base ≤ part.address) handover.parts))
+      → (fault ≡ NoMemory) ⊎ (fault ≡ Outside)
+  one_of_two base handover fault (inl is) = inl is
+  one_of_two base handover fault (inr (is, below)) = inr is
+
+  -- the parts of what was prepared, where its places are at the base or above
+  pub prepared_above : (room base : ℕ) (prepared : HandoffFacts)
+      → (p : IsPrepared machine regions entry room prepared)
+      → All (λ place. base ≤ place.address) prepared.places
+      → All (λ part. base ≤ part.address) p.handed.handover.parts
+  prepared_above room base prepared p above =
+      none_low base p.handed.handover.parts
+      (subst (λ (h : HandoffFacts). All (λ place. base ≤ place.address) h.places)
+      p.handed.handoff_is above)
+
+  pub one_refusal : (room base end space other last : ℕ) (r s : Refusal)
+      → IsNotLoaded machine regions entry texts room base end (Refused r)
+      → IsNotLoaded machine regions entry texts space other last (Refused s) → s ≡ r
+  one_refusal room base end space other last r s a b =
+      let on = refused_on room base end r (Refused r) refl a in
+      let by = refused_on space other last s (Refused s) refl b in
+      handovers.one_refusal on.facts value s r
+      (subst (λ (f : MachineFacts). IsRefusal f value s)
       (one_machine machine regions by.facts on.facts by.machine_is on.machine_is) by.is)
       on.is
 
-  pub never_loaded : (room end space : ℕ) (old new : List ℕ) (r : Refusal) (loaded : HandoffFacts)
-      → IsNotLoaded machine regions given entry room end (Refused r)
-      → IsLoaded machine regions given entry space old new loaded → ⊥
-  never_loaded room end space old new r loaded not l =
-      let on = refused_on room end r (Refused r) refl not in
+  pub never_loaded : (room low end space base : ℕ) (old new : List ℕ) (r : Refusal)
+      (loaded : HandoffFacts)
+      → IsNotLoaded machine regions entry texts room low end (Refused r)
+      → IsLoaded machine regions entry space base old new loaded → ⊥
+  never_loaded room low end space base old new r loaded not l =
+      let on = refused_on room low end r (Refused r) refl not in
       let held = handover_in new loaded.protocol loaded.registers loaded.places in
-      handovers.not_both l.facts (value_given given entry) held r l.handed.handover
-      (subst (λ (f : MachineFacts). IsRefusal f (value_given given entry) r)
+      handovers.not_both l.facts value held r l.handed.handover
+      (subst (λ (f : MachineFacts). IsRefusal f value r)
       (one_machine machine regions on.facts l.facts on.machine_is l.machine_is) on.is)

@@ -61,3 +61,9 @@ pub told_under : {X Y Z : Type 0} (f : X → Y) (h : Y → Z) (xs : List X) (ys 
     ≡ map h (map f xs) ++ drop (length (map f xs)) ys
 told_under f h xs ys n is =
     rw (is, take_all (length xs) xs (omega arith), map-map h f xs, length-map xs f) refl
+
+-- all are told
+pub told_whole : {X Y : Type 0} (f : X → Y) (xs : List X) (ys : List Y) (n : ℕ) → n ≡ length xs
+    → map f (take n xs) ++ drop n ys ≡ map f xs ++ drop (length (map f xs)) ys
+told_whole f xs ys n is =
+    rw (is, take_all (length xs) xs (omega arith), length-map xs f) refl

@@ -1,6 +1,6 @@
 -- What the records of C stand for. A number that stands for nothing is given a meaning too, so that
 -- each of these is a function; a call that meets one answers a misuse (`Misuse`). Own.
-use Rattle.std.specs.Prelude.{ℕ, suc, ◌+◌, ◌==◌, if◌then◌else◌, List, [], ◌∷◌, length, map}
+use Rattle.std.specs.Prelude.{ℕ, ◌==◌, if◌then◌else◌, List, [], ◌∷◌, length, map}
 use Rattle.std.specs.Prelude.{Option, Some, None, unwrap_or}
 use Rattle.bl_map.specs.declared.region.Region.{Region}
 use Rattle.bl_map.specs.declared.kind.Kind.TheVariants.{Reserved}
@@ -31,6 +31,10 @@ files_given entry = entry.kernel ∷ files_beside entry
 -- their bytes
 abbrev pub texts_given : EntryRecord → List (List ℕ)
 texts_given entry = map (λ file. file.bytes.now) (files_given entry)
+
+-- the lengths that are told of those beside the kernel
+abbrev pub lengths_beside : EntryRecord → List ℕ
+lengths_beside entry = map (λ file. file.length) (files_beside entry)
 
 -- ---- entries
 

@@ -14,6 +14,7 @@ use Rattle.c_abi.specs.declared.end_records.HandoffRecord.{HandoffRecord}
 use Rattle.c_abi.specs.declared.end_records.RefusalRecord.{RefusalRecord}
 use Rattle.c_abi.specs.declared.load_fault.LoadFault.{LoadFault}
 use Rattle.c_abi.specs.declared.load_fault.LoadFault.TheVariants.{Misused, Refused, NoMemory}
+use Rattle.c_abi.specs.declared.load_fault.LoadFault.TheVariants.{Outside}
 use Rattle.c_abi.specs.RefusalTold.{refusal_record}
 use Rattle.c_abi.specs.Status.{done_status, fault_status}
 
@@ -121,6 +122,7 @@ abbrev pub after_fault : LoadFault → RefusalRecord → RefusalRecord
 after_fault (Misused misuse) old = old
 after_fault (Refused refused) old = refusal_record 0 refused
 after_fault NoMemory old = old
+after_fault Outside old = old
 
 -- what C is told of the end of a load: a status, and in its records the handoff and the places, or
 -- the refusal

@@ -10,33 +10,39 @@ use Rattle.c_abi.specs.declared.given_records.RegionRecord.{RegionRecord}
 use Rattle.c_abi.specs.declared.given_records.MachineRecord.{MachineRecord}
 use Rattle.c_abi.specs.declared.given_records.EntryRecord.{EntryRecord}
 use Rattle.c_abi.specs.declared.load_fault.LoadFault.{LoadFault}
-use Rattle.c_abi.specs.Given.{GivenFacts, value_given}
+use Rattle.c_abi.specs.Given.{texts_given, value_given}
 use Rattle.c_abi.specs.Load.{IsEntrySound, IsNotLoaded}
 use Rattle.c_abi.specs.Machines.{IsMachineGiven, IsMachineSound}
 
 -- on a machine of these facts the entry hands over what this handoff says
-pub record IsHandoffOf (facts : MachineFacts) (given : GivenFacts) (entry : EntryRecord)
-    (handoff : HandoffFacts) : Type 0 where
+pub record IsHandoffOf (facts : MachineFacts) (entry : EntryRecord) (handoff : HandoffFacts) :
+    Type 0 where
   pub handover : Handover
-  pub handover_is : IsHandover facts (value_given given entry) handover
+  pub handover_is : IsHandover facts (value_given entry) handover
   pub handoff_is : handoff ≡ handoff_of handover
 
 -- on the machine that is given, where no misuse stands: there is room for the places, and the
 -- machine and the entry have none
-pub record IsPrepared (machine : MachineRecord) (regions : List RegionRecord) (given : GivenFacts)
+pub record IsPrepared (machine : MachineRecord) (regions : List RegionRecord)
     (entry : EntryRecord) (room : ℕ) (handoff : HandoffFacts) : Type 0 where
   pub has_room : max_parts ≤ room
   pub facts : MachineFacts
   pub machine_is : IsMachineGiven machine regions facts
   pub machine_sound : IsMachineSound machine regions
-  pub entry_sound : IsEntrySound given entry
-  pub handed : IsHandoffOf facts given entry handoff
+  pub entry_sound : IsEntrySound entry
+  pub handed : IsHandoffOf facts entry handoff
 
--- how a call ends that has room for so many places: a fault is that of a load into memory that
--- ends with the machine's
-abbrev pub IsGivenPrepareEnd : MachineRecord → List RegionRecord → GivenFacts → EntryRecord → ℕ
+-- why an entry is not prepared, where its files hold these texts: as a load of it into memory from
+-- address 0 to the machine's end, below which no part can begin
+abbrev pub IsNotPrepared : MachineRecord → List RegionRecord → EntryRecord → List (List ℕ) → ℕ
+    → LoadFault → Type 0
+IsNotPrepared machine regions entry texts room fault =
+    IsNotLoaded machine regions entry texts room 0 machine.size fault
+
+-- how a call ends that has room for so many places
+abbrev pub IsGivenPrepareEnd : MachineRecord → List RegionRecord → EntryRecord → ℕ
     → Result HandoffFacts LoadFault → Type 0
-IsGivenPrepareEnd machine regions given entry room (Ok handoff) =
-    IsPrepared machine regions given entry room handoff
-IsGivenPrepareEnd machine regions given entry room (Err fault) =
-    IsNotLoaded machine regions given entry room machine.size fault
+IsGivenPrepareEnd machine regions entry room (Ok handoff) =
+    IsPrepared machine regions entry room handoff
+IsGivenPrepareEnd machine regions entry room (Err fault) =
+    IsNotPrepared machine regions entry (texts_given entry) room fault

@@ -8,7 +8,7 @@ use Rattle.bl_walk.specs.declared.fault.WalkFault.{WalkFault}
 use Rattle.bl_walk.specs.declared.fault.WalkFault.TheVariants as walk_faults
 use Rattle.c_abi.specs.SeenTold.{WalkRecordsFacts}
 use Rattle.c_abi.specs.Status.{done_status, misuse_status}
-use Rattle.c_abi.specs.declared.misuse.Misuse.TheVariants.{FewPlaces}
+use Rattle.c_abi.specs.declared.misuse.Misuse.TheVariants.{SmallRoom}
 use Rattle.c_abi.specs.declared.given_records.RegionRecord.{RegionRecord}
 use Rattle.c_abi.specs.declared.end_records.RefusalRecord.{RefusalRecord}
 use Rattle.c_abi.specs.declared.seen_records.SeenModuleRecord.{SeenModuleRecord}
@@ -97,7 +97,7 @@ pub data TellsSeen (told : WalkRecordsFacts) (status : ℕ) (old new : WalkRecor
   tells_all : FitsInto told old.kernel old.modules old.runs old.text → status ≡ done_status
       → new ≡ all_told told old → TellsSeen told status old new
   tells_summary : ¬ FitsInto told old.kernel old.modules old.runs old.text
-      → status ≡ misuse_status FewPlaces → new ≡ record old { seen = told.seen }
+      → status ≡ misuse_status SmallRoom → new ≡ record old { seen = told.seen }
       → TellsSeen told status old new
 
 -- the status, and what is seen or the fault; the other is as it was

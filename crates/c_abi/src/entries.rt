@@ -1,141 +1,145 @@
 //! Entries as the libraries take them.
-ghost use Rattle.std.specs.Prelude.{◌≡◌, [], None, IfOk, IfErr, OnOk};
+ghost use Rattle.std.specs.Prelude.{◌≡◌, ◌+◌, ◌<◌, ◌≤◌, ◌^◌, ◌∷◌, [], None, IfOk, IfErr, OnOk};
 ghost use Rattle.std.specs.Prelude.{length, map, option_to_list};
 ghost use Rattle.bl_load.specs.EntryValue.{file_count, value_of, IsWithinLimits};
-ghost use Rattle.bl_session.specs.menu.Menu.{facts_of};
-ghost use Rattle.c_abi.specs.Boot.{entry_facts_given, entries_misuse};
-ghost use Rattle.c_abi.specs.GivenChecks.{load_misuse};
+ghost use Rattle.bl_session.specs.menu.Menu.{facts_of, files_of};
 ghost use Rattle.c_abi.specs.Given as spec;
-ghost use Rattle.c_abi.specs.Load.{IsEntryGivenFault};
-ghost use Rattle.c_abi.specs.internal.Checks.{FindsMisuse};
+ghost use Rattle.c_abi.specs.GivenChecks.{entry_misuse};
+ghost use Rattle.c_abi.specs.Load.{IsEntryGivenFault, IsEntrySizeFault};
+ghost use Rattle.c_abi.specs.MenuGiven.{numbered, entry_facts_given};
 
-use crate::given_arrays::Given;
+use crate::given_checks::check_entry;
 use crate::given_fault::GivenFault;
-use crate::given_records::{ByteRange, EntryRecord, NO_FILE};
+use crate::given_records::{EntryRecord, ModuleRecord};
 use crate::misuse::Misuse;
 use bl_load::{Entry, Module};
 use bl_mem::Bytes;
-use bl_plan::Protocol;
+use bl_plan::{MAX_MODULES, Protocol};
 use std::alloc::{AllocError, Allocator};
 
-/// The modules of an entry.
+/// Modules, whose files are numbered from a first one on.
 fn modules_of<A: Allocator + Copy>(
     alloc: A,
-    given: &Given,
-    entry: &EntryRecord,
+    rows: &[ModuleRecord],
+    first: u32,
 ) -> Result<Vec<Module<A>, A>, AllocError>
-    ensures files { IfOk result (λ modules. map (λ m. m.file) modules.items
-        ≡ map (λ m. m.file) (spec.modules_given given.now entry.now)) }
-    ensures lines { IfOk result (λ modules. map (λ m. m.line) modules.items
-        ≡ map (λ m. spec.text_given given.now m.line) (spec.modules_given given.now entry.now)) }
+    requires { first + length rows.now < 2 ^ 32 }
+    ensures files { IfOk result
+        (λ modules. map (λ m. m.file) modules.items ≡ numbered first rows.now) }
+    ensures lines { IfOk result
+        (λ modules. map (λ m. m.line) modules.items ≡ map (λ m. m.line.now) rows.now) }
 {
-    let records = given.modules_of(entry);
     let mut modules = Vec::new(alloc);
-    for record in records {
-        let line = given.line(record.line);
-        modules.push(Module::new(alloc, record.file, line)?)?;
+    let mut file = first;
+    for row in rows {
+        modules.push(Module::new(alloc, file, row.line)?)?;
+        file += 1;
     }
     Ok(modules)
 }
 
 /// A copy of the RSDP.
-fn copy_of<A: Allocator + Copy>(
-    alloc: A,
-    given: &Given,
-    range: ByteRange,
-) -> Result<Option<Bytes<A>>, AllocError>
-    ensures { IfOk result (λ copy. copy ≡ spec.copy_given given.now range) }
+fn copy_of<A: Allocator + Copy>(alloc: A, copy: &[u8]) -> Result<Option<Bytes<A>>, AllocError>
+    ensures { IfOk result (λ made. made ≡ spec.copy_given copy.now) }
 {
-    if range.length == 0 {
+    if copy.is_empty() {
         return Ok(None);
     }
-    Ok(Some(Bytes::copy(alloc, given.line(range))?))
+    Ok(Some(Bytes::copy(alloc, copy)?))
 }
 
-/// The index of the initial ramdisk's file.
-fn initrd_of(entry: &EntryRecord) -> Option<u32>
-    ensures { option_to_list result ≡ spec.initrd_index entry.now }
+/// The initial ramdisk, whose file has this number.
+fn initrd_of(row: &EntryRecord, file: u32) -> Option<u32>
+    ensures { option_to_list result ≡ numbered file (spec.initrd_given row.now) }
 {
-    if entry.initrd == NO_FILE {
+    if row.has_initrd == 0 {
         return None;
     }
-    Some(entry.initrd)
+    Some(file)
 }
 
-/// An entry.
-pub(crate) fn entry_of<A: Allocator + Copy>(
+/// An entry of protocol 1, whose files are numbered from `before` on.
+fn multiboot2_of<A: Allocator + Copy>(
     alloc: A,
-    given: &Given,
-    entry: &EntryRecord,
+    row: &EntryRecord,
+    before: u32,
 ) -> Result<Entry<A>, AllocError>
-    ensures value { IfOk result (λ made.
-        value_of [] made ≡ spec.entry_without_files given.now entry.now) }
-    ensures facts { IfOk result (λ made. facts_of made ≡ entry_facts_given given.now entry.now) }
-    ensures count { IfOk result
-        (λ made. file_count made ≡ length (spec.file_indices given.now entry.now)) }
+    requires before { before ≤ 2 ^ 31 }
+    requires few { length row.now.modules.now ≤ 64 }
+    ensures value { IfOk result
+        (λ made. value_of [] made ≡ spec.multiboot2_without_files row.now) }
+    ensures files { IfOk result
+        (λ made. files_of made ≡ before ∷ numbered (before + 1) row.now.modules.now) }
 {
-    let line = Bytes::copy(alloc, given.line(entry.line))?;
-    if entry.is_of(Protocol::Multiboot2) {
-        return Ok(Entry::Multiboot2 {
-            kernel: entry.kernel,
-            line,
-            modules: modules_of(alloc, given, entry)?,
-            rsdp_old: copy_of(alloc, given, entry.rsdp_old)?,
-            rsdp_new: copy_of(alloc, given, entry.rsdp_new)?,
-        });
-    }
-    Ok(Entry::Linux {
-        kernel: entry.kernel,
-        line,
-        initrd: initrd_of(entry),
-        wide: entry.is_of(Protocol::Linux64),
+    Ok(Entry::Multiboot2 {
+        kernel: before,
+        line: Bytes::copy(alloc, row.line)?,
+        modules: modules_of(alloc, row.modules, before + 1)?,
+        rsdp_old: copy_of(alloc, row.rsdp_old)?,
+        rsdp_new: copy_of(alloc, row.rsdp_new)?,
     })
 }
 
-/// The entry that is given, if it may be.
-pub(crate) fn take_entry<A: Allocator + Copy>(
+/// An entry of another protocol, whose files are numbered from `before` on.
+#[tactic(auto, unfolding(bl_load::specs::EntryValue::IsWithinLimits))]
+fn linux_of<A: Allocator + Copy>(
     alloc: A,
-    given: &Given,
     row: &EntryRecord,
-) -> Result<Entry<A>, GivenFault>
-    ensures value { IfOk result (λ entry.
-        value_of [] entry ≡ spec.entry_without_files given.now row.now) }
-    ensures count { IfOk result
-        (λ entry. file_count entry ≡ length (spec.file_indices given.now row.now)) }
+    before: u32,
+) -> Result<Entry<A>, AllocError>
+    requires { before ≤ 2 ^ 31 }
+    ensures value { IfOk result (λ made. value_of [] made ≡ spec.linux_without_files row.now) }
+    ensures files { IfOk result (λ made. files_of made
+        ≡ before ∷ numbered (before + 1) (spec.initrd_given row.now)) }
     ensures limits { IfOk result IsWithinLimits }
-    ensures sound { OnOk result (load_misuse given.now row.now ≡ None) }
-    ensures fault { IfErr result (IsEntryGivenFault given.now row.now) }
 {
-    given.check_load(row)?;
-    let entry = entry_of(alloc, given, row)?;
+    Ok(Entry::Linux {
+        kernel: before,
+        line: Bytes::copy(alloc, row.line)?,
+        initrd: initrd_of(row, before + 1),
+        wide: row.is_of(Protocol::Linux64),
+    })
+}
+
+/// An entry, whose files are numbered from `before` on: the kernel's first, and then those of its
+/// modules or its initial ramdisk. Its protocol is not looked into here.
+pub(crate) fn entry_of<A: Allocator + Copy>(
+    alloc: A,
+    row: &EntryRecord,
+    before: u32,
+) -> Result<Entry<A>, GivenFault>
+    requires { before ≤ 2 ^ 31 }
+    ensures value { IfOk result (λ made. value_of [] made ≡ spec.entry_without_files row.now) }
+    ensures facts { IfOk result (λ made. facts_of made ≡ entry_facts_given before row.now) }
+    ensures count { IfOk result (λ made. file_count made ≡ length (spec.files_given row.now)) }
+    ensures limits { IfOk result IsWithinLimits }
+    ensures fault { IfErr result (IsEntrySizeFault row.now) }
+{
+    if !row.is_of(Protocol::Multiboot2) {
+        return Ok(linux_of(alloc, row, before)?);
+    }
+    // before the files are numbered: so no number is too high
+    if row.modules.len() > MAX_MODULES {
+        return Err(GivenFault::Misused(Misuse::TooMany));
+    }
+    let entry = multiboot2_of(alloc, row, before)?;
     if !entry.is_within_limits() {
         return Err(GivenFault::Misused(Misuse::TooMany));
     }
     Ok(entry)
 }
 
-/// Entries.
-pub(crate) fn entries_of<A: Allocator + Copy>(
+/// The entry that is given, if it may be.
+pub(crate) fn take_entry<A: Allocator + Copy>(
     alloc: A,
-    given: &Given,
-    records: &[EntryRecord],
-) -> Result<Vec<Entry<A>, A>, AllocError>
-    ensures { IfOk result (λ entries. map facts_of entries.items
-        ≡ map (entry_facts_given given.now) records.now) }
+    row: &EntryRecord,
+) -> Result<Entry<A>, GivenFault>
+    ensures value { IfOk result (λ entry. value_of [] entry ≡ spec.entry_without_files row.now) }
+    ensures count { IfOk result (λ entry. file_count entry ≡ length (spec.files_given row.now)) }
+    ensures limits { IfOk result IsWithinLimits }
+    ensures sound { OnOk result (entry_misuse row.now ≡ None) }
+    ensures fault { IfErr result (IsEntryGivenFault row.now) }
 {
-    let mut entries = Vec::new(alloc);
-    for record in records {
-        entries.push(entry_of(alloc, given, record)?)?;
-    }
-    Ok(entries)
-}
-
-/// Checks entries, one after the other: the first misuse.
-pub(crate) fn check_entries(given: &Given, entries: &[EntryRecord]) -> Result<(), Misuse>
-    ensures { FindsMisuse (entries_misuse given.now entries.now) result }
-{
-    for entry in entries {
-        given.check_entry(entry)?;
-    }
-    Ok(())
+    check_entry(row)?;
+    entry_of(alloc, row, 0)
 }

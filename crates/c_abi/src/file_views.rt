@@ -1,67 +1,89 @@
-//! Files as the loader takes them.
+//! Files as the loader takes them: their bytes, or their lengths alone.
 ghost use Rattle.std.specs.Prelude.{◌≡◌, ◌++◌, IfOk, OnOk, map};
 ghost use Rattle.c_abi.specs.Given as spec;
 
-use crate::given_arrays::Given;
-use crate::given_records::{EntryRecord, ModuleRecord, NO_FILE};
+use crate::given_records::{EntryRecord, ModuleRecord};
 use bl_mem::SliceView;
 use bl_plan::Protocol;
 use std::alloc::{AllocError, Allocator};
 
-/// A file, by its index.
-fn view_of<'a>(given: &Given<'a>, index: u32) -> SliceView<'a>
-    ensures { result.bytes.now ≡ spec.file_given given.now index }
-{
-    SliceView::new(given.file(index))
-}
-
 /// Appends the files of modules.
 fn add_modules<'a, A: Allocator>(
-    given: &Given<'a>,
-    modules: &[ModuleRecord],
+    modules: &[ModuleRecord<'a>],
     views: &mut Vec<SliceView<'a>, A>,
 ) -> Result<(), AllocError>
     ensures { OnOk result (map (λ v. v.bytes.now) views.new.items
         ≡ map (λ v. v.bytes.now) views.old.items
-        ++ map (spec.file_given given.now) (map (λ m. m.file) modules.now)) }
+        ++ map (λ file. file.bytes.now) (map (λ m. m.file) modules.now)) }
 {
     for module in modules {
-        views.push(view_of(given, module.file))?;
+        views.push(SliceView::new(module.file.bytes))?;
     }
     Ok(())
 }
 
 /// Appends the files of an entry beside the kernel.
 fn add_beside<'a, A: Allocator>(
-    given: &Given<'a>,
-    entry: &EntryRecord,
+    entry: &EntryRecord<'a>,
     views: &mut Vec<SliceView<'a>, A>,
 ) -> Result<(), AllocError>
     ensures { OnOk result (map (λ v. v.bytes.now) views.new.items
         ≡ map (λ v. v.bytes.now) views.old.items
-        ++ map (spec.file_given given.now) (spec.indices_beside given.now entry.now)) }
+        ++ map (λ file. file.bytes.now) (spec.files_beside entry.now)) }
 {
     if entry.is_of(Protocol::Multiboot2) {
-        return add_modules(given, given.modules_of(entry), views);
+        return add_modules(entry.modules, views);
     }
-    if entry.initrd == NO_FILE {
+    if entry.has_initrd == 0 {
         return Ok(());
     }
-    views.push(view_of(given, entry.initrd))?;
+    views.push(SliceView::new(entry.initrd.bytes))?;
     Ok(())
 }
 
 /// The files of an entry, in order.
 pub(crate) fn views_of<'a, A: Allocator + Copy>(
     alloc: A,
-    given: &Given<'a>,
-    entry: &EntryRecord,
+    entry: &EntryRecord<'a>,
 ) -> Result<Vec<SliceView<'a>, A>, AllocError>
-    ensures { IfOk result (λ views. map (λ v. v.bytes.now) views.items
-        ≡ map (spec.file_given given.now) (spec.file_indices given.now entry.now)) }
+    ensures { IfOk result
+        (λ views. map (λ v. v.bytes.now) views.items ≡ spec.texts_given entry.now) }
 {
     let mut views = Vec::new(alloc);
-    views.push(view_of(given, entry.kernel))?;
-    add_beside(given, entry, &mut views)?;
+    views.push(SliceView::new(entry.kernel.bytes))?;
+    add_beside(entry, &mut views)?;
     Ok(views)
+}
+
+/// Appends the lengths of modules' files.
+fn add_module_lengths<A: Allocator>(
+    modules: &[ModuleRecord],
+    lengths: &mut Vec<u64, A>,
+) -> Result<(), AllocError>
+    ensures { OnOk result (lengths.new.items ≡ lengths.old.items
+        ++ map (λ file. file.length) (map (λ m. m.file) modules.now)) }
+{
+    for module in modules {
+        lengths.push(module.file.length)?;
+    }
+    Ok(())
+}
+
+/// The lengths of an entry's files beside the kernel, in order, as they are told.
+pub(crate) fn lengths_beside<A: Allocator + Copy>(
+    alloc: A,
+    entry: &EntryRecord,
+) -> Result<Vec<u64, A>, AllocError>
+    ensures { IfOk result (λ lengths. lengths.items ≡ spec.lengths_beside entry.now) }
+{
+    let mut lengths = Vec::new(alloc);
+    if entry.is_of(Protocol::Multiboot2) {
+        add_module_lengths(entry.modules, &mut lengths)?;
+        return Ok(lengths);
+    }
+    if entry.has_initrd == 0 {
+        return Ok(lengths);
+    }
+    lengths.push(entry.initrd.length)?;
+    Ok(lengths)
 }

@@ -87,6 +87,7 @@ pub(crate) fn tell_fault(fault: LoadFault, refusal: &mut RefusalRecord) -> u32
             1
         }
         LoadFault::NoMemory => 4,
+        LoadFault::Outside => 6,
     }
 }
 

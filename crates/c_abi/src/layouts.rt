@@ -1,6 +1,7 @@
 //! The sizes of the records: those that `include/bootcore.h` asserts.
 use crate::end_records::{HandoffRecord, PlaceRecord, RefusalRecord, RegistersRecord};
 use crate::given_records::{EntryRecord, FileRecord, MachineRecord, ModuleRecord, RegionRecord};
+use crate::plan_records::{PlanCountsRecord, StepRecord};
 use crate::seen_records::{ByteRange, SeenModuleRecord, SeenPartRecord, SeenRecord};
 
 const _: () = prove!(size_of::<FileRecord<'_>>() == 24);
@@ -22,6 +23,10 @@ const _: () = prove!(size_of::<PlaceRecord>() == 24);
 const _: () = prove!(size_of::<RefusalRecord>() == 24);
 
 const _: () = prove!(size_of::<HandoffRecord>() == 272);
+
+const _: () = prove!(size_of::<StepRecord>() == 32);
+
+const _: () = prove!(size_of::<PlanCountsRecord>() == 16);
 
 const _: () = prove!(size_of::<SeenRecord>() == 104);
 

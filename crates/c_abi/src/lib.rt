@@ -1,6 +1,7 @@
 //! What C gives and is told, in records and arrays, and what the libraries make of it.
 #![tactic(auto)]
 
+mod array_fronts;
 mod boot_telling;
 mod booting;
 mod end_records;
@@ -18,6 +19,7 @@ mod machines;
 mod menu_files;
 mod menus;
 mod misuse;
+mod plan_records;
 mod preparing;
 mod refusal_telling;
 mod register_telling;
@@ -42,8 +44,11 @@ pub use load_fault::LoadFault;
 pub use load_laws::loads_end_as_prepared;
 pub use loading::load_told;
 pub use misuse::Misuse;
+pub use plan_records::{PlanCountsRecord, StepRecord};
 pub use preparing::prepare_told;
-pub use seen_records::{ByteRange, MISSING, SeenModuleRecord, SeenPartRecord, SeenRecord, WalkStop};
+pub use seen_records::{
+    ByteRange, MISSING, SeenModuleRecord, SeenPartRecord, SeenRecord, WalkStop,
+};
 pub use seen_text_laws::ranges_have_their_texts;
 pub use session_laws::sessions_have_the_sizes_of_boots;
 pub use sessions::{outcome_told, session_given};

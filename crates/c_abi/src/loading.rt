@@ -1,30 +1,70 @@
 //! One entry comes into memory of the caller's own.
-ghost use Rattle.std.specs.Prelude.{◌≡◌, ◌+◌, ◌≤◌, IfOk, IfErr, OnOk, Result};
-ghost use Rattle.std.specs.Prelude.{length, map};
+ghost use Rattle.std.specs.Prelude.{◌≡◌, ◌+◌, ◌≤◌, All, AllPairs, IfOk, IfErr, MatchBool, OnOk};
+ghost use Rattle.std.specs.Prelude.{Result, length, map};
 ghost use Rattle.bl_mem.specs.Memory.{memory_from};
 ghost use Rattle.bl_load.specs.EntryValue.{value_of, file_count, IsWithinLimits};
-ghost use Rattle.bl_load.specs.HandoffFacts.{HandoffFacts};
+ghost use Rattle.bl_load.specs.HandoffFacts.{Ascends, HandoffFacts};
+ghost use Rattle.bl_load.specs.Loadable.{lengths_of, IsLoadable};
+ghost use Rattle.bl_load.specs.PlanContents.{handover_by, places_of};
+ghost use Rattle.bl_load.specs.PlannedPlaces.{planned_place};
+ghost use Rattle.c_abi.specs.Given.{texts_given};
 ghost use Rattle.c_abi.specs.Load.{IsEntryLoaded, IsEntryFault, IsEntrySound, IsGivenLoadEnd};
 ghost use Rattle.c_abi.specs.LoadTold.{TellsEnd};
-ghost use Rattle.c_abi.specs.internal.LoadEnds.{LoadsValue};
+ghost use Rattle.c_abi.specs.internal.LoadEnds.{LoadsHandover, LoadsValue};
 ghost use Rattle.c_abi.specs.declared.load_fault.LoadFault.{LoadFault};
 
 use crate::end_records::{HandoffRecord, PlaceRecord, RefusalRecord};
 use crate::entries::take_entry;
 use crate::file_views::views_of;
-use crate::given_arrays::Given;
 use crate::given_records::{EntryRecord, MachineRecord, RegionRecord};
 use crate::handoff_telling::tell_end;
 use crate::load_fault::{LoadFault, given_fault, load_fault};
 use crate::machines::machine_of;
 use crate::misuse::Misuse;
-use bl_load::{Entry, Handoff, PrepFault, load_entry};
+use bl_load::{Entry, Handoff, Plan, PlannedPart, load, prepare};
 use bl_map::Machine;
-use bl_mem::{SliceMemory, SliceView};
+use bl_mem::{SliceMemory, SliceView, Views};
 use bl_plan::MAX_PARTS;
 use std::alloc::Allocator;
 
-/// `load_entry` into memory that begins at a base.
+/// Whether the first of parts that ascend begins below an address.
+fn begin_below<A: Allocator>(parts: &[PlannedPart<A>], base: u32) -> bool
+    requires { AllPairs Ascends (map planned_place parts.now) }
+    ensures { MatchBool result
+        (¬ All (λ place. base ≤ place.address) (map planned_place parts.now))
+        (All (λ place. base ≤ place.address) (map planned_place parts.now)) }
+{
+    if parts.is_empty() {
+        return false;
+    }
+    let first = parts[0].place.address;
+    if first < base as u64 {
+        return true;
+    }
+    false
+}
+
+/// The parts of a plan come into memory that begins at a base. None begins below it, so each has
+/// room.
+fn load_plan<A: Allocator>(
+    memory: &mut [u8],
+    base: u32,
+    plan: Plan<A>,
+    files: &[SliceView<'_>],
+) -> Handoff<A>
+    requires loadable { IsLoadable (lengths_of (map (λ file. file.bytes.now) files.now))
+        (base + length memory.old) plan }
+    requires above { All (λ place. base ≤ place.address) (places_of plan) }
+    ensures put { LoadsHandover (handover_by (map (λ file. file.bytes.now) files.now) plan)
+        (memory_from base memory.old) (memory_from base memory.new) result }
+    ensures places { result.places ≡ places_of plan }
+{
+    let mut own = SliceMemory::from_base(base, memory);
+    load(&mut own, plan, &Views { views: files })
+}
+
+/// Loads an entry into memory that begins at a base, as `load_entry` does; one that has no room for
+/// a part is told so.
 fn load_typed<A: Allocator + Copy>(
     alloc: A,
     machine: &Machine<A>,
@@ -32,16 +72,22 @@ fn load_typed<A: Allocator + Copy>(
     base: u32,
     entry: &Entry<A>,
     files: &[SliceView<'_>],
-) -> Result<Handoff<A>, PrepFault>
+) -> Result<Handoff<A>, LoadFault>
     requires size { machine.now.size ≤ base + length memory.old }
     requires files { length files.now ≡ file_count entry.now }
     requires limits { IsWithinLimits entry.now }
     ensures { LoadsValue machine.now
-        (value_of (map (λ file. file.bytes.now) files.now) entry.now)
+        (value_of (map (λ file. file.bytes.now) files.now) entry.now) base
         (memory_from base memory.old) (memory_from base memory.new) result }
 {
-    let mut own = SliceMemory::from_base(base, memory);
-    load_entry(alloc, machine, &mut own, entry, files)
+    let plan = match prepare(alloc, machine, entry, files) {
+        Ok(plan) => plan,
+        Err(fault) => return Err(load_fault(fault)),
+    };
+    if begin_below(plan.parts.as_slice(), base) {
+        return Err(LoadFault::Outside);
+    }
+    Ok(load_plan(memory, base, plan, files))
 }
 
 /// Loads an entry on a machine.
@@ -50,47 +96,42 @@ fn load_given<A: Allocator + Copy>(
     machine: &Machine<A>,
     memory: &mut [u8],
     base: u32,
-    given: &Given,
     row: &EntryRecord,
 ) -> Result<Handoff<A>, LoadFault>
     requires { machine.now.size ≤ base + length memory.old }
-    ensures handed { IfOk result (λ handoff. IsEntryLoaded machine.now given.now row.now
+    ensures handed { IfOk result (λ handoff. IsEntryLoaded machine.now row.now base
         (memory_from base memory.old) (memory_from base memory.new) handoff) }
-    ensures sound { OnOk result (IsEntrySound given.now row.now) }
-    ensures fault { IfErr result (IsEntryFault machine.now given.now row.now) }
+    ensures sound { OnOk result (IsEntrySound row.now) }
+    ensures fault { IfErr result (IsEntryFault machine.now row.now (texts_given row.now) base) }
     ensures unchanged { IfErr result (λ _. memory_from base memory.new
         ≡ memory_from base memory.old) }
 {
-    let entry = match take_entry(alloc, given, row) {
+    let entry = match take_entry(alloc, row) {
         Ok(entry) => entry,
         Err(fault) => return Err(given_fault(fault)),
     };
-    let Ok(views) = views_of(alloc, given, row) else {
+    let Ok(views) = views_of(alloc, row) else {
         return Err(LoadFault::NoMemory);
     };
-    match load_typed(alloc, machine, memory, base, &entry, &views) {
-        Ok(handoff) => Ok(handoff),
-        Err(fault) => Err(load_fault(fault)),
-    }
+    load_typed(alloc, machine, memory, base, &entry, &views)
 }
 
 /// Loads an entry into memory that begins at a base, with room for so many places.
-pub(crate) fn load<A: Allocator + Copy>(
+pub(crate) fn load_entry_at<A: Allocator + Copy>(
     alloc: A,
     memory: &mut [u8],
     base: u32,
     machine: &MachineRecord,
     regions: &[RegionRecord],
-    given: &Given,
     entry: &EntryRecord,
     room: usize,
 ) -> Result<Handoff<A>, LoadFault>
-    ensures end { IsGivenLoadEnd machine.now regions.now given.now entry.now room
+    ensures end { IsGivenLoadEnd machine.now regions.now entry.now room base
         (memory_from base memory.old) (memory_from base memory.new) result }
     ensures room { OnOk result (MAX_PARTS ≤ room) }
 {
     if room < MAX_PARTS {
-        return Err(LoadFault::Misused(Misuse::FewPlaces));
+        return Err(LoadFault::Misused(Misuse::SmallRoom));
     }
     let made = match machine_of(alloc, machine, regions) {
         Ok(made) => made,
@@ -100,7 +141,7 @@ pub(crate) fn load<A: Allocator + Copy>(
     if end < made.size() {
         return Err(LoadFault::Misused(Misuse::BadMemory));
     }
-    load_given(alloc, &made, memory, base, given, entry)
+    load_given(alloc, &made, memory, base, entry)
 }
 
 /// Loads an entry, and tells what comes of it.
@@ -110,18 +151,17 @@ pub fn load_told<A: Allocator + Copy>(
     base: u32,
     machine: &MachineRecord,
     regions: &[RegionRecord],
-    given: &Given,
     entry: &EntryRecord,
     told: &mut HandoffRecord,
     places: &mut [PlaceRecord],
     refusal: &mut RefusalRecord,
 ) -> u32
     ensures { (end : Result HandoffFacts LoadFault)
-        × IsGivenLoadEnd machine.now regions.now given.now entry.now (length places.old)
+        × IsGivenLoadEnd machine.now regions.now entry.now (length places.old) base
         (memory_from base memory.old) (memory_from base memory.new) end
         × TellsEnd end result told.old told.new places.old places.new refusal.old refusal.new }
 {
     let room = places.len();
-    let end = load(alloc, memory, base, machine, regions, given, entry, room);
+    let end = load_entry_at(alloc, memory, base, machine, regions, entry, room);
     tell_end(end, told, places, refusal)
 }

@@ -2,15 +2,15 @@
 ghost use Rattle.std.specs.Prelude.{◌≤◌, length, IfOk, IfErr, OnOk, Result};
 ghost use Rattle.bl_load.specs.HandoffFacts.{HandoffFacts};
 ghost use Rattle.bl_load.specs.PlanContents.{handoff_by};
-ghost use Rattle.c_abi.specs.Load.{IsEntryFault, IsEntrySound, IsNotLoaded};
-ghost use Rattle.c_abi.specs.Prepare.{IsHandoffOf, IsPrepared, IsGivenPrepareEnd};
+ghost use Rattle.c_abi.specs.Given.{texts_given};
+ghost use Rattle.c_abi.specs.Load.{IsEntryFault, IsEntrySound};
+ghost use Rattle.c_abi.specs.Prepare.{IsHandoffOf, IsPrepared, IsNotPrepared, IsGivenPrepareEnd};
 ghost use Rattle.c_abi.specs.LoadTold.{TellsEnd};
 ghost use Rattle.c_abi.specs.declared.load_fault.LoadFault.{LoadFault};
 
 use crate::end_records::{HandoffRecord, PlaceRecord, RefusalRecord};
 use crate::entries::take_entry;
 use crate::file_views::views_of;
-use crate::given_arrays::Given;
 use crate::given_records::{EntryRecord, MachineRecord, RegionRecord};
 use crate::handoff_telling::{tell_fault, tell_plan};
 use crate::load_fault::{LoadFault, given_fault, load_fault};
@@ -25,20 +25,18 @@ use std::alloc::Allocator;
 fn prepare_given<A: Allocator + Copy>(
     alloc: A,
     machine: &Machine<A>,
-    given: &Given,
     row: &EntryRecord,
 ) -> Result<Plan<A>, LoadFault>
-    ensures handed { IfOk result
-        (λ plan. IsHandoffOf machine.now given.now row.now (handoff_by plan)) }
-    ensures sound { OnOk result (IsEntrySound given.now row.now) }
+    ensures handed { IfOk result (λ plan. IsHandoffOf machine.now row.now (handoff_by plan)) }
+    ensures sound { OnOk result (IsEntrySound row.now) }
     ensures few { IfOk result (λ plan. length plan.parts.items ≤ 256) }
-    ensures fault { IfErr result (IsEntryFault machine.now given.now row.now) }
+    ensures fault { IfErr result (IsEntryFault machine.now row.now (texts_given row.now) 0) }
 {
-    let entry = match take_entry(alloc, given, row) {
+    let entry = match take_entry(alloc, row) {
         Ok(entry) => entry,
         Err(fault) => return Err(given_fault(fault)),
     };
-    let Ok(views) = views_of(alloc, given, row) else {
+    let Ok(views) = views_of(alloc, row) else {
         return Err(LoadFault::NoMemory);
     };
     match prepare(alloc, machine, &entry, &views) {
@@ -52,25 +50,24 @@ fn prepare_entry<A: Allocator + Copy>(
     alloc: A,
     machine: &MachineRecord,
     regions: &[RegionRecord],
-    given: &Given,
     entry: &EntryRecord,
     room: usize,
 ) -> Result<Plan<A>, LoadFault>
     ensures prepared { IfOk result
-        (λ plan. IsPrepared machine.now regions.now given.now entry.now room (handoff_by plan)) }
+        (λ plan. IsPrepared machine.now regions.now entry.now room (handoff_by plan)) }
     ensures few { IfOk result (λ plan. length plan.parts.items ≤ 256) }
     ensures room { OnOk result (MAX_PARTS ≤ room) }
     ensures fault { IfErr result
-        (IsNotLoaded machine.now regions.now given.now entry.now room machine.now.size) }
+        (IsNotPrepared machine.now regions.now entry.now (texts_given entry.now) room) }
 {
     if room < MAX_PARTS {
-        return Err(LoadFault::Misused(Misuse::FewPlaces));
+        return Err(LoadFault::Misused(Misuse::SmallRoom));
     }
     let made = match machine_of(alloc, machine, regions) {
         Ok(made) => made,
         Err(fault) => return Err(given_fault(fault)),
     };
-    prepare_given(alloc, &made, given, entry)
+    prepare_given(alloc, &made, entry)
 }
 
 /// Tells what a load of an entry would hand over, or why it would not. The checks are those of
@@ -79,17 +76,16 @@ pub fn prepare_told<A: Allocator + Copy>(
     alloc: A,
     machine: &MachineRecord,
     regions: &[RegionRecord],
-    given: &Given,
     entry: &EntryRecord,
     told: &mut HandoffRecord,
     places: &mut [PlaceRecord],
     refusal: &mut RefusalRecord,
 ) -> u32
     ensures { (end : Result HandoffFacts LoadFault)
-        × IsGivenPrepareEnd machine.now regions.now given.now entry.now (length places.old) end
+        × IsGivenPrepareEnd machine.now regions.now entry.now (length places.old) end
         × TellsEnd end result told.old told.new places.old places.new refusal.old refusal.new }
 {
-    match prepare_entry(alloc, machine, regions, given, entry, places.len()) {
+    match prepare_entry(alloc, machine, regions, entry, places.len()) {
         Ok(plan) => {
             tell_plan(&plan, told, places);
             0

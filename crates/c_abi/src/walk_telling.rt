@@ -1,8 +1,9 @@
 //! What C is told of a walk.
-ghost use Rattle.std.specs.Prelude.{◌≡◌, ◌≤◌, ◌++◌, length, drop, MatchBool};
+ghost use Rattle.std.specs.Prelude.{MatchBool};
 ghost use Rattle.c_abi.specs.WalkTold as spec;
 ghost use Rattle.c_abi.specs.internal.Tellings.{walk_telling};
 
+use crate::array_fronts::put_front;
 use crate::end_records::RefusalRecord;
 use crate::given_records::RegionRecord;
 use crate::misuse::Misuse;
@@ -58,14 +59,6 @@ fn fits_into<A: Allocator>(
     true
 }
 
-/// Copies elements to the front of an array.
-fn put_front<T: Copy>(elements: &[T], array: &mut [T])
-    requires { length elements.now ≤ length array.old }
-    ensures { array.new ≡ elements.now ++ drop (length elements.now) array.old }
-{
-    array[..elements.len()].copy_from_slice(elements);
-}
-
 /// Tells all that is seen, if there is room for it, with the status.
 pub(crate) fn tell_records<A: Allocator>(
     records: &SeenVectors<A>,
@@ -81,7 +74,7 @@ pub(crate) fn tell_records<A: Allocator>(
 {
     *told = records.seen;
     if !fits_into(records, kernel, modules, runs, text) {
-        return Misuse::FewPlaces.status();
+        return Misuse::SmallRoom.status();
     }
     put_front(&records.kernel, kernel);
     put_front(&records.modules, modules);

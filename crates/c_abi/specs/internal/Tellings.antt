@@ -6,6 +6,8 @@ use Rattle.c_abi.specs.declared.end_records.HandoffRecord.{HandoffRecord}
 use Rattle.c_abi.specs.declared.end_records.PlaceRecord.{PlaceRecord}
 use Rattle.c_abi.specs.declared.end_records.RefusalRecord.{RefusalRecord}
 use Rattle.c_abi.specs.declared.given_records.RegionRecord.{RegionRecord}
+use Rattle.c_abi.specs.declared.plan_records.PlanCountsRecord.{PlanCountsRecord}
+use Rattle.c_abi.specs.declared.plan_records.StepRecord.{StepRecord}
 use Rattle.c_abi.specs.declared.seen_records.SeenModuleRecord.{SeenModuleRecord}
 use Rattle.c_abi.specs.declared.seen_records.SeenPartRecord.{SeenPartRecord}
 use Rattle.c_abi.specs.declared.seen_records.SeenRecord.{SeenRecord}

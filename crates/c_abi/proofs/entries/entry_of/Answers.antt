@@ -1,29 +1,26 @@
-use Rattle.std.proofs.lemmas.Result.{err_from_is_err_and}
+use Rattle.std.proofs.Common.{◌≡◌, ◌==◌, true, [], rules, refl}
+use Rattle.bl_load.specs.EntryValue.{value_of}
+use Rattle.c_abi.specs.Given.{entry_without_files}
+use Rattle.c_abi.proofs.LoadLemmas.{too_large}
+use Rattle.c_abi.proofs.NumberLemmas.{multiboot2_facts}
 use Rattle.c_abi.proofs.entries.entry_of.Goals as goal
 
-pub returns-in_err-line : goal.returns-in_err-line
-returns-in_err-line g c =
-    let end =
-    err_from_is_err_and c.from_residual.result c.from_residual.ensures.1 in
-    rw end.1 (record { value = tt; facts = tt; count = tt })
+pub returns-then-not-is_within_limits-clause-fault :
+    goal.returns-then-not-is_within_limits-clause-fault
+returns-then-not-is_within_limits-clause-fault g c =
+    let value : value_of [] c.in_ok-entry.entry ≡ entry_without_files c.args.row.now =
+    search rules in (
+      refl,
+      too_large c.args.row.now c.in_ok-entry.entry value
+          (λ limits.
+          let within : c.is_within_limits.result ≡ true = c.is_within_limits.ensures.1 limits in
+          absurd (search rules)),
+    )
 
-pub returns-in_err-modules_of : goal.returns-in_err-modules_of
-returns-in_err-modules_of g c =
-    let end =
-    err_from_is_err_and c.from_residual-in_err-modules_of.result
-    c.from_residual-in_err-modules_of.ensures.1 in
-    rw end.1 (record { value = tt; facts = tt; count = tt })
-
-pub returns-in_err-copy_of : goal.returns-in_err-copy_of
-returns-in_err-copy_of g c =
-    let end =
-    err_from_is_err_and c.from_residual-in_err-copy_of.result
-    c.from_residual-in_err-copy_of.ensures.1 in
-    rw end.1 (record { value = tt; facts = tt; count = tt })
-
-pub returns-in_err-copy_of-2 : goal.returns-in_err-copy_of-2
-returns-in_err-copy_of-2 g c =
-    let end =
-    err_from_is_err_and c.from_residual-in_err-copy_of-2.result
-    c.from_residual-in_err-copy_of-2.ensures.1 in
-    rw end.1 (record { value = tt; facts = tt; count = tt })
+pub returns-clause-facts : goal.returns-clause-facts
+returns-clause-facts g c =
+    let value : value_of [] c.in_ok-entry.entry ≡ entry_without_files c.args.row.now =
+    search rules in
+    let is : (c.args.row.now.protocol == 1) ≡ true = search rules in
+    multiboot2_facts c.in_ok-entry.entry c.args.row.now c.args.before is
+    c.in_ok-entry.ensures.files value

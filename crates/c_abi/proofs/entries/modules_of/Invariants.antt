@@ -1,10 +1,10 @@
-use Rattle.std.proofs.Common.{◌≡◌, map, take}
-use Rattle.c_abi.specs.Given.{text_given}
+use Rattle.std.proofs.Common.{◌≡◌, ◌+◌, map, take}
+use Rattle.c_abi.specs.MenuGiven.{numbered}
 use Rattle.c_abi.proofs.entries.modules_of.Given as goal
 
--- the modules so far
-abbrev pub invariant-loop-record : goal.invariant-loop-record
-invariant-loop-record g l =
-    (map (λ m. m.file) l.modules.items ≡ map (λ m. m.file) (take l.record-index l.records))
-    × (map (λ m. m.line) l.modules.items
-    ≡ map (λ m. text_given l.given m.line) (take l.record-index l.records))
+-- the modules so far, and the number of the next one's file
+abbrev pub invariant-loop-row : goal.invariant-loop-row
+invariant-loop-row g l =
+    (l.file ≡ l.first + l.row-index)
+    × (map (λ m. m.file) l.modules.items ≡ numbered l.first (take l.row-index l.rows))
+    × (map (λ m. m.line) l.modules.items ≡ map (λ m. m.line.now) (take l.row-index l.rows))

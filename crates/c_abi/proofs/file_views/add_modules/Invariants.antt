@@ -1,5 +1,4 @@
 use Rattle.std.proofs.Common.{◌≡◌, ◌++◌, map, take}
-use Rattle.c_abi.specs.Given.{file_given}
 use Rattle.c_abi.proofs.file_views.add_modules.Given as goal
 
 -- the files of the modules so far
@@ -7,4 +6,4 @@ abbrev pub invariant-loop-module : goal.invariant-loop-module
 invariant-loop-module g l =
     map (λ v. v.bytes.now) l.views.items
     ≡ map (λ v. v.bytes.now) l.fn.views.items
-    ++ map (file_given l.given) (map (λ m. m.file) (take l.module-index l.modules))
+    ++ map (λ file. file.bytes.now) (map (λ m. m.file) (take l.module-index l.modules))

@@ -1,34 +1,88 @@
-use Rattle.std.proofs.Common.{arith, rules, ℕ, ◌≡◌}
-use Rattle.std.proofs.lemmas.Grind.{common_steps}
-use Rattle.std.proofs.lemmas.List.{length-append, length-replicate}
+use Rattle.std.proofs.Common.{◌≡◌, ◌≤◌, List, All, length, map, ap, subst, sym, refl, ◌∙◌}
+use Rattle.std.proofs.lemmas.Bool.{MatchBool-at_true, MatchBool-at_false}
+use Rattle.bl_mem.specs.Memory.{memory_from}
+use Rattle.bl_mem.specs.declared.byte_view.SliceView.{SliceView}
+use Rattle.bl_load.specs.EntryValue.{value_of}
+use Rattle.bl_load.specs.Handover.{Handover, overwrite_parts}
+use Rattle.bl_load.specs.Loadable.{lengths_of}
+use Rattle.bl_load.specs.Parts.{IsHandover}
+use Rattle.bl_load.specs.PlanContents.{handover_by}
+use Rattle.bl_load.specs.PlannedPlaces.{planned_place}
+use Rattle.c_abi.specs.internal.LoadEnds.{IsValueFault}
+use Rattle.c_abi.proofs.LoadLemmas.{fits_larger, places_above, value_not_prepared}
 use Rattle.c_abi.proofs.loading.load_typed.Goals as goal
 
-pub load_entry-requires-clause-files : goal.load_entry-requires-clause-files
-load_entry-requires-clause-files g c = c.requires.files
+pub returns-in-Err : goal.returns-in-Err
+returns-in-Err g c =
+    let value =
+    value_of (map (λ (f : SliceView). f.bytes.now) c.args.files.now) c.args.entry.now in
+    record {
+      handover = tt;
+      after = tt;
+      inside = tt;
+      above = tt;
+      fault =
+          subst (IsValueFault c.args.machine.now value c.args.base) (sym c.load_fault.ensures)
+          (value_not_prepared c.args.machine.now value c.args.base c.in-Err.fault
+          c.in-Err.ensures.fault);
+      unchanged = refl;
+    }
 
-pub load_entry-requires-clause-limits : goal.load_entry-requires-clause-limits
-load_entry-requires-clause-limits g c = c.requires.limits
+pub returns-then-begin_below : goal.returns-then-begin_below
+returns-then-begin_below g c =
+    let texts = map (λ (f : SliceView). f.bytes.now) c.args.files.now in
+    let plan = c.in-Ok.plan in
+    let low : ¬ All (λ place. c.args.base ≤ place.address)
+    (map planned_place c.as_slice.result.now) =
+    MatchBool-at_true _ _ c.if-begin_below.true c.begin_below.ensures in
+    let below : ¬ All (λ place. c.args.base ≤ place.address)
+    (map planned_place plan.parts.items) = rw c.as_slice.ensures.value at low in
+    record {
+      handover = tt;
+      after = tt;
+      inside = tt;
+      above = tt;
+      fault = record {
+        handover = handover_by texts plan;
+        handed = c.in-Ok.ensures.handover;
+        below = λ above. below (places_above texts c.args.base plan.parts.items above);
+      };
+      unchanged = refl;
+    }
 
-pub load_entry-requires-clause-size : goal.load_entry-requires-clause-size
-load_entry-requires-clause-size g c =
-    let size = c.requires.size in
-    rw (c.from_base-own.ensures.base, c.from_base-own.ensures.bytes)
-    (omega (arith, length-append {A = ℕ}, length-replicate {A = ℕ}, size))
+pub load_plan-requires-clause-loadable : goal.load_plan-requires-clause-loadable
+load_plan-requires-clause-loadable g c =
+    fits_larger (lengths_of (map (λ (f : SliceView). f.bytes.now) c.args.files.now))
+    c.args.machine.now.size _ c.in-Ok.plan c.requires.size c.in-Ok.ensures.loadable
+
+pub load_plan-requires-clause-above : goal.load_plan-requires-clause-above
+load_plan-requires-clause-above g c =
+    let above : All (λ place. c.args.base ≤ place.address)
+    (map planned_place c.as_slice.result.now) =
+    MatchBool-at_false _ _ c.if-begin_below.false c.begin_below.ensures in
+    rw c.as_slice.ensures.value at above
 
 pub returns : goal.returns
 returns g c =
-    let base : c.load_entry.new.memory.base ≡ c.args.base = grind (arith, common_steps) in
-    let handover = rw base at c.load_entry.ensures.handover in
-    let after =
-    rw (base, c.from_base-own.ensures.base, c.from_base-own.ensures.bytes)
-    at c.load_entry.ensures.after in
-    let unchanged =
-    rw (base, c.from_base-own.ensures.base, c.from_base-own.ensures.bytes)
-    at c.load_entry.ensures.unchanged in
+    let texts = map (λ (f : SliceView). f.bytes.now) c.args.files.now in
+    let value = value_of texts c.args.entry.now in
+    let put = c.load_plan.ensures.put in
+    let first : All (λ place. c.args.base ≤ place.address)
+    (map planned_place c.as_slice.result.now) =
+    MatchBool-at_false _ _ c.if-begin_below.false c.begin_below.ensures in
+    let above : All (λ place. c.args.base ≤ place.address)
+    (map planned_place c.in-Ok.plan.parts.items) = rw c.as_slice.ensures.value at first in
     record {
-      handover = search rules;
-      after = search rules;
-      inside = c.load_entry.ensures.inside;
-      fault = c.load_entry.ensures.fault;
-      unchanged = search rules;
+      handover =
+          subst (IsHandover c.args.machine.now value) (sym put.handed) c.in-Ok.ensures.handover;
+      after =
+          put.after
+          ∙ ap
+          (λ (h : Handover).
+          overwrite_parts h.parts (memory_from c.args.base c.args.memory.now))
+          (sym put.handed);
+      inside = rw c.load_plan.ensures.places c.in-Ok.ensures.loadable.inside;
+      above = rw c.load_plan.ensures.places above;
+      fault = tt;
+      unchanged = tt;
     }

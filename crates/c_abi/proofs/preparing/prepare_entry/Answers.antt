@@ -2,9 +2,10 @@ use Rattle.std.proofs.Common.{arith, subst, sym}
 use Rattle.c_abi.specs.declared.load_fault.LoadFault.{LoadFault}
 use Rattle.std.proofs.lemmas.Result.{IfErr-weaker}
 use Rattle.bl_load.specs.PlanContents.{handoff_by}
-use Rattle.c_abi.specs.Load.{few_places, bad_machine, bad_entry, IsNotLoaded, IsEntryFault}
+use Rattle.c_abi.specs.Given.{texts_given}
+use Rattle.c_abi.specs.Load.{few_places, bad_machine, bad_entry, IsEntryFault}
 use Rattle.c_abi.specs.Load.{IsEntrySound}
-use Rattle.c_abi.specs.Prepare.{IsHandoffOf, IsPrepared}
+use Rattle.c_abi.specs.Prepare.{IsHandoffOf, IsPrepared, IsNotPrepared}
 use Rattle.c_abi.proofs.ResultLemmas.{on_ok, ok_by_both}
 use Rattle.c_abi.proofs.preparing.prepare_entry.Goals as goal
 
@@ -16,20 +17,19 @@ returns-in-Err-clause-fault g c =
     let many = c.if-room-lt-MAX_PARTS.false in
     subst
     (λ (f : LoadFault).
-    IsNotLoaded c.args.machine.now c.args.regions.now c.args.given.now c.args.entry.now
-    c.args.room c.args.machine.now.size f)
+    IsNotPrepared c.args.machine.now c.args.regions.now c.args.entry.now
+    (texts_given c.args.entry.now) c.args.room f)
     (sym c.given_fault.ensures)
     (bad_machine (omega (arith, many)) c.in-Err.fault c.in-Err.ensures.fault)
 
 pub returns-clause-prepared : goal.returns-clause-prepared
 returns-clause-prepared g c =
     let many = c.if-room-lt-MAX_PARTS.false in
-    let given = c.args.given.now in
     let entry = c.args.entry.now in
     ok_by_both c.prepare_given.result
-    (λ plan. IsHandoffOf c.in-Ok.made given entry (handoff_by plan))
-    (λ plan. IsEntrySound given entry)
-    (λ plan. IsPrepared c.args.machine.now c.args.regions.now given entry
+    (λ plan. IsHandoffOf c.in-Ok.made entry (handoff_by plan))
+    (λ plan. IsEntrySound entry)
+    (λ plan. IsPrepared c.args.machine.now c.args.regions.now entry
     c.args.room (handoff_by plan))
     (λ plan handed sound. record {
       has_room = omega (arith, many);
@@ -47,12 +47,11 @@ returns-clause-room g c =
 pub returns-clause-fault : goal.returns-clause-fault
 returns-clause-fault g c =
     let many = c.if-room-lt-MAX_PARTS.false in
-    let given = c.args.given.now in
     let entry = c.args.entry.now in
     let machine = c.args.machine.now in
     let regions = c.args.regions.now in
-    IfErr-weaker c.prepare_given.result (IsEntryFault c.in-Ok.made given entry)
-    (IsNotLoaded machine regions given entry c.args.room machine.size)
+    IfErr-weaker c.prepare_given.result (IsEntryFault c.in-Ok.made entry (texts_given entry) 0)
+    (IsNotPrepared machine regions entry (texts_given entry) c.args.room)
     (λ fault is.
     bad_entry (omega (arith, many)) c.in-Ok.ensures.sound (omega arith) fault record {
       facts = c.in-Ok.made;

@@ -3,6 +3,7 @@ use Rattle.bl_mem.specs.declared.byte_view.SliceView.{SliceView}
 use Rattle.bl_load.specs.Parts.{IsHandover}
 use Rattle.bl_load.specs.PlanContents.{handover_by}
 use Rattle.bl_load.specs.EntryValue.{EntryValue}
+use Rattle.c_abi.specs.Given.{texts_given}
 use Rattle.c_abi.specs.Load.{IsEntryFault}
 use Rattle.c_abi.proofs.LoadLemmas.{given_value, given_count, entry_sound}
 use Rattle.c_abi.proofs.LoadLemmas.{of_given_is, of_prepared_is}
@@ -21,10 +22,9 @@ returns-in-Err-clause-few g c = tt
 pub returns-in-Err-clause-fault : goal.returns-in-Err-clause-fault
 returns-in-Err-clause-fault g c =
     let facts = c.args.machine.now in
-    let given = c.args.given.now in
     let row = c.args.row.now in
-    subst (IsEntryFault facts given row) (sym c.given_fault.ensures)
-    (of_given_is facts given row c.in-Err.fault c.in-Err.ensures.fault)
+    subst (IsEntryFault facts row (texts_given row) 0) (sym c.given_fault.ensures)
+    (of_given_is facts row (texts_given row) 0 c.in-Err.fault c.in-Err.ensures.fault)
 
 pub returns-in_default-clause-handed : goal.returns-in_default-clause-handed
 returns-in_default-clause-handed g c = tt
@@ -42,8 +42,7 @@ pub prepare-requires-clause-files : goal.prepare-requires-clause-files
 prepare-requires-clause-files g c =
     let files =
     ap (map (λ (v : SliceView). v.bytes.now)) c.deref.ensures.value ∙ c.in-Ok-views_of.ensures in
-    given_count (λ (v : SliceView). v.bytes.now) c.args.given.now c.args.row.now
-    c.deref.result.now files
+    given_count (λ (v : SliceView). v.bytes.now) c.args.row.now c.deref.result.now files
     ∙ sym c.in-Ok.ensures.count
 
 pub prepare-requires-clause-limits : goal.prepare-requires-clause-limits
@@ -51,13 +50,12 @@ prepare-requires-clause-limits g c = c.in-Ok.ensures.limits
 
 pub returns-in-Ok-prepare-clause-handed : goal.returns-in-Ok-prepare-clause-handed
 returns-in-Ok-prepare-clause-handed g c =
-    let given = c.args.given.now in
     let row = c.args.row.now in
     let plan = c.in-Ok-prepare.plan in
     let texts = map (λ (v : SliceView). v.bytes.now) c.deref.result.now in
     let files =
     ap (map (λ (v : SliceView). v.bytes.now)) c.deref.ensures.value ∙ c.in-Ok-views_of.ensures in
-    let value = given_value given row c.in-Ok.entry texts c.in-Ok.ensures.value files in
+    let value = given_value row c.in-Ok.entry texts (texts_given row) c.in-Ok.ensures.value files in
     record {
       handover = handover_by texts plan;
       handover_is =
@@ -70,7 +68,7 @@ returns-in-Ok-prepare-clause-handed g c =
 
 pub returns-in-Ok-prepare-clause-sound : goal.returns-in-Ok-prepare-clause-sound
 returns-in-Ok-prepare-clause-sound g c =
-    entry_sound c.args.given.now c.args.row.now c.in-Ok.entry c.in-Ok.ensures.value
+    entry_sound c.args.row.now c.in-Ok.entry c.in-Ok.ensures.value
     c.in-Ok.ensures.sound c.in-Ok.ensures.limits
 
 pub returns-in-Ok-prepare-clause-fault : goal.returns-in-Ok-prepare-clause-fault
@@ -87,15 +85,14 @@ returns-clause-few g c = tt
 
 pub returns-clause-fault : goal.returns-clause-fault
 returns-clause-fault g c =
-    let given = c.args.given.now in
     let row = c.args.row.now in
     let texts = map (λ (v : SliceView). v.bytes.now) c.deref.result.now in
     let files =
     ap (map (λ (v : SliceView). v.bytes.now)) c.deref.ensures.value ∙ c.in-Ok-views_of.ensures in
-    let value = given_value given row c.in-Ok.entry texts c.in-Ok.ensures.value files in
+    let value = given_value row c.in-Ok.entry texts (texts_given row) c.in-Ok.ensures.value files in
     let sound =
-    entry_sound given row c.in-Ok.entry c.in-Ok.ensures.value c.in-Ok.ensures.sound
+    entry_sound row c.in-Ok.entry c.in-Ok.ensures.value c.in-Ok.ensures.sound
     c.in-Ok.ensures.limits in
-    subst (IsEntryFault c.args.machine.now given row) (sym c.load_fault.ensures)
-    (of_prepared_is c.args.machine.now given row _ c.in-Err-prepare.fault sound value
+    subst (IsEntryFault c.args.machine.now row (texts_given row) 0) (sym c.load_fault.ensures)
+    (of_prepared_is c.args.machine.now row (texts_given row) 0 _ c.in-Err-prepare.fault sound value
     c.in-Err-prepare.ensures.fault)

@@ -2,10 +2,11 @@ use Rattle.std.proofs.Common.{ℕ, arith, length, refl, subst, sym}
 use Rattle.std.proofs.lemmas.List.{length-append, length-replicate}
 use Rattle.bl_mem.specs.Memory.{memory_from}
 use Rattle.c_abi.specs.declared.load_fault.LoadFault.{LoadFault}
+use Rattle.c_abi.specs.Given.{texts_given}
 use Rattle.c_abi.specs.Load.{few_places, bad_machine, bad_memory, IsNotLoaded}
 use Rattle.c_abi.proofs.LoadLemmas.{given_end}
 use Rattle.c_abi.proofs.ResultLemmas.{on_ok}
-use Rattle.c_abi.proofs.loading.load.Goals as goal
+use Rattle.c_abi.proofs.loading.load_entry_at.Goals as goal
 
 pub returns-then-room-lt-MAX_PARTS-clause-end : goal.returns-then-room-lt-MAX_PARTS-clause-end
 returns-then-room-lt-MAX_PARTS-clause-end g c = (few_places (omega arith), refl)
@@ -16,8 +17,8 @@ returns-in-Err-clause-end g c =
     let end = length (memory_from c.args.base c.args.memory.now) in (
       subst
           (λ (f : LoadFault).
-          IsNotLoaded c.args.machine.now c.args.regions.now c.args.given.now c.args.entry.now
-          c.args.room end f)
+          IsNotLoaded c.args.machine.now c.args.regions.now c.args.entry.now
+          (texts_given c.args.entry.now) c.args.room c.args.base end f)
           (sym c.given_fault.ensures)
           (bad_machine (omega (arith, many)) c.in-Err.fault c.in-Err.ensures.fault),
       refl,
@@ -40,8 +41,8 @@ returns-clause-end g c =
     let told = c.size.ensures.size in
     let many = c.if-room-lt-MAX_PARTS.false in
     let reaches = c.if-end-size.false in
-    given_end c.args.machine.now c.args.regions.now c.args.given.now
-    c.args.entry.now c.args.room (memory_from c.args.base c.args.memory.now)
+    given_end c.args.machine.now c.args.regions.now
+    c.args.entry.now c.args.room c.args.base (memory_from c.args.base c.args.memory.now)
     (memory_from c.args.base c.load_given.new.memory) c.in-Ok.made c.load_given.result
     (omega (arith, many)) c.in-Ok.ensures.machine c.in-Ok.ensures.sound
     (omega (arith, length-append {A = ℕ}, length-replicate {A = ℕ}, size, told, reaches))
