@@ -3,10 +3,10 @@
 import re
 import unittest
 from pathlib import Path
-from typing import List, Tuple
+from typing import List, Optional, Tuple
 
 from tests import examples
-from tests.c_core import CC, HEADER, WARNINGS, CoreChecks, build, libraries, why_left_out
+from tests.c_core import CC, FREESTANDING, HEADER, WARNINGS, CoreChecks, build, build_freestanding, libraries, why_left_out
 from tests.changed_images import change, changed_images
 from tests.support import PROGRAM, TOP, Checks, Ran, has_tomllib, is_at_hand, need_built, run
 
@@ -220,13 +220,21 @@ class Examples(CoreChecks):
 
 class Cases(CoreChecks):
     def test_cases(self) -> None:
-        driver = self.driver("cases", *self.sanitizers(), "-Wl,--wrap=malloc,--wrap=realloc")
+        self.run_cases(
+            "each case ends as wanted by way of C, by a boot and a session, a load and a plan carried out in three ways,"
+            " also with each growth of memory refused in turn",
+            self.driver("cases", *self.sanitizers(), "-Wl,--wrap=malloc,--wrap=realloc"),
+        )
+
+    def test_freestanding(self) -> None:
+        self.ends("the archive for firmware is built", build_freestanding())
+        if FREESTANDING.exists():
+            driver = self.driver("cases", "-DARENA", archive=FREESTANDING)
+            self.run_cases("each case ends as wanted by way of C for firmware", driver)
+
+    def run_cases(self, sentence: str, driver: Optional[Path]) -> None:
         if driver is None:
             return
-        sentence = (
-            "each case ends as wanted by way of C, by a boot and a session, a load and a plan carried out in three ways,"
-            " also with each growth of memory refused in turn"
-        )
         if not has_tomllib():
             self.leave_out(sentence, "python3 of 3.11 or later is not at hand")
             return

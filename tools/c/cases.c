@@ -15,10 +15,14 @@
  *
  * Before that, if memory is small, the same call is made with each of its requests to malloc and realloc refused in turn, and all
  * after it; of a boot the first MOST. The answer must be BOOTCORE_NO_MEMORY, and memory as before, of a boot outside the pool. So
- * it is with the walk of an image, and with a plan. The linker is told to wrap the two.
+ * it is with the walk of an image, and with a plan. The linker is told to wrap the two. With -DARENA, for
+ * libbootcore_freestanding.a, no request is refused.
  */
 #define _XOPEN_SOURCE 700
 #include "case.h"
+#ifdef ARENA
+#include "bootcore_arena.h"
+#endif
 
 #include <inttypes.h>
 #include <unistd.h>
@@ -34,6 +38,7 @@ static bootcore_outcome outcome;
 
 static size_t granted = SIZE_MAX; /* how many still are not */
 
+#ifndef ARENA
 void *__real_malloc(size_t size);
 void *__wrap_malloc(size_t size);
 void *__real_realloc(void *old, size_t size);
@@ -54,6 +59,7 @@ void *__wrap_malloc(size_t size) {
 void *__wrap_realloc(void *old, size_t size) {
     return is_granted() ? __real_realloc(old, size) : NULL;
 }
+#endif
 
 /* ---- the call */
 
@@ -534,12 +540,18 @@ static void tell(uint32_t status, uint32_t entry, const char *image) {
 
 int main(int argc, char **argv) {
     const bootcore_entry *entry = NULL;
+#ifdef ARENA
+    static uint8_t arena[1 << 26];
+#endif
     size_t number, grants;
     uint32_t status;
     int is_load;
     if (argc != 4) {
         return 2;
     }
+#ifdef ARENA
+    bootcore_arena(arena, sizeof arena);
+#endif
     is_load = !strcmp(argv[1], "load");
     number = strtoul(argv[2], NULL, 10);
     read_case();
