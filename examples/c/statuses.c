@@ -268,6 +268,10 @@ static void try_carrying(void) {
     CARRY(BOOTCORE_BAD_FILE, c.file_count = 1);
     CARRY(BOOTCORE_BAD_FILE, c.files[1].length = 4);
     CARRY(BOOTCORE_BAD_FILE, c.files[1].length = BOOTCORE_UNREADABLE);
+    CARRY(BOOTCORE_BAD_FILE, c.layout.steps[0].source = 0);
+    CARRY(BOOTCORE_BAD_FILE, c.layout.own_length = 1);
+    CARRY(BOOTCORE_SMALL_ROOM, c.layout.step_room = 0);
+    CARRY(BOOTCORE_SMALL_ROOM, c.layout.own_room = 0);
     CARRY(BOOTCORE_NULL, c.files[1].bytes = NULL);
     CARRY(BOOTCORE_NULL, c.pieces[0].bytes = NULL);
     CARRY(BOOTCORE_NULL, c.layout.steps = NULL);
