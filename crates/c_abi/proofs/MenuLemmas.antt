@@ -8,7 +8,7 @@ use Rattle.std.proofs.lemmas.List.Elements.{All-map}
 use Rattle.std.proofs.lemmas.Simd.{map-map}
 use Rattle.bl_load.specs.declared.entry.Entry.{Entry}
 use Rattle.bl_load.specs.declared.entry.Entry.TheVariants.{Multiboot2, Linux}
-use Rattle.bl_load.specs.EntryValue.{EntryValue, HasLimits, IsWithinLimits, file_count, value_of}
+use Rattle.bl_load.specs.EntryValue.{HasLimits, IsWithinLimits, file_count, value_of}
 use Rattle.bl_session.specs.menu.Menu.{EntryFacts, facts_of}
 use Rattle.bl_session.specs.menu.MenuFaults.{AreWithinLimits, AreEntryIndices, HasMenuFault}
 use Rattle.bl_session.specs.declared.menu.fault.MenuFault.{MenuFault}
