@@ -61,9 +61,10 @@ static bootcore_entry entry;
 static bootcore_bytes files[5];
 static size_t file_count;
 
-/* Bytes of the input from one place of it on, where it has them. */
-static bootcore_bytes some(size_t from, size_t length) {
+/* Bytes of the input from one place of it on, where it has them; the next bytes of its head say how many. */
+static bootcore_bytes some(size_t from, size_t count_bytes) {
     bootcore_bytes bytes = {NULL, 0};
+    size_t length = (size_t)take(count_bytes);
     if (from > input_length) {
         from = input_length;
     }
@@ -73,11 +74,12 @@ static bootcore_bytes some(size_t from, size_t length) {
 }
 
 static void read_input(void) {
-    size_t i, shift;
+    size_t i, from;
     at = 0;
     memset(&machine, 0, sizeof machine);
     memset(&entry, 0, sizeof entry);
-    entry.protocol = (uint32_t)(1 + take(1) % 3 + (take(1) == 255));
+    entry.protocol = (uint32_t)(1 + take(1) % 3);
+    entry.protocol += take(1) == 255;
     machine.size = MOST - 4096 * (take(1) % 4);
     machine.regions = regions;
     regions[0].base = 0;
@@ -85,23 +87,25 @@ static void read_input(void) {
     regions[0].kind = BOOTCORE_USABLE;
     machine.region_count = 1 + take(1) % 6;
     for (i = 1; i < 6; i++) {
-        shift = take(1) % 22;
+        size_t shift = (size_t)take(1) % 22;
         regions[i].base = take(3) >> (shift % 4);
         regions[i].length = take(2) << (shift / 4);
         regions[i].kind = (uint32_t)(1 + take(1) % 5 + (shift == 21));
         regions[i].reserved = 0;
     }
-    entry.line = some(take(1), take(1) % 8 == 7 ? 4096 : take(1));
+    entry.line = some(HEAD, take(1) % 8 == 7 ? 2 : 1);
     entry.module_count = take(1) % 5;
     for (i = 0; i < 4; i++) {
-        modules[i].file = some(HEAD + (size_t)take(1) * 64, (size_t)take(2));
-        modules[i].line = some(take(1), take(1));
+        from = (size_t)take(1);
+        modules[i].file = some(HEAD + from * 64, 2);
+        modules[i].line = some(from, 1);
     }
     entry.modules = modules;
     entry.initrd = modules[0].file;
-    entry.rsdp_old = some(0, take(1) % 64);
-    entry.rsdp_new = some(1, take(1) % 64);
-    entry.kernel = some(HEAD, input_length);
+    entry.rsdp_old = some(0, 1);
+    entry.rsdp_new = some(1, 1);
+    entry.kernel.bytes = input + (input_length < HEAD ? input_length : HEAD);
+    entry.kernel.length = input_length < HEAD ? 0 : input_length - HEAD;
     files[0] = entry.kernel;
     file_count = 1;
     for (i = 0; i < 4 && (entry.protocol == BOOTCORE_MULTIBOOT2 ? i < entry.module_count : i < 1); i++) {
