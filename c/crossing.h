@@ -56,9 +56,9 @@ typedef struct bootcore_crossing_request {
     uint32_t length;
 } bootcore_crossing_request;
 
-/* A block of memory, or none. */
+/* A block of memory, or none: bit 0 of the first word says which. */
 typedef struct bootcore_block {
-    bool is_there;
+    uint64_t is_there;
     void *at;
 } bootcore_block;
 

@@ -223,7 +223,7 @@ bootcore_crossing_entry *bootcore_menu_crossing(const bootcore_menu *menu,
     }
     block = rattle_alloc(menu->entry_count * sizeof *entries + module_count * sizeof *modules,
                          sizeof(void *));
-    if (!block.is_there) {
+    if (!(block.is_there & 1)) {
         return NULL;
     }
     entries = block.at;

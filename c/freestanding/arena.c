@@ -56,7 +56,7 @@ static bootcore_block take(head *block, size_t length) {
         block->length = length;
     }
     block->is_used = 1;
-    taken.is_there = true;
+    taken.is_there = 1;
     taken.at = block + 1;
     used = (size_t)((uint8_t *)taken.at - given) + length;
     if (used > peak) {
@@ -72,7 +72,7 @@ static size_t whole_units(size_t length) {
 
 BOOTCORE_CALL
 bootcore_block rattle_alloc(size_t length, size_t alignment) {
-    const bootcore_block none = {false, NULL};
+    const bootcore_block none = {0, NULL};
     size_t wanted = whole_units(length);
     uint8_t *at;
     for (at = first; wanted && alignment <= UNIT && at != end; at = behind((head *)(void *)at)) {
@@ -98,7 +98,7 @@ BOOTCORE_CALL
 bootcore_block rattle_realloc(void *at, size_t kept, size_t length, size_t alignment) {
     head *old = (head *)at - 1;
     size_t wanted = whole_units(length), i;
-    bootcore_block block = {false, NULL};
+    bootcore_block block = {0, NULL};
     (void)kept;
     if (wanted && alignment <= UNIT) {
         size_t before = old->length;
