@@ -21,6 +21,7 @@ TOOLS = [
     ("each quoted line stands in its source", "tools/quotes"),
     ("each file of definitions or proofs that a crate's page lists is there", "tools/listed"),
     ("each name that a page uses exists", "tools/mentioned"),
+    ("no table cell of a page has more than 160 characters, and no line more than 200", "tools/widths"),
     ("no definition that a reader must believe, and no exported clause, uses one of specs/internal", "tools/believed", "--check"),
     ("a reader's hour in docs/THEOREMS.md has the lines that it counts", "tools/hour", "--check"),
     ("explain has the name and the meaning of each refusal that docs/REFUSALS.md has", "tools/refusals"),

@@ -39,3 +39,7 @@ pub mod StepLemmas
 pub mod StepOrderLemmas
 pub mod StepSourceLemmas
 pub mod StepOriginLemmas
+pub mod FileLengthLemmas
+pub mod OtherFilesLemmas
+pub mod OtherContentsLemmas
+pub mod LengthLaws

@@ -9,7 +9,9 @@ mod entry;
 mod entry_loading;
 mod handoff;
 mod kernel_block;
+mod known_file;
 mod laws;
+mod length_laws;
 mod line_checks;
 mod linux;
 mod loadable_kernel;
@@ -20,6 +22,7 @@ mod parts;
 mod placing;
 mod plan;
 mod preparing;
+mod preparing_by_lengths;
 mod refusal;
 mod refused_entry;
 mod register_text;
@@ -41,10 +44,12 @@ pub use laws::{
     each_entry_has_an_answer, handovers_are_determined, handovers_are_legal,
     parts_are_apart_and_usable, parts_are_of_the_rows,
 };
+pub use length_laws::files_after_the_kernel_count_by_length;
 pub use loading::load;
 pub use named_register::NamedRegister;
 pub use plan::{Content, Plan, PlannedPart};
 pub use preparing::prepare;
+pub use preparing_by_lengths::prepare_by_lengths;
 pub use refusal::{PrepFault, Refusal};
 pub use refused_entry::RefusedEntry;
 pub use registers::{Registers, Registers32, linux_registers, multiboot2_registers};
