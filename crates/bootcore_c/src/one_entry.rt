@@ -1,15 +1,17 @@
-//! One entry for C: it comes into memory, or what would is told.
+//! One entry for C: it comes into memory, or what would is told, or the steps to it.
 ghost use Rattle.std.specs.Prelude.{length, Result};
 ghost use Rattle.bl_mem.specs.Memory.{memory_from};
 ghost use Rattle.bl_load.specs.HandoffFacts.{HandoffFacts};
 ghost use Rattle.c_abi.specs.Load.{IsGivenLoadEnd};
 ghost use Rattle.c_abi.specs.LoadTold.{TellsEnd};
+ghost use Rattle.c_abi.specs.Plan.{PlanFacts, IsGivenPlanEnd};
+ghost use Rattle.c_abi.specs.PlanTold.{TellsPlan};
 ghost use Rattle.c_abi.specs.Prepare.{IsGivenPrepareEnd};
 ghost use Rattle.c_abi.specs.declared.load_fault.LoadFault.{LoadFault};
 
 use c_abi::{
-    EntryRecord, HandoffRecord, MachineRecord, PlaceRecord, RefusalRecord, RegionRecord, load_told,
-    prepare_told,
+    EntryRecord, HandoffRecord, MachineRecord, PlaceRecord, PlanCountsRecord, RefusalRecord,
+    RegionRecord, StepRecord, load_told, plan_told, prepare_told,
 };
 use std::alloc::Global;
 
@@ -52,4 +54,42 @@ pub extern "C" fn bootcore_prepare_arrays(
         × TellsEnd end result told.old told.new places.old places.new refusal.old refusal.new }
 {
     prepare_told(alloc, machine, regions, entry, told, places, refusal)
+}
+
+/// The steps that load an entry are told, whose files beside the kernel are known by their lengths.
+#[unsafe(no_mangle)]
+pub extern "C" fn bootcore_plan_arrays(
+    alloc: Global,
+    machine: &MachineRecord,
+    regions: &[RegionRecord],
+    entry: &EntryRecord<'_>,
+    told: &mut HandoffRecord,
+    counts: &mut PlanCountsRecord,
+    places: &mut [PlaceRecord],
+    steps: &mut [StepRecord],
+    own: &mut [u8],
+    refusal: &mut RefusalRecord,
+) -> u32
+    ensures { (end : Result PlanFacts LoadFault)
+        × IsGivenPlanEnd machine.now regions.now entry.now (length places.old) end
+        × TellsPlan end result
+        (record {
+          handoff = told.old;
+          counts = counts.old;
+          places = places.old;
+          steps = steps.old;
+          own = own.old;
+        })
+        (record {
+          handoff = told.new;
+          counts = counts.new;
+          places = places.new;
+          steps = steps.new;
+          own = own.new;
+        })
+        refusal.old refusal.new }
+{
+    plan_told(
+        alloc, machine, regions, entry, told, counts, places, steps, own, refusal,
+    )
 }

@@ -6,6 +6,7 @@ mod CheckLemmas
 mod LoadLemmas
 mod MenuLemmas
 mod PrepareLemmas
+mod PlanLemmas
 mod MachineLaws
 mod FaultLaws
 mod PrepareLaws

@@ -1,6 +1,6 @@
 -- How a load of an entry ends, by what was made of it.
-use Rattle.std.proofs.Common.{◌≡◌, ◌≤◌, ◌<◌, ◌+◌, ℕ, zero, suc, List, [], ◌∷◌, None, length, map, subst, sym}
-use Rattle.std.proofs.Common.{refl, inr, ap, ◌∙◌, All, AllPairs, get_or, arith}
+use Rattle.std.proofs.Common.{◌≡◌, ◌≤◌, ◌<◌, ℕ, zero, suc, List, [], ◌∷◌, None, length, map, subst, sym}
+use Rattle.std.proofs.Common.{inr, ap, ◌∙◌, All, AllPairs, get_or, arith}
 use Rattle.std.proofs.Common.{Result, Ok, Err, IfOk, IfErr, OnOk, OnErr}
 use Rattle.std.proofs.lemmas.List.{length-map, get_or-map}
 use Rattle.std.proofs.lemmas.List.Elements.{All-map}
@@ -28,13 +28,12 @@ use Rattle.c_abi.specs.declared.load_fault.LoadFault.{LoadFault}
 use Rattle.c_abi.specs.declared.load_fault.LoadFault.TheVariants.{Misused, Refused, NoMemory}
 use Rattle.c_abi.specs.declared.load_fault.LoadFault.TheVariants.{Outside}
 use Rattle.c_abi.specs.declared.given_records.EntryRecord.{EntryRecord}
-use Rattle.c_abi.specs.declared.misuse.Misuse.TheVariants.{TooMany}
 use Rattle.c_abi.specs.declared.given_fault.GivenFault.{GivenFault}
 use Rattle.c_abi.specs.declared.given_fault.GivenFault.TheVariants as given_fault
 use Rattle.c_abi.specs.GivenChecks.{entry_misuse}
 use Rattle.c_abi.specs.Given.{entry_without_files, files_given, texts_given, value_with}
 use Rattle.c_abi.specs.Given.{value_given}
-use Rattle.c_abi.specs.Load.{IsEntrySound, IsEntryMisuse, IsEntryGivenFault, IsEntryFault}
+use Rattle.c_abi.specs.Load.{IsEntrySound, IsEntryGivenFault, IsEntryFault}
 use Rattle.c_abi.specs.Load.{IsEntrySizeFault}
 use Rattle.c_abi.specs.Load.{load_fault_of_given, load_fault_of_prep}
 use Rattle.c_abi.specs.Load.{IsEntryLoaded, IsGivenLoadEnd, bad_entry}

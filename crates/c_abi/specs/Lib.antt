@@ -7,6 +7,8 @@ pub mod Prepare
 pub mod RefusalTold
 pub mod Status
 pub mod LoadTold
+pub mod Plan
+pub mod PlanTold
 pub mod Boot
 pub mod BootTold
 pub mod Sessions

@@ -20,6 +20,9 @@ mod menu_files;
 mod menus;
 mod misuse;
 mod plan_records;
+mod plan_steps;
+mod plan_telling;
+mod planning;
 mod preparing;
 mod refusal_telling;
 mod register_telling;
@@ -45,6 +48,7 @@ pub use load_laws::loads_end_as_prepared;
 pub use loading::load_told;
 pub use misuse::Misuse;
 pub use plan_records::{PlanCountsRecord, StepRecord};
+pub use planning::plan_told;
 pub use preparing::prepare_told;
 pub use seen_records::{
     ByteRange, MISSING, SeenModuleRecord, SeenPartRecord, SeenRecord, WalkStop,

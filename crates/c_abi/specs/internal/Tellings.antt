@@ -1,6 +1,7 @@
 -- What stands in the records that C is told by. Own.
 use Rattle.std.specs.Prelude.{ℕ, List}
 use Rattle.c_abi.specs.BootTold.{Telling}
+use Rattle.c_abi.specs.PlanTold.{PlanTelling}
 use Rattle.c_abi.specs.SeenTold.{WalkRecordsFacts}
 use Rattle.c_abi.specs.declared.end_records.HandoffRecord.{HandoffRecord}
 use Rattle.c_abi.specs.declared.end_records.PlaceRecord.{PlaceRecord}
@@ -16,6 +17,12 @@ use Rattle.c_abi.specs.declared.seen_records.SeenRecord.{SeenRecord}
 abbrev pub telling : HandoffRecord → List PlaceRecord → List RefusalRecord → ℕ → Telling
 telling handoff places refusals count =
     record { handoff = handoff; places = places; refusals = refusals; count = count }
+
+-- of a plan
+abbrev pub plan_telling : HandoffRecord → PlanCountsRecord → List PlaceRecord → List StepRecord
+    → List ℕ → PlanTelling
+plan_telling handoff counts places steps own =
+    record { handoff = handoff; counts = counts; places = places; steps = steps; own = own }
 
 -- of a walk
 abbrev pub walk_telling : SeenRecord → List SeenPartRecord → List SeenModuleRecord

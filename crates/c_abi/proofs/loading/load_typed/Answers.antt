@@ -1,4 +1,4 @@
-use Rattle.std.proofs.Common.{◌≡◌, ◌≤◌, List, All, length, map, ap, subst, sym, refl, ◌∙◌}
+use Rattle.std.proofs.Common.{◌≤◌, All, map, ap, subst, sym, refl, ◌∙◌}
 use Rattle.std.proofs.lemmas.Bool.{MatchBool-at_true, MatchBool-at_false}
 use Rattle.bl_mem.specs.Memory.{memory_from}
 use Rattle.bl_mem.specs.declared.byte_view.SliceView.{SliceView}

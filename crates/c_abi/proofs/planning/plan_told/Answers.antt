@@ -1,0 +1,14 @@
+use Rattle.std.proofs.Common.{Ok, Err, refl}
+use Rattle.c_abi.specs.internal.Plans.{plan_facts}
+use Rattle.c_abi.proofs.planning.plan_told.Goals as goal
+
+pub returns-in-Ok : goal.returns-in-Ok
+returns-in-Ok g c =
+    (Ok (plan_facts c.in-Ok.made), c.in-Ok.ensures.planned, (c.tell_stepped.ensures, refl))
+
+pub returns-in-Err : goal.returns-in-Err
+returns-in-Err g c = (
+  Err c.in-Err.fault,
+  c.in-Err.ensures.fault,
+  (c.tell_fault.ensures.status, refl, c.tell_fault.ensures.refusal),
+)

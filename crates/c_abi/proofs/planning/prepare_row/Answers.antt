@@ -1,0 +1,42 @@
+use Rattle.std.proofs.Common.{◌≡◌, ◌∙◌, ℕ, List, length, ap, arith, sym, subst}
+use Rattle.std.proofs.lemmas.Result.{IfOk-weaker, IfErr-weaker, err_from_is_err_and}
+use Rattle.bl_load.specs.EntryValue.{value_of}
+use Rattle.bl_load.specs.KernelAndLengths.{HaveKernelAndLengths}
+use Rattle.bl_load.specs.Loadable.{lengths_of, IsLoadable}
+use Rattle.bl_load.specs.Parts.{IsHandover, IsPrepFault}
+use Rattle.bl_load.specs.PlanContents.{handover_by}
+use Rattle.c_abi.specs.Plan.{HasFiles}
+use Rattle.c_abi.proofs.PlanLemmas.{count_beside, same_files}
+use Rattle.c_abi.proofs.planning.prepare_row.Goals as goal
+
+pub prepare_by_lengths-requires-clause-files : goal.prepare_by_lengths-requires-clause-files
+prepare_by_lengths-requires-clause-files g c =
+    let told = ap length (c.deref.ensures.value ∙ c.in_ok-lengths.ensures) in
+    omega (arith, told, count_beside c.args.row.now, c.requires.count)
+
+pub returns-clause-handover : goal.returns-clause-handover
+returns-clause-handover g c =
+    IfOk-weaker c.prepare_by_lengths.result _ _
+    (λ plan is texts files.
+    is texts
+    (same_files c.args.row.now _ _ texts c.new-kernel.ensures
+    (c.deref.ensures.value ∙ c.in_ok-lengths.ensures) files))
+    c.prepare_by_lengths.ensures.handover
+
+pub returns-clause-loadable : goal.returns-clause-loadable
+returns-clause-loadable g c =
+    IfOk-weaker c.prepare_by_lengths.result _ _
+    (λ plan is texts files.
+    is texts
+    (same_files c.args.row.now _ _ texts c.new-kernel.ensures
+    (c.deref.ensures.value ∙ c.in_ok-lengths.ensures) files))
+    c.prepare_by_lengths.ensures.loadable
+
+pub returns-clause-fault : goal.returns-clause-fault
+returns-clause-fault g c =
+    IfErr-weaker c.prepare_by_lengths.result _ _
+    (λ fault is texts files.
+    is texts
+    (same_files c.args.row.now _ _ texts c.new-kernel.ensures
+    (c.deref.ensures.value ∙ c.in_ok-lengths.ensures) files))
+    c.prepare_by_lengths.ensures.fault

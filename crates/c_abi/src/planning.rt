@@ -1,0 +1,145 @@
+//! The steps that load an entry are told to C, which carries them out itself.
+ghost use Rattle.std.specs.Prelude.{◌≡◌, ℕ, ◌≤◌, List, All, IfOk, IfErr, OnOk, Result, length};
+ghost use Rattle.bl_load.specs.EntryValue.{value_of, file_count, IsWithinLimits};
+ghost use Rattle.bl_load.specs.Loadable.{lengths_of, IsLoadable};
+ghost use Rattle.bl_load.specs.Parts.{IsHandover, IsPrepFault};
+ghost use Rattle.bl_load.specs.PlanContents.{handover_by};
+ghost use Rattle.c_abi.specs.Given.{files_given};
+ghost use Rattle.c_abi.specs.Load.{IsEntryFault, IsEntrySound};
+ghost use Rattle.c_abi.specs.Prepare.{IsNotPrepared};
+ghost use Rattle.c_abi.specs.Plan.{PlanFacts, HasFiles, IsPlanned, IsGivenPlanEnd};
+ghost use Rattle.c_abi.specs.PlanTold.{TellsPlan};
+ghost use Rattle.c_abi.specs.internal.Plans.{HasSmallFile, IsPlanOn, plan_facts};
+ghost use Rattle.c_abi.specs.internal.Tellings.{plan_telling};
+ghost use Rattle.c_abi.specs.declared.load_fault.LoadFault.{LoadFault};
+
+use crate::end_records::{HandoffRecord, PlaceRecord, RefusalRecord};
+use crate::entries::take_entry;
+use crate::file_views::lengths_beside;
+use crate::given_records::{EntryRecord, MachineRecord, RegionRecord};
+use crate::handoff_telling::tell_fault;
+use crate::load_fault::{LoadFault, given_fault, load_fault};
+use crate::machines::machine_of;
+use crate::misuse::Misuse;
+use crate::plan_records::{PlanCountsRecord, StepRecord};
+use crate::plan_steps::SteppedPlan;
+use crate::plan_telling::tell_stepped;
+use bl_load::{Entry, Plan, PrepFault, prepare_by_lengths};
+use bl_map::Machine;
+use bl_mem::SliceView;
+use bl_plan::MAX_PARTS;
+use std::alloc::Allocator;
+
+/// Prepares an entry by its kernel and by the lengths of its other files.
+fn prepare_row<A: Allocator + Copy>(
+    alloc: A,
+    machine: &Machine<A>,
+    entry: &Entry<A>,
+    row: &EntryRecord,
+) -> Result<Plan<A>, PrepFault>
+    requires count { file_count entry.now ≡ length (files_given row.now) }
+    requires limits { IsWithinLimits entry.now }
+    ensures handover { IfOk result (λ plan. (texts : List (List ℕ)) → HasFiles row.now texts
+        → IsHandover machine.now (value_of texts entry.now) (handover_by texts plan)) }
+    ensures loadable { IfOk result (λ plan. (texts : List (List ℕ)) → HasFiles row.now texts
+        → IsLoadable (lengths_of texts) machine.now.size plan) }
+    ensures fault { IfErr result (λ fault. (texts : List (List ℕ)) → HasFiles row.now texts
+        → IsPrepFault machine.now (value_of texts entry.now) fault) }
+{
+    let lengths = lengths_beside(alloc, row)?;
+    let kernel = SliceView::new(row.kernel.bytes);
+    prepare_by_lengths(alloc, machine, entry, &kernel, &lengths)
+}
+
+/// Plans an entry on a machine.
+fn plan_given<A: Allocator + Copy>(
+    alloc: A,
+    machine: &Machine<A>,
+    row: &EntryRecord,
+) -> Result<SteppedPlan<A>, LoadFault>
+    ensures planned { IfOk result (λ made. IsPlanOn machine.now row.now (plan_facts made)) }
+    ensures sound { OnOk result (IsEntrySound row.now) }
+    ensures few { IfOk result (λ made. length made.plan.parts.items ≤ 256) }
+    ensures files { IfOk result (λ made. All HasSmallFile made.told.steps.items) }
+    ensures fault { IfErr result (λ fault. (texts : List (List ℕ)) → HasFiles row.now texts
+        → IsEntryFault machine.now row.now texts 0 fault) }
+{
+    let entry = match take_entry(alloc, row) {
+        Ok(entry) => entry,
+        Err(fault) => return Err(given_fault(fault)),
+    };
+    let plan = match prepare_row(alloc, machine, &entry, row) {
+        Ok(plan) => plan,
+        Err(fault) => return Err(load_fault(fault)),
+    };
+    match plan.steps(alloc) {
+        Ok(told) => Ok(SteppedPlan { plan, told }),
+        Err(_) => Err(LoadFault::NoMemory),
+    }
+}
+
+/// Plans an entry on the machine that is given, with room for so many places.
+fn plan_entry<A: Allocator + Copy>(
+    alloc: A,
+    machine: &MachineRecord,
+    regions: &[RegionRecord],
+    entry: &EntryRecord,
+    room: usize,
+) -> Result<SteppedPlan<A>, LoadFault>
+    ensures planned { IfOk result
+        (λ made. IsPlanned machine.now regions.now entry.now room (plan_facts made)) }
+    ensures few { IfOk result (λ made. length made.plan.parts.items ≤ 256) }
+    ensures files { IfOk result (λ made. All HasSmallFile made.told.steps.items) }
+    ensures room { OnOk result (MAX_PARTS ≤ room) }
+    ensures fault { IfErr result (λ fault. (texts : List (List ℕ)) → HasFiles entry.now texts
+        → IsNotPrepared machine.now regions.now entry.now texts room fault) }
+{
+    if room < MAX_PARTS {
+        return Err(LoadFault::Misused(Misuse::SmallRoom));
+    }
+    let made = match machine_of(alloc, machine, regions) {
+        Ok(made) => made,
+        Err(fault) => return Err(given_fault(fault)),
+    };
+    plan_given(alloc, &made, entry)
+}
+
+/// Tells the steps that load an entry, before the files beside its kernel have come, or why it
+/// would not be loaded. The checks are those of `prepare_told`, in its order. Then the steps and
+/// the plan's own bytes are told if there is room for all of them, and else how much is wanted.
+pub fn plan_told<A: Allocator + Copy>(
+    alloc: A,
+    machine: &MachineRecord,
+    regions: &[RegionRecord],
+    entry: &EntryRecord,
+    told: &mut HandoffRecord,
+    counts: &mut PlanCountsRecord,
+    places: &mut [PlaceRecord],
+    steps: &mut [StepRecord],
+    own: &mut [u8],
+    refusal: &mut RefusalRecord,
+) -> u32
+    ensures { (end : Result PlanFacts LoadFault)
+        × IsGivenPlanEnd machine.now regions.now entry.now (length places.old) end
+        × TellsPlan end result
+        (record {
+          handoff = told.old;
+          counts = counts.old;
+          places = places.old;
+          steps = steps.old;
+          own = own.old;
+        })
+        (record {
+          handoff = told.new;
+          counts = counts.new;
+          places = places.new;
+          steps = steps.new;
+          own = own.new;
+        })
+        refusal.old refusal.new }
+{
+    match plan_entry(alloc, machine, regions, entry, places.len()) {
+        Ok(made) => tell_stepped(&made, told, counts, places, steps, own),
+        Err(fault) => tell_fault(fault, refusal),
+    }
+}
