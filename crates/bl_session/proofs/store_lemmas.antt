@@ -3,6 +3,6 @@ pub mod SubmissionLemmas
 pub mod StoreLemmas
 pub mod ToldLemmas
 pub mod LedgerLemmas
-pub mod SubmissionRunLemmas
+pub mod SubmissionRangeLemmas
 pub mod ListedLemmas
 pub mod PendingLemmas

@@ -1,9 +1,4 @@
-pub mod SessionPhases
-pub mod AttemptStates
-pub mod LedgerCounts
-pub mod SubmissionRuns
-pub mod HandoverSteps
-pub mod RunParts
-pub mod AnswerSteps
-pub mod Cursors
-pub mod BootCalls
+pub mod attempt
+pub mod session
+pub mod store
+pub mod runs

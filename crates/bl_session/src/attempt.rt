@@ -1,16 +1,11 @@
 //! One attempt: it begins, and ends once each piece of its files came.
-ghost use Rattle.std.specs.Prelude.{◌≡◌, None, IfOk, OnErr, length, map, slice_index_or, true};
-ghost use Rattle.bl_mem.specs.Memory.{HasRoom, KeepsSizeAndRoom};
+ghost use Rattle.std.specs.Prelude.{◌≡◌};
+ghost use Rattle.bl_mem.specs.Memory.{KeepsSizeAndRoom};
 ghost use Rattle.bl_load.specs.EntryValue.{IsWithinLimits};
-ghost use Rattle.bl_stage.specs.Ranges.{IsSameOutside};
-ghost use Rattle.bl_stage.specs.PieceStates.{piece_states};
-ghost use Rattle.bl_session.specs.internal.AttemptStates.{IsAttempt, IsAttemptBegun};
-ghost use Rattle.bl_session.specs.internal.AttemptStates.{IsMemoryAfterAttempt};
-ghost use Rattle.bl_session.specs.internal.AttemptStates.{KeepsAttempt};
-ghost use Rattle.bl_session.specs.internal.AttemptStates.{attempt_with};
-ghost use Rattle.bl_session.specs.menu.Menu.{facts_of, files_of};
-ghost use Rattle.bl_session.specs.internal.SessionPhases.{HasSmallFiles};
-ghost use Rattle.bl_session.specs.attempt.AwaitedPieces.{are_whole};
+ghost use Rattle.bl_session.specs.menu.Menu.{facts_of};
+ghost use Rattle.bl_session.specs.internal.attempt.AttemptStates.{HasAttemptStage, EndsOrWaits};
+ghost use Rattle.bl_session.specs.internal.attempt.AttemptStates.{BeginsOrEnds, attempt_with};
+ghost use Rattle.bl_session.specs.internal.session.BootCalls.{HasPoolRoom};
 
 use crate::attempt::stage_beginning::begin_stage;
 use bl_load::{Entry, Handoff, PrepFault, Refusal};
@@ -20,14 +15,13 @@ use bl_stage::Stage;
 use std::alloc::{AllocError, Allocator};
 
 pub(crate) mod cursor;
-pub(crate) mod entry_files;
-mod frame_counts;
+mod frames_needed;
 mod handing_over;
 pub(crate) mod missing_pieces;
 mod stage_beginning;
 pub(crate) mod ticket;
 
-pub use frame_counts::frames_for;
+pub use frames_needed::frames_for;
 pub use handing_over::finish_attempt;
 pub use ticket::{Event, Request, Ticket};
 
@@ -56,30 +50,17 @@ fn attempt_with<A: Allocator>(stage: Stage<A>, end: Option<AttemptEnd<A>>) -> At
 }
 
 /// The end of an attempt, if no piece of its files is missing.
-pub fn end_attempt<M: PhysMem, A: Allocator + Copy>(
+pub fn finish_if_complete<M: PhysMem, A: Allocator + Copy>(
     alloc: A,
     machine: &Machine<A>,
     memory: &mut M,
     entry: &Entry<A>,
     stage: &mut Stage<A>,
 ) -> Result<Option<AttemptEnd<A>>, AllocError>
-    requires limits { IsWithinLimits entry.now }
-    requires files { length stage.old.sizes ≡ length (files_of entry.now) }
-    requires small { HasSmallFiles stage.old }
-    requires pool { stage.old.pool ≡ machine.now.pool }
-    requires size { length (M.bytes memory.old) ≡ machine.now.size }
-    requires room { HasRoom (M.room memory.old) machine.now.pool.start machine.now.pool.end }
-    ensures attempt { IfOk result (λ end. IsAttempt machine.now (facts_of entry.now)
-        (piece_states (M.bytes memory.old) stage.old) (M.bytes memory.new)
-        (attempt_with stage.new end)) }
-    ensures keeps { IfOk result (λ end. KeepsAttempt machine.now (length (files_of entry.now))
-        (attempt_with stage.new end)) }
-    ensures memory { IfOk result (λ end. IsMemoryAfterAttempt machine.now.pool
-        (M.bytes memory.old) (M.bytes memory.new) (attempt_with stage.new end)) }
-    ensures err { OnErr result
-        (IsSameOutside machine.now.pool (M.bytes memory.old) (M.bytes memory.new)) }
-    ensures same { IfOk result (λ end. end ≡ None → stage.new ≡ stage.old) }
-    ensures whole { OnErr result (are_whole (piece_states (M.bytes memory.old) stage.old) ≡ true) }
+    requires { HasAttemptStage machine.now entry.now stage.old
+        (M.bytes memory.old) (M.room memory.old) }
+    ensures ends { EndsOrWaits machine.now (facts_of entry.now) stage.old stage.new
+        (M.bytes memory.old) (M.bytes memory.new) result }
     ensures kept { KeepsSizeAndRoom M.lender M.bytes M.room memory.old memory.new }
 {
     // For the proof: the files' frames lie in the pool.
@@ -103,21 +84,14 @@ pub fn begin_attempt<M: PhysMem, A: Allocator + Copy>(
     sizes: &[Option<u64>],
 ) -> Result<Attempt<A>, AllocError>
     requires limits { IsWithinLimits entry.now }
-    requires size { length (M.bytes memory.old) ≡ machine.now.size }
-    requires room { HasRoom (M.room memory.old) machine.now.pool.start machine.now.pool.end }
-    ensures begun { IfOk result (IsAttemptBegun machine.now (facts_of entry.now)
-        (map (λ file. slice_index_or sizes.now file None) (files_of entry.now))
-        (M.bytes memory.new)) }
-    ensures keeps { IfOk result (KeepsAttempt machine.now (length (files_of entry.now))) }
-    ensures memory { IfOk result
-        (IsMemoryAfterAttempt machine.now.pool (M.bytes memory.old) (M.bytes memory.new)) }
-    ensures err { OnErr result
-        (IsSameOutside machine.now.pool (M.bytes memory.old) (M.bytes memory.new)) }
+    requires memory { HasPoolRoom machine.now (M.bytes memory.old) (M.room memory.old) }
+    ensures begun { BeginsOrEnds machine.now (facts_of entry.now) sizes.now
+        (M.bytes memory.old) (M.bytes memory.new) result }
     ensures kept { KeepsSizeAndRoom M.lender M.bytes M.room memory.old memory.new }
 {
     match begin_stage(alloc, machine, entry, sizes) {
         Ok(mut stage) => {
-            let end = end_attempt(alloc, machine, memory, entry, &mut stage)?;
+            let end = finish_if_complete(alloc, machine, memory, entry, &mut stage)?;
             Ok(attempt_with(stage, end))
         }
         Err(PrepFault::Refused(refusal)) => Ok(Attempt::Ended(AttemptEnd::Refused(refusal))),

@@ -10,13 +10,14 @@ ghost use Rattle.bl_session.specs.menu.MenuFaults.{AreWithinLimits, AreEntryIndi
 ghost use Rattle.bl_session.specs.menu.MenuFaults.{HasMenuFault};
 ghost use Rattle.bl_session.specs.menu.NamedFiles as attempts;
 
-use crate::menu::fault::{are_entry_indices, is_small};
+use crate::menu::fault::{are_entry_indices, are_within_limits};
 use crate::menu::lines_and_copies::entries_are_well_formed;
 use crate::menu::named_files::named_file_count;
 use bl_load::Entry;
 use std::alloc::{AllocError, Allocator};
 use std::marker::Model;
 
+pub(crate) mod entry_files;
 mod fault;
 mod lines_and_copies;
 mod named_files;
@@ -115,7 +116,7 @@ impl<A: Allocator + Copy> Menu<A> {
             (λ menu. All (λ entry. IsWellFormedValue entry.blank) menu.entries) }
     {
         let offered = entries.as_slice();
-        if !is_small(offered) {
+        if !are_within_limits(offered) {
             return Err(MenuFault::TooMany);
         }
         if !are_entry_indices(offered.len(), default, fallbacks) {

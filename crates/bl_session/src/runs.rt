@@ -12,8 +12,8 @@ ghost use Rattle.bl_session.specs.session.Outcome.{IsOutcome, HasEnded};
 ghost use Rattle.bl_session.specs.session.Phases.{boot_facts, state_at, is_waiting, not_started};
 ghost use Rattle.bl_session.specs.session.Phases.{LiesWithin};
 ghost use Rattle.bl_session.specs.runs.Run.{IsRun, IsGenuineRun, final_phase};
-ghost use Rattle.bl_session.specs.internal.RunParts.{asked_sizes};
-ghost use Rattle.bl_session.specs.internal.AnswerSteps.{HasRun};
+ghost use Rattle.bl_session.specs.internal.runs.RunParts.{asked_sizes};
+ghost use Rattle.bl_session.specs.internal.runs.AnswerSteps.{RunsOrStops};
 
 use crate::menu::Menu;
 use crate::runs::answer_loop::drive;
@@ -25,6 +25,7 @@ use bl_mem::PhysMem;
 use std::alloc::{AllocError, Allocator};
 
 mod answer_loop;
+pub(crate) mod attempt_submissions;
 mod run_laws;
 
 pub use run_laws::{
@@ -58,13 +59,8 @@ fn run_session<'a, M: PhysMem, S: Store, A: Allocator + Copy>(
     menu: &'a Menu<A>,
 ) -> Result<Session<'a, A>, AllocError>
     requires { length (M.bytes memory.old) ≡ machine.now.size }
-    ensures ok { IfOk result (λ session. HasRun machine.now menu.now session (S.files store.old)
-        (S.given store.old) (S.given store.new) (M.bytes memory.old) (M.bytes memory.new)) }
-    ensures lacking { OnErr result (IsRun
-        (boot_facts machine.now menu.now (map menu_files.size_of (S.files store.old)))
-        (S.files store.old) (S.given store.old) (S.given store.new) out_of_memory) }
-    ensures outside { OnErr result
-        (IsSameOutside machine.now.pool (M.bytes memory.old) (M.bytes memory.new)) }
+    ensures run { RunsOrStops machine.now menu.now (S.files store.old) (S.given store.old)
+        (S.given store.new) (M.bytes memory.old) (M.bytes memory.new) result }
     ensures files { S.files store.new ≡ S.files store.old }
     ensures kept { KeepsSizeAndRoom M.lender M.bytes M.room memory.old memory.new }
 {

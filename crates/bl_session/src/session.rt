@@ -14,8 +14,8 @@ ghost use Rattle.bl_session.specs.runs.Run.{final_phase};
 use crate::attempt::ticket::Event;
 use crate::menu::Menu;
 use crate::session::boot_end::{boot_end, into_boot_end};
-use crate::session::event_taking::advance;
-use crate::session::phase::{Boot, Phase};
+use crate::session::event_taking::take_event;
+use crate::session::phase::{BootContext, Phase};
 use crate::session::starting::begin_first;
 use bl_map::Machine;
 use bl_mem::PhysMem;
@@ -23,13 +23,13 @@ use std::alloc::{AllocError, Allocator};
 use std::marker::Model;
 
 mod boot_end;
-mod boot_requests;
 mod event_taking;
 mod falling_back;
 pub(crate) mod outcome;
 mod owned_session;
 mod phase;
-mod session_requests;
+mod requests;
+mod requests_by_phase;
 mod starting;
 
 pub use outcome::{BootFault, Outcome, Progress};
@@ -48,7 +48,7 @@ pub struct Session<'a, A: Allocator + Copy> {
 
 impl<'a, A: Allocator + Copy> Model for Session<'a, A> {
     ghost use Rattle.bl_session.specs.session.Phases.{SessionFacts, boot_facts, phase_facts};
-    ghost use Rattle.bl_session.specs.internal.SessionPhases.{IsPhaseKept};
+    ghost use Rattle.bl_session.specs.internal.session.SessionPhases.{IsPhaseKept};
 
     ghost Value = { SessionFacts };
 
@@ -108,7 +108,7 @@ impl<'a, A: Allocator + Copy> Session<'a, A> {
             self.old.boot.machine.pool.start self.old.boot.machine.pool.end }
         ensures kept { KeepsSizeAndRoom M.lender M.bytes M.room memory.old memory.new }
     {
-        let boot = Boot {
+        let boot = BootContext {
             alloc: self.alloc,
             machine: self.machine,
             menu: self.menu,
@@ -144,13 +144,13 @@ impl<'a, A: Allocator + Copy> Session<'a, A> {
             self.old.boot.machine.pool.start self.old.boot.machine.pool.end }
         ensures kept { KeepsSizeAndRoom M.lender M.bytes M.room memory.old memory.new }
     {
-        let boot = Boot {
+        let boot = BootContext {
             alloc: self.alloc,
             machine: self.machine,
             menu: self.menu,
             sizes: &self.sizes,
         };
-        advance(&boot, memory, &mut self.phase, event)
+        take_event(&boot, memory, &mut self.phase, event)
     }
 
     /// The end, once there is one.

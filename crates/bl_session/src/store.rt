@@ -7,7 +7,6 @@ ghost use Rattle.bl_session.specs.store.History.{HistoryItem, submitted, IsItemO
 use crate::attempt::ticket::{Event, Ticket};
 use std::alloc::{AllocError, Allocator};
 
-pub(crate) mod attempt_submissions;
 mod fetched_files;
 mod file_store;
 mod history;
@@ -17,7 +16,7 @@ mod pending;
 mod slice_store;
 mod stored_files;
 mod submission;
-mod submission_run;
+mod submission_range;
 
 pub use file_store::FileStore;
 pub use history::History;

@@ -1,6 +1,8 @@
 -- An attempt that waits, or whose files are whole.
 use Rattle.std.proofs.Common.{◌≡◌, ◌↔◌, ℕ, Bool, true, false, List, map, Option, None}
-use Rattle.std.proofs.Common.{MatchOption, refl, sym, ap, subst, ◌∙◌}
+use Rattle.std.proofs.Common.{MatchOption, refl, sym, ap, subst, ◌∙◌, length, slice_index_or}
+use Rattle.std.proofs.Common.{unwrap_or}
+use Rattle.std.proofs.lemmas.List.{length-map}
 use Rattle.std.specs.Bool.{IsTrue}
 use Rattle.bl_map.specs.MachineFacts.{MachineFacts}
 use Rattle.bl_load.specs.declared.entry.Entry.{Entry}
@@ -13,8 +15,8 @@ use Rattle.bl_session.specs.attempt.AttemptResult.{AttemptResult, HasWholeFilesR
 use Rattle.bl_session.specs.attempt.AttemptResult.{known_lengths}
 use Rattle.bl_session.specs.menu.Menu.{EntryFacts, facts_of, value_with}
 use Rattle.bl_session.specs.attempt.AwaitedPieces.{are_whole, waiting_files}
-use Rattle.bl_session.specs.internal.SessionPhases.{IsFreshStage}
-use Rattle.bl_session.specs.internal.AttemptStates.{IsAttempt, IsAttemptBegun, IsRefusedFor}
+use Rattle.bl_session.specs.internal.session.SessionPhases.{IsFreshStage}
+use Rattle.bl_session.specs.internal.attempt.AttemptStates.{IsAttempt, IsAttemptBegun, IsRefusedFor}
 use Rattle.bl_session.specs.declared.attempt.Attempt.{Attempt}
 use Rattle.bl_session.proofs.attempt_lemmas.WholeLemmas.{first_awaited, whole_came, whole_texts}
 
@@ -48,6 +50,16 @@ ends_by_piece_states facts entry bytes stage end kept came ends =
     (ap (value_with (facts_of entry)) (whole_texts bytes stage kept came)
     ∙ value_is entry (staged_texts bytes stage)) in
     subst (λ (v : EntryValue). HasWholeFilesResult facts v end) value ends
+
+-- a stage that was begun has a file for each of its entry's
+pub staged_lengths : (sizes : List (Option ℕ)) (files : List ℕ) (facts : MachineFacts)
+    (stage : Staging)
+    → IsFreshStage facts (map (λ file. slice_index_or sizes file None) files) stage
+    → length stage.sizes ≡ length files
+staged_lengths sizes files facts stage fresh =
+    ap (λ (s : Staging). length s.sizes) fresh.1
+    ∙ length-map (map (λ file. slice_index_or sizes file None) files) (λ size. unwrap_or size 0)
+    ∙ length-map files (λ file. slice_index_or sizes file None)
 
 -- an attempt whose stage was begun
 pub begun_staged : {A : Type 0} (facts : MachineFacts) (entry : EntryFacts)

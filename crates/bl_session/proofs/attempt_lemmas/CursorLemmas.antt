@@ -1,7 +1,8 @@
 -- The cursor over an attempt's pieces: the first missing piece is the first from it on, and none
 -- below that one is missing.
 use Rattle.std.proofs.Common.{◌≡◌, ℕ, zero, suc, ◌+◌, ◌<◌, ◌≤◌, Bool, true, false, List, [], ◌∷◌}
-use Rattle.std.proofs.Common.{length, drop, get_or, Option, None, Some, refl, sym, ap, ◌∙◌, inl, inr}
+use Rattle.std.proofs.Common.{length, drop, get_or, Option, None, Some, refl, sym, ap, ◌∙◌, inl}
+use Rattle.std.proofs.Common.{inr}
 use Rattle.std.proofs.Common.{arith}
 use Rattle.std.proofs.lemmas.List.{drop_all}
 use Rattle.std.proofs.lemmas.Bool.{cases_lt}
@@ -10,8 +11,9 @@ use Rattle.bl_stage.specs.Pieces.{is_missing}
 use Rattle.bl_stage.specs.PieceStates.{PieceState, lacks, has, piece_states}
 use Rattle.bl_session.specs.declared.attempt.ticket.Ticket.{Ticket}
 use Rattle.bl_session.specs.attempt.AwaitedPieces.{is_awaited, piece_state_of, with_piece}
-use Rattle.bl_session.specs.attempt.Tickets.{ticket_of, first_awaited_piece, first_ticket, ticket_or}
-use Rattle.bl_session.specs.internal.Cursors.{NoneMissingBelow, first_ticket_from}
+use Rattle.bl_session.specs.attempt.Tickets.{ticket_of, first_awaited_piece, first_ticket}
+use Rattle.bl_session.specs.attempt.Tickets.{ticket_or}
+use Rattle.bl_session.specs.internal.attempt.Cursors.{NoneMissingBelow, first_ticket_from}
 use Rattle.bl_session.proofs.attempt_lemmas.AwaitedLemmas.{still_awaited}
 use Rattle.bl_session.proofs.attempt_lemmas.MissingLemmas.{file_next}
 use Rattle.bl_session.proofs.attempt_lemmas.PieceStateLemmas.{length-piece_states}

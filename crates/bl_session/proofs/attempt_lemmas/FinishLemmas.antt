@@ -17,7 +17,7 @@ use Rattle.bl_load.specs.EntryValue.{EntryValue, value_of}
 use Rattle.bl_session.specs.attempt.AttemptResult.{HasWholeFilesResult, HasFramesBeside, refused}
 use Rattle.bl_stage.specs.Staged.{Staging}
 use Rattle.bl_session.specs.attempt.FinishedAttempt.{IsNotHandedOver, IsStageAfterFault}
-use Rattle.bl_session.specs.internal.HandoverSteps.{IsPlanFor}
+use Rattle.bl_session.specs.internal.attempt.HandoverSteps.{IsPlanFor}
 use Rattle.bl_session.proofs.attempt_lemmas.AfterLemmas.{ranges_are}
 
 -- what preparing ensures of a plan

@@ -18,7 +18,7 @@ use Rattle.bl_session.specs.menu.Menu.{entry_at}
 use Rattle.bl_session.specs.session.Phases.{PhaseFacts, waits, state_at}
 use Rattle.bl_session.specs.attempt.AwaitedPieces.{piece_state_of}
 use Rattle.bl_session.specs.attempt.Tickets.{first_awaited_piece, first_ticket, ticket_or}
-use Rattle.bl_session.specs.internal.Cursors.{first_ticket_from}
+use Rattle.bl_session.specs.internal.attempt.Cursors.{first_ticket_from}
 use Rattle.bl_session.specs.attempt.Tickets.{length_awaited, request_for}
 use Rattle.bl_session.specs.session.Requests.{first_request}
 use Rattle.bl_session.specs.session.Requests.{request_after}

@@ -1,5 +1,6 @@
 -- What an attempt that waits hears of an answer.
-use Rattle.std.proofs.Common.{◌≡◌, ◌≢◌, ◌↔◌, ℕ, Bool, true, List, [], length, Some, refl, sym}
+use Rattle.std.proofs.Common.{◌≡◌, ◌≢◌, ◌↔◌, ℕ, Bool, true, List, [], ◌∷◌, ◌++◌, length, Some, refl}
+use Rattle.std.proofs.Common.{sym}
 use Rattle.std.proofs.Common.{subst, ◌∙◌}
 use Rattle.std.specs.declared.ops.Range.{Range}
 use Rattle.bl_stage.specs.Ranges.{IsSameOutside}
@@ -8,23 +9,27 @@ use Rattle.bl_stage.specs.Files.{File}
 use Rattle.bl_session.specs.declared.attempt.ticket.Ticket.{Ticket}
 use Rattle.bl_session.specs.declared.session.outcome.Progress.{Progress}
 use Rattle.bl_session.specs.declared.session.outcome.Progress.TheVariants.{Waiting}
-use Rattle.bl_session.specs.session.BootSteps.{BootFacts, piece, fault, State, StepsToOrFails}
+use Rattle.bl_session.specs.session.BootSteps.{BootFacts, EventFacts, piece, fault, State}
+use Rattle.bl_session.specs.session.BootSteps.{StepsToOrFails}
 use Rattle.bl_session.specs.session.BootSteps.{attempt_number, is_running, progress}
 use Rattle.bl_session.specs.store.History.{HistoryItem, came, failed, nothing, file_under}
-use Rattle.bl_session.specs.store.History.{IsPieceOf}
+use Rattle.bl_session.specs.store.History.{IsPieceOf, IsItemOfAnswer}
+use Rattle.bl_session.specs.store.Stores.{event_of}
+use Rattle.bl_session.specs.declared.store.Completion.{Completion}
+use Rattle.bl_session.specs.declared.store.Completion.TheVariants.{Piece, Fault}
 use Rattle.bl_session.specs.store.Submissions.{attempt_submissions, new_submissions}
 use Rattle.bl_session.specs.session.BootMemory.{IsMemoryAt}
 use Rattle.bl_session.specs.session.Phases.{PhaseFacts, not_started, waits, hands_over, has_none}
 use Rattle.bl_session.specs.session.Phases.{lacks_memory, state_at, is_waiting}
 use Rattle.bl_session.specs.runs.Run.{RunState, run_state_of, IsAnswer, IsEventOf}
-use Rattle.bl_session.specs.internal.RunParts.{HistoryLeadsOn, all_asked, run_state_after}
-use Rattle.bl_session.specs.internal.RunParts.{first_awaited_ticket}
+use Rattle.bl_session.specs.internal.runs.RunParts.{HistoryLeadsOn, all_asked, run_state_after}
+use Rattle.bl_session.specs.internal.runs.RunParts.{first_awaited_ticket}
 use Rattle.bl_session.proofs.session_lemmas.NextLemmas.{lost_ends}
 use Rattle.bl_session.proofs.run_lemmas.TurnLemmas.{heard_on, owed_same, owed_next}
 
 -- ---- an answer is an event
 
-pub event_piece : (files : List File) (given : List HistoryItem) (phase : PhaseFacts)
+event_piece : (files : List File) (given : List HistoryItem) (phase : PhaseFacts)
     (before : List ℕ)
     (ticket : Ticket) (bytes : List ℕ) (item : HistoryItem) → is_waiting phase ≡ true
     → (genuine : Bool) × (item ≡ came ticket (length bytes) genuine)
@@ -39,7 +44,7 @@ event_piece files given (hands_over n refusals handoff) before ticket bytes item
 event_piece files given (has_none refusals) before ticket bytes item w is = absurd cc
 event_piece files given lacks_memory before ticket bytes item w is = absurd cc
 
-pub event_fault : (files : List File) (given : List HistoryItem) (phase : PhaseFacts)
+event_fault : (files : List File) (given : List HistoryItem) (phase : PhaseFacts)
     (before : List ℕ)
     (ticket : Ticket) (item : HistoryItem) → is_waiting phase ≡ true → item ≡ failed ticket
     → IsEventOf files given (state_at before phase) item (fault ticket)
@@ -65,6 +70,27 @@ event_lost files given not_started before ticket item w is first = absurd cc
 event_lost files given (hands_over n refusals handoff) before ticket item w is first = absurd cc
 event_lost files given (has_none refusals) before ticket item w is first = absurd cc
 event_lost files given lacks_memory before ticket item w is first = absurd cc
+
+pub event_answered : {A : Type 0} (files : List File) (given : List HistoryItem)
+    (phase : PhaseFacts) (before : List ℕ) (completion : Completion A) (item : HistoryItem)
+    → is_waiting phase ≡ true → IsItemOfAnswer files given (Some completion) item
+    → IsEventOf files given (state_at before phase) item (event_of completion)
+event_answered files given phase before (Piece ticket bytes) item w is =
+    event_piece files given phase before ticket bytes.items item w is
+event_answered files given phase before (Fault ticket) item w is =
+    event_fault files given phase before ticket item w is
+
+-- it is the next event
+pub heard_answer : (facts : BootFacts) (files : List File) (given given_after : List HistoryItem)
+    (old new : State) (item : HistoryItem) (event : EventFacts)
+    → IsEventOf files given old item event → given_after ≡ given ++ item ∷ []
+    → StepsToOrFails facts old event new
+    → HistoryLeadsOn facts files given given_after (all_asked old) (run_state_after facts old new)
+heard_answer facts files given given_after old new item event is more step = record {
+  gained = item ∷ [];
+  given = more;
+  leads = (run_state_after facts old new, (event, is, step, refl), refl);
+}
 
 -- the attempt that lost a piece has ended
 pub lost : (facts : BootFacts) (old new : PhaseFacts) (before after : List ℕ) (ticket : Ticket)

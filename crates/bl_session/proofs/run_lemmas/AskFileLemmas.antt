@@ -13,7 +13,7 @@ use Rattle.bl_session.specs.menu.Menu.{entry_at}
 use Rattle.bl_session.specs.store.Submissions.{piece_submissions, submissions_for_files}
 use Rattle.bl_session.specs.store.Submissions.{attempt_submissions}
 use Rattle.bl_session.specs.session.Phases.{PhaseFacts, waits, state_at}
-use Rattle.bl_session.specs.internal.RunParts.{AreAskedButRest, AreSubmitted}
+use Rattle.bl_session.specs.internal.runs.RunParts.{AreAskedButRest, AreSubmitted}
 use Rattle.bl_session.proofs.attempt_lemmas.PieceStateLemmas.{length-piece_states_of}
 use Rattle.bl_session.proofs.run_lemmas.AskLemmas.{asked_on, asked_part, asked_all}
 

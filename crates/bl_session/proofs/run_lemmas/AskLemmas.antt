@@ -6,7 +6,7 @@ use Rattle.std.proofs.lemmas.List.FromFn.{length-map-range_with_len, get_or-map-
 use Rattle.bl_session.specs.store.History.{HistoryItem, submitted, nothing}
 use Rattle.bl_session.specs.attempt.Tickets.{ticket_of}
 use Rattle.bl_session.specs.store.Submissions.{piece_submissions, attempt_submissions}
-use Rattle.bl_session.specs.internal.RunParts.{AreAskedButRest}
+use Rattle.bl_session.specs.internal.runs.RunParts.{AreAskedButRest}
 
 -- ---- one part of the orders after the other
 

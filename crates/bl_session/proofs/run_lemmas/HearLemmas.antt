@@ -12,9 +12,10 @@ use Rattle.bl_session.specs.session.BootMemory.{IsMemoryAt}
 use Rattle.bl_session.specs.session.Phases.{SessionFacts, PhaseFacts, not_started, waits}
 use Rattle.bl_session.specs.session.Phases.{hands_over, has_none, lacks_memory, state_at}
 use Rattle.bl_session.specs.session.Phases.{is_waiting}
-use Rattle.bl_session.specs.internal.RunParts.{attempts_left}
-use Rattle.bl_session.specs.internal.AnswerSteps.{WaitsOnOrEnds}
-use Rattle.bl_session.proofs.session_lemmas.NextLemmas.{IsNext, next_step, still_runs, has_ended, fewer_left}
+use Rattle.bl_session.specs.internal.runs.RunParts.{attempts_left}
+use Rattle.bl_session.specs.internal.runs.AnswerSteps.{WaitsOnOrEnds}
+use Rattle.bl_session.proofs.session_lemmas.NextLemmas.{IsNext, next_step, still_runs, has_ended}
+use Rattle.bl_session.proofs.session_lemmas.NextLemmas.{fewer_left}
 use Rattle.bl_session.proofs.session_lemmas.NextLemmas.{memory_step}
 
 -- ---- one event

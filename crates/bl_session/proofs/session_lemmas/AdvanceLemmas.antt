@@ -16,7 +16,7 @@ use Rattle.bl_session.specs.attempt.AwaitedPieces.{are_whole}
 use Rattle.bl_session.specs.session.BootSteps.{BootFacts, State, running, handed_over, none_left}
 use Rattle.bl_session.specs.session.BootSteps.{sizes_of}
 use Rattle.bl_session.specs.session.BootSteps.{fresh, Continues, BeginsUnless, Begins}
-use Rattle.bl_session.specs.internal.AttemptStates.{IsAttempt, IsAttemptBegun, IsRefusedFor}
+use Rattle.bl_session.specs.internal.attempt.AttemptStates.{IsAttempt, IsAttemptBegun, IsRefusedFor}
 use Rattle.bl_session.specs.session.Phases.{handover_held}
 
 -- ---- one attempt

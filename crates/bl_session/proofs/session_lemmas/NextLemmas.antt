@@ -20,7 +20,7 @@ use Rattle.bl_session.specs.session.BootSteps.{TakesEvent}
 use Rattle.bl_session.specs.session.BootSteps.{StepsToOrFails, progress}
 use Rattle.bl_session.specs.attempt.Tickets.{first_ticket}
 use Rattle.bl_session.specs.session.BootMemory.{IsMemoryAt}
-use Rattle.bl_session.specs.internal.RunParts.{attempts_left}
+use Rattle.bl_session.specs.internal.runs.RunParts.{attempts_left}
 use Rattle.bl_session.proofs.attempt_lemmas.MissingLemmas.{first_wanted}
 use Rattle.bl_session.proofs.session_lemmas.StepFaultLemmas.{ends_taken}
 use Rattle.bl_session.proofs.run_lemmas.WentLemmas.{IsNewFrom, new_goes, new_begins, step_went}

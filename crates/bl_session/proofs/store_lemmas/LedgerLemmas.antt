@@ -15,7 +15,7 @@ use Rattle.bl_session.specs.session.BootSteps.{EventFacts}
 use Rattle.bl_session.specs.store.History.{HistoryItem}
 use Rattle.bl_session.specs.store.Stores.{event_of, answer_to, item_of_event, item_of_answer}
 use Rattle.bl_session.specs.store.Stores.{without_index}
-use Rattle.bl_session.specs.internal.LedgerCounts.{IsLedgerKept}
+use Rattle.bl_session.specs.internal.store.LedgerCounts.{IsLedgerKept}
 use Rattle.bl_session.specs.store.Stores.{item_of_completion}
 use Rattle.bl_session.specs.store.Ledger.{LedgerFacts, pending_answer, ledger_answered}
 use Rattle.bl_session.proofs.store_lemmas.StoreLemmas.{kept_answer, kept_nothing}

@@ -9,7 +9,7 @@ use Rattle.std.specs.List.{insert}
 use Rattle.std.specs.Prelude.{slice_get}
 use Rattle.bl_session.specs.declared.store.submission.Submission.{Submission}
 use Rattle.bl_session.specs.store.Stores.{without_index}
-use Rattle.bl_session.specs.internal.SubmissionRuns.{runs_listed, listed_without}
+use Rattle.bl_session.specs.internal.store.SubmissionRanges.{runs_listed, listed_without}
 
 -- ---- a run among the others
 

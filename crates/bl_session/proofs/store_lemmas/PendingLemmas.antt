@@ -8,7 +8,8 @@ use Rattle.std.specs.List.{insert}
 use Rattle.std.specs.Prelude.{slice_get}
 use Rattle.bl_session.specs.declared.store.submission.Submission.{Submission}
 use Rattle.bl_session.specs.store.Stores.{without_index}
-use Rattle.bl_session.specs.internal.SubmissionRuns.{runs_listed, listed_without, IsPlaceInRun}
+use Rattle.bl_session.specs.internal.store.SubmissionRanges.{runs_listed, listed_without}
+use Rattle.bl_session.specs.internal.store.SubmissionRanges.{IsPlaceInRun}
 use Rattle.bl_session.proofs.store_lemmas.ListedLemmas.{listed_at, listed_length, listed_set}
 use Rattle.bl_session.proofs.store_lemmas.ListedLemmas.{listed_two}
 use Rattle.bl_session.proofs.store_lemmas.ListedLemmas.{place_without, listed_get, length_without}

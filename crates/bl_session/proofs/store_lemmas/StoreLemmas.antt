@@ -15,7 +15,8 @@ use Rattle.bl_session.specs.store.History.{HistoryItem, failed, nothing, is_same
 use Rattle.bl_session.specs.store.History.{IsPieceOf}
 use Rattle.bl_session.specs.store.Faithful.{times_asked, times_answered, HasPiece, IsFaithfulItem}
 use Rattle.bl_session.specs.store.Stores.{item_of_event, answer_to, next_place}
-use Rattle.bl_session.specs.internal.LedgerCounts.{count_of, WasAsked, AreAskedFor, IsLedgerKept}
+use Rattle.bl_session.specs.internal.store.LedgerCounts.{count_of, WasAsked, AreAskedFor}
+use Rattle.bl_session.specs.internal.store.LedgerCounts.{IsLedgerKept}
 use Rattle.bl_session.proofs.store_lemmas.TicketLemmas.{is_same_self, asked_both, answered_both}
 use Rattle.bl_session.proofs.store_lemmas.TicketLemmas.{file_both}
 use Rattle.bl_session.proofs.store_lemmas.SubmissionLemmas.{marks, faithful_more, count_append}

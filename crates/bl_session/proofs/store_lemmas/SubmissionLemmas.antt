@@ -16,10 +16,10 @@ use Rattle.bl_session.specs.store.History.{HistoryItem, submitted, is_same, file
 use Rattle.bl_session.specs.store.History.{IsItemOfAnswer}
 use Rattle.bl_session.specs.store.Faithful.{times_asked, IsFaithfulItem, IsFaithfulAfter}
 use Rattle.bl_session.specs.store.Stores.{are_equal, is_piece_of}
-use Rattle.bl_session.specs.internal.LedgerCounts.{count_of, WasAsked}
+use Rattle.bl_session.specs.internal.store.LedgerCounts.{count_of, WasAsked}
 use Rattle.bl_session.specs.store.Stores.{item_of_completion}
-use Rattle.bl_session.specs.internal.LedgerCounts.{AreAskedFor}
-use Rattle.bl_session.specs.internal.LedgerCounts.{IsLedgerKept}
+use Rattle.bl_session.specs.internal.store.LedgerCounts.{AreAskedFor}
+use Rattle.bl_session.specs.internal.store.LedgerCounts.{IsLedgerKept}
 use Rattle.bl_session.proofs.store_lemmas.TicketLemmas.{is_same_self, asked_both, answered_both}
 use Rattle.bl_session.proofs.store_lemmas.TicketLemmas.{file_both}
 

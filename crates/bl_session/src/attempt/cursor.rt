@@ -3,8 +3,9 @@ ghost use Rattle.std.specs.Prelude.{◌≡◌, ◌<◌, ◌^◌, ℕ, List, IfSo
 ghost use Rattle.bl_stage.specs.Pieces.{is_missing};
 ghost use Rattle.bl_stage.specs.PieceStates.{piece_states};
 ghost use Rattle.bl_session.specs.attempt.Tickets.{first_ticket};
-ghost use Rattle.bl_session.specs.internal.SessionPhases.{HasSmallFiles, LacksPiece};
-ghost use Rattle.bl_session.specs.internal.Cursors.{NoneMissingBelow};
+ghost use Rattle.bl_session.specs.internal.session.SessionPhases.{HasSmallFiles, LacksPiece};
+ghost use Rattle.bl_session.specs.internal.attempt.Cursors.{NoneMissingBelow};
+ghost use Rattle.bl_session.specs.internal.attempt.MissingPieces.{HasCountablePieces, FindsMissing};
 
 use crate::attempt::missing_pieces::missing_from;
 use crate::attempt::ticket::Ticket;
@@ -20,21 +21,16 @@ pub struct Cursor {
 
 /// The ticket of the first piece that did not come.
 pub fn first_missing<A: Allocator>(attempt: u32, stage: &Stage<A>, cursor: Cursor) -> Option<Ticket>
-    requires few { length stage.now.sizes < 2 ^ 32 }
-    requires small { HasSmallFiles stage.now }
+    requires countable { HasCountablePieces stage.now }
     requires below { NoneMissingBelow stage.now cursor.file cursor.piece }
-    ensures first { (bytes : List ℕ)
-        → result ≡ first_ticket attempt 0 (piece_states bytes stage.now) }
-    ensures missing { IfSome result (λ ticket.
-        is_missing stage.now ticket.file ticket.piece ≡ true) }
+    ensures { FindsMissing stage.now (first_ticket attempt 0) result }
 {
     missing_from(attempt, stage, cursor.file, cursor.piece as usize)
 }
 
 /// The cursor once more pieces came: at the first one that did not, or where it was if each came.
 pub fn advanced<A: Allocator>(stage: &Stage<A>, cursor: Cursor) -> Cursor
-    requires few { length stage.now.sizes < 2 ^ 32 }
-    requires small { HasSmallFiles stage.now }
+    requires countable { HasCountablePieces stage.now }
     requires below { NoneMissingBelow stage.now cursor.file cursor.piece }
     ensures { NoneMissingBelow stage.now result.file result.piece }
 {
@@ -49,8 +45,7 @@ pub fn advanced<A: Allocator>(stage: &Stage<A>, cursor: Cursor) -> Cursor
 
 /// The ticket of the first piece that did not come, where one did not.
 pub fn missing_piece<A: Allocator>(attempt: u32, stage: &Stage<A>, cursor: Cursor) -> Ticket
-    requires few { length stage.now.sizes < 2 ^ 32 }
-    requires small { HasSmallFiles stage.now }
+    requires countable { HasCountablePieces stage.now }
     requires below { NoneMissingBelow stage.now cursor.file cursor.piece }
     requires lacks { LacksPiece stage.now }
     ensures { (bytes : List ℕ) → first_ticket attempt 0 (piece_states bytes stage.now)

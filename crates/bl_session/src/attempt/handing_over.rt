@@ -8,8 +8,9 @@ ghost use Rattle.bl_load.specs.Parts.{IsPrepFault};
 ghost use Rattle.bl_load.specs.EntryValue.{value_of, file_count, IsWithinLimits};
 ghost use Rattle.bl_session.specs.attempt.FinishedAttempt.{IsHandedOver, IsNotHandedOver};
 ghost use Rattle.bl_session.specs.attempt.FinishedAttempt.{IsStageAfterFault};
-ghost use Rattle.bl_session.specs.internal.HandoverSteps.{IsPlanFor, HasMadeWay, CanHandOver};
-ghost use Rattle.bl_session.specs.internal.HandoverSteps.{HasLoadedPlan};
+ghost use Rattle.bl_session.specs.internal.attempt.HandoverSteps.{IsPlanFor, HasMadeWay};
+ghost use Rattle.bl_session.specs.internal.attempt.HandoverSteps.{CanHandOver};
+ghost use Rattle.bl_session.specs.internal.attempt.HandoverSteps.{HasLoadedPlan};
 
 use bl_load::{Entry, Handoff, Plan, PrepFault, Refusal, load, prepare};
 use bl_map::Machine;

@@ -6,13 +6,14 @@ ghost use Rattle.bl_stage.specs.Pieces.{is_missing};
 ghost use Rattle.bl_stage.specs.PieceStates.{piece_states};
 ghost use Rattle.bl_session.specs.menu.Menu.{files_of};
 ghost use Rattle.bl_session.specs.attempt.Tickets.{first_awaited_piece, first_ticket};
-ghost use Rattle.bl_session.specs.internal.SessionPhases.{HasSmallFiles};
-ghost use Rattle.bl_session.specs.internal.Cursors.{first_ticket_from};
+ghost use Rattle.bl_session.specs.internal.session.SessionPhases.{HasSmallFiles};
+ghost use Rattle.bl_session.specs.internal.attempt.Cursors.{first_ticket_from};
+ghost use Rattle.bl_session.specs.internal.attempt.MissingPieces.{HasCountablePieces, FindsMissing};
 ghost use Rattle.bl_session.specs.attempt.AwaitedPieces.{piece_state_of};
 ghost use Rattle.bl_session.specs.attempt.Tickets.{length_awaited, request_for, ticket_after};
 
-use crate::attempt::entry_files::file_at;
 use crate::attempt::ticket::{Request, Ticket};
+use crate::menu::entry_files::file_at;
 use bl_load::Entry;
 use bl_map::frames_of;
 use bl_stage::Stage;
@@ -49,12 +50,9 @@ fn piece_from<A: Allocator>(stage: &Stage<A>, place: u32, start: usize) -> Optio
 
 /// The ticket of the first piece, from this file on, that did not come.
 fn ticket_from<A: Allocator>(attempt: u32, stage: &Stage<A>, start: usize) -> Option<Ticket>
-    requires few { length stage.now.sizes < 2 ^ 32 }
-    requires small { HasSmallFiles stage.now }
-    ensures first { (bytes : List ℕ)
-        → result ≡ first_ticket attempt start (drop start (piece_states bytes stage.now)) }
-    ensures missing { IfSome result (λ ticket.
-        is_missing stage.now ticket.file ticket.piece ≡ true) }
+    requires { HasCountablePieces stage.now }
+    ensures { FindsMissing stage.now
+        (λ files. first_ticket attempt start (drop start files)) result }
 {
     for place in start..stage.files() {
         if let Some(piece) = piece_from(stage, place as u32, 0) {
@@ -76,12 +74,9 @@ pub fn missing_from<A: Allocator>(
     file: u32,
     piece: usize,
 ) -> Option<Ticket>
-    requires few { length stage.now.sizes < 2 ^ 32 }
-    requires small { HasSmallFiles stage.now }
-    ensures first { (bytes : List ℕ) → result
-        ≡ first_ticket_from attempt (piece_states bytes stage.now) file piece }
-    ensures missing { IfSome result (λ found.
-        is_missing stage.now found.file found.piece ≡ true) }
+    requires { HasCountablePieces stage.now }
+    ensures { FindsMissing stage.now
+        (λ files. first_ticket_from attempt files file piece) result }
 {
     let place = file as usize;
     if place >= stage.files() {
@@ -99,12 +94,8 @@ pub fn missing_from<A: Allocator>(
 
 /// The ticket of the first piece after a ticket's that did not come.
 pub fn next_missing<A: Allocator>(attempt: u32, stage: &Stage<A>, ticket: Ticket) -> Option<Ticket>
-    requires few { length stage.now.sizes < 2 ^ 32 }
-    requires small { HasSmallFiles stage.now }
-    ensures first { (bytes : List ℕ)
-        → result ≡ ticket_after attempt (piece_states bytes stage.now) ticket }
-    ensures missing { IfSome result (λ found.
-        is_missing stage.now found.file found.piece ≡ true) }
+    requires { HasCountablePieces stage.now }
+    ensures { FindsMissing stage.now (λ files. ticket_after attempt files ticket) result }
 {
     missing_from(attempt, stage, ticket.file, ticket.piece as usize + 1)
 }

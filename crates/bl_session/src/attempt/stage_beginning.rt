@@ -7,10 +7,11 @@ ghost use Rattle.bl_stage.specs.Staged.{AreStaged};
 ghost use Rattle.bl_session.specs.attempt.AttemptResult.{file_refusal, size_refusal};
 ghost use Rattle.bl_session.specs.attempt.AttemptResult as attempt;
 ghost use Rattle.bl_session.specs.menu.Menu as menu;
-ghost use Rattle.bl_session.specs.internal.SessionPhases.{IsFreshStage, IsSizeFault, IsFileRefusal};
-ghost use Rattle.bl_session.specs.internal.SessionPhases.{HasSmallFiles};
+ghost use Rattle.bl_session.specs.internal.session.SessionPhases.{IsFreshStage, IsSizeFault};
+ghost use Rattle.bl_session.specs.internal.session.SessionPhases.{IsFileRefusal};
+ghost use Rattle.bl_session.specs.internal.session.SessionPhases.{HasSmallFiles};
 
-use crate::attempt::entry_files::files_of;
+use crate::menu::entry_files::files_of;
 use bl_load::{Entry, PrepFault, Refusal};
 use bl_map::Machine;
 use bl_stage::{FILE_LIMIT, Stage, StageFault};

@@ -53,19 +53,19 @@ impl<T: Drop> From<AllocFailed<T>> for MenuFault {
 }
 
 /// Whether each entry has at most 64 modules, and copies of 1 to 256 bytes.
-fn are_within_limits<A: Allocator>(entries: &[Entry<A>]) -> bool
+fn each_is_within_limits<A: Allocator>(entries: &[Entry<A>]) -> bool
     ensures { IsTrue result ↔ All IsWithinLimits entries.now }
 {
     match entries {
         [] => true,
-        [entry, rest @ ..] => entry.is_within_limits() && are_within_limits(rest),
+        [entry, rest @ ..] => entry.is_within_limits() && each_is_within_limits(rest),
     }
 }
 
-pub(crate) fn is_small<A: Allocator>(entries: &[Entry<A>]) -> bool
+pub(crate) fn are_within_limits<A: Allocator>(entries: &[Entry<A>]) -> bool
     ensures { IsTrue result ↔ AreWithinLimits entries.now }
 {
-    entries.len() <= MAX_ENTRIES && are_within_limits(entries)
+    entries.len() <= MAX_ENTRIES && each_is_within_limits(entries)
 }
 
 /// Whether each index names one of so many entries.

@@ -3,7 +3,7 @@ ghost use Rattle.std.specs.Prelude.{◌≡◌, ℕ, List, IfOk, IfSome, option_m
 ghost use Rattle.bl_map.specs.MachineFacts.{MachineFacts};
 ghost use Rattle.bl_session.specs.menu.Menu.{MenuFacts};
 ghost use Rattle.bl_session.specs.session.Phases.{phase_facts, end_facts, told_end, LiesWithin};
-ghost use Rattle.bl_session.specs.internal.SessionPhases.{IsPhaseKept};
+ghost use Rattle.bl_session.specs.internal.session.SessionPhases.{IsPhaseKept};
 ghost use Rattle.bl_session.specs.runs.Run.{final_phase};
 
 use crate::session::outcome::{BootFault, Outcome};

@@ -7,14 +7,16 @@ ghost use Rattle.bl_session.specs.session.BootSteps.{is_taken, attempt_number};
 ghost use Rattle.bl_session.specs.session.BootSteps as boot_specs;
 ghost use Rattle.bl_session.specs.session.BootMemory.{IsMemoryAt};
 ghost use Rattle.bl_session.specs.session.Phases.{event_facts, phase_facts, is_waiting};
-ghost use Rattle.bl_session.specs.internal.SessionPhases.{facts_of_boot, state_in};
-ghost use Rattle.bl_session.specs.internal.SessionPhases.{IsPhaseKept, IsWaiting, LacksPiece};
-ghost use Rattle.bl_session.specs.internal.BootCalls.{HasPoolRoom, TakesEventOn};
+ghost use Rattle.bl_session.specs.internal.session.SessionPhases.{facts_of_boot, state_in};
+ghost use Rattle.bl_session.specs.internal.session.SessionPhases.{IsPhaseKept, IsWaiting};
+ghost use Rattle.bl_session.specs.internal.session.SessionPhases.{LacksPiece};
+ghost use Rattle.bl_session.specs.internal.session.BootCalls.{HasPoolRoom, TakesEventOn};
+ghost use Rattle.bl_session.specs.internal.session.BootCalls.{HasRoomWhileWaiting};
 
 use crate::attempt::ticket::{Event, Ticket};
-use crate::session::falling_back::{refuse, settle};
+use crate::session::falling_back::{continue_attempt, refuse};
 use crate::session::outcome::{BootFault, Progress};
-use crate::session::phase::{Boot, Phase, Running, number_of, progress_of};
+use crate::session::phase::{BootContext, Phase, Running, number_of, progress_of};
 use bl_load::Refusal;
 use bl_mem::PhysMem;
 use bl_stage::Put;
@@ -45,56 +47,11 @@ fn is_stored(answer: Put) -> bool
     }
 }
 
-/// Takes a piece: it is stored if the attempt awaits it, and the last one ends the attempt.
-fn take_piece<M: PhysMem, A: Allocator + Copy>(
-    boot: &Boot<A>,
-    memory: &mut M,
-    running: &mut Running<A>,
-    ticket: Ticket,
-    bytes: &[u8],
-) -> Result<Option<Phase<A>>, AllocError>
-    requires waiting { IsWaiting boot.now.machine.now boot.now.menu.now running.old }
-    requires missing { LacksPiece running.old.stage }
-    requires memory { HasPoolRoom boot.now.machine.now (M.bytes memory.old) (M.room memory.old) }
-    ensures taken { TakesEventOn boot.now (piece ticket bytes.now) running.old running.new
-        (M.bytes memory.old) (M.bytes memory.new) result }
-    ensures kept { KeepsSizeAndRoom M.lender M.bytes M.room memory.old memory.new }
-{
-    if !is_of(running, ticket) {
-        return Ok(None);
-    }
-    // For the proof: where the pool lies.
-    boot.machine.pool();
-    let answer = running.stage.put(memory, ticket.file, ticket.piece, bytes);
-    if !is_stored(answer) {
-        return Ok(None);
-    }
-    settle(boot, memory, running)
-}
-
-/// Takes a fault: if the attempt awaits the piece, its entry is refused.
-fn take_fault<M: PhysMem, A: Allocator + Copy>(
-    boot: &Boot<A>,
-    memory: &mut M,
-    running: &mut Running<A>,
-    ticket: Ticket,
-) -> Result<Option<Phase<A>>, AllocError>
-    requires waiting { IsWaiting boot.now.machine.now boot.now.menu.now running.old }
-    requires missing { LacksPiece running.old.stage }
-    requires memory { HasPoolRoom boot.now.machine.now (M.bytes memory.old) (M.room memory.old) }
-    ensures taken { TakesEventOn boot.now (fault ticket) running.old running.new
-        (M.bytes memory.old) (M.bytes memory.new) result }
-    ensures kept { KeepsSizeAndRoom M.lender M.bytes M.room memory.old memory.new }
-{
-    if !awaits_fault(running, ticket) {
-        return Ok(None);
-    }
-    refuse(boot, memory, running, Refusal::FileFault(ticket.file))
-}
-
-/// Takes an event: the attempt runs on, or it ended, and the phase after it is answered.
-fn take<M: PhysMem, A: Allocator + Copy>(
-    boot: &Boot<A>,
+/// Takes an event: the attempt runs on, or it ended, and the phase after it is answered. A piece is
+/// stored if the attempt awaits it, and the last one ends the attempt. A fault of a piece that it
+/// awaits refuses the entry.
+fn take_in_attempt<M: PhysMem, A: Allocator + Copy>(
+    boot: &BootContext<A>,
     memory: &mut M,
     running: &mut Running<A>,
     event: Event,
@@ -107,23 +64,37 @@ fn take<M: PhysMem, A: Allocator + Copy>(
     ensures kept { KeepsSizeAndRoom M.lender M.bytes M.room memory.old memory.new }
 {
     match event {
-        Event::Piece(ticket, bytes) => take_piece(boot, memory, running, ticket, bytes),
-        Event::Fault(ticket) => take_fault(boot, memory, running, ticket),
+        Event::Piece(ticket, bytes) => {
+            if !is_of(running, ticket) {
+                return Ok(None);
+            }
+            // For the proof: where the pool lies.
+            boot.machine.pool();
+            let answer = running.stage.put(memory, ticket.file, ticket.piece, bytes);
+            if !is_stored(answer) {
+                return Ok(None);
+            }
+            continue_attempt(boot, memory, running)
+        }
+        Event::Fault(ticket) => {
+            if !awaits_fault(running, ticket) {
+                return Ok(None);
+            }
+            refuse(boot, memory, running, Refusal::FileFault(ticket.file))
+        }
     }
 }
 
 /// Takes an event. One that no attempt waits for changes nothing.
-pub fn advance<M: PhysMem, A: Allocator + Copy>(
-    boot: &Boot<A>,
+pub fn take_event<M: PhysMem, A: Allocator + Copy>(
+    boot: &BootContext<A>,
     memory: &mut M,
     phase: &mut Phase<A>,
     event: Event,
 ) -> Progress
     requires standing { IsPhaseKept boot.now.machine.now boot.now.menu.now phase.old }
-    requires size { length (M.bytes memory.old) ≡ boot.now.machine.now.size }
-    requires room { is_waiting (phase_facts boot.now.menu.now.attempts phase.old) ≡ true
-        → HasRoom (M.room memory.old)
-        boot.now.machine.now.pool.start boot.now.machine.now.pool.end }
+    requires memory { HasRoomWhileWaiting boot.now phase.old
+        (M.bytes memory.old) (M.room memory.old) }
     ensures step { StepsToOrFails (facts_of_boot boot.now)
         (state_in boot.now (M.bytes memory.old) phase.old) (event_facts event.entry)
         (state_in boot.now (M.bytes memory.new) phase.new) }
@@ -143,7 +114,7 @@ pub fn advance<M: PhysMem, A: Allocator + Copy>(
 {
     let attempt = number_of(phase);
     let ended = match phase {
-        Phase::Waits(running) => take(boot, memory, running, event),
+        Phase::Waits(running) => take_in_attempt(boot, memory, running, event),
         Phase::Unstarted => Ok(None),
         Phase::HandedOver(_) => Ok(None),
         Phase::Failed(_) => Ok(None),

@@ -4,14 +4,15 @@ ghost use Rattle.bl_mem.specs.Memory.{KeepsSizeAndRoom};
 ghost use Rattle.bl_stage.specs.PieceStates.{piece_states};
 ghost use Rattle.bl_session.specs.session.BootSteps.{Begins, Continues};
 ghost use Rattle.bl_session.specs.attempt.AwaitedPieces.{are_whole};
-ghost use Rattle.bl_session.specs.internal.SessionPhases.{facts_of_boot, phase_by};
-ghost use Rattle.bl_session.specs.internal.SessionPhases.{IsWaiting};
-ghost use Rattle.bl_session.specs.internal.BootCalls.{HasPoolRoom, LeadsToPhase};
+ghost use Rattle.bl_session.specs.internal.session.SessionPhases.{facts_of_boot, phase_by};
+ghost use Rattle.bl_session.specs.internal.session.SessionPhases.{IsWaiting};
+ghost use Rattle.bl_session.specs.internal.session.BootCalls.{HasPoolRoom, LeadsToPhase, FallsBack};
+ghost use Rattle.bl_session.specs.internal.session.BootCalls.{GoesOnOrEnds};
 
 use crate::attempt::cursor::{Cursor, advanced};
-use crate::attempt::{Attempt, AttemptEnd, begin_attempt, end_attempt};
+use crate::attempt::{Attempt, AttemptEnd, begin_attempt, finish_if_complete};
 use crate::session::outcome::{BootFault, Outcome};
-use crate::session::phase::{Boot, Phase, Running};
+use crate::session::phase::{BootContext, Phase, Running};
 use bl_load::{Refusal, RefusedEntry};
 use bl_mem::PhysMem;
 use bl_stage::scrub;
@@ -21,7 +22,7 @@ use std::mem;
 /// Begins the attempt of this number, and goes on with the next ones until one waits for pieces, is
 /// handed over, or none is left: then the whole pool is cleared.
 pub fn begin<M: PhysMem, A: Allocator + Copy>(
-    boot: &Boot<A>,
+    boot: &BootContext<A>,
     memory: &mut M,
     next: usize,
     earlier: Vec<RefusedEntry, A>,
@@ -74,16 +75,14 @@ pub fn begin<M: PhysMem, A: Allocator + Copy>(
 
 /// Refuses the entry of an attempt that runs, and answers the phase after it: that of the next one.
 pub fn refuse<M: PhysMem, A: Allocator + Copy>(
-    boot: &Boot<A>,
+    boot: &BootContext<A>,
     memory: &mut M,
     running: &mut Running<A>,
     refusal: Refusal,
 ) -> Result<Option<Phase<A>>, AllocError>
     requires number { length running.old.earlier.items < running.old.next }
     requires memory { HasPoolRoom boot.now.machine.now (M.bytes memory.old) (M.room memory.old) }
-    ensures phase { LeadsToPhase boot.now (Begins (facts_of_boot boot.now)
-        (drop running.old.next boot.now.menu.now.attempts) (running.old.earlier.items
-        ++ record { entry = running.old.entry; refusal = refusal } ∷ []))
+    ensures phase { LeadsToPhase boot.now (FallsBack boot.now running.old refusal)
         (phase_by running.new) (M.bytes memory.old) (M.bytes memory.new) result }
     ensures kept { KeepsSizeAndRoom M.lender M.bytes M.room memory.old memory.new }
 {
@@ -97,24 +96,21 @@ pub fn refuse<M: PhysMem, A: Allocator + Copy>(
 
 /// Goes on with an attempt that has some pieces of its files: it runs on while one is missing, and
 /// else answers the phase after it.
-pub fn settle<M: PhysMem, A: Allocator + Copy>(
-    boot: &Boot<A>,
+pub fn continue_attempt<M: PhysMem, A: Allocator + Copy>(
+    boot: &BootContext<A>,
     memory: &mut M,
     running: &mut Running<A>,
 ) -> Result<Option<Phase<A>>, AllocError>
     requires waiting { IsWaiting boot.now.machine.now boot.now.menu.now running.old }
     requires memory { HasPoolRoom boot.now.machine.now (M.bytes memory.old) (M.room memory.old) }
-    ensures phase { LeadsToPhase boot.now (Continues (facts_of_boot boot.now)
-        (Begins (facts_of_boot boot.now) (drop running.old.next boot.now.menu.now.attempts))
-        running.old.entry (drop running.old.next boot.now.menu.now.attempts)
-        running.old.earlier.items (piece_states (M.bytes memory.old) running.old.stage))
+    ensures phase { LeadsToPhase boot.now (GoesOnOrEnds boot.now running.old (M.bytes memory.old))
         (phase_by running.new) (M.bytes memory.old) (M.bytes memory.new) result }
     ensures whole { OnErr result
         (are_whole (piece_states (M.bytes memory.old) running.old.stage) ≡ true) }
     ensures kept { KeepsSizeAndRoom M.lender M.bytes M.room memory.old memory.new }
 {
     let entry = running.entry;
-    match end_attempt(
+    match finish_if_complete(
         boot.alloc,
         boot.machine,
         memory,

@@ -13,9 +13,9 @@ ghost use Rattle.bl_session.specs.runs.Run.{final_phase};
 use crate::attempt::ticket::{Event, Request, Ticket};
 use crate::menu::Menu;
 use crate::session::boot_end::{boot_end, into_boot_end};
-use crate::session::event_taking::advance;
+use crate::session::event_taking::take_event;
 use crate::session::outcome::{BootFault, Outcome, Progress};
-use crate::session::phase::{Boot, Phase, awaits_pieces};
+use crate::session::phase::{BootContext, Phase, awaits_pieces};
 use crate::session::starting::begin_first;
 use bl_map::Machine;
 use bl_mem::PhysMem;
@@ -34,7 +34,7 @@ pub struct OwnedSession<A: Allocator + Copy> {
 
 impl<A: Allocator + Copy> Model for OwnedSession<A> {
     ghost use Rattle.bl_session.specs.session.Phases.{SessionFacts, boot_facts, phase_facts};
-    ghost use Rattle.bl_session.specs.internal.SessionPhases.{IsPhaseKept};
+    ghost use Rattle.bl_session.specs.internal.session.SessionPhases.{IsPhaseKept};
 
     ghost Value = { SessionFacts };
 
@@ -103,7 +103,7 @@ impl<A: Allocator + Copy> OwnedSession<A> {
             self.old.boot.machine.pool.start self.old.boot.machine.pool.end }
         ensures kept { KeepsSizeAndRoom M.lender M.bytes M.room memory.old memory.new }
     {
-        let boot = Boot {
+        let boot = BootContext {
             alloc: self.alloc,
             machine: &self.machine,
             menu: &self.menu,
@@ -135,13 +135,13 @@ impl<A: Allocator + Copy> OwnedSession<A> {
             self.old.boot.machine.pool.start self.old.boot.machine.pool.end }
         ensures kept { KeepsSizeAndRoom M.lender M.bytes M.room memory.old memory.new }
     {
-        let boot = Boot {
+        let boot = BootContext {
             alloc: self.alloc,
             machine: &self.machine,
             menu: &self.menu,
             sizes: &self.sizes,
         };
-        advance(&boot, memory, &mut self.phase, event)
+        take_event(&boot, memory, &mut self.phase, event)
     }
 
     /// Whether an attempt waits for pieces.
@@ -156,7 +156,7 @@ impl<A: Allocator + Copy> OwnedSession<A> {
         ensures { (bytes : List ℕ)
             → result ≡ first_request self.now.boot (state_at bytes self.now.phase) }
     {
-        let boot = Boot {
+        let boot = BootContext {
             alloc: self.alloc,
             machine: &self.machine,
             menu: &self.menu,
@@ -170,7 +170,7 @@ impl<A: Allocator + Copy> OwnedSession<A> {
         ensures { (bytes : List ℕ)
             → result ≡ request_after self.now.boot (state_at bytes self.now.phase) ticket }
     {
-        let boot = Boot {
+        let boot = BootContext {
             alloc: self.alloc,
             machine: &self.machine,
             menu: &self.menu,

@@ -3,7 +3,7 @@ ghost use Rattle.std.specs.Prelude.{◌≡◌, ℕ, List};
 ghost use Rattle.bl_session.specs.session.BootSteps.{attempt_number};
 ghost use Rattle.bl_session.specs.session.BootSteps as boot;
 ghost use Rattle.bl_session.specs.session.Phases.{phase_facts, is_waiting};
-ghost use Rattle.bl_session.specs.internal.SessionPhases.{state_of, IsPhaseKept};
+ghost use Rattle.bl_session.specs.internal.session.SessionPhases.{state_of, IsPhaseKept};
 
 use crate::attempt::cursor::Cursor;
 use crate::menu::Menu;
@@ -16,7 +16,7 @@ use std::alloc::Allocator;
 /// A boot for one call: its machine, its menu, the sizes of the menu's files, and where its lists
 /// are allocated.
 #[derive(Drop)]
-pub struct Boot<'a, A: Allocator + Copy> {
+pub struct BootContext<'a, A: Allocator + Copy> {
     pub alloc: A,
     pub machine: &'a Machine<A>,
     pub menu: &'a Menu<A>,

@@ -8,12 +8,13 @@ ghost use Rattle.bl_session.specs.session.BootSteps as boot_specs;
 ghost use Rattle.bl_session.specs.session.BootMemory.{IsMemoryAt};
 ghost use Rattle.bl_session.specs.session.Phases.{phase_facts};
 ghost use Rattle.bl_session.specs.session.Phases.{is_waiting, not_started};
-ghost use Rattle.bl_session.specs.internal.SessionPhases.{facts_of_boot, state_in, IsPhaseKept};
-ghost use Rattle.bl_session.specs.internal.BootCalls.{LeadsToPhase};
+ghost use Rattle.bl_session.specs.internal.session.SessionPhases.{facts_of_boot, state_in};
+ghost use Rattle.bl_session.specs.internal.session.SessionPhases.{IsPhaseKept};
+ghost use Rattle.bl_session.specs.internal.session.BootCalls.{LeadsToPhase, HasStarted};
 
 use crate::session::falling_back::begin;
 use crate::session::outcome::{BootFault, Progress};
-use crate::session::phase::{Boot, Phase, number_of, progress_of};
+use crate::session::phase::{BootContext, Phase, number_of, progress_of};
 use bl_map::Machine;
 use bl_mem::PhysMem;
 use std::alloc::{AllocError, Allocator};
@@ -39,7 +40,7 @@ fn reserve_pool<M: PhysMem, A: Allocator>(
 
 /// Gives room to the pool, and begins the first attempt.
 fn reserve_and_begin<M: PhysMem, A: Allocator + Copy>(
-    boot: &Boot<A>,
+    boot: &BootContext<A>,
     memory: &mut M,
 ) -> Result<Phase<A>, AllocError>
     requires { length (M.bytes memory.old) ≡ boot.now.machine.now.size }
@@ -57,28 +58,14 @@ fn reserve_and_begin<M: PhysMem, A: Allocator + Copy>(
 
 /// The start. It acts once.
 pub fn begin_first<M: PhysMem, A: Allocator + Copy>(
-    boot: &Boot<A>,
+    boot: &BootContext<A>,
     memory: &mut M,
     phase: &mut Phase<A>,
 ) -> Progress
     requires standing { IsPhaseKept boot.now.machine.now boot.now.menu.now phase.old }
     requires size { length (M.bytes memory.old) ≡ boot.now.machine.now.size }
-    ensures step { StartsOrFails (facts_of_boot boot.now)
-        (state_in boot.now (M.bytes memory.old) phase.old)
-        (state_in boot.now (M.bytes memory.new) phase.new) }
-    ensures progress { result ≡ boot_specs.progress
-        (attempt_number (state_in boot.now (M.bytes memory.old) phase.old))
-        (state_in boot.now (M.bytes memory.new) phase.new) }
-    ensures memory { phase_facts boot.now.menu.now.attempts phase.old ≡ not_started
-        → IsMemoryAt boot.now.machine.now.pool (state_in boot.now (M.bytes memory.new) phase.new)
-        (M.bytes memory.old) (M.bytes memory.new) }
-    ensures same { phase_facts boot.now.menu.now.attempts phase.old ≢ not_started
-        → (phase.new ≡ phase.old) × (M.bytes memory.new ≡ M.bytes memory.old) }
-    ensures room { phase_facts boot.now.menu.now.attempts phase.old ≡ not_started
-        → is_waiting (phase_facts boot.now.menu.now.attempts phase.new) ≡ true
-        → HasRoom (M.room memory.new)
-        boot.now.machine.now.pool.start boot.now.machine.now.pool.end }
-    ensures stands { IsPhaseKept boot.now.machine.now boot.now.menu.now phase.new }
+    ensures started { HasStarted boot.now phase.old phase.new
+        (M.bytes memory.old) (M.bytes memory.new) (M.room memory.new) result }
     ensures kept { KeepsSizeAndRoom M.lender M.bytes M.room memory.old memory.new }
 {
     let attempt = number_of(phase);

@@ -54,7 +54,7 @@ pub struct Ledger<F: StoredFiles, A: Allocator + Copy> {
 
 impl<F: StoredFiles, A: Allocator + Copy> Model for Ledger<F, A> {
     ghost use Rattle.bl_session.specs.store.Ledger.{LedgerFacts};
-    ghost use Rattle.bl_session.specs.internal.LedgerCounts.{IsLedgerKept};
+    ghost use Rattle.bl_session.specs.internal.store.LedgerCounts.{IsLedgerKept};
 
     ghost Value = { LedgerFacts };
 

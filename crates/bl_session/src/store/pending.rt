@@ -2,11 +2,11 @@
 ghost use Rattle.std.specs.Prelude.{◌≡◌, ◌+◌, ◌<◌, ◌≤◌, [], ◌∷◌, ◌++◌, length, slice_get};
 ghost use Rattle.std.specs.Prelude.{slice_index_or, vec_len, OnOk, OnErr, IsOk, IfSome, IfNone};
 ghost use Rattle.bl_session.specs.store.Stores.{without_index};
-ghost use Rattle.bl_session.specs.internal.SubmissionRuns.{runs_listed, listed_without};
-ghost use Rattle.bl_session.specs.internal.SubmissionRuns.{IsPlaceInRun};
+ghost use Rattle.bl_session.specs.internal.store.SubmissionRanges.{runs_listed, listed_without};
+ghost use Rattle.bl_session.specs.internal.store.SubmissionRanges.{IsPlaceInRun};
 
 use crate::store::submission::Submission;
-use crate::store::submission_run::SubmissionRun;
+use crate::store::submission_range::SubmissionRange;
 use std::alloc::{AllocError, Allocator};
 use std::marker::Model;
 
@@ -19,14 +19,14 @@ use std::marker::Model;
 /// each submission by itself.
 #[derive(Drop)]
 pub(crate) struct Pending<A: Allocator> {
-    runs: Vec<SubmissionRun, A>,
+    runs: Vec<SubmissionRange, A>,
     count: usize,
 }
 
 impl<A: Allocator> Model for Pending<A> {
     ghost use Rattle.std.specs.Prelude.{◌≡◌, List, length};
     ghost use Rattle.bl_session.specs.declared.store.submission.Submission.{Submission};
-    ghost use Rattle.bl_session.specs.internal.SubmissionRuns.{runs_listed};
+    ghost use Rattle.bl_session.specs.internal.store.SubmissionRanges.{runs_listed};
 
     ghost Value = { List Submission };
 
@@ -92,7 +92,7 @@ impl<A: Allocator> Pending<A> {
 
 /// Where the submission at a place is, of so many: the index of its run, and its place there. None
 /// if there is no such place.
-fn find(runs: &[SubmissionRun], count: usize, place: usize) -> Option<(usize, usize)>
+fn find(runs: &[SubmissionRange], count: usize, place: usize) -> Option<(usize, usize)>
     requires { count ≡ length (runs_listed runs.now) }
     ensures some { IfSome result (λ found. IsPlaceInRun runs.now place found.0 found.1) }
     ensures none { IfNone result (count ≤ place) }
@@ -119,7 +119,7 @@ fn find(runs: &[SubmissionRun], count: usize, place: usize) -> Option<(usize, us
 
 /// One more, after the others: in the last run if it goes on with that, else in a run of its own.
 fn add<A: Allocator>(
-    runs: &mut Vec<SubmissionRun, A>,
+    runs: &mut Vec<SubmissionRange, A>,
     submission: Submission,
 ) -> Result<(), AllocError>
     ensures ok { OnOk result
@@ -130,14 +130,14 @@ fn add<A: Allocator>(
     if count > 0 && runs[count - 1].extend(&submission) {
         return Ok(());
     }
-    runs.push(SubmissionRun::new(submission))?;
+    runs.push(SubmissionRange::new(submission))?;
     Ok(())
 }
 
 /// Leaves out one of a run. Only where others of its run are on both sides does that take memory,
 /// for a run more.
 fn leave_out<A: Allocator>(
-    runs: &mut Vec<SubmissionRun, A>,
+    runs: &mut Vec<SubmissionRange, A>,
     index: usize,
     at: usize,
 ) -> Result<(), AllocError>

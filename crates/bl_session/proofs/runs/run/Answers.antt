@@ -16,7 +16,7 @@ returns-in-Ok-clause-outcome g c = λ faults genuine ended.
     let facts = boot_facts c.args.machine.now c.args.menu.now (map size_of files) in
     let run =
     subst (λ (p : PhaseFacts). IsRun facts files old new (state_at bytes p))
-    (sym c.outcome_of.ensures.end) c.in-Ok.ensures.ok.run in
+    (sym c.outcome_of.ensures.end) c.in-Ok.ensures.run.run in
     run_ended facts files faults refl old new (state_at bytes (final_phase c.outcome_of.result)) run
     genuine ended
 
@@ -30,7 +30,7 @@ returns-in-Ok-clause-faithful g c = λ none faithful ended.
     let end = final_phase c.outcome_of.result in
     let run =
     subst (λ (p : PhaseFacts). IsRun facts files old new (state_at bytes p))
-    (sym c.outcome_of.ensures.end) c.in-Ok.ensures.ok.run in
+    (sym c.outcome_of.ensures.end) c.in-Ok.ensures.run.run in
     let from_none =
     subst (λ (first : List HistoryItem). IsRun facts files first new (state_at bytes end)) none
     run in

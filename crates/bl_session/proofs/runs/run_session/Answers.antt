@@ -7,17 +7,11 @@ use Rattle.bl_session.specs.session.BootSteps.{BootFacts, out_of_memory}
 use Rattle.bl_session.specs.session.BootMemory.{IsMemoryAt}
 use Rattle.bl_session.specs.session.Phases.{SessionFacts, boot_facts, state_at}
 use Rattle.bl_session.specs.runs.Run.{run_state_of}
-use Rattle.bl_session.specs.internal.RunParts.{asked_sizes}
+use Rattle.bl_session.specs.internal.runs.RunParts.{asked_sizes}
 use Rattle.bl_session.proofs.run_lemmas.RunLemmas.{unbegun, has_started, run_started}
 use Rattle.bl_session.proofs.session_lemmas.KeptMemoryLemmas.{keeps_on}
 use Rattle.bl_session.proofs.attempt_lemmas.EarlyReturnLemmas.{no_value, on_error, keeps_same}
 use Rattle.bl_session.proofs.runs.run_session.Goals as goal
-
-pub returns-in_err-sizes-clause-ok : goal.returns-in_err-sizes-clause-ok
-returns-in_err-sizes-clause-ok g c = no_value _ _ c.from_residual.result c.from_residual.ensures.1
-
-pub returns-in_err-sizes-clause-outside : goal.returns-in_err-sizes-clause-outside
-returns-in_err-sizes-clause-outside g c = on_error c.from_residual.result (λ a out. refl)
 
 pub returns-in_err-sizes-clause-files : goal.returns-in_err-sizes-clause-files
 returns-in_err-sizes-clause-files g c = refl
@@ -25,23 +19,11 @@ returns-in_err-sizes-clause-files g c = refl
 pub returns-in_err-sizes-clause-kept : goal.returns-in_err-sizes-clause-kept
 returns-in_err-sizes-clause-kept g c = keeps_same
 
-pub returns-in_err-session-clause-ok : goal.returns-in_err-session-clause-ok
-returns-in_err-session-clause-ok g c =
-    no_value _ _ c.from_residual-in_err-session.result c.from_residual-in_err-session.ensures.1
-
-pub returns-in_err-session-clause-outside : goal.returns-in_err-session-clause-outside
-returns-in_err-session-clause-outside g c =
-    on_error c.from_residual-in_err-session.result (λ a out. refl)
-
 pub returns-in_err-session-clause-files : goal.returns-in_err-session-clause-files
 returns-in_err-session-clause-files g c = refl
 
 pub returns-in_err-session-clause-kept : goal.returns-in_err-session-clause-kept
 returns-in_err-session-clause-kept g c = keeps_same
-
-pub returns-in_err-drive-clause-ok : goal.returns-in_err-drive-clause-ok
-returns-in_err-drive-clause-ok g c =
-    no_value _ _ c.from_residual-in_err-drive.result c.from_residual-in_err-drive.ensures.1
 
 pub returns-in_err-drive-clause-files : goal.returns-in_err-drive-clause-files
 returns-in_err-drive-clause-files g c = c.drive.ensures.files
@@ -49,37 +31,35 @@ returns-in_err-drive-clause-files g c = c.drive.ensures.files
 pub returns-in_err-drive-clause-kept : goal.returns-in_err-drive-clause-kept
 returns-in_err-drive-clause-kept g c = keeps_on c.start.ensures.kept c.drive.ensures.kept
 
-pub returns-clause-lacking : goal.returns-clause-lacking
-returns-clause-lacking g c = tt
-
-pub returns-clause-outside : goal.returns-clause-outside
-returns-clause-outside g c = tt
-
 pub returns-clause-files : goal.returns-clause-files
 returns-clause-files g c = c.drive.ensures.files
 
 pub returns-clause-kept : goal.returns-clause-kept
 returns-clause-kept g c = keeps_on c.start.ensures.kept c.drive.ensures.kept
 
-pub returns-in_err-sizes-clause-lacking : goal.returns-in_err-sizes-clause-lacking
-returns-in_err-sizes-clause-lacking g c =
+pub returns-in_err-sizes-clause-run : goal.returns-in_err-sizes-clause-run
+returns-in_err-sizes-clause-run g c =
     let files = g.S.Store.files c.args.store.now in
     let given = g.S.Store.given c.args.store.now in
     let p = err_from_is_err_and c.from_residual.result c.from_residual.ensures.1 in
-    rw p.1
-    (unbegun (boot_facts c.args.machine.now c.args.menu.now (map size_of files)) files given
-    given refl)
+    rw p.1 (
+      unbegun (boot_facts c.args.machine.now c.args.menu.now (map size_of files)) files given
+          given refl,
+      λ a out. refl,
+    )
 
-pub returns-in_err-session-clause-lacking : goal.returns-in_err-session-clause-lacking
-returns-in_err-session-clause-lacking g c =
+pub returns-in_err-session-clause-run : goal.returns-in_err-session-clause-run
+returns-in_err-session-clause-run g c =
     let files = g.S.Store.files c.args.store.now in
     let given = g.S.Store.given c.args.store.now in
     let p =
     err_from_is_err_and c.from_residual-in_err-session.result
     c.from_residual-in_err-session.ensures.1 in
-    rw p.1
-    (unbegun (boot_facts c.args.machine.now c.args.menu.now (map size_of files)) files given
-    given refl)
+    rw p.1 (
+      unbegun (boot_facts c.args.machine.now c.args.menu.now (map size_of files)) files given
+          given refl,
+      λ a out. refl,
+    )
 
 pub drive-requires : goal.drive-requires
 drive-requires g c =
@@ -101,31 +81,19 @@ drive-requires g c =
           (sym c.start.ensures.boot) (c.start.ensures.room unbegun waits);
     }
 
-pub returns-in_err-drive-clause-lacking : goal.returns-in_err-drive-clause-lacking
-returns-in_err-drive-clause-lacking g c =
+pub returns-in_err-drive-clause-run : goal.returns-in_err-drive-clause-run
+returns-in_err-drive-clause-run g c =
     let bytes = g.M.PhysMem.bytes in
     let files = g.S.Store.files c.args.store.now in
     let given = g.S.Store.given in
     let menu = c.args.menu.now in
-    let lacking = c.in_err-drive.ensures.lacking in
+    let lacking = c.in_err-drive.ensures.ended.0 in
     let sizes =
     c.deref.ensures.value ∙ c.in_ok-sizes.ensures
     ∙ ap (asked_sizes files) c.files.ensures.count in
     let p =
     err_from_is_err_and c.from_residual-in_err-drive.result
     c.from_residual-in_err-drive.ensures.1 in
-    rw p.1
-    (run_started c.args.machine.now menu files c.deref.result.now c.in_ok-session.session.boot
-    c.start.new.self.boot c.in_ok-session.session.phase c.start.new.self.phase
-    (bytes c.args.memory.now) (bytes c.start.new.memory)
-    (given c.args.store.now) (given c.drive.new.store) lacking.stopped out_of_memory sizes
-    (ap (λ (s : SessionFacts). s.boot) c.in_ok-session.ensures)
-    (ap (λ (s : SessionFacts). s.phase) c.in_ok-session.ensures) c.start.ensures.boot
-    c.start.ensures.step lacking.heard (inr (refl, lacking.running)))
-
-pub returns-in_err-drive-clause-outside : goal.returns-in_err-drive-clause-outside
-returns-in_err-drive-clause-outside g c =
-    let bytes = g.M.PhysMem.bytes in
     let first = bytes c.args.memory.now in
     let begun = state_at (bytes c.start.new.memory) c.start.new.self.phase in
     let e : c.start.new.self.boot
@@ -133,17 +101,22 @@ returns-in_err-drive-clause-outside g c =
     c.start.ensures.boot ∙ ap (λ (s : SessionFacts). s.boot) c.in_ok-session.ensures in
     let memory =
     c.start.ensures.memory (ap (λ (s : SessionFacts). s.phase) c.in_ok-session.ensures) in
-    let p =
-    err_from_is_err_and c.from_residual-in_err-drive.result
-    c.from_residual-in_err-drive.ensures.1 in
-    rw p.1
-    (subst (λ (b : BootFacts). IsSameOutside b.machine.pool first (bytes c.drive.new.memory)) e
-    (c.in_err-drive.ensures.outside first
-    (subst (λ (b : BootFacts). IsMemoryAt b.machine.pool begun first (bytes c.start.new.memory))
-    (sym c.start.ensures.boot) memory)))
+    rw p.1 (
+      run_started c.args.machine.now menu files c.deref.result.now c.in_ok-session.session.boot
+          c.start.new.self.boot c.in_ok-session.session.phase c.start.new.self.phase
+          (bytes c.args.memory.now) (bytes c.start.new.memory)
+          (given c.args.store.now) (given c.drive.new.store) lacking.stopped out_of_memory sizes
+          (ap (λ (s : SessionFacts). s.boot) c.in_ok-session.ensures)
+          (ap (λ (s : SessionFacts). s.phase) c.in_ok-session.ensures) c.start.ensures.boot
+          c.start.ensures.step lacking.heard (inr (refl, lacking.running)),
+      subst (λ (b : BootFacts). IsSameOutside b.machine.pool first (bytes c.drive.new.memory)) e
+          (c.in_err-drive.ensures.ended.1 first
+          (subst (λ (b : BootFacts). IsMemoryAt b.machine.pool begun first (bytes c.start.new.memory))
+          (sym c.start.ensures.boot) memory)),
+    )
 
-pub returns-clause-ok : goal.returns-clause-ok
-returns-clause-ok g c =
+pub returns-clause-run : goal.returns-clause-run
+returns-clause-run g c =
     let bytes = g.M.PhysMem.bytes in
     let files = g.S.Store.files c.args.store.now in
     let given = g.S.Store.given in
@@ -152,7 +125,7 @@ returns-clause-ok g c =
     let new = bytes c.drive.new.memory in
     let begun = state_at (bytes c.start.new.memory) c.start.new.self.phase in
     let end = state_at new c.drive.new.session.phase in
-    let ended = c.in_ok-drive.ensures.ok in
+    let ended = c.in_ok-drive.ensures.ended in
     let unbegun = ap (λ (s : SessionFacts). s.phase) c.in_ok-session.ensures in
     let boot_is : c.start.new.self.boot
     ≡ boot_facts c.args.machine.now menu c.deref.result.now =
@@ -170,7 +143,7 @@ returns-clause-ok g c =
           (run_state_of c.start.new.self.boot end) end sizes
           (ap (λ (s : SessionFacts). s.boot) c.in_ok-session.ensures) unbegun
           c.start.ensures.boot c.start.ensures.step ended.heard (inl refl);
-      on_machine = ap (λ (b : BootFacts). b.machine) (c.drive.ensures.boot ∙ boot_is);
+      on_machine = ap (λ (b : BootFacts). b.machine) (ended.boot ∙ boot_is);
       started = ended.started;
       ended = ended.ended;
       memory =

@@ -1,5 +1,5 @@
 use Rattle.std.proofs.Common.{◌≡◌}
-use Rattle.bl_session.specs.internal.RunParts.{asked_sizes}
+use Rattle.bl_session.specs.internal.runs.RunParts.{asked_sizes}
 use Rattle.bl_session.proofs.runs.sizes_of.Given as goal
 
 -- the sizes of the files so far

@@ -20,7 +20,7 @@ invariant_of-result g c =
     same (c.if-not-are_entry_indices.ensures.0 refl) in
     let small : AreWithinLimits entries =
     subst (λ (es : List (Entry g.row.A.Denot)). AreWithinLimits es) same
-    (c.if-not-is_small.ensures.0 refl) in
+    (c.if-not-are_within_limits.ensures.0 refl) in
     let few = few_attempts (length entries) c.args.default fallbacks named.0 named.1 in
     let most : length (attempt_order c.args.default fallbacks) ≤ 32 =
     omega (arith, few, small.0) in (
@@ -44,7 +44,7 @@ pub returns-then-not-are_entry_indices-clause-first_fault :
 returns-then-not-are_entry_indices-clause-first_fault g c =
     let same = c.as_slice-offered.ensures.value in (
       subst (λ (es : List (Entry g.row.A.Denot)). AreWithinLimits es) same
-          (c.if-not-is_small.ensures.0 refl),
+          (c.if-not-are_within_limits.ensures.0 refl),
       λ named. false≢true (c.if-not-are_entry_indices.ensures.1
           (subst (λ (es : List (Entry g.row.A.Denot)).
           AreEntryIndices (length es) c.args.default c.args.fallbacks.now) (sym same) named)),
@@ -56,7 +56,7 @@ returns-in_err-attempts-clause-first_fault g c =
     let same = c.as_slice-offered.ensures.value in
     rw (p.1, p.2) (
       subst (λ (es : List (Entry g.row.A.Denot)). AreWithinLimits es) same
-          (c.if-not-is_small.ensures.0 refl),
+          (c.if-not-are_within_limits.ensures.0 refl),
       subst (λ (es : List (Entry g.row.A.Denot)).
           AreEntryIndices (length es) c.args.default c.args.fallbacks.now) same
           (c.if-not-are_entry_indices.ensures.0 refl),
@@ -67,7 +67,7 @@ returns-clause-allowed g c =
     let entries = c.args.entries.items in
     let same = c.as_slice-offered.ensures.value in (
       subst (λ (es : List (Entry g.row.A.Denot)). AreWithinLimits es) same
-          (c.if-not-is_small.ensures.0 refl),
+          (c.if-not-are_within_limits.ensures.0 refl),
       subst (λ (es : List (Entry g.row.A.Denot)).
           AreEntryIndices (length es) c.args.default c.args.fallbacks.now) same
           (c.if-not-are_entry_indices.ensures.0 refl),

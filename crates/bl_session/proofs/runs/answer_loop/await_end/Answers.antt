@@ -1,11 +1,14 @@
-use Rattle.std.proofs.Common.{◌<◌, ◌∙◌, subst}
+use Rattle.std.proofs.Common.{◌<◌, ◌∙◌, ℕ, List, subst, sym}
+use Rattle.std.proofs.lemmas.Result.{err_from_is_err_and}
+use Rattle.bl_stage.specs.Ranges.{IsSameOutside}
 use Rattle.bl_session.specs.session.BootSteps.{BootFacts}
 use Rattle.bl_session.specs.session.BootMemory.{IsMemoryAt}
 use Rattle.bl_session.specs.session.Phases.{state_at}
-use Rattle.bl_session.specs.internal.RunParts.{all_asked, attempts_left}
+use Rattle.bl_session.specs.store.History.{HistoryItem}
+use Rattle.bl_session.specs.internal.runs.RunParts.{HistoryLeadsOn, all_asked, attempts_left}
 use Rattle.bl_session.proofs.session_lemmas.KeptMemoryLemmas.{memory_on, same_on, keeps_on}
 use Rattle.bl_session.proofs.run_lemmas.AnswerLemmas.{heard_more, heard_waiting, heard_ended}
-use Rattle.bl_session.proofs.run_lemmas.AnswerLemmas.{waiting_memory}
+use Rattle.bl_session.proofs.run_lemmas.AnswerLemmas.{waiting_memory, running_waiting}
 use Rattle.bl_session.proofs.runs.answer_loop.await_end.Goals as goal
 
 pub answers-preserved : goal.answers-preserved
@@ -15,7 +18,7 @@ answers-preserved g c =
     let files = g.S.Store.files in
     let facts = c.args.session.now.boot in
     let so_far = c.answers.invariant in
-    let told = c.in_ok-answer.ensures in
+    let told = c.in_ok-answer.ensures.taken in
     let taken = told.taken in
     let first = state_at (bytes c.args.memory.now) c.args.session.now.phase in
     let old = state_at (bytes c.answers.memory) c.answers.session.phase in
@@ -32,7 +35,7 @@ answers-preserved g c =
     IsMemoryAt b.machine.pool new (bytes c.answers.memory) (bytes c.answer.new.memory))
     so_far.boot taken.memory in
     record {
-      boot = c.answer.ensures.boot ∙ so_far.boot;
+      boot = told.boot ∙ so_far.boot;
       waiting = waiting;
       heard =
           heard_waiting facts (files c.args.store.now) (given c.args.store.now)
@@ -48,6 +51,33 @@ answers-preserved g c =
       kept = keeps_on so_far.kept c.answer.ensures.kept;
     }
 
+pub returns-in_err-answer-clause-ended : goal.returns-in_err-answer-clause-ended
+returns-in_err-answer-clause-ended g c =
+    let bytes = g.M.PhysMem.bytes in
+    let given = g.S.Store.given in
+    let facts = c.args.session.now.boot in
+    let so_far = c.answers.invariant in
+    let same = c.in_err-answer.ensures.taken in
+    let first = state_at (bytes c.args.memory.now) c.args.session.now.phase in
+    let old = state_at (bytes c.answers.memory) c.answers.session.phase in
+    let p = err_from_is_err_and c.from_residual.result c.from_residual.ensures.1 in
+    rw p.1 (
+      record {
+        stopped = all_asked old;
+        heard =
+            subst
+            (λ (after : List HistoryItem).
+            HistoryLeadsOn facts (g.S.Store.files c.args.store.now) (given c.args.store.now) after
+            (all_asked first) (all_asked old)) (sym same.1) so_far.heard;
+        running =
+            running_waiting (bytes c.answers.memory) c.answers.session.phase so_far.waiting;
+      },
+      subst
+          (λ (after : List ℕ).
+          IsSameOutside facts.machine.pool (bytes c.args.memory.now) after) (sym same.0)
+          so_far.outside,
+    )
+
 pub returns-in_default : goal.returns-in_default
 returns-in_default g c =
     let bytes = g.M.PhysMem.bytes in
@@ -55,7 +85,7 @@ returns-in_default g c =
     let files = g.S.Store.files in
     let facts = c.args.session.now.boot in
     let so_far = c.answers.invariant in
-    let told = c.in_ok-answer.ensures in
+    let told = c.in_ok-answer.ensures.taken in
     let taken = told.taken in
     let first = state_at (bytes c.args.memory.now) c.args.session.now.phase in
     let old = state_at (bytes c.answers.memory) c.answers.session.phase in
@@ -71,8 +101,8 @@ returns-in_default g c =
     IsMemoryAt b.machine.pool new (bytes c.answers.memory) (bytes c.answer.new.memory))
     so_far.boot taken.memory in
     record {
-      boot = c.answer.ensures.boot ∙ so_far.boot;
-      ok = record {
+      ended = record {
+        boot = told.boot ∙ so_far.boot;
         heard =
             heard_ended facts (files c.args.store.now) (given c.args.store.now)
             (given c.answer.new.store) (all_asked first) old new c.in_ok-answer.field-0
@@ -86,8 +116,6 @@ returns-in_default g c =
             memory_on facts.machine.pool new (bytes c.args.memory.now) (bytes c.answers.memory)
             (bytes c.answer.new.memory) so_far.outside memory;
       };
-      lacking = tt;
-      outside = tt;
       files = c.answer.ensures.files ∙ so_far.files;
       kept = keeps_on so_far.kept c.answer.ensures.kept;
     }

@@ -2,7 +2,7 @@ use Rattle.std.proofs.Common.{◌≡◌, true}
 use Rattle.bl_mem.specs.Memory.{KeepsSizeAndRoom}
 use Rattle.bl_stage.specs.Ranges.{IsSameOutside}
 use Rattle.bl_session.specs.session.Phases.{state_at, is_waiting}
-use Rattle.bl_session.specs.internal.RunParts.{HistoryLeadsOn, all_asked, attempts_left}
+use Rattle.bl_session.specs.internal.runs.RunParts.{HistoryLeadsOn, all_asked, attempts_left}
 use Rattle.bl_session.proofs.runs.answer_loop.await_end.Given as goal
 
 -- the attempt waits; what was heard so far led from where it stood

@@ -3,7 +3,7 @@ use Rattle.bl_mem.specs.Memory.{HasRoom, KeepsSizeAndRoom}
 use Rattle.bl_session.specs.session.BootMemory.{IsMemoryAt}
 use Rattle.bl_session.specs.session.Phases.{state_at, is_waiting, not_started}
 use Rattle.bl_session.specs.runs.Run.{run_state_of}
-use Rattle.bl_session.specs.internal.RunParts.{HistoryLeadsOn, attempts_left}
+use Rattle.bl_session.specs.internal.runs.RunParts.{HistoryLeadsOn, attempts_left}
 use Rattle.bl_session.proofs.runs.answer_loop.drive.Given as goal
 
 -- what was asked and heard so far led from where the boot stood

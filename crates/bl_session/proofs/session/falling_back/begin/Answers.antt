@@ -1,10 +1,10 @@
 use Rattle.std.proofs.Common.{◌≡◌, ◌<◌, ◌≤◌, ◌∙◌, [], length, ap, rules, refl, arith}
 use Rattle.std.proofs.Common.{subst}
-use Rattle.bl_session.specs.internal.AttemptStates.{IsMemoryAfterAttempt, KeepsAttempt}
+use Rattle.bl_session.specs.internal.attempt.AttemptStates.{IsMemoryAfterAttempt, KeepsAttempt}
 use Rattle.bl_session.specs.menu.Menu.{EntryFacts, facts_of}
 use Rattle.bl_session.specs.session.BootSteps.{unstarted, handed_over}
 use Rattle.bl_session.specs.session.Phases.{handover_held}
-use Rattle.bl_session.specs.internal.SessionPhases.{facts_of_boot}
+use Rattle.bl_session.specs.internal.session.SessionPhases.{facts_of_boot}
 use Rattle.bl_session.specs.declared.attempt.Attempt.{Attempt}
 use Rattle.bl_session.specs.declared.attempt.Attempt.TheVariants.{Waits, Ended}
 use Rattle.bl_session.specs.declared.attempt.AttemptEnd.TheVariants.{HandedOver, Refused}
@@ -28,12 +28,11 @@ attempts-init g c =
 pub begin_attempt-requires-clause-limits : goal.begin_attempt-requires-clause-limits
 begin_attempt-requires-clause-limits g c = c.entry.ensures.limits
 
-pub begin_attempt-requires-clause-size : goal.begin_attempt-requires-clause-size
-begin_attempt-requires-clause-size g c = c.attempts.invariant.kept.size ∙ c.requires.memory.size
-
-pub begin_attempt-requires-clause-room : goal.begin_attempt-requires-clause-room
-begin_attempt-requires-clause-room g c =
-    λ a from to. c.attempts.invariant.kept.room a (c.requires.memory.room a from to)
+pub begin_attempt-requires-clause-memory : goal.begin_attempt-requires-clause-memory
+begin_attempt-requires-clause-memory g c = record {
+  size = c.attempts.invariant.kept.size ∙ c.requires.memory.size;
+  room = λ a from to. c.attempts.invariant.kept.room a (c.requires.memory.room a from to);
+}
 
 pub returns-in_err-stage-clause-kept : goal.returns-in_err-stage-clause-kept
 returns-in_err-stage-clause-kept g c =
@@ -68,7 +67,7 @@ attempts-preserved g c =
     let mid = bytes c.attempts.memory in
     let new = bytes c.begin_attempt.new.memory in
     let within : c.attempts.number < length facts.menu.attempts = search rules in
-    let begun = c.in_ok-stage.ensures.begun in
+    let begun = c.in_ok-stage.ensures.begun.begun in
     let is : c.in_ok-stage.field-0 ≡ Ended (Refused refusal) = cc in
     record {
       number = search rules;
@@ -82,7 +81,7 @@ attempts-preserved g c =
       outside =
           same_on pool (bytes c.args.memory.now) mid new so_far.outside
           (subst (λ (x : Attempt g.row.A.Denot). IsMemoryAfterAttempt pool mid new x) is
-          c.in_ok-stage.ensures.memory);
+          c.in_ok-stage.ensures.begun.memory);
       kept = keeps_on so_far.kept c.begin_attempt.ensures.kept;
     }
 
@@ -94,7 +93,7 @@ returns-in_err-stage-clause-phase g c =
     let mid = bytes c.attempts.memory in
     let new = bytes c.begin_attempt.new.memory in
     lacks_memory _ _ _ _ _ _ c.from_residual.result c.from_residual.ensures.1
-    (same_on pool old mid new c.attempts.invariant.outside c.in_err-stage.ensures.err)
+    (same_on pool old mid new c.attempts.invariant.outside c.in_err-stage.ensures.begun.err)
 
 pub returns-in_err-push-in-Ended-Refused-clause-phase : goal.returns-in_err-push-in-Ended-Refused-clause-phase
 returns-in_err-push-in-Ended-Refused-clause-phase g c =
@@ -107,13 +106,13 @@ returns-in_err-push-in-Ended-Refused-clause-phase g c =
     lacks_memory _ _ _ _ _ _ c.from_residual-in_err-push-in-Ended-Refused.result c.from_residual-in_err-push-in-Ended-Refused.ensures.1
     (same_on pool old mid new c.attempts.invariant.outside
     (subst (λ (x : Attempt g.row.A.Denot). IsMemoryAfterAttempt pool mid new x) is
-    c.in_ok-stage.ensures.memory))
+    c.in_ok-stage.ensures.begun.memory))
 
 pub returns-in-Waits-clause-phase : goal.returns-in-Waits-clause-phase
 returns-in-Waits-clause-phase g c = record {
   state = (let facts = facts_of_boot c.args.boot.now in
       let within : c.attempts.number < length facts.menu.attempts = search rules in
-      let begun = c.in_ok-stage.ensures.begun in
+      let begun = c.in_ok-stage.ensures.begun.begun in
       c.attempts.invariant.leads _
       (begins_at facts c.attempts.number c.entry_of-entry.result (facts_of c.entry.result.now)
       c.attempts.refused.items (g.M.PhysMem.bytes c.begin_attempt.new.memory) unstarted
@@ -126,7 +125,7 @@ returns-in-Waits-clause-phase g c = record {
       let new = bytes c.begin_attempt.new.memory in
       same_on pool old mid new c.attempts.invariant.outside
       (subst (λ (x : Attempt g.row.A.Denot). IsMemoryAfterAttempt pool mid new x) c.in-Waits.is
-      c.in_ok-stage.ensures.memory));
+      c.in_ok-stage.ensures.begun.memory));
   stands = (let machine = c.args.boot.now.machine.now in
       let facts = facts_of_boot c.args.boot.now in
       let within : c.attempts.number < length facts.menu.attempts = search rules in
@@ -134,7 +133,7 @@ returns-in-Waits-clause-phase g c = record {
       subst
       (λ (x : Attempt g.row.A.Denot).
       KeepsAttempt machine (length (facts_of c.entry.result.now).files) x)
-      c.in-Waits.is c.in_ok-stage.ensures.keeps in (
+      c.in-Waits.is c.in_ok-stage.ensures.begun.keeps in (
         record {
           entry = c.entry_of-entry.ensures.inside;
           pool = keeps.0;
@@ -153,7 +152,7 @@ pub returns-in-Ended-HandedOver-clause-phase : goal.returns-in-Ended-HandedOver-
 returns-in-Ended-HandedOver-clause-phase g c = record {
   state = (let facts = facts_of_boot c.args.boot.now in
       let within : c.attempts.number < length facts.menu.attempts = search rules in
-      let begun = c.in_ok-stage.ensures.begun in
+      let begun = c.in_ok-stage.ensures.begun.begun in
       let is : c.in_ok-stage.field-0 ≡ Ended (HandedOver c.in-Ended-HandedOver.handoff) = cc in
       c.attempts.invariant.leads _
       (begins_at facts c.attempts.number c.entry_of-entry.result (facts_of c.entry.result.now)
@@ -170,13 +169,13 @@ returns-in-Ended-HandedOver-clause-phase g c = record {
       (handed_over c.entry_of-entry.result c.attempts.refused.items (handover_held new handoff))
       (bytes c.args.memory.now) mid new c.attempts.invariant.outside
       (subst (λ (x : Attempt g.row.A.Denot). IsMemoryAfterAttempt pool mid new x) is
-      c.in_ok-stage.ensures.memory));
+      c.in_ok-stage.ensures.begun.memory));
   stands = (let machine = c.args.boot.now.machine.now in
       let is : c.in_ok-stage.field-0 ≡ Ended (HandedOver c.in-Ended-HandedOver.handoff) = cc in
       subst
       (λ (x : Attempt g.row.A.Denot).
       KeepsAttempt machine (length (facts_of c.entry.result.now).files) x)
-      is c.in_ok-stage.ensures.keeps);
+      is c.in_ok-stage.ensures.begun.keeps);
   err = (tt);
 }
 

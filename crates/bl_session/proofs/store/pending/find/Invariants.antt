@@ -1,5 +1,5 @@
 use Rattle.std.proofs.Common.{◌≡◌, ◌+◌, length, take}
-use Rattle.bl_session.specs.internal.SubmissionRuns.{runs_listed}
+use Rattle.bl_session.specs.internal.store.SubmissionRanges.{runs_listed}
 use Rattle.bl_session.proofs.store.pending.find.Given as goal
 
 abbrev pub invariant-loop-index : goal.invariant-loop-index

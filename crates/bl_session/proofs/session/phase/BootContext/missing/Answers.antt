@@ -1,0 +1,27 @@
+use Rattle.std.proofs.Common.{◌≡◌, arith, drop, length, rules, ap}
+use Rattle.std.proofs.lemmas.Grind.{common_steps}
+use Rattle.bl_session.specs.menu.Menu.{EntryFacts, files_of}
+use Rattle.bl_session.specs.session.Phases.{phase_facts}
+use Rattle.bl_session.specs.internal.session.SessionPhases.{facts_of_boot}
+use Rattle.bl_session.proofs.menu_lemmas.MenuLemmas.{few_files}
+use Rattle.bl_session.proofs.attempt_lemmas.RequestLemmas.{first_request_is}
+use Rattle.bl_session.proofs.session.phase.BootContext.missing.Goals as goal
+
+pub first_missing-found-requires-clause-countable : goal.first_missing-found-requires-clause-countable
+first_missing-found-requires-clause-countable g c =
+    let few = few_files c.entry-entry.result.now c.entry-entry.ensures.limits in
+    let stands = rw c.in-Waits.is at c.requires in
+    record { few = grind (arith, common_steps, few); small = stands.0.small }
+
+pub returns-in-Waits : goal.returns-in-Waits
+returns-in-Waits g c = λ bytes.
+    let w = c.in-Waits.waiting in
+    let attempts = c.args.self.now.menu.now.attempts in
+    let number : c.len.result ≡ length w.earlier.items = search rules in
+    first_request_is (facts_of_boot c.args.self.now)
+    (phase_facts attempts c.args.phase.now) w.entry (drop w.next attempts)
+    w.earlier.items w.stage c.len.result (files_of c.entry-entry.result.now)
+    c.first_missing-found.result c.request_of.result bytes
+    (ap (phase_facts attempts) c.in-Waits.is) number
+    (ap (λ (e : EntryFacts). e.files) c.entry-entry.ensures.entry)
+    (c.first_missing-found.ensures.first bytes) (c.request_of.ensures bytes)

@@ -1,0 +1,4 @@
+pub mod AttemptStates
+pub mod Cursors
+pub mod HandoverSteps
+pub mod MissingPieces

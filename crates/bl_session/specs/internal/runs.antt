@@ -1,0 +1,2 @@
+pub mod RunParts
+pub mod AnswerSteps

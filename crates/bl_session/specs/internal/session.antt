@@ -1,0 +1,2 @@
+pub mod SessionPhases
+pub mod BootCalls

@@ -1,0 +1,2 @@
+pub mod LedgerCounts
+pub mod SubmissionRanges
