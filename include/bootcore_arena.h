@@ -13,6 +13,9 @@
 extern "C" {
 #endif
 
+/* How long an arena is enough for each call with one entry, and for each walk. */
+enum { BOOTCORE_ARENA = 1048576 };
+
 /* Gives the arena its memory, in place of what it had before: first free the sessions that are kept
  * in that. Before this call, and with a length of 0, each call that wants memory answers
  * BOOTCORE_NO_MEMORY. */
