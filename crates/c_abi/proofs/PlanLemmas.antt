@@ -21,7 +21,7 @@ use Rattle.bl_load.specs.Steps.{carry_out, IsStep, IsThere, StepsAscend, CanBeLo
 use Rattle.c_abi.specs.declared.given_records.EntryRecord.{EntryRecord}
 use Rattle.c_abi.specs.declared.given_records.FileRecord.{FileRecord}
 use Rattle.c_abi.specs.Given.{entry_without_files, files_beside, files_given, lengths_beside}
-use Rattle.c_abi.specs.Plan.{HasFiles, file_lengths}
+use Rattle.c_abi.specs.Plan.{AreFilesOf, file_lengths}
 use Rattle.c_abi.specs.PlanTold.{source_file}
 use Rattle.c_abi.specs.internal.Plans.{HasSmallFile, IsPlanOn, plan_facts}
 use Rattle.c_abi.proofs.LoadLemmas.{given_value}
@@ -41,7 +41,7 @@ blank_lengths (n ∷ sizes) =
 abbrev some_files : EntryRecord → List (List ℕ)
 some_files r = r.kernel.bytes.now ∷ map blank (lengths_beside r)
 
-have_some : (r : EntryRecord) → HasFiles r (some_files r)
+have_some : (r : EntryRecord) → AreFilesOf r (some_files r)
 have_some r = record {
   others = map blank (lengths_beside r);
   are = refl;
@@ -53,7 +53,7 @@ some_lengths r = ap (λ ms. length r.kernel.bytes.now ∷ ms) (blank_lengths (le
 
 -- files of an entry have its kernel and its lengths, wherever these are kept
 pub same_files : (r : EntryRecord) (kernel lengths : List ℕ) (texts : List (List ℕ))
-    → kernel ≡ r.kernel.bytes.now → lengths ≡ lengths_beside r → HasFiles r texts
+    → kernel ≡ r.kernel.bytes.now → lengths ≡ lengths_beside r → AreFilesOf r texts
     → HaveKernelAndLengths kernel lengths texts
 same_files r kernel lengths texts is are files =
     subst (λ (k : List ℕ). HaveKernelAndLengths k lengths texts) (sym is)
@@ -88,7 +88,7 @@ small_source lengths own count (Own offset) few there = omega arith
 small_source lengths own count Zeros few there = omega arith
 
 module _ {A B : Type 0} (facts : MachineFacts) (r : EntryRecord) (entry : Entry B) (plan : Plan A)
-    (loadable : (texts : List (List ℕ)) → HasFiles r texts
+    (loadable : (texts : List (List ℕ)) → AreFilesOf r texts
     → IsLoadable (lengths_of texts) facts.size plan) where
   pub can_be : CanBeLoaded plan
   can_be = (lengths_of (some_files r), facts.size, loadable (some_files r) (have_some r))
@@ -118,7 +118,7 @@ module _ {A B : Type 0} (facts : MachineFacts) (r : EntryRecord) (entry : Entry 
         (omega (arith, most, count, count_lengths r)) is.there) told.steps.items steps_sound
 
     pub is_plan_on : value_of [] entry ≡ entry_without_files r
-        → ((texts : List (List ℕ)) → HasFiles r texts
+        → ((texts : List (List ℕ)) → AreFilesOf r texts
         → IsHandover facts (value_of texts entry) (handover_by texts plan))
         → ((texts : List (List ℕ)) (size : ℕ) (memory : List ℕ)
         → IsLoadable (lengths_of texts) size plan → size ≤ length memory

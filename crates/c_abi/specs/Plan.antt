@@ -22,8 +22,8 @@ use Rattle.c_abi.specs.Prepare.{IsNotPrepared}
 
 -- an entry's files may hold these texts: the kernel's bytes, and others of the lengths that are
 -- told
-abbrev pub HasFiles : EntryRecord → List (List ℕ) → Type 0
-HasFiles entry texts = HaveKernelAndLengths entry.kernel.bytes.now (lengths_beside entry) texts
+abbrev pub AreFilesOf : EntryRecord → List (List ℕ) → Type 0
+AreFilesOf entry texts = HaveKernelAndLengths entry.kernel.bytes.now (lengths_beside entry) texts
 
 -- the lengths of all its files
 abbrev pub file_lengths : EntryRecord → List ℕ
@@ -53,7 +53,7 @@ pub record IsPlanned (machine : MachineRecord) (regions : List RegionRecord)
   pub machine_sound : IsMachineSound machine regions
   pub entry_sound : IsEntrySound entry
   pub is_plan :
-      (texts : List (List ℕ)) → HasFiles entry texts → IsPlanOf facts (value_with entry texts) plan
+      (texts : List (List ℕ)) → AreFilesOf entry texts → IsPlanOf facts (value_with entry texts) plan
   pub sound : All (IsStep (file_lengths entry) (length plan.own) facts.size) plan.steps
   pub ascending : AllPairs StepsAscend plan.steps
 
@@ -63,5 +63,5 @@ abbrev pub IsGivenPlanEnd : MachineRecord → List RegionRecord → EntryRecord 
     → Result PlanFacts LoadFault → Type 0
 IsGivenPlanEnd machine regions entry room (Ok plan) = IsPlanned machine regions entry room plan
 IsGivenPlanEnd machine regions entry room (Err fault) =
-    (texts : List (List ℕ)) → HasFiles entry texts
+    (texts : List (List ℕ)) → AreFilesOf entry texts
     → IsNotPrepared machine regions entry texts room fault

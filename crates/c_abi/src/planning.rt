@@ -7,7 +7,7 @@ ghost use Rattle.bl_load.specs.PlanContents.{handover_by};
 ghost use Rattle.c_abi.specs.Given.{files_given};
 ghost use Rattle.c_abi.specs.Load.{IsEntryFault, IsEntrySound};
 ghost use Rattle.c_abi.specs.Prepare.{IsNotPrepared};
-ghost use Rattle.c_abi.specs.Plan.{PlanFacts, HasFiles, IsPlanned, IsGivenPlanEnd};
+ghost use Rattle.c_abi.specs.Plan.{PlanFacts, AreFilesOf, IsPlanned, IsGivenPlanEnd};
 ghost use Rattle.c_abi.specs.PlanTold.{TellsPlan};
 ghost use Rattle.c_abi.specs.internal.Plans.{HasSmallFile, IsPlanOn, plan_facts};
 ghost use Rattle.c_abi.specs.internal.Tellings.{plan_telling};
@@ -39,11 +39,11 @@ fn prepare_row<A: Allocator + Copy>(
 ) -> Result<Plan<A>, PrepFault>
     requires count { file_count entry.now ≡ length (files_given row.now) }
     requires limits { IsWithinLimits entry.now }
-    ensures handover { IfOk result (λ plan. (texts : List (List ℕ)) → HasFiles row.now texts
+    ensures handover { IfOk result (λ plan. (texts : List (List ℕ)) → AreFilesOf row.now texts
         → IsHandover machine.now (value_of texts entry.now) (handover_by texts plan)) }
-    ensures loadable { IfOk result (λ plan. (texts : List (List ℕ)) → HasFiles row.now texts
+    ensures loadable { IfOk result (λ plan. (texts : List (List ℕ)) → AreFilesOf row.now texts
         → IsLoadable (lengths_of texts) machine.now.size plan) }
-    ensures fault { IfErr result (λ fault. (texts : List (List ℕ)) → HasFiles row.now texts
+    ensures fault { IfErr result (λ fault. (texts : List (List ℕ)) → AreFilesOf row.now texts
         → IsPrepFault machine.now (value_of texts entry.now) fault) }
 {
     let lengths = lengths_beside(alloc, row)?;
@@ -61,7 +61,7 @@ fn plan_given<A: Allocator + Copy>(
     ensures sound { OnOk result (IsEntrySound row.now) }
     ensures few { IfOk result (λ made. length made.plan.parts.items ≤ 256) }
     ensures files { IfOk result (λ made. All HasSmallFile made.told.steps.items) }
-    ensures fault { IfErr result (λ fault. (texts : List (List ℕ)) → HasFiles row.now texts
+    ensures fault { IfErr result (λ fault. (texts : List (List ℕ)) → AreFilesOf row.now texts
         → IsEntryFault machine.now row.now texts 0 fault) }
 {
     let entry = match take_entry(alloc, row) {
@@ -91,7 +91,7 @@ fn plan_entry<A: Allocator + Copy>(
     ensures few { IfOk result (λ made. length made.plan.parts.items ≤ 256) }
     ensures files { IfOk result (λ made. All HasSmallFile made.told.steps.items) }
     ensures room { OnOk result (MAX_PARTS ≤ room) }
-    ensures fault { IfErr result (λ fault. (texts : List (List ℕ)) → HasFiles entry.now texts
+    ensures fault { IfErr result (λ fault. (texts : List (List ℕ)) → AreFilesOf entry.now texts
         → IsNotPrepared machine.now regions.now entry.now texts room fault) }
 {
     if room < MAX_PARTS {

@@ -5,7 +5,7 @@ use Rattle.bl_load.specs.PlanContents.{handoff_by}
 use Rattle.bl_load.specs.Steps.{IsStep, StepsAscend}
 use Rattle.bl_load.specs.declared.step.Step.{Step}
 use Rattle.c_abi.specs.Given.{value_with}
-use Rattle.c_abi.specs.Plan.{PlanFacts, HasFiles, IsPlanOf, file_lengths}
+use Rattle.c_abi.specs.Plan.{PlanFacts, AreFilesOf, IsPlanOf, file_lengths}
 use Rattle.c_abi.specs.PlanTold.{source_file}
 use Rattle.c_abi.specs.declared.given_records.EntryRecord.{EntryRecord}
 use Rattle.c_abi.specs.declared.plan_steps.SteppedPlan.{SteppedPlan}
@@ -25,6 +25,6 @@ HasSmallFile step = source_file step.source < 2 ^ 32
 -- it is the entry's plan on a machine of these facts
 pub record IsPlanOn (facts : MachineFacts) (entry : EntryRecord) (plan : PlanFacts) : Type 0 where
   pub is_plan :
-      (texts : List (List ℕ)) → HasFiles entry texts → IsPlanOf facts (value_with entry texts) plan
+      (texts : List (List ℕ)) → AreFilesOf entry texts → IsPlanOf facts (value_with entry texts) plan
   pub sound : All (IsStep (file_lengths entry) (length plan.own) facts.size) plan.steps
   pub ascending : AllPairs StepsAscend plan.steps

@@ -2,7 +2,7 @@ use Rattle.std.proofs.Common.{ℕ, List, arith, subst, sym}
 use Rattle.std.proofs.lemmas.Result.{IfErr-weaker}
 use Rattle.c_abi.specs.declared.load_fault.LoadFault.{LoadFault}
 use Rattle.c_abi.specs.Load.{few_places, bad_machine, bad_entry, IsEntryFault, IsEntrySound}
-use Rattle.c_abi.specs.Plan.{HasFiles, IsPlanned}
+use Rattle.c_abi.specs.Plan.{AreFilesOf, IsPlanned}
 use Rattle.c_abi.specs.Prepare.{IsNotPrepared}
 use Rattle.c_abi.specs.internal.Plans.{IsPlanOn, plan_facts}
 use Rattle.c_abi.proofs.ResultLemmas.{on_ok, ok_by_both}
@@ -50,9 +50,9 @@ returns-clause-fault g c =
     let machine = c.args.machine.now in
     let regions = c.args.regions.now in
     IfErr-weaker c.plan_given.result
-    (λ fault. (texts : List (List ℕ)) → HasFiles entry texts
+    (λ fault. (texts : List (List ℕ)) → AreFilesOf entry texts
     → IsEntryFault c.in-Ok.made entry texts 0 fault)
-    (λ fault. (texts : List (List ℕ)) → HasFiles entry texts
+    (λ fault. (texts : List (List ℕ)) → AreFilesOf entry texts
     → IsNotPrepared machine regions entry texts c.args.room fault)
     (λ fault is texts files.
     bad_entry (omega (arith, many)) c.in-Ok.ensures.sound (omega arith) fault record {

@@ -5,7 +5,7 @@ use Rattle.bl_load.specs.KernelAndLengths.{HaveKernelAndLengths}
 use Rattle.bl_load.specs.Loadable.{lengths_of, IsLoadable}
 use Rattle.bl_load.specs.Parts.{IsHandover, IsPrepFault}
 use Rattle.bl_load.specs.PlanContents.{handover_by}
-use Rattle.c_abi.specs.Plan.{HasFiles}
+use Rattle.c_abi.specs.Plan.{AreFilesOf}
 use Rattle.c_abi.proofs.PlanLemmas.{count_beside, same_files}
 use Rattle.c_abi.proofs.planning.prepare_row.Goals as goal
 
