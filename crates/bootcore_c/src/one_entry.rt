@@ -1,12 +1,12 @@
 //! One entry for C: it comes into memory, or what would is told, or the steps to it.
-ghost use Rattle.std.specs.Prelude.{length, Result};
+ghost use Rattle.std.specs.Prelude.{ℕ, List, length, Result};
 ghost use Rattle.bl_mem.specs.Memory.{memory_from};
 ghost use Rattle.bl_load.specs.HandoffFacts.{HandoffFacts};
 ghost use Rattle.c_abi.specs.Load.{IsGivenLoadEnd};
 ghost use Rattle.c_abi.specs.LoadTold.{TellsEnd};
 ghost use Rattle.c_abi.specs.Plan.{PlanFacts, IsGivenPlanEnd};
 ghost use Rattle.c_abi.specs.PlanTold.{TellsPlan};
-ghost use Rattle.c_abi.specs.Prepare.{IsGivenPrepareEnd};
+ghost use Rattle.c_abi.specs.Prepare.{AreFilesOf, IsGivenPrepareEnd};
 ghost use Rattle.c_abi.specs.declared.load_fault.LoadFault.{LoadFault};
 
 use c_abi::{
@@ -50,7 +50,8 @@ pub extern "C" fn bootcore_prepare_arrays(
     refusal: &mut RefusalRecord,
 ) -> u32
     ensures { (end : Result HandoffFacts LoadFault)
-        × IsGivenPrepareEnd machine.now regions.now entry.now (length places.old) end
+        × ((texts : List (List ℕ)) → AreFilesOf entry.now texts
+        → IsGivenPrepareEnd machine.now regions.now entry.now texts (length places.old) end)
         × TellsEnd end result told.old told.new places.old places.new refusal.old refusal.new }
 {
     prepare_told(alloc, machine, regions, entry, told, places, refusal)

@@ -21,7 +21,8 @@ use Rattle.bl_load.specs.Steps.{carry_out, IsStep, IsThere, StepsAscend, CanBeLo
 use Rattle.c_abi.specs.declared.given_records.EntryRecord.{EntryRecord}
 use Rattle.c_abi.specs.declared.given_records.FileRecord.{FileRecord}
 use Rattle.c_abi.specs.Given.{entry_without_files, files_beside, files_given, lengths_beside}
-use Rattle.c_abi.specs.Plan.{AreFilesOf, file_lengths}
+use Rattle.c_abi.specs.Plan.{file_lengths}
+use Rattle.c_abi.specs.Prepare.{AreFilesOf}
 use Rattle.c_abi.specs.PlanTold.{source_file}
 use Rattle.c_abi.specs.internal.Plans.{HasSmallFile, IsPlanOn, plan_facts}
 use Rattle.c_abi.proofs.LoadLemmas.{given_value}

@@ -93,7 +93,7 @@ module _ (machine : MachineRecord) (regions : List RegionRecord) (entry : EntryR
       let inside = l.handed.inside k d within in omega (arith, inside, size, reaches)))
 
   pub one_handoff : (room space base : ℕ) (old new : List ℕ) (prepared loaded : HandoffFacts)
-      → IsPrepared machine regions entry room prepared
+      → IsPrepared machine regions entry texts room prepared
       → IsLoaded machine regions entry space base old new loaded → loaded ≡ prepared
   one_handoff room space base old new prepared loaded p l =
       let held = handover_in new loaded.protocol loaded.registers loaded.places in
@@ -176,7 +176,7 @@ module _ (machine : MachineRecord) (regions : List RegionRecord) (entry : EntryR
 
   -- the parts of what was prepared, where its places are at the base or above
   pub prepared_above : (room base : ℕ) (prepared : HandoffFacts)
-      → (p : IsPrepared machine regions entry room prepared)
+      → (p : IsPrepared machine regions entry texts room prepared)
       → All (λ place. base ≤ place.address) prepared.places
       → All (λ part. base ≤ part.address) p.handed.handover.parts
   prepared_above room base prepared p above =

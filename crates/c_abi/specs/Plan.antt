@@ -4,7 +4,6 @@ use Rattle.std.specs.Prelude.{◌≡◌, ◌≤◌, ℕ, List, ◌∷◌, length
 use Rattle.bl_map.specs.MachineFacts.{MachineFacts}
 use Rattle.bl_load.specs.EntryValue.{EntryValue}
 use Rattle.bl_load.specs.HandoffFacts.{HandoffFacts, max_parts}
-use Rattle.bl_load.specs.KernelAndLengths.{HaveKernelAndLengths}
 use Rattle.bl_load.specs.LoadedBySteps.{LoadsEntry}
 use Rattle.bl_load.specs.Steps.{IsStep, StepsAscend}
 use Rattle.bl_load.specs.declared.step.Step.{Step}
@@ -16,20 +15,11 @@ use Rattle.c_abi.specs.declared.load_fault.LoadFault.{LoadFault}
 use Rattle.c_abi.specs.Given.{lengths_beside, value_with}
 use Rattle.c_abi.specs.Load.{IsEntrySound}
 use Rattle.c_abi.specs.Machines.{IsMachineGiven, IsMachineSound}
-use Rattle.c_abi.specs.Prepare.{IsNotPrepared}
+use Rattle.c_abi.specs.Prepare.{AreFilesOf, IsNotPrepared}
 
--- ---- the files
-
--- an entry's files may hold these texts: the kernel's bytes, and others of the lengths that are
--- told
-abbrev pub AreFilesOf : EntryRecord → List (List ℕ) → Type 0
-AreFilesOf entry texts = HaveKernelAndLengths entry.kernel.bytes.now (lengths_beside entry) texts
-
--- the lengths of all its files
+-- the lengths of all files of an entry
 abbrev pub file_lengths : EntryRecord → List ℕ
 file_lengths entry = length entry.kernel.bytes.now ∷ lengths_beside entry
-
--- ---- the plan
 
 -- a plan: the handoff, the steps, and the bytes that it holds itself
 pub record PlanFacts : Type 0 where

@@ -2,6 +2,7 @@
 -- loaded. Nothing is said of memory. Own.
 use Rattle.std.specs.Prelude.{◌≡◌, ◌≤◌, ℕ, List, Result, Ok, Err}
 use Rattle.bl_map.specs.MachineFacts.{MachineFacts}
+use Rattle.bl_load.specs.KernelAndLengths.{HaveKernelAndLengths}
 use Rattle.bl_load.specs.HandoffFacts.{HandoffFacts, max_parts}
 use Rattle.bl_load.specs.Handover.{Handover}
 use Rattle.bl_load.specs.Parts.{IsHandover}
@@ -10,27 +11,34 @@ use Rattle.c_abi.specs.declared.given_records.RegionRecord.{RegionRecord}
 use Rattle.c_abi.specs.declared.given_records.MachineRecord.{MachineRecord}
 use Rattle.c_abi.specs.declared.given_records.EntryRecord.{EntryRecord}
 use Rattle.c_abi.specs.declared.load_fault.LoadFault.{LoadFault}
-use Rattle.c_abi.specs.Given.{texts_given, value_given}
+use Rattle.c_abi.specs.Given.{lengths_beside, value_with}
 use Rattle.c_abi.specs.Load.{IsEntrySound, IsNotLoaded}
 use Rattle.c_abi.specs.Machines.{IsMachineGiven, IsMachineSound}
 
--- on a machine of these facts the entry hands over what this handoff says
-pub record IsHandoffOf (facts : MachineFacts) (entry : EntryRecord) (handoff : HandoffFacts) :
-    Type 0 where
+-- an entry's files may hold these texts: the kernel's bytes, and others of the lengths that are
+-- told
+abbrev pub AreFilesOf : EntryRecord → List (List ℕ) → Type 0
+AreFilesOf entry texts = HaveKernelAndLengths entry.kernel.bytes.now (lengths_beside entry) texts
+
+-- on a machine of these facts the entry, where its files hold these texts, hands over what this
+-- handoff says
+pub record IsHandoffOf (facts : MachineFacts) (entry : EntryRecord) (texts : List (List ℕ))
+    (handoff : HandoffFacts) : Type 0 where
   pub handover : Handover
-  pub handover_is : IsHandover facts (value_given entry) handover
+  pub handover_is : IsHandover facts (value_with entry texts) handover
   pub handoff_is : handoff ≡ handoff_of handover
 
 -- on the machine that is given, where no misuse stands: there is room for the places, and the
 -- machine and the entry have none
 pub record IsPrepared (machine : MachineRecord) (regions : List RegionRecord)
-    (entry : EntryRecord) (room : ℕ) (handoff : HandoffFacts) : Type 0 where
+    (entry : EntryRecord) (texts : List (List ℕ)) (room : ℕ) (handoff : HandoffFacts)
+    : Type 0 where
   pub has_room : max_parts ≤ room
   pub facts : MachineFacts
   pub machine_is : IsMachineGiven machine regions facts
   pub machine_sound : IsMachineSound machine regions
   pub entry_sound : IsEntrySound entry
-  pub handed : IsHandoffOf facts entry handoff
+  pub handed : IsHandoffOf facts entry texts handoff
 
 -- why an entry is not prepared, where its files hold these texts: as a load of it into memory from
 -- address 0 to the machine's end, below which no part can begin
@@ -39,10 +47,10 @@ abbrev pub IsNotPrepared : MachineRecord → List RegionRecord → EntryRecord �
 IsNotPrepared machine regions entry texts room fault =
     IsNotLoaded machine regions entry texts room 0 machine.size fault
 
--- how a call ends that has room for so many places
-abbrev pub IsGivenPrepareEnd : MachineRecord → List RegionRecord → EntryRecord → ℕ
+-- how a call ends that has room for so many places, where the entry's files hold these texts
+abbrev pub IsGivenPrepareEnd : MachineRecord → List RegionRecord → EntryRecord → List (List ℕ) → ℕ
     → Result HandoffFacts LoadFault → Type 0
-IsGivenPrepareEnd machine regions entry room (Ok handoff) =
-    IsPrepared machine regions entry room handoff
-IsGivenPrepareEnd machine regions entry room (Err fault) =
-    IsNotPrepared machine regions entry (texts_given entry) room fault
+IsGivenPrepareEnd machine regions entry texts room (Ok handoff) =
+    IsPrepared machine regions entry texts room handoff
+IsGivenPrepareEnd machine regions entry texts room (Err fault) =
+    IsNotPrepared machine regions entry texts room fault

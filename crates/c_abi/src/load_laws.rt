@@ -8,6 +8,7 @@ ghost use Rattle.c_abi.specs.declared.load_fault.LoadFault.TheVariants.{Outside}
 ghost use Rattle.c_abi.specs.declared.given_records.EntryRecord.{EntryRecord};
 ghost use Rattle.c_abi.specs.declared.given_records.MachineRecord.{MachineRecord};
 ghost use Rattle.c_abi.specs.declared.given_records.RegionRecord.{RegionRecord};
+ghost use Rattle.c_abi.specs.Given.{texts_given};
 ghost use Rattle.c_abi.specs.Load.{IsGivenLoadEnd};
 ghost use Rattle.c_abi.specs.Prepare.{IsGivenPrepareEnd};
 
@@ -21,7 +22,7 @@ pub fn loads_end_as_prepared()
     ensures one_handoff { (machine : MachineRecord) (regions : List RegionRecord)
         (entry : EntryRecord) (room space base : ℕ) (old new : List ℕ)
         (prepared loaded : HandoffFacts)
-        → IsGivenPrepareEnd machine regions entry room (Ok prepared)
+        → IsGivenPrepareEnd machine regions entry (texts_given entry) room (Ok prepared)
         → IsGivenLoadEnd machine regions entry space base old new (Ok loaded)
         → loaded ≡ prepared }
     ensures else_no_memory { (machine : MachineRecord) (regions : List RegionRecord)
@@ -29,34 +30,34 @@ pub fn loads_end_as_prepared()
         (prepared : HandoffFacts) (fault : LoadFault)
         → machine.size ≤ length old → max_parts ≤ space
         → All (λ place. base ≤ place.address) prepared.places
-        → IsGivenPrepareEnd machine regions entry room (Ok prepared)
+        → IsGivenPrepareEnd machine regions entry (texts_given entry) room (Ok prepared)
         → IsGivenLoadEnd machine regions entry space base old new (Err fault)
         → fault ≡ NoMemory }
     ensures else_outside { (machine : MachineRecord) (regions : List RegionRecord)
         (entry : EntryRecord) (room space base : ℕ) (old new : List ℕ)
         (prepared : HandoffFacts) (fault : LoadFault)
         → machine.size ≤ length old → max_parts ≤ space
-        → IsGivenPrepareEnd machine regions entry room (Ok prepared)
+        → IsGivenPrepareEnd machine regions entry (texts_given entry) room (Ok prepared)
         → IsGivenLoadEnd machine regions entry space base old new (Err fault)
         → (fault ≡ NoMemory) ⊎ (fault ≡ Outside) }
     ensures prepared_too { (machine : MachineRecord) (regions : List RegionRecord)
         (entry : EntryRecord) (room space base : ℕ) (old new : List ℕ)
         (fault : LoadFault) (loaded : HandoffFacts) → max_parts ≤ room
-        → IsGivenPrepareEnd machine regions entry room (Err fault)
+        → IsGivenPrepareEnd machine regions entry (texts_given entry) room (Err fault)
         → IsGivenLoadEnd machine regions entry space base old new (Ok loaded)
         → fault ≡ NoMemory }
     ensures one_refusal { (machine : MachineRecord) (regions : List RegionRecord)
         (entry : EntryRecord) (room space base : ℕ) (old new : List ℕ) (r s : Refusal)
-        → IsGivenPrepareEnd machine regions entry room (Err (Refused r))
+        → IsGivenPrepareEnd machine regions entry (texts_given entry) room (Err (Refused r))
         → IsGivenLoadEnd machine regions entry space base old new (Err (Refused s)) → s ≡ r }
     ensures never_loaded { (machine : MachineRecord) (regions : List RegionRecord)
         (entry : EntryRecord) (room space base : ℕ) (old new : List ℕ)
         (r : Refusal) (loaded : HandoffFacts)
-        → IsGivenPrepareEnd machine regions entry room (Err (Refused r))
+        → IsGivenPrepareEnd machine regions entry (texts_given entry) room (Err (Refused r))
         → IsGivenLoadEnd machine regions entry space base old new (Ok loaded) → ⊥ }
     ensures one_fault { (machine : MachineRecord) (regions : List RegionRecord)
         (entry : EntryRecord) (room base : ℕ) (old new : List ℕ) (f g : LoadFault)
         → machine.size ≤ length old → f ≢ NoMemory → g ≢ NoMemory
-        → IsGivenPrepareEnd machine regions entry room (Err f)
+        → IsGivenPrepareEnd machine regions entry (texts_given entry) room (Err f)
         → IsGivenLoadEnd machine regions entry room base old new (Err g) → g ≡ f }
 {}

@@ -1,13 +1,8 @@
 //! The steps that load an entry are told to C, which carries them out itself.
-ghost use Rattle.std.specs.Prelude.{◌≡◌, ℕ, ◌≤◌, List, All, IfOk, IfErr, OnOk, Result, length};
-ghost use Rattle.bl_load.specs.EntryValue.{value_of, file_count, IsWithinLimits};
-ghost use Rattle.bl_load.specs.Loadable.{lengths_of, IsLoadable};
-ghost use Rattle.bl_load.specs.Parts.{IsHandover, IsPrepFault};
-ghost use Rattle.bl_load.specs.PlanContents.{handover_by};
-ghost use Rattle.c_abi.specs.Given.{files_given};
+ghost use Rattle.std.specs.Prelude.{ℕ, ◌≤◌, List, All, IfOk, IfErr, OnOk, Result, length};
 ghost use Rattle.c_abi.specs.Load.{IsEntryFault, IsEntrySound};
-ghost use Rattle.c_abi.specs.Prepare.{IsNotPrepared};
-ghost use Rattle.c_abi.specs.Plan.{PlanFacts, AreFilesOf, IsPlanned, IsGivenPlanEnd};
+ghost use Rattle.c_abi.specs.Prepare.{AreFilesOf, IsNotPrepared};
+ghost use Rattle.c_abi.specs.Plan.{PlanFacts, IsPlanned, IsGivenPlanEnd};
 ghost use Rattle.c_abi.specs.PlanTold.{TellsPlan};
 ghost use Rattle.c_abi.specs.internal.Plans.{HasSmallFile, IsPlanOn, plan_facts};
 ghost use Rattle.c_abi.specs.internal.Tellings.{plan_telling};
@@ -15,7 +10,6 @@ ghost use Rattle.c_abi.specs.declared.load_fault.LoadFault.{LoadFault};
 
 use crate::end_records::{HandoffRecord, PlaceRecord, RefusalRecord};
 use crate::entries::take_entry;
-use crate::file_views::lengths_beside;
 use crate::given_records::{EntryRecord, MachineRecord, RegionRecord};
 use crate::handoff_telling::tell_fault;
 use crate::load_fault::{LoadFault, given_fault, load_fault};
@@ -24,32 +18,10 @@ use crate::misuse::Misuse;
 use crate::plan_records::{PlanCountsRecord, StepRecord};
 use crate::plan_steps::SteppedPlan;
 use crate::plan_telling::tell_stepped;
-use bl_load::{Entry, Plan, PrepFault, prepare_by_lengths};
+use crate::preparing::prepare_row;
 use bl_map::Machine;
-use bl_mem::SliceView;
 use bl_plan::MAX_PARTS;
 use std::alloc::Allocator;
-
-/// Prepares an entry by its kernel and by the lengths of its other files.
-fn prepare_row<A: Allocator + Copy>(
-    alloc: A,
-    machine: &Machine<A>,
-    entry: &Entry<A>,
-    row: &EntryRecord,
-) -> Result<Plan<A>, PrepFault>
-    requires count { file_count entry.now ≡ length (files_given row.now) }
-    requires limits { IsWithinLimits entry.now }
-    ensures handover { IfOk result (λ plan. (texts : List (List ℕ)) → AreFilesOf row.now texts
-        → IsHandover machine.now (value_of texts entry.now) (handover_by texts plan)) }
-    ensures loadable { IfOk result (λ plan. (texts : List (List ℕ)) → AreFilesOf row.now texts
-        → IsLoadable (lengths_of texts) machine.now.size plan) }
-    ensures fault { IfErr result (λ fault. (texts : List (List ℕ)) → AreFilesOf row.now texts
-        → IsPrepFault machine.now (value_of texts entry.now) fault) }
-{
-    let lengths = lengths_beside(alloc, row)?;
-    let kernel = SliceView::new(row.kernel.bytes);
-    prepare_by_lengths(alloc, machine, entry, &kernel, &lengths)
-}
 
 /// Plans an entry on a machine.
 fn plan_given<A: Allocator + Copy>(

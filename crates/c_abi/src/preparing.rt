@@ -1,25 +1,52 @@
-//! What a load of an entry would hand over is told to C, which gives no memory to load into.
-ghost use Rattle.std.specs.Prelude.{◌≤◌, length, IfOk, IfErr, OnOk, Result};
+//! What a load of an entry would hand over is told to C, which gives no memory to load into, and of
+//! the files after the kernel the lengths alone.
+ghost use Rattle.std.specs.Prelude.{◌≡◌, ℕ, ◌≤◌, List, length, IfOk, IfErr, OnOk, Result};
+ghost use Rattle.bl_load.specs.EntryValue.{value_of, file_count, IsWithinLimits};
 ghost use Rattle.bl_load.specs.HandoffFacts.{HandoffFacts};
-ghost use Rattle.bl_load.specs.PlanContents.{handoff_by};
-ghost use Rattle.c_abi.specs.Given.{texts_given};
+ghost use Rattle.bl_load.specs.Loadable.{lengths_of, IsLoadable};
+ghost use Rattle.bl_load.specs.Parts.{IsHandover, IsPrepFault};
+ghost use Rattle.bl_load.specs.PlanContents.{handoff_by, handover_by};
+ghost use Rattle.c_abi.specs.Given.{files_given};
 ghost use Rattle.c_abi.specs.Load.{IsEntryFault, IsEntrySound};
-ghost use Rattle.c_abi.specs.Prepare.{IsHandoffOf, IsPrepared, IsNotPrepared, IsGivenPrepareEnd};
+ghost use Rattle.c_abi.specs.Prepare.{AreFilesOf, IsHandoffOf, IsPrepared, IsNotPrepared};
+ghost use Rattle.c_abi.specs.Prepare.{IsGivenPrepareEnd};
 ghost use Rattle.c_abi.specs.LoadTold.{TellsEnd};
 ghost use Rattle.c_abi.specs.declared.load_fault.LoadFault.{LoadFault};
 
 use crate::end_records::{HandoffRecord, PlaceRecord, RefusalRecord};
 use crate::entries::take_entry;
-use crate::file_views::views_of;
+use crate::file_views::lengths_beside;
 use crate::given_records::{EntryRecord, MachineRecord, RegionRecord};
 use crate::handoff_telling::{tell_fault, tell_plan};
 use crate::load_fault::{LoadFault, given_fault, load_fault};
 use crate::machines::machine_of;
 use crate::misuse::Misuse;
-use bl_load::{Plan, prepare};
+use bl_load::{Entry, Plan, PrepFault, prepare_by_lengths};
 use bl_map::Machine;
+use bl_mem::SliceView;
 use bl_plan::MAX_PARTS;
 use std::alloc::Allocator;
+
+/// Prepares an entry by its kernel and by the lengths of its other files.
+pub(crate) fn prepare_row<A: Allocator + Copy>(
+    alloc: A,
+    machine: &Machine<A>,
+    entry: &Entry<A>,
+    row: &EntryRecord,
+) -> Result<Plan<A>, PrepFault>
+    requires count { file_count entry.now ≡ length (files_given row.now) }
+    requires limits { IsWithinLimits entry.now }
+    ensures handover { IfOk result (λ plan. (texts : List (List ℕ)) → AreFilesOf row.now texts
+        → IsHandover machine.now (value_of texts entry.now) (handover_by texts plan)) }
+    ensures loadable { IfOk result (λ plan. (texts : List (List ℕ)) → AreFilesOf row.now texts
+        → IsLoadable (lengths_of texts) machine.now.size plan) }
+    ensures fault { IfErr result (λ fault. (texts : List (List ℕ)) → AreFilesOf row.now texts
+        → IsPrepFault machine.now (value_of texts entry.now) fault) }
+{
+    let lengths = lengths_beside(alloc, row)?;
+    let kernel = SliceView::new(row.kernel.bytes);
+    prepare_by_lengths(alloc, machine, entry, &kernel, &lengths)
+}
 
 /// Prepares an entry on a machine.
 fn prepare_given<A: Allocator + Copy>(
@@ -27,19 +54,18 @@ fn prepare_given<A: Allocator + Copy>(
     machine: &Machine<A>,
     row: &EntryRecord,
 ) -> Result<Plan<A>, LoadFault>
-    ensures handed { IfOk result (λ plan. IsHandoffOf machine.now row.now (handoff_by plan)) }
+    ensures handed { IfOk result (λ plan. (texts : List (List ℕ)) → AreFilesOf row.now texts
+        → IsHandoffOf machine.now row.now texts (handoff_by plan)) }
     ensures sound { OnOk result (IsEntrySound row.now) }
     ensures few { IfOk result (λ plan. length plan.parts.items ≤ 256) }
-    ensures fault { IfErr result (IsEntryFault machine.now row.now (texts_given row.now) 0) }
+    ensures fault { IfErr result (λ fault. (texts : List (List ℕ)) → AreFilesOf row.now texts
+        → IsEntryFault machine.now row.now texts 0 fault) }
 {
     let entry = match take_entry(alloc, row) {
         Ok(entry) => entry,
         Err(fault) => return Err(given_fault(fault)),
     };
-    let Ok(views) = views_of(alloc, row) else {
-        return Err(LoadFault::NoMemory);
-    };
-    match prepare(alloc, machine, &entry, &views) {
+    match prepare_row(alloc, machine, &entry, row) {
         Ok(plan) => Ok(plan),
         Err(fault) => Err(load_fault(fault)),
     }
@@ -53,12 +79,12 @@ fn prepare_entry<A: Allocator + Copy>(
     entry: &EntryRecord,
     room: usize,
 ) -> Result<Plan<A>, LoadFault>
-    ensures prepared { IfOk result
-        (λ plan. IsPrepared machine.now regions.now entry.now room (handoff_by plan)) }
+    ensures prepared { IfOk result (λ plan. (texts : List (List ℕ)) → AreFilesOf entry.now texts
+        → IsPrepared machine.now regions.now entry.now texts room (handoff_by plan)) }
     ensures few { IfOk result (λ plan. length plan.parts.items ≤ 256) }
     ensures room { OnOk result (MAX_PARTS ≤ room) }
-    ensures fault { IfErr result
-        (IsNotPrepared machine.now regions.now entry.now (texts_given entry.now) room) }
+    ensures fault { IfErr result (λ fault. (texts : List (List ℕ)) → AreFilesOf entry.now texts
+        → IsNotPrepared machine.now regions.now entry.now texts room fault) }
 {
     if room < MAX_PARTS {
         return Err(LoadFault::Misused(Misuse::SmallRoom));
@@ -70,8 +96,9 @@ fn prepare_entry<A: Allocator + Copy>(
     prepare_given(alloc, &made, entry)
 }
 
-/// Tells what a load of an entry would hand over, or why it would not. The checks are those of
-/// `load_told`, in its order, but for the one of memory.
+/// Tells what a load of an entry would hand over, or why it would not, whatever bytes the files
+/// after the kernel hold: their lengths are looked at. The checks are those of `load_told`, in its
+/// order, but for the one of memory.
 pub fn prepare_told<A: Allocator + Copy>(
     alloc: A,
     machine: &MachineRecord,
@@ -82,7 +109,8 @@ pub fn prepare_told<A: Allocator + Copy>(
     refusal: &mut RefusalRecord,
 ) -> u32
     ensures { (end : Result HandoffFacts LoadFault)
-        × IsGivenPrepareEnd machine.now regions.now entry.now (length places.old) end
+        × ((texts : List (List ℕ)) → AreFilesOf entry.now texts
+        → IsGivenPrepareEnd machine.now regions.now entry.now texts (length places.old) end)
         × TellsEnd end result told.old told.new places.old places.new refusal.old refusal.new }
 {
     match prepare_entry(alloc, machine, regions, entry, places.len()) {

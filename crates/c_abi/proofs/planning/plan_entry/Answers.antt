@@ -2,8 +2,8 @@ use Rattle.std.proofs.Common.{ℕ, List, arith, subst, sym}
 use Rattle.std.proofs.lemmas.Result.{IfErr-weaker}
 use Rattle.c_abi.specs.declared.load_fault.LoadFault.{LoadFault}
 use Rattle.c_abi.specs.Load.{few_places, bad_machine, bad_entry, IsEntryFault, IsEntrySound}
-use Rattle.c_abi.specs.Plan.{AreFilesOf, IsPlanned}
-use Rattle.c_abi.specs.Prepare.{IsNotPrepared}
+use Rattle.c_abi.specs.Plan.{IsPlanned}
+use Rattle.c_abi.specs.Prepare.{AreFilesOf, IsNotPrepared}
 use Rattle.c_abi.specs.internal.Plans.{IsPlanOn, plan_facts}
 use Rattle.c_abi.proofs.ResultLemmas.{on_ok, ok_by_both}
 use Rattle.c_abi.proofs.planning.plan_entry.Goals as goal

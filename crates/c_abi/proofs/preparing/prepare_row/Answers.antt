@@ -5,9 +5,9 @@ use Rattle.bl_load.specs.KernelAndLengths.{HaveKernelAndLengths}
 use Rattle.bl_load.specs.Loadable.{lengths_of, IsLoadable}
 use Rattle.bl_load.specs.Parts.{IsHandover, IsPrepFault}
 use Rattle.bl_load.specs.PlanContents.{handover_by}
-use Rattle.c_abi.specs.Plan.{AreFilesOf}
+use Rattle.c_abi.specs.Prepare.{AreFilesOf}
 use Rattle.c_abi.proofs.PlanLemmas.{count_beside, same_files}
-use Rattle.c_abi.proofs.planning.prepare_row.Goals as goal
+use Rattle.c_abi.proofs.preparing.prepare_row.Goals as goal
 
 pub prepare_by_lengths-requires-clause-files : goal.prepare_by_lengths-requires-clause-files
 prepare_by_lengths-requires-clause-files g c =
