@@ -6,7 +6,8 @@ from typing import Callable, List, Optional, Tuple
 from . import booting, bzimage, entry as entries, multiboot2_entry
 from .booting import File
 from .description import Description, MenuEntry
-from .handover import INITRD, KERNEL, MODULE, MULTIBOOT2, Handover, Part, names_of
+from .handover import (COMMAND_LINE, INITRD, KERNEL, MODULE, MULTIBOOT2, Handover, Part,
+                       names_of)
 from .machine import (FIRST_USABLE, KIND_NAMES, USABLE, Machine, Region, kind_at,
                       usable_ranges)
 from .numbers import FRAME, frames, u16
@@ -40,12 +41,20 @@ def frames_line(machine: Machine, handover: Optional[Handover], files: List[File
 # ---- a handover
 
 
+def ranges_words(place: int, ranges: List[Tuple[int, int]]) -> str:
+    """Ranges of a file, each an offset and a length; a part that takes no byte has zeros alone."""
+    filled = [f"at {offset}, {count} bytes" for offset, count in ranges if count > 0]
+    return f"file {place} " + ", ".join(filled) if filled else "zeros"
+
+
 def kernel_source(file: bytes, index: int) -> str:
-    """Of a Multiboot2 kernel's part: the range of its segment; of a moved one those of all."""
+    """Of a Multiboot2 kernel's part: the range of its segment; of a moved one those of all, by their
+    addresses."""
     header, segments, _ = multiboot2_entry.read_kernel(file)
     if header.relocation is None:
         segments = [segments[index]]
-    return "file 0 " + ", ".join(f"at {s.offset}, {s.filesz} bytes" for s in segments)
+    segments = sorted(segments, key=lambda s: s.address)
+    return ranges_words(0, [(s.offset, s.filesz) for s in segments])
 
 
 def source_of(part: Part, entry: MenuEntry, files: List[bytes]) -> str:
@@ -53,10 +62,12 @@ def source_of(part: Part, entry: MenuEntry, files: List[bytes]) -> str:
         return kernel_source(files[0], part.index)
     if part.role == KERNEL:
         at = bzimage.read(files[0]).payload_at
-        return f"file 0 at {at}, {len(files[0]) - at} bytes"
+        return ranges_words(0, [(at, len(files[0]) - at)])
     if part.role in (MODULE, INITRD):
         place = part.index + 1
-        return f"file {place} at 0, {len(files[place])} bytes"
+        return ranges_words(place, [(0, len(files[place]))])
+    if part.role == COMMAND_LINE and entry.line == b"":
+        return "zeros"
     return "here"
 
 

@@ -33,8 +33,8 @@ use Rattle.program_desc.specs.declared.bad_key.KeySet.{KeySet}
 use Rattle.program_desc.specs.declared.bad_key.KeySet.TheVariants as keys
 use Rattle.program_desc.specs.declared.bad_key.TablePlace.{TablePlace}
 use Rattle.program_desc.specs.declared.bad_key.TablePlace.TheVariants as places
-use Rattle.program_desc.specs.declared.bad_keys.items.TableArray.TheVariants.{Regions, Files}
-use Rattle.program_desc.specs.declared.bad_keys.items.TableArray.TheVariants.{Modules}
+use Rattle.program_desc.specs.declared.bad_keys.bad_items.TableArray.TheVariants.{Regions, Files}
+use Rattle.program_desc.specs.declared.bad_keys.bad_items.TableArray.TheVariants.{Modules}
 use Rattle.program_desc.proofs.BadRuleLemmas.{rule_fault, table_fault, with_items-broken}
 
 -- ---- items

@@ -1,10 +1,10 @@
 //! The first bad key of a description.
 
+mod allowed_values;
+mod bad_items;
 mod entries;
-mod items;
 mod root_table;
 mod rules;
 mod same_names;
-mod values;
 
 pub use root_table::first_bad_key;

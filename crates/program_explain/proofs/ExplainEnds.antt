@@ -1,5 +1,5 @@
 -- How an explanation ends, by what its steps answer.
-use Rattle.std.proofs.Common.{◌≡◌, ◌++◌, ℕ, List, Some, None, Result, Ok, Err, map, refl}
+use Rattle.std.proofs.Common.{◌≡◌, ◌++◌, ℕ, List, [], Some, None, Result, Ok, Err, map, refl}
 use Rattle.std.proofs.Common.{inl, inr}
 use Rattle.bl_map.specs.MachineFacts.{MachineFacts}
 use Rattle.bl_stage.specs.Files.{File, size_of}
@@ -22,7 +22,6 @@ use Rattle.program_explain.specs.internal.ExplanationEnds.{ExplainAsks, ExplainE
 use Rattle.program_explain.specs.internal.ExplanationEnds.{ExplainFoundEnds, IsMachineBlame}
 use Rattle.program_explain.specs.internal.ExplanationEnds.{IsReadBlame, SaysLines}
 use Rattle.program_menu.specs.FoundFiles.{AreFound}
-use Rattle.program_say.specs.Segments.{no_segments}
 use Rattle.program_explain.specs.ExplanationLines.{sought_in}
 use Rattle.program_menu.proofs.AskedLemmas.{all_asked}
 
@@ -35,12 +34,13 @@ blamed_for desc blame old new Blamed none stands said =
 blamed_for desc blame old new NoMemory none stands said = said
 
 -- files of a type F
-module _ {F : Type 0} (answers : F → List ℕ → File → Type 0) (faults : F → ℕ) (desc : List ℕ)
+module _ (M : Type 0) {F : Type 0} (answers : F → List ℕ → File → Type 0) (faults : F → ℕ)
+    (desc : List ℕ)
   where
     -- the bytes are not read
     pub unread : (files : F) (old new : List ℕ) (fault : ExplainFault)
         → IsReadBlame desc old new fault
-        → ExplainEnds answers faults desc files files old new (Err fault)
+        → ExplainEnds M answers faults desc files files old new (Err fault)
     unread files old new Blamed is = (is, refl)
     unread files old new NoMemory is = is
 
@@ -48,7 +48,7 @@ module _ {F : Type 0} (answers : F → List ℕ → File → Type 0) (faults : F
       -- there is no such machine
       pub unmade : (files : F) (old new : List ℕ) (fault : ExplainFault)
           → IsMachineBlame (view d) old new fault
-          → ExplainEnds answers faults desc files files old new (Err fault)
+          → ExplainEnds M answers faults desc files files old new (Err fault)
       unmade files old new Blamed m = (
         record {
           bad = inr (view d, is, record { fault = m.0; named = m.1; first = m.2 });
@@ -76,12 +76,12 @@ module _ {F : Type 0} (answers : F → List ℕ → File → Type 0) (faults : F
           }
 
           pub explained_by : (old new : List ℕ) (ended : Result End ExplainFault)
-              → ExplainFoundEnds (view d)
+              → ExplainFoundEnds M (view d)
               (boot_facts facts (menu_of (view d)) (map size_of files)) files
               (sought_in (view d) files) old new ended
-              → ExplainEnds answers faults desc before after old new ended
+              → ExplainEnds M answers faults desc before after old new ended
           explained_by old new (Ok Booted)
-              (entry, earlier, handover, came, told, are, kernel, are_segments, said) = record {
+              (entry, earlier, handover, came, told, are, steps, are_steps, said) = record {
                 entry = entry;
                 earlier = earlier;
                 handover = handover;
@@ -90,8 +90,8 @@ module _ {F : Type 0} (answers : F → List ℕ → File → Type 0) (faults : F
                   outcome = came;
                   told = told;
                   are_told = are;
-                  kernel = kernel;
-                  are_segments = are_segments;
+                  steps = steps;
+                  are_steps = are_steps;
                   said = said;
                 };
               }
@@ -102,8 +102,8 @@ module _ {F : Type 0} (answers : F → List ℕ → File → Type 0) (faults : F
               outcome = came;
               told = told;
               are_told = are;
-              kernel = no_segments;
-              are_segments = refl;
+              steps = [];
+              are_steps = refl;
               said = said;
             };
           }

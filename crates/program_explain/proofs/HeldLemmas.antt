@@ -11,6 +11,7 @@ use Rattle.bl_plan.specs.Placed.{place_range}
 use Rattle.bl_load.specs.HandoffFacts.{HandoffFacts}
 use Rattle.bl_load.specs.PlanContents.{part_in}
 use Rattle.bl_load.specs.declared.refused_entry.RefusedEntry.{RefusedEntry}
+use Rattle.bl_load.specs.declared.step.Step.{Step}
 use Rattle.bl_image.proofs.Spelled.{EndsIn, length-place_bytes}
 use Rattle.bl_session.specs.attempt.AttemptResult.{part_range}
 use Rattle.bl_session.specs.session.BootSteps.{handed_over}
@@ -20,9 +21,8 @@ use Rattle.program_desc.specs.Described.{DescriptionFacts}
 use Rattle.program_desc.specs.Entries.{Entry}
 use Rattle.program_desc.specs.Views.{entry_view}
 use Rattle.program_say.specs.HandoffLines.{SourceWords, handoff_lines, part_line, place_line}
-use Rattle.program_say.specs.Segments.{KernelSegmentsFacts}
 use Rattle.program_say.specs.Sought.{SoughtFacts}
-use Rattle.program_say.specs.PartSources.{source_at}
+use Rattle.program_say.specs.PartSources.{source_words}
 use Rattle.program_explain.specs.ExplanationLines.{booted_lines, entry_handoff_lines}
 use Rattle.program_explain.specs.ExplanationLines.{entry_handover_lines}
 use Rattle.program_explain.specs.ExplanationLines.{explanation_lines}
@@ -57,44 +57,44 @@ ranges_in bytes (p ∷ ps) h =
 
 -- ---- the whole
 
-held_told : (entries : List Entry) (sought : SoughtFacts) (kernel : KernelSegmentsFacts)
+held_told : (entries : List Entry) (sought : SoughtFacts) (steps : List Step)
     (pool : Range ℕ) (entry : ℕ) (bytes : List ℕ) (handoff : HandoffFacts)
     → All (EndsIn bytes) handoff.places
-    → entry_handover_lines entries sought kernel pool entry (handover_held bytes handoff)
-    ≡ entry_handoff_lines entries sought kernel pool entry handoff
+    → entry_handover_lines entries sought steps pool entry (handover_held bytes handoff)
+    ≡ entry_handoff_lines entries sought steps pool entry handoff
 unfolding handoff_lines
-held_told entries sought kernel pool entry bytes handoff h =
+held_told entries sought steps pool entry bytes handoff h =
     rw (
-      parts_in (source_at entries sought kernel entry) bytes handoff.places h,
+      parts_in (source_words steps) bytes handoff.places h,
       ranges_in bytes handoff.places h,
     ) refl
 
 -- an entry that memory hands over is told
 pub told_booted : (description : DescriptionFacts) (facts : MachineFacts) (sought : SoughtFacts)
-    (kernel : KernelSegmentsFacts) (entry : ℕ) (told : List ToldRefusal)
+    (steps : List Step) (entry : ℕ) (told : List ToldRefusal)
     (earlier : List RefusedEntry) (bytes : List ℕ)
     (handoff : HandoffFacts) (old new : List ℕ) (size : ℕ) → length bytes ≡ size
     → All (λ place. place.address + place.length ≤ size) handoff.places
     → new ≡ old ++ booted_lines description facts sought entry told earlier
-    (entry_handoff_lines description.entries sought kernel facts.pool entry handoff)
-    → new ≡ old ++ explanation_lines description facts sought told kernel
+    (entry_handoff_lines description.entries sought steps facts.pool entry handoff)
+    → new ≡ old ++ explanation_lines description facts sought told steps
     (handed_over entry earlier (handover_held bytes handoff))
-told_booted description facts sought kernel entry told earlier bytes handoff old new size whole
+told_booted description facts sought steps entry told earlier bytes handoff old new size whole
     inside said =
     said
     ∙ ap (λ (handed : List ℕ). old
     ++ booted_lines description facts sought entry told earlier handed)
-    (sym (held_told description.entries sought kernel facts.pool entry bytes handoff (λ i place at.
+    (sym (held_told description.entries sought steps facts.pool entry bytes handoff (λ i place at.
     let within = inside i place at in
     omega (arith, whole, within))))
 
 -- what is said of rows is said of the rows that they are
 pub handed_of : {A : Type 0} (rows items : List (EntryRow A)) (sought : SoughtFacts)
-    (kernel : KernelSegmentsFacts) (pool : Range ℕ) (entry : ℕ) (handoff : HandoffFacts)
+    (steps : List Step) (pool : Range ℕ) (entry : ℕ) (handoff : HandoffFacts)
     (start new : List ℕ) → rows ≡ items
-    → new ≡ start ++ entry_handoff_lines (map entry_view rows) sought kernel pool entry handoff
-    → new ≡ start ++ entry_handoff_lines (map entry_view items) sought kernel pool entry handoff
-handed_of {A = A} rows items sought kernel pool entry handoff start new same said =
+    → new ≡ start ++ entry_handoff_lines (map entry_view rows) sought steps pool entry handoff
+    → new ≡ start ++ entry_handoff_lines (map entry_view items) sought steps pool entry handoff
+handed_of {A = A} rows items sought steps pool entry handoff start new same said =
     said
     ∙ ap (λ (kept : List (EntryRow A)). start
-    ++ entry_handoff_lines (map entry_view kept) sought kernel pool entry handoff) same
+    ++ entry_handoff_lines (map entry_view kept) sought steps pool entry handoff) same

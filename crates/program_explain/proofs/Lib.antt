@@ -3,5 +3,5 @@ pub mod DetailLemmas
 pub mod NoPlaceLemmas
 pub mod RefusedLemmas
 pub mod HeldLemmas
-pub mod SegmentLemmas
+pub mod StepLemmas
 pub mod ExplainEnds

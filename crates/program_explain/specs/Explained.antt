@@ -2,6 +2,7 @@
 use Rattle.std.specs.Prelude.{◌≡◌, ℕ, List, ◌++◌}
 use Rattle.bl_load.specs.Handover.{Handover}
 use Rattle.bl_load.specs.declared.refused_entry.RefusedEntry.{RefusedEntry}
+use Rattle.bl_load.specs.declared.step.Step.{Step}
 use Rattle.bl_stage.specs.Files.{File}
 use Rattle.bl_session.specs.session.BootSteps.{State, handed_over, none_left}
 use Rattle.program_desc.specs.Described.{described}
@@ -11,15 +12,15 @@ use Rattle.program_blame.specs.BlameLines.{blame_lines}
 use Rattle.program_menu.specs.DescribedMachine.{IsBadDescription}
 use Rattle.program_menu.specs.BootCases.{BootCase, HasOutcome}
 use Rattle.program_explain.specs.Details.{AreToldRefusals}
-use Rattle.program_explain.specs.KernelSegments.{AreToldSegments}
-use Rattle.program_say.specs.Segments.{KernelSegmentsFacts}
+use Rattle.program_explain.specs.EntrySteps.{AreToldSteps}
 use Rattle.program_explain.specs.ExplanationLines.{refused_in, sought_in, explanation_lines}
 use Rattle.program_say.specs.declared.subjects.refusal_detail.ToldRefusal.{ToldRefusal}
 
--- with files of a type F: what they may answer for a name, and how many faults they had
-module _ {F : Type 0} (answers : F → List ℕ → File → Type 0) (faults : F → ℕ) where
+-- with files of a type F: what they may answer for a name, and how many faults they had; and with
+-- memory from an A
+module _ (A : Type 0) {F : Type 0} (answers : F → List ℕ → File → Type 0) (faults : F → ℕ) where
   -- the boot that is described comes to this, and what is said tells it, with what is told beside
-  -- each refusal, and the segments of the kernel that is handed over
+  -- each refusal, and the steps of the entry that is handed over
   pub record IsExplained (desc : List ℕ) (before after : F) (old new : List ℕ)
       (state : State) : Type 0 where
     pub case : BootCase answers faults desc before after
@@ -27,12 +28,12 @@ module _ {F : Type 0} (answers : F → List ℕ → File → Type 0) (faults : F
     pub told : List ToldRefusal
     pub are_told : AreToldRefusals case.facts case.description.entries
         (sought_in case.description case.files) (refused_in state) told
-    pub kernel : KernelSegmentsFacts
-    pub are_segments : AreToldSegments case.description.entries
-        (sought_in case.description case.files) state kernel
+    pub steps : List Step
+    pub are_steps : AreToldSteps A case.facts case.description.entries
+        (sought_in case.description case.files) state steps
     pub said : new
         ≡ old ++ explanation_lines case.description case.facts
-        (sought_in case.description case.files) told kernel state
+        (sought_in case.description case.files) told steps state
 
   -- an entry would be handed over
   pub record ExplainsBoot (desc : List ℕ) (before after : F) (old new : List ℕ) : Type 0 where

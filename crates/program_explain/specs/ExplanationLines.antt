@@ -7,6 +7,7 @@ use Rattle.bl_plan.specs.Placed.{place_range}
 use Rattle.bl_load.specs.HandoffFacts.{HandoffFacts}
 use Rattle.bl_load.specs.Handover.{Handover}
 use Rattle.bl_load.specs.declared.refused_entry.RefusedEntry.{RefusedEntry}
+use Rattle.bl_load.specs.declared.step.Step.{Step}
 use Rattle.bl_stage.specs.Files.{File}
 use Rattle.bl_session.specs.attempt.AttemptResult.{part_range}
 use Rattle.bl_session.specs.session.BootSteps.{State, unstarted, running, handed_over, none_left}
@@ -17,10 +18,9 @@ use Rattle.program_menu.specs.DescribedMenu.{described_entry, attempted_file_nam
 use Rattle.program_say.specs.Frames.{names_at, sought_frames_line}
 use Rattle.program_say.specs.HandoffLines.{handoff_lines, handover_lines}
 use Rattle.program_say.specs.Hints.{hint_lines}
-use Rattle.program_say.specs.Segments.{KernelSegmentsFacts}
 use Rattle.program_say.specs.BootAndMapLines.{booted_line, no_entry_line}
 use Rattle.program_say.specs.Sought.{SoughtFacts}
-use Rattle.program_say.specs.PartSources.{source_at}
+use Rattle.program_say.specs.PartSources.{source_words}
 use Rattle.program_say.specs.declared.subjects.refusal_detail.ToldRefusal.{ToldRefusal}
 use Rattle.program_say.specs.AttemptLines.{attempt_lines, refused_attempt_lines}
 
@@ -31,19 +31,19 @@ abbrev pub sought_in : DescriptionFacts → List File → SoughtFacts
 sought_in description files =
     record { names = attempted_file_names description; files = files }
 
--- what one of these entries hands over, by its index, its kernel having these segments, and the
+-- what one of these entries hands over, by its index, where its plan has these steps, and the
 -- frames that its files take of a pool
 abbrev pub entry_handover_lines :
-    List Entry → SoughtFacts → KernelSegmentsFacts → (pool : Range ℕ) → ℕ → Handover → List ℕ
-entry_handover_lines entries sought kernel pool entry handover =
-    handover_lines (source_at entries sought kernel entry) handover
+    List Entry → SoughtFacts → List Step → (pool : Range ℕ) → ℕ → Handover → List ℕ
+entry_handover_lines entries sought steps pool entry handover =
+    handover_lines (source_words steps) handover
     ++ sought_frames_line sought (names_at entries entry) pool (map part_range handover.parts)
 
 -- by the places that parts of a handoff have
 abbrev pub entry_handoff_lines :
-    List Entry → SoughtFacts → KernelSegmentsFacts → (pool : Range ℕ) → ℕ → HandoffFacts → List ℕ
-entry_handoff_lines entries sought kernel pool entry handoff =
-    handoff_lines (source_at entries sought kernel entry) handoff
+    List Entry → SoughtFacts → List Step → (pool : Range ℕ) → ℕ → HandoffFacts → List ℕ
+entry_handoff_lines entries sought steps pool entry handoff =
+    handoff_lines (source_words steps) handoff
     ++ sought_frames_line sought (names_at entries entry) pool (map place_range handoff.places)
 
 -- each entry that was attempted was refused, and this is told of the refusals
@@ -72,15 +72,15 @@ refused_in (none_left refused) = refused
 refused_in out_of_memory = []
 
 -- what a boot on a machine of these facts came to, where this is told of its refusals, and these
--- segments of the kernel that is handed over
+-- are the steps of the entry that is handed over
 abbrev pub explanation_lines :
-    DescriptionFacts → MachineFacts → SoughtFacts → List ToldRefusal → KernelSegmentsFacts → State
+    DescriptionFacts → MachineFacts → SoughtFacts → List ToldRefusal → List Step → State
     → List ℕ
-explanation_lines description facts sought told kernel unstarted = []
-explanation_lines description facts sought told kernel (running entry rest earlier pieces) = []
-explanation_lines description facts sought told kernel (handed_over entry earlier handover) =
+explanation_lines description facts sought told steps unstarted = []
+explanation_lines description facts sought told steps (running entry rest earlier pieces) = []
+explanation_lines description facts sought told steps (handed_over entry earlier handover) =
     booted_lines description facts sought entry told earlier
-    (entry_handover_lines description.entries sought kernel facts.pool entry handover)
-explanation_lines description facts sought told kernel (none_left refused) =
+    (entry_handover_lines description.entries sought steps facts.pool entry handover)
+explanation_lines description facts sought told steps (none_left refused) =
     none_left_lines description facts sought told refused
-explanation_lines description facts sought told kernel out_of_memory = []
+explanation_lines description facts sought told steps out_of_memory = []

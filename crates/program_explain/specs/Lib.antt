@@ -1,5 +1,5 @@
-pub mod KernelSegments
 pub mod Details
+pub mod EntrySteps
 pub mod ExplanationLines
 pub mod BlameConditions
 pub mod Explained

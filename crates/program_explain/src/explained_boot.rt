@@ -6,24 +6,22 @@ ghost use Rattle.bl_session.specs.session.Phases.{boot_facts};
 ghost use Rattle.program_menu.specs.DescribedMenu.{menu_of, attempted_file_names};
 ghost use Rattle.program_explain.specs.Details.{AreToldRefusals};
 ghost use Rattle.program_explain.specs.internal.ExplanationEnds.{ExplainFoundEnds};
-ghost use Rattle.program_explain.specs.internal.ExplanationEnds.{HasKernelIfMultiboot2At};
 ghost use Rattle.program_explain.specs.internal.ExplanationEnds.{HasPlaceRefusal};
-ghost use Rattle.program_explain.specs.KernelSegments.{AreSegmentsAt};
 ghost use Rattle.program_say.specs.AttemptLines.{attempt_lines, refused_attempt_lines};
 ghost use Rattle.program_explain.specs.ExplanationLines.{booted_lines, entry_handoff_lines};
 ghost use Rattle.program_explain.specs.ExplanationLines.{none_left_lines};
 ghost use Rattle.program_desc.specs.Views.{view};
 
 use crate::booted_entry::say_outcome;
+use crate::entry_steps::find_steps;
 use crate::fault::ExplainFault;
-use crate::kernel_segments::find_segments;
 use crate::refusal_details::find_details;
+use bl_load::Step;
 use bl_mem::PhysMem;
 use bl_session::{BootFault, FileStore, Outcome, RefusedEntry, run};
 use program_menu::{DescribedBoot, End};
 use program_say::{
-    KernelSegments, Sought, ToldRefusal, say_attempt, say_hints, say_no_entry_left,
-    say_refused_attempts,
+    Sought, ToldRefusal, say_attempt, say_hints, say_no_entry_left, say_refused_attempts,
 };
 use std::alloc::{AllocError, Allocator};
 
@@ -41,21 +39,6 @@ fn details_of<A: Allocator + Copy>(
 {
     let entries = &boot.description.entries;
     find_details(alloc, boot.machine, entries, sought, refused)
-}
-
-/// The segments of the kernel that is handed over.
-fn segments_of<A: Allocator + Copy>(
-    alloc: A,
-    boot: &DescribedBoot<'_, A>,
-    sought: &Sought<'_, A>,
-    entry: u32,
-) -> Result<KernelSegments<A>, AllocError>
-    requires { HasKernelIfMultiboot2At (view boot.now.description.now).entries sought.now entry }
-    ensures { IfOk result
-        (AreSegmentsAt (view boot.now.description.now).entries sought.now entry) }
-{
-    let entries = &boot.description.entries;
-    find_segments(alloc, entries, sought, entry)
 }
 
 /// Appends the lines of the attempts that were refused.
@@ -111,14 +94,14 @@ fn tell_none_left<A: Allocator + Copy, B: Allocator>(
     say.extend_from_slice(&lines)
 }
 
-/// Appends the lines of a boot in which an entry is handed over, whose kernel has these segments.
-/// An error leaves the text as it was.
+/// Appends the lines of a boot in which an entry is handed over by these steps. An error leaves the
+/// text as it was.
 fn tell_booted<A: Allocator + Copy, B: Allocator>(
     alloc: A,
     boot: &DescribedBoot<'_, A>,
     sought: &Sought<'_, A>,
     told: &[ToldRefusal],
-    kernel: &KernelSegments<A>,
+    steps: &[Step],
     outcome: &Outcome<A>,
     say: &mut Vec<u8, B>,
 ) -> Result<(), AllocError>
@@ -126,14 +109,14 @@ fn tell_booted<A: Allocator + Copy, B: Allocator>(
     ensures ok { OnOk result (say.new.items ≡ say.old.items
         ++ booted_lines (view boot.now.description.now) boot.now.machine.now sought.now
         outcome.now.entry told.now outcome.now.refused.items
-        (entry_handoff_lines (view boot.now.description.now).entries sought.now kernel.now
+        (entry_handoff_lines (view boot.now.description.now).entries sought.now steps.now
         boot.now.machine.now.pool outcome.now.entry outcome.now.handoff)) }
     ensures err { OnErr result (say.new.items ≡ say.old.items) }
 {
     let mut lines = Vec::new(alloc);
     say_refusals_of(&mut lines, boot, sought, told)?;
     say_attempt_of(&mut lines, boot, sought, outcome.entry)?;
-    say_outcome(&mut lines, boot, sought, kernel, outcome)?;
+    say_outcome(&mut lines, boot, sought, steps, outcome)?;
     say.extend_from_slice(&lines)
 }
 
@@ -153,7 +136,7 @@ pub fn explain_found<A: Allocator + Copy, M: PhysMem, B: Allocator>(
     requires menu { boot.now.menu.now ≡ menu_of (view boot.now.description.now) }
     requires names { map (λ n. n.now) names.now
         ≡ attempted_file_names (view boot.now.description.now) }
-    ensures { ExplainFoundEnds (view boot.now.description.now)
+    ensures { ExplainFoundEnds A (view boot.now.description.now)
         (boot_facts boot.now.machine.now boot.now.menu.now (map size_of store.files)) store.files
         (record { names = map (λ n. n.now) names.now; files = store.files })
         say.old.items say.new.items result }
@@ -165,8 +148,8 @@ pub fn explain_found<A: Allocator + Copy, M: PhysMem, B: Allocator>(
     match ended {
         Ok(outcome) => {
             let told = details_of(alloc, boot, &sought, &outcome.refused)?;
-            let kernel = segments_of(alloc, boot, &sought, outcome.entry)?;
-            tell_booted(alloc, boot, &sought, &told, &kernel, &outcome, say)?;
+            let steps = find_steps(alloc, boot, &sought, outcome.entry)?;
+            tell_booted(alloc, boot, &sought, &told, &steps, &outcome, say)?;
             Ok(End::Booted)
         }
         Err(BootFault::NoEntryLeft(refused)) => {

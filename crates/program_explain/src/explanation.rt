@@ -25,7 +25,7 @@ fn run_explain<A: Allocator + Copy, F: Files, B: Allocator>(
     say: &mut Vec<u8, B>,
 ) -> Result<End, ExplainFault>
     requires { F.faults files.old < 2 ^ 63 }
-    ensures ends { ExplainEnds F.answers F.faults desc.now files.old files.new
+    ensures ends { ExplainEnds A F.answers F.faults desc.now files.old files.new
         say.old.items say.new.items result }
     ensures asked { ExplainAsks (names_fetched (described desc.now))
         (F.asked files.old) (F.asked files.new) result }
@@ -72,9 +72,9 @@ pub fn explain_to<A: Allocator + Copy, F: Files, B: Allocator>(
 ) -> u8
     requires { F.faults files.old < 2 ^ 63 }
     ensures status { (result ≤ 2) ⊎ (result ≡ 4) }
-    ensures booted { result ≡ 0 → ExplainsBoot F.answers F.faults desc.now files.old files.new
+    ensures booted { result ≡ 0 → ExplainsBoot A F.answers F.faults desc.now files.old files.new
         say.old.items say.new.items }
-    ensures refused { result ≡ 1 → ExplainsRefusals F.answers F.faults desc.now
+    ensures refused { result ≡ 1 → ExplainsRefusals A F.answers F.faults desc.now
         files.old files.new say.old.items say.new.items }
     ensures described { result ≡ 2 → ExplainsBlame desc.now say.old.items say.new.items
         × (files.new ≡ files.old) }

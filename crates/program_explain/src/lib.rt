@@ -3,11 +3,11 @@
 
 mod booted_entry;
 mod description_blame;
+mod entry_steps;
 mod entry_texts;
 mod explained_boot;
 mod explanation;
 mod fault;
-mod kernel_segments;
 mod placing_details;
 mod refusal_details;
 mod text_place;

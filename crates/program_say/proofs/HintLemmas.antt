@@ -1,13 +1,10 @@
 -- What is said of an entry at an index.
 use Rattle.std.proofs.Common.{◌≡◌, ◌<◌, ◌≤◌, ℕ, List, [], length, map, get_or, ap}
-use Rattle.bl_plan.specs.declared.part.Role.{Role}
 use Rattle.bl_load.specs.declared.refused_entry.RefusedEntry.{RefusedEntry}
 use Rattle.program_desc.specs.declared.entry_row.EntryRow.{EntryRow}
 use Rattle.program_desc.specs.Views.{entry_view}
 use Rattle.program_say.specs.Hints.{kernel_hint, kernel_hint_if, kernel_hint_of}
-use Rattle.program_say.specs.Segments.{KernelSegmentsFacts}
 use Rattle.program_say.specs.Sought.{SoughtFacts, bytes_found}
-use Rattle.program_say.specs.PartSources.{source_at, source_if, source_words}
 use Rattle.program_say.proofs.RowLemmas.{no_row, one_row}
 
 pub no_kernel_hint : {A : Type 0} (rows : List (EntryRow A)) (sought : SoughtFacts)
@@ -23,17 +20,3 @@ pub one_kernel_hint : {A : Type 0} (rows : List (EntryRow A)) (sought : SoughtFa
     ≡ kernel_hint refused.entry refused.refusal (bytes_found sought (entry_view row).kernel)
 one_kernel_hint rows sought refused row within at =
     ap (kernel_hint_if sought refused) (one_row rows refused.entry row within at)
-
-pub no_source : {A : Type 0} (rows : List (EntryRow A)) (sought : SoughtFacts)
-    (kernel : KernelSegmentsFacts) (index : ℕ) (role : Role) (i : ℕ) → length rows ≤ index
-    → source_at (map entry_view rows) sought kernel index role i ≡ []
-no_source rows sought kernel index role i past =
-    ap (λ entry. source_if sought kernel entry role i) (no_row rows index past)
-
-pub one_source : {A : Type 0} (rows : List (EntryRow A)) (sought : SoughtFacts)
-    (kernel : KernelSegmentsFacts) (index : ℕ) (role : Role) (i : ℕ) (row : EntryRow A)
-    → index < length rows → row ≡ get_or rows index row
-    → source_at (map entry_view rows) sought kernel index role i
-    ≡ source_words sought kernel (entry_view row) role i
-one_source rows sought kernel index role i row within at =
-    ap (λ entry. source_if sought kernel entry role i) (one_row rows index row within at)

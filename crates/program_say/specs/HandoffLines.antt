@@ -31,12 +31,12 @@ part_front place =
     codes "part " ++ role_name place.role ++ codes " " ++ decimal place.index ++ codes " "
     ++ hex8 place.address ++ codes " " ++ decimal place.length ++ codes " from "
 
--- where the bytes of a part come from, by its role and its index
+-- where the bytes of the part at a place come from
 abbrev pub SourceWords : Type 0
-SourceWords = Role → ℕ → List ℕ
+SourceWords = Place → List ℕ
 
 abbrev pub place_line : SourceWords → Place → List ℕ
-place_line source place = part_front place ++ source place.role place.index ++ codes "\n"
+place_line source place = part_front place ++ source place ++ codes "\n"
 
 abbrev pub part_line : SourceWords → Part → List ℕ
 part_line source part = place_line source record {

@@ -1,7 +1,6 @@
 pub mod BootAndMapLines
 pub mod WalkLines
 pub mod Sought
-pub mod Segments
 pub mod Frames
 pub mod Hints
 pub mod PartSources

@@ -2,7 +2,6 @@
 
 mod attempts;
 mod bad_image;
-mod file_ranges;
 mod frames;
 mod hints;
 mod kernel_handoff;

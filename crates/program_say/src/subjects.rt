@@ -1,9 +1,9 @@
 //! What lines are said of.
 
-mod kernel_segments;
+mod entries;
 mod refusal_detail;
 mod sought;
 
-pub use kernel_segments::KernelSegments;
+pub use entries::entry_at;
 pub use refusal_detail::{RefusalDetail, ToldRefusal};
 pub use sought::Sought;

@@ -25,9 +25,9 @@ use Rattle.program_desc.specs.declared.bad_key.KeySet.TheVariants as keys
 use Rattle.program_desc.specs.declared.bad_key.TablePlace.{TablePlace}
 use Rattle.program_desc.specs.declared.bad_key.TablePlace.TheVariants as places
 use Rattle.program_desc.specs.declared.key_table.Key.{Key}
-use Rattle.program_desc.specs.declared.bad_keys.items.TableArray.{TableArray}
-use Rattle.program_desc.specs.declared.bad_keys.items.TableArray.TheVariants.{Regions, Files}
-use Rattle.program_desc.specs.declared.bad_keys.items.TableArray.TheVariants.{Modules}
+use Rattle.program_desc.specs.declared.bad_keys.bad_items.TableArray.{TableArray}
+use Rattle.program_desc.specs.declared.bad_keys.bad_items.TableArray.TheVariants.{Regions, Files}
+use Rattle.program_desc.specs.declared.bad_keys.bad_items.TableArray.TheVariants.{Modules}
 
 -- ---- texts
 

@@ -5,7 +5,7 @@ ghost use Rattle.program_desc.specs.internal.BadKeySearch.{FindsBad, FindsFault,
 ghost use Rattle.program_desc.specs.internal.EntrySearch as kept;
 
 use crate::bad_key::{BadKey, KeyFault, KeySet, TablePlace};
-use crate::bad_keys::items::{TableArray, bad_among, items_at};
+use crate::bad_keys::bad_items::{TableArray, bad_among, items_at};
 use crate::bad_keys::rules::{broken_rule, broken_rules, unknown_key};
 use crate::key_table::{INITRD, KERNEL, LINE, MODULE, PROTOCOL, RSDP_NEW, RSDP_OLD, TITLE};
 use crate::keys::at_key;

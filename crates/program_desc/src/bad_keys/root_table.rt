@@ -7,8 +7,8 @@ ghost use Rattle.program_desc.specs.internal.BadKeySearch.{FindsBad, FindsFault,
 ghost use Rattle.program_desc.specs.internal.DescriptionSearch as kept;
 
 use crate::bad_key::{Allowed, BadKey, KeyFault, KeySet, TablePlace};
+use crate::bad_keys::bad_items::{TableArray, bad_among, bad_number, items_at};
 use crate::bad_keys::entries::bad_among_entries;
-use crate::bad_keys::items::{TableArray, bad_among, bad_number, items_at};
 use crate::bad_keys::rules::{broken_rule, broken_rules, unknown_key};
 use crate::bad_keys::same_names::{name_value, same_name};
 use crate::key_table::{DEFAULT, ENTRY, FALLBACK, FILE, FILL, Key, POOL, REGION, SIZE};

@@ -1,18 +1,17 @@
 -- What the code keeps of how an explanation ends, by its result. Own.
-use Rattle.std.specs.Prelude.{◌≡◌, ◌≢◌, ◌⊎◌, ℕ, ◌++◌, List, Result, Ok, Err, Bool, true, false}
-use Rattle.std.specs.Prelude.{Some, slice_get}
+use Rattle.std.specs.Prelude.{◌≡◌, ◌≢◌, ◌⊎◌, ℕ, ◌++◌, List, [], Result, Ok, Err, Bool, true}
+use Rattle.std.specs.Prelude.{false, Some, slice_get}
 use Rattle.bl_map.specs.Faults.{HasFirstMapFault}
 use Rattle.bl_map.specs.MachineFacts.{MachineFacts}
 use Rattle.bl_map.specs.declared.fault.MapFault.{MapFault}
 use Rattle.bl_map.specs.declared.fault.MapFault.TheVariants as map_fault
-use Rattle.bl_plan.specs.declared.protocol.Protocol.TheVariants.{Multiboot2}
 use Rattle.bl_load.specs.Handover.{Handover}
-use Rattle.bl_load.specs.Multiboot2Kernel.{Multiboot2KernelFacts, IsMultiboot2Kernel}
-use Rattle.bl_load.specs.Parts.{IsRefusal}
+use Rattle.bl_load.specs.Parts.{IsHandover, IsRefusal}
 use Rattle.bl_load.specs.EntryValue.{EntryValue}
 use Rattle.bl_load.specs.declared.refusal.Refusal.{Refusal}
 use Rattle.bl_load.specs.declared.refusal.Refusal.TheVariants.{NotUsable, NoRoom}
 use Rattle.bl_load.specs.declared.refused_entry.RefusedEntry.{RefusedEntry}
+use Rattle.bl_load.specs.declared.step.Step.{Step}
 use Rattle.bl_stage.specs.Files.{File}
 use Rattle.bl_session.specs.session.BootSteps.{BootFacts, handed_over, none_left}
 use Rattle.bl_session.specs.session.Schedules.{no_fault}
@@ -27,10 +26,9 @@ use Rattle.program_explain.specs.declared.fault.ExplainFault.TheVariants.{Blamed
 use Rattle.program_blame.specs.BlameLines.{blame_lines}
 use Rattle.program_explain.specs.Explained.{ExplainsBlame, ExplainsBoot, ExplainsRefusals}
 use Rattle.program_menu.specs.FoundFiles.{AsksPrefix}
-use Rattle.program_say.specs.Sought.{SoughtFacts, bytes_found}
+use Rattle.program_say.specs.Sought.{SoughtFacts}
 use Rattle.program_explain.specs.Details.{AreToldRefusals, value_sought}
-use Rattle.program_explain.specs.KernelSegments.{AreSegmentsAt}
-use Rattle.program_say.specs.Segments.{KernelSegmentsFacts, no_segments}
+use Rattle.program_explain.specs.EntrySteps.{AreStepsAt}
 use Rattle.program_explain.specs.ExplanationLines.{explanation_lines}
 use Rattle.program_say.specs.declared.subjects.refusal_detail.ToldRefusal.{ToldRefusal}
 
@@ -70,50 +68,49 @@ HasPlaceRefusal facts entries sought refused =
     → is_placing refused.refusal ≡ true
     → IsRefusal facts (value_sought sought entry) refused.refusal
 
--- an entry's kernel, as it was found, is one where its protocol is that of Multiboot2
-abbrev pub HasKernelIfMultiboot2 : SoughtFacts → Entry → Type 0
-HasKernelIfMultiboot2 sought entry =
-    entry.form.protocol ≡ Multiboot2
-    → (kernel : Multiboot2KernelFacts) × IsMultiboot2Kernel (bytes_found sought entry.kernel) kernel
+-- an entry of this value hands something over
+abbrev pub HasHandover : MachineFacts → EntryValue → Type 0
+HasHandover facts value = (handover : Handover) × IsHandover facts value handover
 
--- so is that of the entry of a menu that has this index, if there is one
-abbrev pub HasKernelIfMultiboot2At : List Entry → SoughtFacts → ℕ → Type 0
-HasKernelIfMultiboot2At entries sought index =
-    (entry : Entry) → slice_get entries index ≡ Some entry → HasKernelIfMultiboot2 sought entry
+-- so does the entry of a menu that has this index, if there is one, with what was found
+abbrev pub HasHandoverAt : MachineFacts → List Entry → SoughtFacts → ℕ → Type 0
+HasHandoverAt facts entries sought index =
+    (entry : Entry) → slice_get entries index ≡ Some entry
+    → HasHandover facts (value_sought sought entry)
 
 -- the boot of what was found for a description is explained so: what it came to, of these files,
 -- and what is said
 abbrev pub ExplainFoundEnds :
-    DescriptionFacts → BootFacts → List File → SoughtFacts → (old new : List ℕ)
+    Type 0 → DescriptionFacts → BootFacts → List File → SoughtFacts → (old new : List ℕ)
     → Result End ExplainFault → Type 0
-ExplainFoundEnds description facts files sought old new (Ok Booted) =
+ExplainFoundEnds A description facts files sought old new (Ok Booted) =
     (entry : ℕ) × (earlier : List RefusedEntry) × (handover : Handover)
     × IsOutcome facts files no_fault (handed_over entry earlier handover)
     × (told : List ToldRefusal)
     × AreToldRefusals facts.machine description.entries sought earlier told
-    × (kernel : KernelSegmentsFacts) × AreSegmentsAt description.entries sought entry kernel
+    × (steps : List Step) × AreStepsAt A facts.machine description.entries sought entry steps
     × (new ≡ old
-    ++ explanation_lines description facts.machine sought told kernel
+    ++ explanation_lines description facts.machine sought told steps
     (handed_over entry earlier handover))
-ExplainFoundEnds description facts files sought old new (Ok NoEntryLeft) =
+ExplainFoundEnds A description facts files sought old new (Ok NoEntryLeft) =
     (refused : List RefusedEntry) × IsOutcome facts files no_fault (none_left refused)
     × (told : List ToldRefusal)
     × AreToldRefusals facts.machine description.entries sought refused told
     × (new ≡ old
-    ++ explanation_lines description facts.machine sought told no_segments (none_left refused))
-ExplainFoundEnds description facts files sought old new (Err Blamed) = ⊥
-ExplainFoundEnds description facts files sought old new (Err NoMemory) = new ≡ old
+    ++ explanation_lines description facts.machine sought told [] (none_left refused))
+ExplainFoundEnds A description facts files sought old new (Err Blamed) = ⊥
+ExplainFoundEnds A description facts files sought old new (Err NoMemory) = new ≡ old
 
 -- an explanation ends so
-abbrev pub ExplainEnds : {F : Type 0} → (F → List ℕ → File → Type 0) → (F → ℕ) → List ℕ
+abbrev pub ExplainEnds : Type 0 → {F : Type 0} → (F → List ℕ → File → Type 0) → (F → ℕ) → List ℕ
     → (before after : F) → (old new : List ℕ) → Result End ExplainFault → Type 0
-ExplainEnds answers faults desc before after old new (Ok Booted) =
-    ExplainsBoot answers faults desc before after old new
-ExplainEnds answers faults desc before after old new (Ok NoEntryLeft) =
-    ExplainsRefusals answers faults desc before after old new
-ExplainEnds answers faults desc before after old new (Err Blamed) =
+ExplainEnds A answers faults desc before after old new (Ok Booted) =
+    ExplainsBoot A answers faults desc before after old new
+ExplainEnds A answers faults desc before after old new (Ok NoEntryLeft) =
+    ExplainsRefusals A answers faults desc before after old new
+ExplainEnds A answers faults desc before after old new (Err Blamed) =
     ExplainsBlame desc old new × (after ≡ before)
-ExplainEnds answers faults desc before after old new (Err NoMemory) = new ≡ old
+ExplainEnds A answers faults desc before after old new (Err NoMemory) = new ≡ old
 
 -- these names were asked for where the boot came to an end; else the first of them
 abbrev pub ExplainAsks : (names before after : List (List ℕ)) → Result End ExplainFault → Type 0

@@ -1,18 +1,15 @@
 //! What a kernel is handed, line by line.
-ghost use Rattle.std.specs.Prelude.{◌≡◌, ◌++◌, OnOk, map};
+ghost use Rattle.std.specs.Prelude.{◌≡◌, ◌++◌, OnOk};
 ghost use Rattle.std.specs.List.{flat_map};
 ghost use Rattle.program_say.specs.HandoffLines as handed;
 ghost use Rattle.program_say.specs.HandoffLines.{place_line};
-ghost use Rattle.program_say.specs.PartSources.{source_at};
-ghost use Rattle.program_desc.specs.Views.{entry_view};
+ghost use Rattle.program_say.specs.PartSources.{source_words};
 
 use crate::lines::part_sources::say_source;
 use crate::lines::registers::say_registers;
 use crate::lines::walk::say_protocol;
-use crate::subjects::{KernelSegments, Sought};
-use bl_load::{Handoff, Place, Role};
+use bl_load::{Handoff, Place, Role, Step};
 use program_blame::say_line_end;
-use program_desc::EntryRow;
 use std::alloc::{AllocError, Allocator};
 
 /// The role's name in a line.
@@ -47,57 +44,45 @@ fn say_part_front<A: Allocator + Copy>(
     out.extend_from_slice(line.as_bytes())
 }
 
-fn say_part<A: Allocator + Copy, B: Allocator>(
+fn say_part<A: Allocator + Copy>(
     out: &mut Vec<u8, A>,
-    entries: &[EntryRow<B>],
-    sought: &Sought<'_, A>,
-    kernel: &KernelSegments<A>,
-    entry: u32,
+    steps: &[Step],
     place: &Place,
 ) -> Result<(), AllocError>
-    ensures { OnOk result (out.new.items ≡ out.old.items ++ place_line
-        (source_at (map entry_view entries.now) sought.now kernel.now entry) place.now) }
+    ensures { OnOk result
+        (out.new.items ≡ out.old.items ++ place_line (source_words steps.now) place.now) }
 {
     say_part_front(out, place)?;
-    say_source(out, entries, sought, kernel, entry, place)?;
-    say_line_end(out)?;
-    Ok(())
+    say_source(out, steps, place)?;
+    say_line_end(out)
 }
 
-fn say_parts<A: Allocator + Copy, B: Allocator, C: Allocator>(
+fn say_parts<A: Allocator + Copy, B: Allocator>(
     out: &mut Vec<u8, A>,
-    entries: &[EntryRow<B>],
-    sought: &Sought<'_, A>,
-    kernel: &KernelSegments<A>,
-    entry: u32,
-    handoff: &Handoff<C>,
+    steps: &[Step],
+    handoff: &Handoff<B>,
 ) -> Result<(), AllocError>
-    ensures { OnOk result (out.new.items ≡ out.old.items ++ flat_map (place_line
-        (source_at (map entry_view entries.now) sought.now kernel.now entry))
-        handoff.now.places) }
+    ensures { OnOk result (out.new.items
+        ≡ out.old.items ++ flat_map (place_line (source_words steps.now)) handoff.now.places) }
 {
     for index in 0..handoff.len() {
-        say_part(out, entries, sought, kernel, entry, &handoff.place(index))?;
+        say_part(out, steps, &handoff.place(index))?;
     }
     Ok(())
 }
 
-/// Appends the lines of what a kernel is handed, that of the entry of this index, which has these
-/// segments: the protocol, the parts in address order with the sources of their bytes, the
-/// registers.
+/// Appends the lines of what a kernel is handed by these steps: the protocol, the parts in address
+/// order with the sources of their bytes, the registers.
 #[tactic(auto, unfolding(crate::specs::HandoffLines::handoff_lines))]
-pub fn say_handoff<A: Allocator + Copy, B: Allocator, C: Allocator>(
+pub fn say_handoff<A: Allocator + Copy, B: Allocator>(
     out: &mut Vec<u8, A>,
-    entries: &[EntryRow<B>],
-    sought: &Sought<'_, A>,
-    kernel: &KernelSegments<A>,
-    entry: u32,
-    handoff: &Handoff<C>,
+    steps: &[Step],
+    handoff: &Handoff<B>,
 ) -> Result<(), AllocError>
-    ensures { OnOk result (out.new.items ≡ out.old.items ++ handed.handoff_lines
-        (source_at (map entry_view entries.now) sought.now kernel.now entry) handoff.now) }
+    ensures { OnOk result (out.new.items
+        ≡ out.old.items ++ handed.handoff_lines (source_words steps.now) handoff.now) }
 {
     say_protocol(out, handoff.protocol())?;
-    say_parts(out, entries, sought, kernel, entry, handoff)?;
+    say_parts(out, steps, handoff)?;
     say_registers(out, &handoff.registers())
 }

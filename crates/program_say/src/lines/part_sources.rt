@@ -1,143 +1,94 @@
 //! Where the bytes of a part come from, in words.
-ghost use Rattle.std.specs.Prelude.{◌≡◌, ◌++◌, OnOk, map, slice_index};
-ghost use Rattle.bl_bzimage.specs.Setup as setup;
-ghost use Rattle.bl_plan.specs.declared.part.Role.TheVariants as roles;
+ghost use Rattle.std.specs.Prelude.{◌≡◌, ◌++◌, OnOk};
+ghost use Rattle.std.specs.List.{filter};
 ghost use Rattle.program_say.specs.PartSources as sources;
-ghost use Rattle.program_say.specs.PartSources.{source_at, source_words};
-ghost use Rattle.program_desc.specs.Views.{entry_view, form_view};
+ghost use Rattle.program_say.specs.PartSources.{is_told, source_words, steps_words};
 
-use crate::lines::file_ranges::{say_file, say_segments};
-use crate::subjects::{KernelSegments, Sought};
-use bl_load::{Place, Role};
-use program_desc::{EntryForm, EntryRow};
+use bl_load::{Place, Step, StepSource};
+use program_blame::say;
 use std::alloc::{AllocError, Allocator};
 
-/// Where "setup_sects" stands in a Linux kernel's file.
-const SETUP_SECTS: usize = 0x1F1;
-
-/// The byte at an offset, 0 behind the end.
-fn byte_at(bytes: &[u8], at: usize) -> u8
-    ensures { result ≡ slice_index bytes.now at }
+/// Whether the step begins at the place and is not of zeros.
+fn is_of(place: &Place, step: &Step) -> bool
+    ensures { result ≡ sources.is_told place.now step.now }
 {
-    match bytes.get(at) {
-        Some(byte) => *byte,
-        None => 0,
+    if let StepSource::Zeros = step.source {
+        return false;
     }
+    if step.address < place.address {
+        return false;
+    }
+    step.address - place.address < place.length
 }
 
-/// Where the payload of a Linux kernel's file begins, behind the boot sector and the setup.
-fn payload_at(bytes: &[u8]) -> u64
-    ensures { result ≡ setup.payload_at bytes.now }
-{
-    let setup_sects = byte_at(bytes, SETUP_SECTS);
-    let sectors = if setup_sects == 0 { 4 } else { setup_sects };
-    (sectors as u64 + 1) * 512
-}
-
-fn say_whole<A: Allocator + Copy>(
+/// Appends a file's place in the entry, but behind another range of it a comma.
+fn say_file<A: Allocator + Copy>(
     out: &mut Vec<u8, A>,
-    sought: &Sought<'_, A>,
-    place: u64,
-    name: &str,
+    is_first: bool,
+    file: usize,
 ) -> Result<(), AllocError>
-    ensures { OnOk result
-        (out.new.items ≡ out.old.items ++ sources.whole_file_words sought.now place name.now) }
+    ensures { OnOk result (out.new.items ≡ out.old.items ++ sources.file_front is_first file) }
 {
-    say_file(out, place, 0, sought.length(name))
+    if is_first {
+        return say!(out, "file {file}");
+    }
+    out.extend_from_slice(b",")
 }
 
-fn say_payload<A: Allocator + Copy>(out: &mut Vec<u8, A>, bytes: &[u8]) -> Result<(), AllocError>
-    ensures { OnOk result (out.new.items ≡ out.old.items ++ sources.payload_words bytes.now) }
-{
-    let offset = payload_at(bytes);
-    let count = (bytes.len() as u64).saturating_sub(offset);
-    say_file(out, 0, offset, count)
-}
-
-/// Appends what the part of this index holds of an entry's kernel.
-fn say_kernel_source<A: Allocator + Copy, B: Allocator>(
+/// Appends what a step says, the first one of its part or another.
+fn say_step<A: Allocator + Copy>(
     out: &mut Vec<u8, A>,
-    sought: &Sought<'_, A>,
-    kernel: &KernelSegments<A>,
-    entry: &EntryRow<B>,
-    index: u32,
+    is_first: bool,
+    step: &Step,
 ) -> Result<(), AllocError>
-    ensures { OnOk result (out.new.items ≡ out.old.items
-        ++ source_words sought.now kernel.now (entry_view entry.now) roles.Kernel index) }
+    ensures { OnOk result (out.new.items
+        ≡ out.old.items ++ sources.step_words is_first step.now.source step.now.length) }
 {
-    match &entry.form {
-        EntryForm::Multiboot2 { .. } => say_segments(out, kernel, index),
-        EntryForm::Linux { .. } => say_payload(out, sought.bytes(entry.kernel.as_str())),
-    }
-}
-
-/// The name of a module's file, by the module's index; none if there is no such module.
-fn module_name<B: Allocator>(form: &EntryForm<B>, index: u32) -> &str
-    ensures { result.now ≡ sources.module_name (form_view form.now) index }
-{
-    match form {
-        EntryForm::Multiboot2 { modules, .. } => match modules.rows.get(index as usize) {
-            Some(module) => module.file.as_str(),
-            None => "",
-        },
-        EntryForm::Linux { .. } => "",
-    }
-}
-
-/// The name of the initial ramdisk; none if there is none.
-fn initrd_name<B: Allocator>(form: &EntryForm<B>) -> &str
-    ensures { result.now ≡ sources.initrd_name (form_view form.now) }
-{
-    match form {
-        EntryForm::Linux {
-            initrd: Some(file),
-            ..
-        } => file.as_str(),
-        EntryForm::Linux { initrd: None, .. } => "",
-        EntryForm::Multiboot2 { .. } => "",
-    }
-}
-
-/// Appends where the bytes of an entry's part come from.
-fn say_entry_source<A: Allocator + Copy, B: Allocator>(
-    out: &mut Vec<u8, A>,
-    sought: &Sought<'_, A>,
-    kernel: &KernelSegments<A>,
-    entry: &EntryRow<B>,
-    role: Role,
-    index: u32,
-) -> Result<(), AllocError>
-    ensures { OnOk result (out.new.items ≡ out.old.items
-        ++ source_words sought.now kernel.now (entry_view entry.now) role index) }
-{
-    match role {
-        Role::Kernel => say_kernel_source(out, sought, kernel, entry, index),
-        Role::Module => {
-            let name = module_name(&entry.form, index);
-            say_whole(out, sought, index as u64 + 1, name)
+    let count = step.length;
+    match step.source {
+        StepSource::File { file, offset } => {
+            say_file(out, is_first, file)?;
+            say!(out, " at {offset}, {count} bytes")
         }
-        Role::Initrd => say_whole(out, sought, 1, initrd_name(&entry.form)),
-        Role::Information | Role::BootParams | Role::CommandLine | Role::Gdt | Role::PageTables =>
-            out.extend_from_slice(b"here"),
+        StepSource::Own { .. } => out.extend_from_slice(b"here"),
+        StepSource::Zeros => Ok(()),
     }
 }
 
-/// Appends where the bytes of a part come from, of the entry of this index, whose kernel has these
-/// segments.
-pub fn say_source<A: Allocator + Copy, B: Allocator>(
+/// Appends what those of these steps say that are told of the part at a place.
+fn say_steps<A: Allocator + Copy>(
     out: &mut Vec<u8, A>,
-    entries: &[EntryRow<B>],
-    sought: &Sought<'_, A>,
-    kernel: &KernelSegments<A>,
-    entry: u32,
+    is_first: bool,
+    steps: &[Step],
     place: &Place,
 ) -> Result<(), AllocError>
-    ensures { OnOk result (out.new.items ≡ out.old.items
-        ++ source_at (map entry_view entries.now) sought.now kernel.now entry place.now.role
-        place.now.index) }
+    ensures { OnOk result (out.new.items
+        ≡ out.old.items ++ steps_words is_first (filter (is_told place.now) steps.now)) }
 {
-    match entries.get(entry as usize) {
-        Some(row) => say_entry_source(out, sought, kernel, row, place.role, place.index),
-        None => Ok(()),
+    match steps {
+        [] => {
+            if is_first {
+                return out.extend_from_slice(b"zeros");
+            }
+            Ok(())
+        }
+        [step, rest @ ..] => {
+            if !is_of(place, step) {
+                return say_steps(out, is_first, rest, place);
+            }
+            say_step(out, is_first, step)?;
+            say_steps(out, false, rest, place)
+        }
     }
+}
+
+/// Appends where the bytes of a part come from, where these are the steps of the whole plan.
+pub fn say_source<A: Allocator + Copy>(
+    out: &mut Vec<u8, A>,
+    steps: &[Step],
+    place: &Place,
+) -> Result<(), AllocError>
+    ensures { OnOk result (out.new.items ≡ out.old.items ++ source_words steps.now place.now) }
+{
+    say_steps(out, true, steps, place)
 }

@@ -29,7 +29,6 @@ impl<'a, A: Allocator> Model for Sought<'a, A> {
 impl<'a, A: Allocator> Sought<'a, A> {
     ghost use Rattle.std.specs.Prelude.{◌≡◌, map};
     ghost use Rattle.bl_stage.specs.Files.{stored_files};
-    ghost use Rattle.program_say.specs.Frames.{length_found};
     ghost use Rattle.program_say.specs.Sought.{bytes_found, size_found};
 
     /// These names, for which these files were found.
@@ -49,16 +48,6 @@ impl<'a, A: Allocator> Sought<'a, A> {
         match self.files.get(file_index(self.names, name)) {
             Some(file) => file.size(),
             None => None,
-        }
-    }
-
-    /// The length of what was found for a name, 0 if there is no such file.
-    pub fn length(&self, name: &str) -> u64
-        ensures { result ≡ length_found self.now name.now }
-    {
-        match self.size(name) {
-            Some(size) => size,
-            None => 0,
         }
     }
 

@@ -6,7 +6,7 @@ use Rattle.program_desc.specs.Views.{view}
 use Rattle.program_explain.specs.ExplanationLines.{sought_in}
 use Rattle.program_explain.proofs.HeldLemmas.{told_booted}
 use Rattle.program_explain.proofs.RefusedLemmas.{place_refusals_for}
-use Rattle.program_explain.proofs.SegmentLemmas.{handed_kernel_for}
+use Rattle.program_explain.proofs.StepLemmas.{handed_entry_for}
 use Rattle.program_explain.proofs.explained_boot.explain_found.Goals as goal
 
 pub details_of-requires : goal.details_of-requires
@@ -39,8 +39,8 @@ details_of-requires-in-Err-NoEntryLeft g c =
     c.new-sought.result c.deref-in-Err-NoEntryLeft.result.now found
     c.deref-in-Err-NoEntryLeft.ensures.value c.requires.menu (came tt)
 
-pub segments_of-requires : goal.segments_of-requires
-segments_of-requires g c =
+pub find_steps-requires : goal.find_steps-requires
+find_steps-requires g c =
     let d = view c.args.boot.now.description.now in
     let outcome = c.in-Ok.outcome in
     let bytes = g.M.PhysMem.bytes c.run-ended.new.memory in
@@ -49,7 +49,7 @@ segments_of-requires g c =
     (rw c.in-Ok.ensures.files at c.faithful.ensures) tt in
     let found : c.new-sought.result ≡ sought_in d c.args.store.files =
     rw (c.requires.names, c.fetched.ensures, c.in-Ok.ensures.files) at c.new-sought.ensures in
-    handed_kernel_for d c.args.boot.now.machine.now c.args.store.files
+    handed_entry_for d c.args.boot.now.machine.now c.args.store.files
     c.args.boot.now.menu.now outcome.entry outcome.refused.items
     (handover_held bytes outcome.handoff) c.new-sought.result found c.requires.menu came
 
@@ -57,14 +57,16 @@ pub returns-in-Ok : goal.returns-in-Ok
 returns-in-Ok g c =
     let outcome = c.in-Ok.outcome in
     let told = c.in_ok-told-in-Ok.told.items in
-    let kernel = c.in_ok-kernel-in-Ok.kernel in
+    let steps = c.in_ok-steps-in-Ok.steps.items in
     let bytes = g.M.PhysMem.bytes c.run-ended.new.memory in
     let whole : length bytes ≡ c.args.boot.now.machine.now.size =
     c.in-Ok.ensures.kept.size ∙ c.requires.size in
-    let said = rw c.deref-in-Ok.ensures.value at c.in_ok-tell_booted-in-Ok.ensures.ok in
+    let said =
+    rw (c.deref-in-Ok.ensures.value, c.deref-in-Ok-2.ensures.value)
+    at c.in_ok-tell_booted-in-Ok.ensures.ok in
     let lines =
     told_booted (view c.args.boot.now.description.now) c.args.boot.now.machine.now
-    c.new-sought.result kernel outcome.entry told outcome.refused.items bytes outcome.handoff
+    c.new-sought.result steps outcome.entry told outcome.refused.items bytes outcome.handoff
     c.args.say.now.items c.tell_booted.new.say.items c.args.boot.now.machine.now.size whole
     c.in-Ok.ensures.inside said in (
       outcome.entry,
@@ -79,8 +81,8 @@ returns-in-Ok g c =
         c.fetched.ensures,
         c.in-Ok.ensures.files,
       ) at c.in_ok-told-in-Ok.ensures,
-      kernel,
+      steps,
       rw (c.new-sought.ensures, c.fetched.ensures, c.in-Ok.ensures.files)
-          at c.in_ok-kernel-in-Ok.ensures,
+          at c.in_ok-steps-in-Ok.ensures,
       rw (c.new-sought.ensures, c.fetched.ensures, c.in-Ok.ensures.files) at lines,
     )

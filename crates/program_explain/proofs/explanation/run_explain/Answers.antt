@@ -38,7 +38,7 @@ returns-in_err-description g c =
     c.from_residual.ensures.1 in
     rw (p.1, p.2)
     (record {
-      ends = unread g.F.Files.answers g.F.Files.faults c.args.desc.now c.args.files.now
+      ends = unread g.row.A.Denot g.F.Files.answers g.F.Files.faults c.args.desc.now c.args.files.now
           c.args.say.now.items _ _ c.in_err-description.ensures.fault;
       asked = none_asked (names_fetched (described c.args.desc.now))
           (g.F.Files.asked c.args.files.now);
@@ -56,7 +56,7 @@ returns-in_err-machine g c =
     c.from_residual-in_err-machine.ensures.1 in
     rw (p.1, p.2)
     (record {
-      ends = unmade g.F.Files.answers g.F.Files.faults c.args.desc.now
+      ends = unmade g.row.A.Denot g.F.Files.answers g.F.Files.faults c.args.desc.now
           c.in_ok-description.description c.in_ok-description.ensures.given c.args.files.now
           c.args.say.now.items _ _ (rw c.in_ok-description.ensures.kept
           at c.in_err-machine.ensures.fault);
@@ -112,7 +112,7 @@ returns-clause-few g c = c.in_ok-ready.ensures.few
 
 pub returns-clause-ends : goal.returns-clause-ends
 returns-clause-ends g c =
-    explained_by g.F.Files.answers g.F.Files.faults c.args.desc.now
+    explained_by g.row.A.Denot g.F.Files.answers g.F.Files.faults c.args.desc.now
     c.in_ok-description.description c.in_ok-description.ensures.given
     c.in_ok-machine.machine c.in_ok-machine.ensures.machine _ _ c.in_ok-ready.ready.store.files
     c.in_ok-ready.ensures.found
