@@ -7,7 +7,6 @@ use Rattle.bl_map.specs.MachineFacts.{MachineFacts}
 use Rattle.bl_load.specs.declared.entry.Entry.{Entry}
 use Rattle.bl_load.specs.declared.entry.Entry.TheVariants.{Multiboot2, Linux}
 use Rattle.bl_load.specs.declared.plan.Plan.{Plan}
-use Rattle.bl_load.specs.declared.step.Step.{Step}
 use Rattle.bl_load.specs.declared.step.Steps.{Steps}
 use Rattle.bl_load.specs.declared.step.StepSource.{StepSource}
 use Rattle.bl_load.specs.declared.step.StepSource.TheVariants.{File, Own, Zeros}

@@ -1,6 +1,5 @@
 //! What C is told of a plan.
-ghost use Rattle.std.specs.Prelude.{◌≡◌, ◌≤◌, ◌++◌, All, MatchBool, length, map, drop};
-ghost use Rattle.bl_load.specs.PlanContents.{places_of};
+ghost use Rattle.std.specs.Prelude.{◌≡◌, ◌≤◌, All, MatchBool, length, map};
 ghost use Rattle.c_abi.specs.PlanTold as spec;
 ghost use Rattle.c_abi.specs.WalkTold.{told_over};
 ghost use Rattle.c_abi.specs.internal.Plans.{HasSmallFile, plan_facts};

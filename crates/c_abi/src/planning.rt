@@ -5,7 +5,6 @@ ghost use Rattle.c_abi.specs.Prepare.{AreFilesOf, IsNotPrepared};
 ghost use Rattle.c_abi.specs.Plan.{PlanFacts, IsPlanned, IsGivenPlanEnd};
 ghost use Rattle.c_abi.specs.PlanTold.{TellsPlan};
 ghost use Rattle.c_abi.specs.internal.Plans.{HasSmallFile, IsPlanOn, plan_facts};
-ghost use Rattle.c_abi.specs.internal.Tellings.{plan_telling};
 ghost use Rattle.c_abi.specs.declared.load_fault.LoadFault.{LoadFault};
 
 use crate::end_records::{HandoffRecord, PlaceRecord, RefusalRecord};

@@ -1,11 +1,5 @@
-use Rattle.std.proofs.Common.{◌≡◌, ◌∙◌, ℕ, List, length, ap, arith, sym, subst}
-use Rattle.std.proofs.lemmas.Result.{IfOk-weaker, IfErr-weaker, err_from_is_err_and}
-use Rattle.bl_load.specs.EntryValue.{value_of}
-use Rattle.bl_load.specs.KernelAndLengths.{HaveKernelAndLengths}
-use Rattle.bl_load.specs.Loadable.{lengths_of, IsLoadable}
-use Rattle.bl_load.specs.Parts.{IsHandover, IsPrepFault}
-use Rattle.bl_load.specs.PlanContents.{handover_by}
-use Rattle.c_abi.specs.Prepare.{AreFilesOf}
+use Rattle.std.proofs.Common.{◌∙◌, length, ap, arith}
+use Rattle.std.proofs.lemmas.Result.{IfOk-weaker, IfErr-weaker}
 use Rattle.c_abi.proofs.PlanLemmas.{count_beside, same_files}
 use Rattle.c_abi.proofs.preparing.prepare_row.Goals as goal
 
