@@ -13,7 +13,8 @@
 extern "C" {
 #endif
 
-/* How long an arena is enough for each call with one entry, and for each walk. */
+/* How long an arena is enough for each load, preparation and plan. A boot, a session and a walk may
+ * want more: docs/EMBED.md. */
 enum { BOOTCORE_ARENA = 1048576 };
 
 /* Gives the arena its memory, in place of what it had before: first free the sessions that are kept
