@@ -99,7 +99,9 @@ static void read_case(void) {
         entries[i].rsdp_new = in_bytes(spelled[i].rsdp_new);
         entries[i].modules = given;
         entries[i].module_count = spelled[i].modules;
+        free(modules);
     }
+    free(spelled);
     menu.fallback_count = numbers[FALLBACKS];
     menu.fallbacks = read_array(numbers[FALLBACKS], sizeof(uint32_t));
 }
