@@ -18,8 +18,8 @@ use std::alloc::Allocator;
 
 /// What is loaded for an entry on a machine, or its first refusal, if of its files only the kernel
 /// is there: `lengths` are those of the files after it, in the entry's order (the modules, or the
-/// initial ramdisk). The plan, or the refusal, is that of all files of these lengths, whatever bytes
-/// they hold: a plan names the bytes that are copied out of them, and holds none.
+/// initial ramdisk). The plan, or the refusal, is that of all files of these lengths, whatever
+/// bytes they hold: a plan names the bytes that are copied out of them, and holds none.
 ///
 /// The refusals come in the order of `prepare`. Want of memory may be answered at any growth.
 pub fn prepare_by_lengths<A: Allocator + Copy, V: ByteView>(

@@ -43,7 +43,8 @@ pub record IsPlanned (machine : MachineRecord) (regions : List RegionRecord)
   pub machine_sound : IsMachineSound machine regions
   pub entry_sound : IsEntrySound entry
   pub is_plan :
-      (texts : List (List ℕ)) → AreFilesOf entry texts → IsPlanOf facts (value_with entry texts) plan
+      (texts : List (List ℕ)) → AreFilesOf entry texts
+      → IsPlanOf facts (value_with entry texts) plan
   pub sound : All (IsStep (file_lengths entry) (length plan.own) facts.size) plan.steps
   pub ascending : AllPairs StepsAscend plan.steps
 

@@ -3,7 +3,8 @@ use Rattle.std.specs.Prelude.{ℕ}
 use Rattle.c_abi.specs.declared.misuse.Misuse.{Misuse}
 use Rattle.c_abi.specs.declared.misuse.Misuse.TheVariants as misuse
 use Rattle.c_abi.specs.declared.load_fault.LoadFault.{LoadFault}
-use Rattle.c_abi.specs.declared.load_fault.LoadFault.TheVariants.{Misused, Refused, NoMemory, Outside}
+use Rattle.c_abi.specs.declared.load_fault.LoadFault.TheVariants.{Misused, Refused, NoMemory}
+use Rattle.c_abi.specs.declared.load_fault.LoadFault.TheVariants.{Outside}
 
 -- it was done
 abbrev pub done_status : ℕ

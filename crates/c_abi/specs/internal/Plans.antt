@@ -26,6 +26,7 @@ HasSmallFile step = source_file step.source < 2 ^ 32
 -- it is the entry's plan on a machine of these facts
 pub record IsPlanOn (facts : MachineFacts) (entry : EntryRecord) (plan : PlanFacts) : Type 0 where
   pub is_plan :
-      (texts : List (List ℕ)) → AreFilesOf entry texts → IsPlanOf facts (value_with entry texts) plan
+      (texts : List (List ℕ)) → AreFilesOf entry texts
+      → IsPlanOf facts (value_with entry texts) plan
   pub sound : All (IsStep (file_lengths entry) (length plan.own) facts.size) plan.steps
   pub ascending : AllPairs StepsAscend plan.steps
