@@ -47,17 +47,13 @@ uint32_t bootcore_load(const bootcore_memory *memory, const bootcore_machine *ma
     return status;
 }
 
-/* A plan without its steps. The core has a preparation too, which reads the bytes of all files. */
 BOOTCORE_CALL
 uint32_t bootcore_prepare(const bootcore_machine *machine, const bootcore_entry *entry,
                           bootcore_outcome *outcome) {
     bootcore_crossing_machine given_machine;
     bootcore_given_entry given;
     bootcore_refusal refusal = {0, 0, 0, 0};
-    bootcore_counts counts = {0, 0};
-    bootcore_block block = {0, NULL};
-    bootcore_step no_step;
-    bootcore_step *steps = &no_step;
+    bootcore_place no_place;
     uint32_t status;
     if (bootcore_machine_has_null(machine) ||
         bootcore_entry_has_null(entry, BOOTCORE_READS_KERNEL) ||
@@ -68,31 +64,11 @@ uint32_t bootcore_prepare(const bootcore_machine *machine, const bootcore_entry 
     if (status != BOOTCORE_DONE) {
         return status;
     }
-    if (outcome->place_room < BOOTCORE_MAX_PLACES) {
-        return BOOTCORE_SMALL_ROOM;
-    }
     given_machine = bootcore_machine_crossing(machine);
     bootcore_entry_crossing(entry, BOOTCORE_READS_KERNEL, &given);
-    for (;;) {
-        size_t step_room = (size_t)counts.steps, own_room = (size_t)counts.own;
-        status = bootcore_plan_arrays(
-            &given_machine, bootcore_regions_crossing(machine), machine->region_count,
-            &given.entry, &outcome->handoff, &counts, outcome->places, outcome->place_room, steps,
-            step_room, (uint8_t *)(steps + step_room), own_room, &refusal);
-        if (status != BOOTCORE_SMALL_ROOM || block.at) {
-            break;
-        }
-        /* now it is known how much room the plan wants */
-        block = rattle_alloc((size_t)counts.steps * sizeof *steps + (size_t)counts.own,
-                             sizeof(void *));
-        if (!(block.is_there & 1)) {
-            return BOOTCORE_NO_MEMORY;
-        }
-        steps = block.at;
-    }
-    if (block.at) {
-        rattle_dealloc(block.at);
-    }
+    status = bootcore_prepare_arrays(&given_machine, bootcore_regions_crossing(machine),
+                                     machine->region_count, &given.entry, &outcome->handoff,
+                                     places_of(outcome, &no_place), outcome->place_room, &refusal);
     tell_end(status, &refusal, outcome);
     return status;
 }
