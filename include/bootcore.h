@@ -72,7 +72,7 @@ enum {
     BOOTCORE_MAX_RSDP = 256,    /* bytes of a copy of an RSDP */
     BOOTCORE_MAX_PLACES = 256,  /* an entry has no more parts */
     BOOTCORE_MAX_REFUSALS = 32, /* a boot refuses no more entries */
-    BOOTCORE_STACK = 16384
+    BOOTCORE_STACK = 24576      /* with libbootcore.a 16384 is enough */
 };
 
 /* What a call answers. A misuse, from 101 on, has changed nothing; where BOOTCORE_SMALL_ROOM tells

