@@ -159,7 +159,7 @@ static void take(const char *word, char *rest) {
 
 const char *read_menu(char *text, uint32_t *line) {
     menu.seconds = no_limit;
-    menu.arena = 1 << 20;
+    menu.arena = BOOTCORE_ARENA;
     if (strlen(text) >= 3 && memcmp(text, "\xef\xbb\xbf", 3) == 0) text += 3; /* a mark of UTF-8 */
     for (*line = 1; *text; ++*line) {
         char *next = text;
