@@ -1,0 +1,177 @@
+//! A menu with fallbacks: booted at once, or piece by piece.
+
+use crate::entry::Menu;
+use crate::error::{Error, RefusedEntry};
+use crate::handoff::Handoff;
+use crate::machine::{Machine, Memory};
+use crate::raw;
+
+/// How a boot ended by which an entry is handed over.
+#[derive(Clone, Debug, PartialEq, Eq, Hash)]
+pub struct Booted {
+    /// What its kernel is handed.
+    pub handoff: Handoff,
+    /// The entries that were refused before it, in order.
+    pub refusals: Vec<RefusedEntry>,
+}
+
+/// Boots the first entry of a menu, in the order of attempts, that is not refused. Its files come into the machine's pool,
+/// and from there to their places.
+///
+/// `memory` ends at the machine's size. After the end, and after [`Error::NoEntry`], the pool is 0 where no part lies, and
+/// each other byte beside the parts as before.
+///
+/// ```
+/// use bootcore::{boot, Error, File, Kind, Linux, Machine, Memory, Menu, Refusal};
+///
+/// let machine = Machine::new(4 << 20).region(0, 4 << 20, Kind::Usable).pool(3 << 20, 1 << 20);
+/// let menu = Menu::new().entry(Linux::new(File::Unreadable)).entry(Linux::new(b"no kernel")).fallback(1);
+/// let mut guest = vec![0; 4 << 20];
+/// match boot(&mut Memory::new(0, &mut guest), &machine, &menu) {
+///     Err(Error::NoEntry(refused)) => {
+///         assert_eq!(refused[0].refusal, Refusal::NoFile { file: 0 });
+///         assert_eq!(refused[1].refusal, Refusal::NotBzImage);
+///     }
+///     other => panic!("{:?}", other),
+/// }
+/// ```
+pub fn boot(memory: &mut Memory<'_>, machine: &Machine, menu: &Menu<'_>) -> Result<Booted, Error> {
+    raw::boot(memory, machine, menu).booted()
+}
+
+/// Pieces that are awaited, one after the other in a file: `length` bytes from the offset `piece * PIECE` on.
+#[derive(Clone, Copy, Debug, Default, PartialEq, Eq, Hash)]
+#[repr(C)]
+pub struct Request {
+    /// The index of the entry in the menu.
+    pub entry: u32,
+    /// Which attempt it is, from 0 on.
+    pub attempt: u32,
+    /// The file's place in its entry, of which the kernel's is 0.
+    pub file: u32,
+    /// The first piece's index in the file.
+    pub piece: u32,
+    /// The bytes of all.
+    pub length: u64,
+}
+
+impl Request {
+    /// The offset in the file from which on bytes are awaited.
+    pub fn offset(&self) -> u64 {
+        u64::from(self.piece) * crate::PIECE as u64
+    }
+}
+
+/// How far a session is.
+#[derive(Clone, Copy, Debug, PartialEq, Eq, Hash)]
+pub enum Progress {
+    /// Pieces are awaited, or the session was not started.
+    Waiting,
+    /// The same, after one refusal or more: ask again what is missing.
+    Next,
+    /// An entry is handed over: [`Session::outcome`] has it.
+    Done,
+    /// No entry is left, or memory ran out: [`Session::outcome`] says which.
+    Failed,
+}
+
+/// A boot that is told the pieces of its files as they come, in any order.
+///
+/// The session has the memory for as long as it lives, since the pieces that came lie there:
+///
+/// ```compile_fail,E0506
+/// # use bootcore::{Machine, Memory, Menu, Session};
+/// let mut guest = vec![0; 4 << 20];
+/// let mut session = Session::new(Memory::new(0, &mut guest), &Machine::new(4 << 20), &Menu::new()).unwrap();
+/// guest[0] = 1; // the session has it
+/// session.start();
+/// ```
+///
+/// It is freed when it is dropped.
+///
+/// ```
+/// use bootcore::{File, Kind, Linux, Machine, Memory, Menu, Progress, Session};
+///
+/// # fn main() -> Result<(), bootcore::Error> {
+/// let machine = Machine::new(4 << 20).region(0, 4 << 20, Kind::Usable).pool(3 << 20, 1 << 20);
+/// let menu = Menu::new().entry(Linux::new(File::Length(5000)));
+/// let mut guest = vec![0; 4 << 20];
+/// let mut session = Session::new(Memory::new(0, &mut guest), &machine, &menu)?;
+/// assert_eq!(session.start()?, Progress::Waiting);
+/// let request = session.missing(4096).unwrap();
+/// assert_eq!((request.offset(), request.length), (0, 4096));
+/// assert_eq!(session.pieces(&request, &[0; 4096])?, Progress::Waiting);
+/// let request = session.missing(4096).unwrap();
+/// assert_eq!((request.offset(), request.length), (4096, 904));
+/// assert_eq!(session.fault(&request)?, Progress::Failed);
+/// println!("{}", session.outcome().unwrap_err());
+/// # Ok(())
+/// # }
+/// ```
+#[derive(Debug)]
+pub struct Session<'m> {
+    kept: raw::KeptSession<'m>,
+}
+
+impl<'m> Session<'m> {
+    /// Makes a session of a menu, which is not yet started. Of each file the length is looked at; its bytes come later.
+    pub fn new(memory: Memory<'m>, machine: &Machine, menu: &Menu<'_>) -> Result<Session<'m>, Error> {
+        Ok(Session { kept: raw::KeptSession::make(memory, machine, menu)? })
+    }
+
+    /// Starts it: the first attempt begins. One that was started before stays as it is.
+    pub fn start(&mut self) -> Result<Progress, Error> {
+        progress(self.kept.start())
+    }
+
+    /// Tells that pieces came: the bytes of a request, which are copied. They may be fewer than were asked for. A piece that
+    /// is not awaited changes nothing.
+    pub fn pieces(&mut self, request: &Request, bytes: &[u8]) -> Result<Progress, Error> {
+        progress(self.kept.pieces(request, bytes))
+    }
+
+    /// Tells that the first piece of a request can't be read: its entry is refused, and the next attempt begins.
+    pub fn fault(&mut self, request: &Request) -> Result<Progress, Error> {
+        progress(self.kept.fault(request))
+    }
+
+    /// The first pieces that are awaited, files and pieces ascending: at most so many bytes of one file, but at least a piece.
+    pub fn missing(&self, most: usize) -> Option<Request> {
+        self.kept.missing(most)
+    }
+
+    /// The first ones behind those of a request.
+    pub fn missing_after(&self, request: &Request, most: usize) -> Option<Request> {
+        self.kept.missing_after(request, most)
+    }
+
+    /// All that are awaited, as requests of at most so many bytes.
+    pub fn requests(&self, most: usize) -> impl Iterator<Item = Request> + '_ {
+        std::iter::successors(self.missing(most), move |request| self.missing_after(request, most))
+    }
+
+    /// How it ended: nothing while pieces are awaited.
+    pub fn outcome(&self) -> Result<Option<Booted>, Error> {
+        let told = self.kept.outcome();
+        if told.status == raw::WAITING {
+            Ok(None)
+        } else {
+            told.booted().map(Some)
+        }
+    }
+
+    /// The memory, to be read.
+    pub fn memory(&self) -> &[u8] {
+        self.kept.memory()
+    }
+}
+
+fn progress(status: u32) -> Result<Progress, Error> {
+    match status {
+        raw::DONE => Ok(Progress::Done),
+        raw::WAITING => Ok(Progress::Waiting),
+        raw::NEXT => Ok(Progress::Next),
+        raw::FAILED => Ok(Progress::Failed),
+        other => Err(Error::of_status(other)),
+    }
+}

@@ -1,0 +1,126 @@
+//! How a call ends that does not do what it is called for.
+
+use std::fmt;
+
+use crate::numbers::numbered;
+use crate::raw;
+use crate::refusal::{Fault, Refusal};
+
+numbered! {
+    /// A mistake of the program that calls, or of the data that it passes on, as a memory map of a firmware. Nothing was
+    /// changed. Of several the first in this order is told. What no program in Rust can do wrong, as a reserved word,
+    /// has no name here.
+    Misuse {
+        /// A file is known by its length alone, and the call reads its bytes.
+        NoBytes = 101,
+        /// A file is unreadable, where all are wanted; or a plan is carried out with files that are too few or too short.
+        BadFile = 103,
+        /// The machine's size is no multiple of 4096 from 1 MiB to 4 GiB.
+        BadSize = 106,
+        /// There are more than [`MAX_REGIONS`](crate::MAX_REGIONS) regions.
+        TooManyRegions = 107,
+        /// A region ends above 2^52.
+        BadRegion = 108,
+        /// The pool is not of whole frames, or not all of it is usable.
+        BadPool = 109,
+        /// Memory ends below the machine's size (of a boot: not at it), or begins at 4 GiB or above.
+        BadMemory = 110,
+        /// There are too many entries or modules, or a copy of an RSDP is too long.
+        TooMany = 112,
+        /// A menu's first entry or a fallback is no entry.
+        BadIndex = 113,
+        /// Of a session: the pool begins below the memory that is given.
+        LowPool = 115,
+    }
+}
+
+impl fmt::Display for Misuse {
+    fn fmt(&self, to: &mut fmt::Formatter<'_>) -> fmt::Result {
+        let words = match self {
+            Misuse::NoBytes => "a file is known by its length alone, and its bytes are read",
+            Misuse::BadFile => "a file can't be read, or is missing or too short for a plan",
+            Misuse::BadSize => "the machine's size is no multiple of 4096 from 1 MiB to 4 GiB",
+            Misuse::TooManyRegions => "there are too many regions",
+            Misuse::BadRegion => "a region ends above 2^52",
+            Misuse::BadPool => "the pool is not of whole frames, or not all of it is usable",
+            Misuse::BadMemory => "memory does not end where the machine's does, or begins too high",
+            Misuse::TooMany => "there are too many entries or modules, or a copy of an RSDP is too long",
+            Misuse::BadIndex => "a menu's first entry or a fallback is no entry",
+            Misuse::LowPool => "the pool begins below the memory that is given",
+            Misuse::Other(number) => return write!(to, "misuse {}", number),
+        };
+        to.write_str(words)
+    }
+}
+
+impl std::error::Error for Misuse {}
+
+/// An entry of a menu that was refused.
+#[derive(Clone, Copy, Debug, PartialEq, Eq, Hash)]
+pub struct RefusedEntry {
+    /// Its index.
+    pub entry: u32,
+    /// Why.
+    pub refusal: Refusal,
+}
+
+impl fmt::Display for RefusedEntry {
+    fn fmt(&self, to: &mut fmt::Formatter<'_>) -> fmt::Result {
+        write!(to, "entry {}: {}", self.entry, self.refusal)
+    }
+}
+
+/// Why a call did not do what it is called for.
+#[derive(Clone, Debug, PartialEq, Eq, Hash)]
+#[non_exhaustive]
+pub enum Error {
+    /// The entry is refused: the kernel or the machine is at fault. An equal call is refused again.
+    Refused(Refusal),
+    /// No entry of a menu is left; each was refused, in this order.
+    NoEntry(Vec<RefusedEntry>),
+    /// The bytes are no image, or no kernel can be entered with it.
+    BadImage(Fault),
+    /// Memory for the core's tables ran out. Of a boot it may also be that a part or the pool begins below the memory
+    /// that was given; bytes of the pool may have changed then.
+    NoMemory,
+    /// A part begins below the memory that is given; of a plan that is carried out: not all of a step lies in it.
+    Outside,
+    /// The program is to be corrected, or the data that it passes on.
+    Misuse(Misuse),
+    /// A status that this version of the crate does not know: a failure.
+    Other(u32),
+}
+
+impl Error {
+    /// The error of a status that is neither done nor refused.
+    pub(crate) fn of_status(status: u32) -> Error {
+        match status {
+            raw::NO_MEMORY => Error::NoMemory,
+            raw::OUTSIDE => Error::Outside,
+            raw::NULL..=u32::MAX => Error::Misuse(Misuse::from_number(status)),
+            other => Error::Other(other),
+        }
+    }
+}
+
+impl fmt::Display for Error {
+    fn fmt(&self, to: &mut fmt::Formatter<'_>) -> fmt::Result {
+        match self {
+            Error::Refused(refusal) => refusal.fmt(to),
+            Error::NoEntry(refusals) => {
+                to.write_str("no entry is left")?;
+                for (i, refused) in refusals.iter().enumerate() {
+                    write!(to, "{}{}", if i == 0 { ": " } else { "; " }, refused)?;
+                }
+                Ok(())
+            }
+            Error::BadImage(fault) => fault.fmt(to),
+            Error::NoMemory => to.write_str("memory ran out"),
+            Error::Outside => to.write_str("a part does not lie in the memory that is given"),
+            Error::Misuse(misuse) => misuse.fmt(to),
+            Error::Other(status) => write!(to, "status {}", status),
+        }
+    }
+}
+
+impl std::error::Error for Error {}

@@ -1,0 +1,186 @@
+//! What is handed over.
+
+use crate::entry::Protocol;
+use crate::numbers::numbered;
+use crate::raw;
+
+/// The registers as the kernel begins. With 32 bits `rip` is what EIP is to hold, and so on; `r8` to `r15`, `cr3`, `cr4`
+/// and `efer` are 0 then, and to be chosen. TR, LDTR, IDTR and the debug registers are to be chosen too: no kernel may
+/// count on them.
+#[derive(Clone, Copy, Debug, Default, PartialEq, Eq, Hash)]
+#[repr(C)]
+pub struct Registers {
+    /// 32 or 64.
+    pub bits: u64,
+    /// Where the kernel is entered.
+    pub rip: u64,
+    /// RAX.
+    pub rax: u64,
+    /// RBX.
+    pub rbx: u64,
+    /// RCX.
+    pub rcx: u64,
+    /// RDX.
+    pub rdx: u64,
+    /// RSI.
+    pub rsi: u64,
+    /// RDI.
+    pub rdi: u64,
+    /// RBP.
+    pub rbp: u64,
+    /// RSP.
+    pub rsp: u64,
+    /// R8.
+    pub r8: u64,
+    /// R9.
+    pub r9: u64,
+    /// R10.
+    pub r10: u64,
+    /// R11.
+    pub r11: u64,
+    /// R12.
+    pub r12: u64,
+    /// R13.
+    pub r13: u64,
+    /// R14.
+    pub r14: u64,
+    /// R15.
+    pub r15: u64,
+    /// RFLAGS.
+    pub rflags: u64,
+    /// CR0.
+    pub cr0: u64,
+    /// CR3.
+    pub cr3: u64,
+    /// CR4.
+    pub cr4: u64,
+    /// The register EFER.
+    pub efer: u64,
+    /// The selector of CS; [`Registers::segments`] has the rest.
+    pub cs: u64,
+    /// The selector of DS.
+    pub ds: u64,
+    /// The selector of ES.
+    pub es: u64,
+    /// The selector of FS.
+    pub fs: u64,
+    /// The selector of GS.
+    pub gs: u64,
+    /// The selector of SS.
+    pub ss: u64,
+    /// Where the table of descriptors lies; 0 where there is none.
+    pub gdt_base: u64,
+    /// The offset of its last byte; 0 where there is none.
+    pub gdt_limit: u64,
+    /// 1 if the gate A20 is to be open.
+    pub a20: u64,
+}
+
+impl Registers {
+    /// The segment registers whole.
+    pub fn segments(&self) -> Segments {
+        let [cs, ds, es, fs, gs, ss] = raw::segments(self);
+        Segments { cs, ds, es, fs, gs, ss }
+    }
+}
+
+/// A segment register whole, as a virtual processor is given it without loading a descriptor.
+#[derive(Clone, Copy, Debug, Default, PartialEq, Eq, Hash)]
+#[repr(C)]
+pub struct Segment {
+    /// Where the segment begins.
+    pub base: u64,
+    /// The offset of its last byte, in bytes.
+    pub limit: u32,
+    /// The selector.
+    pub selector: u16,
+    /// The type of the descriptor.
+    pub type_: u8,
+    /// 1: a segment of code or data.
+    pub s: u8,
+    /// The privilege level.
+    pub dpl: u8,
+    /// 1: present.
+    pub p: u8,
+    /// A bit for the system's use.
+    pub avl: u8,
+    /// 1: 64-bit code.
+    pub l: u8,
+    /// 1: 32-bit code or data.
+    pub db: u8,
+    /// 1: the descriptor counts its limit in pages.
+    pub g: u8,
+}
+
+/// All segment registers.
+#[derive(Clone, Copy, Debug, Default, PartialEq, Eq, Hash)]
+pub struct Segments {
+    /// CS.
+    pub cs: Segment,
+    /// DS.
+    pub ds: Segment,
+    /// ES.
+    pub es: Segment,
+    /// FS.
+    pub fs: Segment,
+    /// GS.
+    pub gs: Segment,
+    /// SS.
+    pub ss: Segment,
+}
+
+numbered! {
+    /// What a part in memory is. One that is not known is memory that the kernel owns, as any other.
+    Role {
+        /// A part of the kernel.
+        Kernel = 1,
+        /// A module.
+        Module = 2,
+        /// The boot information of Multiboot2.
+        Information = 3,
+        /// The boot parameters of Linux.
+        BootParams = 4,
+        /// The line of a Linux kernel.
+        CommandLine = 5,
+        /// The table of descriptors.
+        Gdt = 6,
+        /// The initial ramdisk.
+        Initrd = 7,
+        /// Page tables.
+        PageTables = 8,
+    }
+}
+
+/// A part in memory. What a part has no bytes for is zero.
+#[derive(Clone, Copy, Debug, PartialEq, Eq, Hash)]
+pub struct Place {
+    /// What it is.
+    pub role: Role,
+    /// Its index among the parts of its role.
+    pub index: u32,
+    /// Where it begins.
+    pub address: u64,
+    /// Its bytes; of all but a kernel's part a multiple of 4096.
+    pub length: u64,
+}
+
+/// What a kernel is handed: registers and parts.
+#[derive(Clone, Debug, PartialEq, Eq, Hash)]
+pub struct Handoff {
+    /// The index of the entry in its menu; 0 where there is no menu.
+    pub entry: u32,
+    /// How its kernel is entered.
+    pub protocol: Protocol,
+    /// The registers as it begins.
+    pub registers: Registers,
+    /// The parts, by ascending address.
+    pub places: Vec<Place>,
+}
+
+impl Handoff {
+    /// The head of an image of this handoff: all that stands before the bytes of the parts, which follow in the order of
+    /// the places.
+    pub fn image_head(&self) -> Vec<u8> {
+        raw::image_head(self)
+    }
+}

@@ -1,0 +1,93 @@
+//! The loader core bootcore for programs in Rust: what a boot loader does with memory.
+//!
+//! | You have | Call |
+//! |---|---|
+//! | files on a disk, and a guest's memory | [`Plan::new`]: read each file straight to its places |
+//! | files in memory, and the machine's memory in one piece | [`load()`] |
+//! | the same, and a menu with fallbacks | [`boot()`] |
+//! | a menu, and a disk that is still reading | [`Session`] |
+//! | an image of what was handed over | [`walk`] |
+//!
+//! From equal files, lines and machines the first four hand a kernel equal bytes, places and registers, unless a pool is too
+//! small. Addresses and lengths are in bytes, and addresses are those of the machine that is booted.
+//!
+//! ```
+//! use bootcore::{load, Entry, Error, Kind, Machine, Memory, Multiboot2};
+//!
+//! # fn main() -> Result<(), Error> {
+//! // a kernel that is a Multiboot2 header alone, with where it lies and where it is entered
+//! let words = [
+//!     0xE85250D6, 0, 64, 0u32.wrapping_sub(0xE85250D6 + 64), // magic, architecture, length, sum
+//!     2, 24, 0x100000, 0x100000, 0, 0x102000, // an address tag
+//!     3, 12, 0x100000, 0, // the entry address
+//!     0, 8, // the end
+//! ];
+//! let kernel: Vec<u8> = words.iter().flat_map(|word: &u32| word.to_le_bytes()).collect();
+//!
+//! let machine = Machine::new(2 << 20).region(0, 2 << 20, Kind::Usable);
+//! let mut guest = vec![0; 2 << 20];
+//! let entry = Entry::from(Multiboot2::new(&kernel).line("quiet").module(b"hello", "greeting"));
+//! let handoff = load(&mut Memory::new(0, &mut guest), &machine, &entry)?;
+//!
+//! assert_eq!(handoff.registers.rip, 0x100000);
+//! assert_eq!(handoff.registers.segments().cs.selector, 0x10);
+//! assert_eq!(handoff.places.len(), 3); // information, kernel, module
+//! assert_eq!(&guest[0x102000..][..5], b"hello");
+//! # Ok(())
+//! # }
+//! ```
+//!
+//! A refusal, as of a kernel that is none, is an [`Error`] that says which of the rules is broken: the kernel or the machine is
+//! at fault, and memory is as before. A [`Misuse`] is a mistake of the program, or of a memory map that it passes on.
+//!
+//! Calls start no thread, open no file, and know nothing of each other. Each needs 16 KiB of stack at most.
+#![deny(missing_docs, unsafe_code, unsafe_op_in_unsafe_fn, rustdoc::broken_intra_doc_links)]
+
+#[cfg(not(all(target_arch = "x86_64", target_pointer_width = "64")))]
+compile_error!("libbootcore.a is for x86-64");
+
+mod boot;
+mod entry;
+mod error;
+mod handoff;
+mod image;
+mod load;
+mod machine;
+mod numbers;
+mod plan;
+mod raw;
+#[cfg(test)]
+mod records;
+mod refusal;
+
+pub use boot::{boot, Booted, Progress, Request, Session};
+pub use entry::{Entry, File, Linux, LinuxEntry, Menu, Module, Multiboot2, Protocol};
+pub use error::{Error, Misuse, RefusedEntry};
+pub use handoff::{Handoff, Place, Registers, Role, Segment, Segments};
+pub use image::{walk, Range, Run, Seen, SeenModule};
+pub use load::{load, prepare};
+pub use machine::{Kind, Machine, Memory, Region};
+pub use plan::{Plan, Source, Step, Steps};
+pub use refusal::{Fault, Refusal};
+
+/// A machine has no more regions.
+pub const MAX_REGIONS: usize = 128;
+/// A menu has no more entries.
+pub const MAX_ENTRIES: usize = 32;
+/// An entry has no more modules.
+pub const MAX_MODULES: usize = 64;
+/// A line has no more bytes; a Linux kernel may take fewer.
+pub const MAX_LINE: usize = 4095;
+/// A copy of an RSDP has no more bytes.
+pub const MAX_RSDP: usize = 256;
+/// How long each piece of a file is that a [`Session`] awaits, but for the last one.
+pub const PIECE: usize = 4096;
+
+/// The version of the archive that is linked: major * 10000 + minor * 100 + patch.
+///
+/// ```
+/// assert_eq!(bootcore::version() / 10000, 1);
+/// ```
+pub fn version() -> u32 {
+    raw::version()
+}

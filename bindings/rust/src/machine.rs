@@ -1,0 +1,107 @@
+//! The machine that is booted, and its memory.
+
+/// Kinds of memory: the numbers of an e820 entry. Where regions overlap, the greatest counts.
+#[derive(Clone, Copy, Debug, PartialEq, Eq, PartialOrd, Ord, Hash)]
+#[repr(u32)]
+pub enum Kind {
+    /// Parts may lie here.
+    Usable = 1,
+    /// Not to be used.
+    Reserved = 2,
+    /// Tables of ACPI, which a kernel may use once it has read them.
+    Acpi = 3,
+    /// Memory of ACPI that is kept over sleep.
+    Nvs = 4,
+    /// Memory with faults.
+    Unusable = 5,
+}
+
+impl Kind {
+    /// The kind of a number of an e820 entry, if there is one.
+    pub fn from_number(number: u32) -> Option<Kind> {
+        [Kind::Usable, Kind::Reserved, Kind::Acpi, Kind::Nvs, Kind::Unusable].into_iter().find(|kind| kind.number() == number)
+    }
+
+    /// Its number in an e820 entry.
+    pub fn number(self) -> u32 {
+        self as u32
+    }
+}
+
+/// A region of a machine's memory.
+#[derive(Clone, Copy, Debug, PartialEq, Eq, Hash)]
+pub struct Region {
+    /// Its first address.
+    pub base: u64,
+    /// Its bytes; it ends at 2^52 at most.
+    pub length: u64,
+    /// What it is.
+    pub kind: Kind,
+}
+
+/// A machine: where its memory ends, its memory map, and the pool of a boot.
+///
+/// ```
+/// use bootcore::{Kind, Machine};
+///
+/// let guest = Machine::new(512 << 20)
+///     .region(0, 0x9F000, Kind::Usable)
+///     .region(1 << 20, 511 << 20, Kind::Usable)
+///     .region(4 << 30, 2 << 30, Kind::Usable); // memory above 4 GiB
+/// assert_eq!(guest.regions.len(), 3);
+/// ```
+#[derive(Clone, Debug, PartialEq, Eq, Hash)]
+pub struct Machine {
+    /// Where its memory below 4 GiB ends, above which no part lies: a multiple of 4096 from 1 MiB to 4 GiB.
+    pub size: u64,
+    /// Its memory map, in any order; at most [`MAX_REGIONS`](crate::MAX_REGIONS). What lies in no region is not used,
+    /// and the kernel is not told of it.
+    pub regions: Vec<Region>,
+    /// Where a boot or a session keeps what it has read of files: usable whole frames of 4096 bytes, as many as the
+    /// files of one entry have together. A load or a plan needs none.
+    pub pool_base: u64,
+    /// The bytes of the pool.
+    pub pool_length: u64,
+}
+
+impl Machine {
+    /// A machine of this size without regions and without a pool.
+    pub fn new(size: u64) -> Machine {
+        Machine { size, regions: Vec::new(), pool_base: 0, pool_length: 0 }
+    }
+
+    /// With a region more.
+    pub fn region(mut self, base: u64, length: u64, kind: Kind) -> Machine {
+        self.regions.push(Region { base, length, kind });
+        self
+    }
+
+    /// With this pool.
+    pub fn pool(mut self, base: u64, length: u64) -> Machine {
+        self.pool_base = base;
+        self.pool_length = length;
+        self
+    }
+}
+
+/// Memory of the machine that is booted, where the program has it: the bytes from an address on.
+///
+/// ```
+/// let mut guest = vec![0; 1 << 20];
+/// let memory = bootcore::Memory::new(0, &mut guest);
+/// assert_eq!(memory.bytes.len(), 1 << 20);
+/// ```
+#[derive(Debug)]
+pub struct Memory<'m> {
+    /// The machine's address of the first byte.
+    pub address: u64,
+    /// The bytes.
+    pub bytes: &'m mut [u8],
+}
+
+impl<'m> Memory<'m> {
+    /// The bytes from an address of the machine on.
+    pub fn new(address: u64, bytes: &'m mut [u8]) -> Memory<'m> {
+        Memory { address, bytes }
+    }
+}

@@ -1,0 +1,141 @@
+//! What goes where: for a program that reads files straight to their places.
+
+use crate::entry::Entry;
+use crate::error::Error;
+use crate::handoff::{Handoff, Place, Registers};
+use crate::machine::{Machine, Memory};
+use crate::raw;
+
+/// Where the bytes of a step come from.
+#[derive(Clone, Copy, Debug, PartialEq, Eq, Hash)]
+pub enum Source<'p> {
+    /// The bytes of a file from an offset on.
+    File {
+        /// 0 is the kernel, k module k - 1, or 1 the initial ramdisk.
+        file: usize,
+        /// The offset.
+        offset: u64,
+    },
+    /// The plan's own bytes: boot information, boot parameters, tables.
+    Own(&'p [u8]),
+    /// Zeros. They may be left out where memory is known to be zero, as a fresh mapping is, and nowhere else.
+    Zeros,
+}
+
+/// Bytes that go to an address: at least 1.
+#[derive(Clone, Copy, Debug, PartialEq, Eq, Hash)]
+pub struct Step<'p> {
+    /// Where they go.
+    pub address: u64,
+    /// How many there are.
+    pub length: u64,
+    /// Where they come from.
+    pub source: Source<'p>,
+}
+
+/// What [`load`](crate::load()) would do, as steps. Whoever carries out all of them, in any order, has loaded the entry.
+///
+/// ```no_run
+/// use bootcore::{Entry, File, Kind, Linux, Machine, Plan, Source};
+///
+/// # fn main() -> Result<(), Box<dyn std::error::Error>> {
+/// let kernel = std::fs::read("vmlinuz")?;
+/// let initrd = std::fs::metadata("initrd.img")?.len();
+/// let machine = Machine::new(512 << 20)
+///     .region(0, 0x9F000, Kind::Usable)
+///     .region(1 << 20, 511 << 20, Kind::Usable);
+/// let entry = Entry::from(Linux::new64(&kernel).line("console=ttyS0").initrd(File::Length(initrd)));
+/// let plan = Plan::new(&machine, &entry)?;
+/// for step in &plan {
+///     match step.source {
+///         Source::File { file, offset } => println!("{:x}: file {} from {}", step.address, file, offset),
+///         Source::Own(bytes) => println!("{:x}: {} bytes", step.address, bytes.len()),
+///         Source::Zeros => println!("{:x}: {} zeros", step.address, step.length),
+///     }
+/// }
+/// println!("entered at {:x}", plan.registers().rip);
+/// # Ok(())
+/// # }
+/// ```
+#[derive(Clone, Debug, PartialEq, Eq)]
+pub struct Plan {
+    pub(crate) handoff: Handoff,
+    pub(crate) steps: Vec<raw::Step>,
+    pub(crate) own: Vec<u8>,
+}
+
+impl Plan {
+    /// The plan of an entry on a machine, from the kernel's bytes and the other files' lengths: of these files no byte is
+    /// read. Equal machines, entries, kernels and lengths have equal plans.
+    pub fn new(machine: &Machine, entry: &Entry<'_>) -> Result<Plan, Error> {
+        raw::plan(machine, entry)
+    }
+
+    /// The steps by ascending address; none meets another, and together they are exactly the parts.
+    pub fn steps(&self) -> Steps<'_> {
+        Steps { steps: self.steps.iter(), own: &self.own }
+    }
+
+    /// The plan's own bytes, of which steps are [`Source::Own`].
+    pub fn own(&self) -> &[u8] {
+        &self.own
+    }
+
+    /// What the kernel is handed.
+    pub fn handoff(&self) -> &Handoff {
+        &self.handoff
+    }
+
+    /// The parts, by ascending address.
+    pub fn places(&self) -> &[Place] {
+        &self.handoff.places
+    }
+
+    /// The registers as the kernel begins.
+    pub fn registers(&self) -> &Registers {
+        &self.handoff.registers
+    }
+
+    /// Carries out the steps from files in memory, into memory in one piece or more, in any order, and with holes where no
+    /// part goes. `files` are the kernel, then the modules or the initial ramdisk, of the lengths that were planned for.
+    /// After an error nothing is written. A byte that is in two pieces goes to the first.
+    pub fn carry_out(&self, files: &[&[u8]], memory: &mut [Memory<'_>]) -> Result<(), Error> {
+        raw::carry_out(self, files, memory)
+    }
+}
+
+impl<'p> IntoIterator for &'p Plan {
+    type Item = Step<'p>;
+    type IntoIter = Steps<'p>;
+
+    fn into_iter(self) -> Steps<'p> {
+        self.steps()
+    }
+}
+
+/// The steps of a [`Plan`].
+#[derive(Clone, Debug)]
+pub struct Steps<'p> {
+    steps: std::slice::Iter<'p, raw::Step>,
+    own: &'p [u8],
+}
+
+impl<'p> Iterator for Steps<'p> {
+    type Item = Step<'p>;
+
+    fn next(&mut self) -> Option<Step<'p>> {
+        let step = self.steps.next()?;
+        let source = match step.source {
+            raw::FROM_FILE => Source::File { file: step.file as usize, offset: step.offset },
+            raw::FROM_LAYOUT => Source::Own(&self.own[step.offset as usize..][..step.length as usize]),
+            _ => Source::Zeros,
+        };
+        Some(Step { address: step.address, length: step.length, source })
+    }
+
+    fn size_hint(&self) -> (usize, Option<usize>) {
+        self.steps.size_hint()
+    }
+}
+
+impl ExactSizeIterator for Steps<'_> {}

@@ -1,0 +1,143 @@
+//! The first example: its handoff by each call, and its image.
+
+mod common;
+
+use bootcore::*;
+use common::*;
+
+fn entry(kernel: &[u8]) -> Entry<'_> {
+    Multiboot2::new(kernel).line("k").module(b"hello", "m").into()
+}
+
+/// By the table of docs/BOOT-RULES.md: information lowest, the module from the next frame after the kernel on.
+fn is_first(handoff: &Handoff) {
+    let place = |role, address, length| Place { role, index: 0, address, length };
+    let wanted = [place(Role::Information, 0x1000, 4096), place(Role::Kernel, 0x100000, 80), place(Role::Module, 0x101000, 4096)];
+    assert_eq!(handoff.places, wanted);
+    assert_eq!((handoff.entry, handoff.protocol), (0, Protocol::Multiboot2));
+    let registers = &handoff.registers;
+    assert_eq!((registers.bits, registers.rip), (32, 0x100010));
+    assert_eq!((registers.rax, registers.rbx, registers.rsi), (0x36D76289, 0x1000, 0));
+    assert_eq!((registers.cr0, registers.cr3, registers.cr4), (0x11, 0, 0));
+    assert_eq!((registers.efer, registers.gdt_base), (0, 0));
+    let Segments { cs, ds, es, fs, gs, ss } = registers.segments();
+    let data = Segment { base: 0, limit: u32::MAX, selector: 0x18, type_: 3, s: 1, dpl: 0, p: 1, avl: 0, l: 0, db: 1, g: 1 };
+    assert_eq!(cs, Segment { selector: 0x10, type_: 11, ..data });
+    assert_eq!([ds, es, fs, gs, ss], [data; 5]);
+}
+
+#[test]
+fn each_call_hands_over_the_same() {
+    let (kernel, machine) = (multiboot2_kernel(), machine());
+    let entry = entry(&kernel);
+    let mut loaded = memory();
+    is_first(&load(&mut Memory::new(0, &mut loaded), &machine, &entry).unwrap());
+    is_first(&prepare(&machine, &entry).unwrap());
+    is_first(Plan::new(&machine, &entry).unwrap().handoff());
+    let mut booted = memory();
+    let end = boot(&mut Memory::new(0, &mut booted), &machine, &Menu::new().entry(entry)).unwrap();
+    is_first(&end.handoff);
+    assert_eq!(end.refusals, []);
+    assert!(booted[..POOL] == loaded[..POOL]);
+    assert!(booted[POOL..].iter().all(|byte| *byte == 0));
+}
+
+#[test]
+fn memory_holds_the_parts_and_nothing_else() {
+    let kernel = multiboot2_kernel();
+    let mut loaded = memory();
+    load(&mut Memory::new(0, &mut loaded), &machine(), &entry(&kernel)).unwrap();
+    // the kernel's one segment: 48 bytes of its file, then zeros
+    assert_eq!(loaded[0x100000..][..48], kernel[0x70..][..48]);
+    assert_eq!(loaded[0x100030..][..32], [0; 32]);
+    assert_eq!(&loaded[0x101000..][..5], b"hello");
+    assert!(loaded[0x101005..0x102000].iter().all(|byte| *byte == 0));
+    let beside = loaded.iter().enumerate().filter(|(at, byte)| {
+        !(0x1000..0x2000).contains(at)
+            && !(0x100000..0x100050).contains(at)
+            && !(0x101000..0x102000).contains(at)
+            && **byte != 0xA5
+    });
+    assert_eq!(beside.count(), 0);
+}
+
+/// The stored image, which is of version 1: its head is another, its places and parts are the same.
+fn stored_image() -> Vec<u8> {
+    bytes_of(include_str!("../../../examples/first.image.hex"))
+}
+
+#[test]
+fn parts_are_those_of_the_stored_image() {
+    let kernel = multiboot2_kernel();
+    let mut loaded = memory();
+    let handoff = load(&mut Memory::new(0, &mut loaded), &machine(), &entry(&kernel)).unwrap();
+    let mut image = handoff.image_head();
+    assert_eq!(image.len(), 272 + 3 * 24);
+    for place in &handoff.places {
+        image.extend_from_slice(&loaded[place.address as usize..][..place.length as usize]);
+    }
+    let stored = stored_image();
+    assert!(image[272..] == stored[104..]);
+    assert_eq!(walk(&image), walk(&stored));
+
+    let seen = walk(&image).unwrap();
+    assert_eq!((seen.protocol, seen.entry_address), (Protocol::Multiboot2, 0x100010));
+    assert_eq!(seen.line, b"k");
+    assert_eq!(seen.kernel_parts, [Range { address: 0x100000, length: 80 }]);
+    assert_eq!(seen.modules, [SeenModule { file: Range { address: 0x101000, length: 5 }, line: b"m".to_vec() }]);
+    let runs: Vec<_> = seen.runs.iter().map(|run| (run.range.address, run.range.length, run.kind().unwrap())).collect();
+    let wanted = [(0, 0x9F000, Kind::Usable), (0xF0000, 0x10000, Kind::Reserved), (0x100000, 0x300000, Kind::Usable)];
+    assert_eq!(runs, wanted);
+    assert_eq!((seen.initrd, seen.rsdp_old, seen.rsdp_new), (None, None, None));
+}
+
+#[test]
+fn a_changed_image_has_its_fault() {
+    let mut image = stored_image();
+    let fault = |image: &[u8]| walk(image).unwrap_err();
+    assert!(matches!(fault(&[]), Error::BadImage(_)));
+    assert_eq!(fault(&image[..image.len() - 1]), Error::BadImage(Fault::WrongLength));
+    image[8] = 9;
+    assert_eq!(fault(&image), Error::BadImage(Fault::BadVersion));
+    assert!(fault(&image).to_string().starts_with("bad image 72 BadVersion: "));
+}
+
+#[test]
+fn copies_of_the_rsdp_and_an_initial_ramdisk_are_seen() {
+    let image_of = |entry: &Entry<'_>| {
+        let mut loaded = memory();
+        let handoff = load(&mut Memory::new(0, &mut loaded), &machine(), entry).unwrap();
+        let parts = handoff.places.iter().map(|place| &loaded[place.address as usize..][..place.length as usize]);
+        parts.fold(handoff.image_head(), |image, part| [&image[..], part].concat())
+    };
+    let kernel = multiboot2_kernel();
+    let entry = Multiboot2 { rsdp_old: b"RSD PTR old", rsdp_new: b"RSD PTR, a new one", ..Multiboot2::new(&kernel) };
+    let seen = walk(&image_of(&entry.into())).unwrap();
+    assert_eq!(seen.rsdp_old.as_deref(), Some(&b"RSD PTR old"[..]));
+    assert_eq!(seen.rsdp_new.as_deref(), Some(&b"RSD PTR, a new one"[..]));
+    let kernel = linux64_kernel();
+    let seen = walk(&image_of(&Linux::new64(&kernel).line("quiet").initrd(b"hello").into())).unwrap();
+    assert_eq!((seen.protocol, seen.line), (Protocol::Linux64, b"quiet".to_vec()));
+    assert_eq!(seen.initrd.unwrap().length, 5);
+}
+
+#[test]
+fn a_refusal_is_said_in_words() {
+    let (machine, mut memory) = (machine(), memory());
+    let refused = load(&mut Memory::new(0, &mut memory), &machine, &Multiboot2::new(b"hello").into()).unwrap_err();
+    assert_eq!(refused, Error::Refused(Refusal::NoHeader));
+    assert_eq!(
+        refused.to_string(),
+        "refused 4 NoHeader: no Multiboot2 header in the first 32768 bytes, at a multiple of 8, with a right sum"
+    );
+    let kernel = linux_kernel();
+    let refused = prepare(&machine, &Linux::new64(&kernel).into()).unwrap_err();
+    assert_eq!(refused, Error::Refused(Refusal::No64Entry));
+    let kernel = multiboot2_kernel();
+    let refused = Plan::new(&machine, &Multiboot2::new(&kernel).line("a\0b").into()).unwrap_err();
+    assert_eq!(refused, Error::Refused(Refusal::LineHasNul));
+    let overlap = Refusal::SegmentsOverlap { one: 1, other: 2 };
+    assert!(overlap.to_string().starts_with("refused 15 SegmentsOverlap(1, 2): "));
+    assert_eq!((overlap.number(), overlap.meaning()), (15, "the two segments overlap: they share a byte"));
+    assert_eq!(Refusal::BadTag { offset: 0x30 }.to_string().split(':').next(), Some("refused 7 BadTag(0x30)"));
+}

@@ -1,0 +1,156 @@
+//! Each misuse is told as its error, and nothing is changed then.
+
+mod common;
+
+use bootcore::*;
+use common::*;
+
+fn misuse<T: std::fmt::Debug>(end: Result<T, Error>) -> Misuse {
+    match end {
+        Err(Error::Misuse(misuse)) => misuse,
+        other => panic!("{:?}", other),
+    }
+}
+
+/// A load, a preparation and a plan end alike.
+fn all(wanted: Misuse, machine: &Machine, entry: impl for<'a> Fn(&'a [u8]) -> Entry<'a>) {
+    let kernel = multiboot2_kernel();
+    let entry = entry(&kernel);
+    let mut memory = memory();
+    assert_eq!(misuse(load(&mut Memory::new(0, &mut memory), machine, &entry)), wanted);
+    assert_eq!(misuse(prepare(machine, &entry)), wanted);
+    assert_eq!(misuse(Plan::new(machine, &entry)), wanted);
+    assert!(memory.iter().all(|byte| *byte == 0xA5));
+}
+
+fn right(kernel: &[u8]) -> Entry<'_> {
+    Multiboot2::new(kernel).line("k").module(b"hello", "m").into()
+}
+
+#[test]
+fn of_a_machine() {
+    let right = right;
+    all(Misuse::BadSize, &Machine { size: SIZE as u64 + 1, ..machine() }, right);
+    all(Misuse::BadSize, &Machine { size: 0, ..machine() }, right);
+    all(Misuse::BadSize, &Machine { size: u64::MAX, ..machine() }, right);
+    let many = (0..MAX_REGIONS).fold(machine(), |machine, _| machine.region(0, 4096, Kind::Nvs));
+    all(Misuse::TooManyRegions, &many, right);
+    all(Misuse::BadRegion, &machine().region(1 << 52, 1, Kind::Usable), right);
+    all(Misuse::BadRegion, &machine().region(u64::MAX, u64::MAX, Kind::Usable), right);
+    all(Misuse::BadPool, &machine().pool(1, 0), right);
+    all(Misuse::BadPool, &machine().pool(4096, 1), right);
+    all(Misuse::BadPool, &machine().pool(4096, u64::MAX), right);
+    all(Misuse::BadPool, &machine().pool(0x9F000, 4096), right);
+}
+
+#[test]
+fn of_an_entry() {
+    let machine = &machine();
+    all(Misuse::NoBytes, machine, |_| Multiboot2::new(File::Length(80)).into());
+    all(Misuse::BadFile, machine, |_| Multiboot2::new(File::Unreadable).into());
+    all(Misuse::BadFile, machine, |kernel| Multiboot2::new(kernel).module(File::Unreadable, "m").into());
+    all(Misuse::BadFile, machine, |_| Linux::new(b"none").initrd(File::Unreadable).into());
+    all(Misuse::TooMany, machine, |kernel| {
+        (0..=MAX_MODULES).fold(Multiboot2::new(kernel), |entry, _| entry.module(b"", "")).into()
+    });
+    let long = [0; MAX_RSDP + 1];
+    let kernel = multiboot2_kernel();
+    let entry = Multiboot2 { rsdp_new: &long, ..Multiboot2::new(&kernel) }.into();
+    assert_eq!(misuse(prepare(machine, &entry)), Misuse::TooMany);
+    let entry = Multiboot2 { rsdp_old: &long, ..Multiboot2::new(&kernel) }.into();
+    assert_eq!(misuse(Plan::new(machine, &entry)), Misuse::TooMany);
+}
+
+#[test]
+fn of_a_load_alone() {
+    let (kernel, machine, mut memory) = (multiboot2_kernel(), machine(), memory());
+    let mut load_at = |address, length, entry: &Entry<'_>| {
+        let end = load(&mut Memory::new(address, &mut memory[..length]), &machine, entry);
+        assert!(memory.iter().all(|byte| *byte == 0xA5));
+        end
+    };
+    let entry = right(&kernel);
+    assert_eq!(misuse(load_at(0, SIZE - 1, &entry)), Misuse::BadMemory);
+    assert_eq!(misuse(load_at(1 << 32, SIZE, &entry)), Misuse::BadMemory);
+    assert_eq!(load_at(0x2000, SIZE - 0x2000, &entry), Err(Error::Outside));
+    let of_length = Multiboot2::new(&kernel).module(File::Length(5), "m").into();
+    assert_eq!(misuse(load_at(0, SIZE, &of_length)), Misuse::NoBytes);
+    let of_length = Linux::new(b"none").initrd(File::Length(5)).into();
+    assert_eq!(misuse(load_at(0, SIZE, &of_length)), Misuse::NoBytes);
+}
+
+#[test]
+fn of_carrying_out() {
+    let kernel = multiboot2_kernel();
+    let plan = Plan::new(&machine(), &right(&kernel)).unwrap();
+    let mut memory = memory();
+    let mut carry_out = |files: &[&[u8]], address, length| {
+        let end = plan.carry_out(files, &mut [Memory::new(address, &mut memory[..length])]);
+        assert!(memory.iter().all(|byte| *byte == 0xA5));
+        end
+    };
+    assert_eq!(misuse(carry_out(&[&kernel], 0, SIZE)), Misuse::BadFile);
+    assert_eq!(misuse(carry_out(&[&kernel, b"hell"], 0, SIZE)), Misuse::BadFile);
+    assert_eq!(misuse(carry_out(&[], 0, SIZE)), Misuse::BadFile);
+    assert_eq!(carry_out(&[&kernel, b"hello"], 0x2000, SIZE), Err(Error::Outside));
+    assert_eq!(carry_out(&[&kernel, b"hello"], 0, 0x101FFF), Err(Error::Outside));
+    assert_eq!(carry_out(&[&kernel, b"hello"], u64::MAX, SIZE), Err(Error::Outside));
+    assert_eq!(plan.carry_out(&[&kernel, b"hello"], &mut []), Err(Error::Outside));
+}
+
+#[test]
+fn of_a_menu() {
+    let (kernel, machine) = (multiboot2_kernel(), machine());
+    let menu = || Menu::new().entry(right(&kernel));
+    let all = |wanted: Misuse, machine: &Machine, menu: &Menu<'_>| {
+        let (mut memory, mut other) = (memory(), memory());
+        assert_eq!(misuse(boot(&mut Memory::new(0, &mut memory), machine, menu)), wanted);
+        assert_eq!(misuse(Session::new(Memory::new(0, &mut other), machine, menu)), wanted);
+        assert!(memory.iter().chain(&other).all(|byte| *byte == 0xA5));
+    };
+    all(Misuse::BadIndex, &machine, &Menu::new());
+    all(Misuse::BadIndex, &machine, &menu().first(1));
+    all(Misuse::BadIndex, &machine, &menu().fallback(0).fallback(u32::MAX));
+    let many = (0..=MAX_ENTRIES).fold(Menu::new(), |menu, _| menu.entry(Linux::new(b"")));
+    all(Misuse::TooMany, &machine, &many);
+    all(Misuse::BadSize, &Machine { size: 4096, ..machine.clone() }, &menu());
+    all(Misuse::BadPool, &machine.clone().pool(0, 4096), &menu());
+    let mut memory = memory();
+    let of_length = Menu::new().entry(Linux::new(File::Length(5)));
+    assert_eq!(misuse(boot(&mut Memory::new(0, &mut memory), &machine, &of_length)), Misuse::NoBytes);
+    assert_eq!(misuse(boot(&mut Memory::new(4096, &mut memory), &machine, &menu())), Misuse::BadMemory);
+    assert_eq!(misuse(boot(&mut Memory::new(0, &mut memory[1..]), &machine, &menu())), Misuse::BadMemory);
+}
+
+#[test]
+fn of_a_session() {
+    let (kernel, machine) = (multiboot2_kernel(), machine());
+    let menu = Menu::new().entry(right(&kernel));
+    let mut memory = memory();
+    let mut short = Session::new(Memory::new(0, &mut memory[1..]), &machine, &menu).unwrap();
+    assert_eq!(misuse(short.start()), Misuse::BadMemory);
+    drop(short);
+    let low = machine.clone().pool(0x1000, 0x10000);
+    let mut above = Session::new(Memory::new(0x2000, &mut memory[0x2000..]), &low, &menu).unwrap();
+    assert_eq!(misuse(above.start()), Misuse::LowPool);
+    drop(above);
+    let mut high = Session::new(Memory::new(1 << 32, &mut memory), &machine, &menu).unwrap();
+    let request = Request::default();
+    assert_eq!(misuse(high.start()), Misuse::BadMemory);
+    assert_eq!(misuse(high.pieces(&request, b"hello")), Misuse::BadMemory);
+    assert_eq!(misuse(high.fault(&request)), Misuse::BadMemory);
+    drop(high);
+    assert!(memory.iter().all(|byte| *byte == 0xA5));
+}
+
+#[test]
+fn numbers_and_words() {
+    let mut words: Vec<_> = (101..=116).map(|number| Misuse::from_number(number).to_string()).collect();
+    assert!((0..200).all(|number| Misuse::from_number(number).number() == number));
+    assert!(words.iter().all(|word| !word.is_empty()));
+    words.sort();
+    words.dedup();
+    assert_eq!(words.len(), 16);
+    assert_eq!(Misuse::from_number(102), Misuse::Other(102)); // a reserved word: no program in Rust sets one
+    assert_eq!(Error::Misuse(Misuse::BadSize).to_string(), Misuse::BadSize.to_string());
+}
