@@ -1,0 +1,225 @@
+"""the crate for Rust: records and numbers, tests over the archive, loaders, format"""
+
+import re
+import shutil
+import unittest
+from pathlib import Path
+from typing import Dict, Iterator, List, Optional, Tuple
+
+from tests import examples
+from tests.c import GUEST
+from tests.c_core import CC, HEADER, libraries
+from tests.support import TOP, Checks, Ran, is_at_hand, run
+
+CRATE = TOP / "bindings/rust"
+TEN_MINUTES = 600.0
+# where Debian's packages of crates lie
+PACKAGED = Path("/usr/share/cargo/registry")
+NO_REFUSALS = {"BOOTCORE_FAULT_READ_NO_MEMORY", "BOOTCORE_FAULT_WALK_NO_MEMORY"}  # an error of its own in the crate
+
+IN_VM_MEMORY = """\
+entered at 100200, boot parameters at 1000
+BootParams at 1000, 4096 bytes: [0, 0, 0, 0]
+CommandLine at 2000, 4096 bytes: [63, 6f, 6e, 73]
+Gdt at 3000, 4096 bytes: [0, 0, 0, 0]
+PageTables at 4000, 24576 bytes: [3, 50, 0, 0]
+Kernel at 100000, 4096 bytes: [fa, f4, eb, fd]
+Initrd at ffff000, 4096 bytes: [68, 65, 6c, 6c]
+"""
+
+
+def setUpModule() -> None:
+    for tool in ("rustc", "cargo"):
+        ran = run(tool, "--version")  # a launcher may be at hand without a toolchain
+        if ran.status != 0:
+            raise unittest.SkipTest(f"the crate for Rust: {tool} is not at hand")
+    for library in libraries():
+        if not library.exists():
+            raise unittest.SkipTest(f"the crate for Rust: {library.relative_to(TOP)} is not built: ./test c or examples/c/build does it")
+
+
+def source(name: str) -> str:
+    return (CRATE / name).read_text(encoding="utf-8")
+
+
+class CrateChecks(Checks):
+    """Checks of the crate, whose products lie in a temporary folder that all of them share."""
+
+    target: Path
+
+    @classmethod
+    def setUpClass(cls) -> None:
+        super().setUpClass()
+        cls.target = cls.room / "target"
+
+    def cargo(self, *words: str, crate: Path = CRATE, env: Optional[Dict[str, str]] = None) -> Ran:
+        found = {"BOOTCORE_LIB_DIR": str(libraries()[0].parent)} if env is None else env
+        return run("cargo", *words, cwd=crate, timeout=TEN_MINUTES, env={**found, "CARGO_TARGET_DIR": str(self.target)})
+
+    def assert_good(self, ran: Ran) -> None:
+        if ran.status != 0:
+            written = (ran.out + ran.err)[-4000:].decode(errors="backslashreplace")
+            self.fail(f"ran: {ran}\nstatus {ran.status}, wanted 0\n{written}")
+
+
+class Declared(CrateChecks):
+    """What the crate says of the header, said to a compiler of C."""
+
+    def compiles(self, asserted: List[Tuple[str, str]]) -> None:
+        """A C11 compiler agrees that each two are equal."""
+        lines = [f'_Static_assert({one} == {other}, "{one}");' for one, other in asserted]
+        file = self.room / "asserted.c"
+        file.write_text("\n".join(['#include "bootcore.h"', *lines, ""]), encoding="utf-8")
+        self.assert_ended(run(*CC, "-std=c11", "-fsyntax-only", "-I", HEADER.parent, file))
+
+    def test_records(self) -> None:
+        """the records of the crate have the sizes and the offsets of the header's structs"""
+        if not is_at_hand(CC[0]):
+            self.skipTest("no compiler of C is at hand")
+        asserted = []
+        for line in source("tests/records.txt").splitlines():
+            record, field, offset, size = line.split(" ")
+            struct = "bootcore_" + snake_case(record)
+            if field == "-":
+                asserted.append((f"sizeof({struct})", size))
+            else:
+                asserted.append((f"offsetof({struct}, {field})", offset))
+                asserted.append((f"sizeof((({struct} *)0)->{field})", size))
+        structs = set(re.findall(r"^typedef struct (bootcore_\w+) ", HEADER.read_text(encoding="utf-8"), re.M))
+        missing = [struct for struct in structs if not any(f"sizeof({struct})" == one for one, _ in asserted)]
+        self.assertEqual(missing, [], "structs of the header that the crate lacks")
+        self.compiles(asserted)
+
+    def test_numbers(self) -> None:
+        """the numbers of the crate are the header's, and it has each refusal"""
+        if not is_at_hand(CC[0]):
+            self.skipTest("no compiler of C is at hand")
+        asserted = list(numbers())
+        self.assertGreater(len(asserted), 80)
+        names = set(re.findall(r"\bBOOTCORE_(?:REFUSAL|FAULT)_\w+(?= = )", HEADER.read_text(encoding="utf-8")))
+        self.assertEqual(names - NO_REFUSALS - {name for name, _ in asserted}, set(), "refusals that the crate lacks")
+        self.compiles(asserted)
+
+    def test_unsafe(self) -> None:
+        """`unsafe` stands in src/raw.rs alone, each time below its reason"""
+        unsafe = re.compile(r"\bunsafe\b(?!_)")
+        others = [path for path in CRATE.rglob("*.rs") if path.name != "raw.rs" and unsafe.search(path.read_text(encoding="utf-8"))]
+        self.assertEqual(others, [])
+        lines = source("src/raw.rs").splitlines()
+        uses = [at for at, line in enumerate(lines) if unsafe.search(line.split("//")[0])]
+        self.assertGreater(len(uses), 15)
+        self.assertEqual([lines[at] for at in uses if not has_reason(lines, at)], [])
+
+    def test_lock(self) -> None:
+        """the crate rests on no other"""
+        self.assertEqual(re.findall(r'^name = "(.+)"$', source("Cargo.lock"), re.M), ["bootcore"])
+
+
+def snake_case(name: str) -> str:
+    return re.sub(r"(?<=[a-z0-9])(?=[A-Z])", "_", name).lower()
+
+
+def has_reason(lines: List[str], at: int) -> bool:
+    """A comment with a reason stands above a line, or above the statement that it ends."""
+    while at > 0 and not lines[at - 1].lstrip().startswith("//"):
+        at -= 1
+        if lines[at].rstrip().endswith((";", "{", "}")) and "unsafe" not in lines[at]:
+            return False
+    while at > 0 and lines[at - 1].lstrip().startswith("//"):
+        at -= 1
+        if lines[at].lstrip().startswith("// SAFETY: "):
+            return True
+    return False
+
+
+def numbers() -> Iterator[Tuple[str, str]]:
+    """The numbers of the header as the crate has them: name and value."""
+    variant = re.compile(r"\b([A-Z]\w+)(?: \{[^{}]*\})? = (\d+),")
+    said = {"NO_BYTES": "NULL", "NO64_ENTRY": "NO_64_ENTRY"}
+    for file in ("refusal", "error", "entry", "handoff", "machine"):
+        prefix = "BOOTCORE_"
+        for line in re.split(r"(?m)^(?=    \w+ \{$)", source(f"src/{file}.rs")):
+            if file == "refusal":
+                prefix = "BOOTCORE_FAULT_" if line.startswith("    Fault") else "BOOTCORE_REFUSAL_"
+            for name, number in variant.findall(line):
+                name = snake_case(name).upper()
+                yield prefix + said.get(name, name), number
+    for file in ("raw", "lib"):
+        for name, value in re.findall(r"(?m)^(?:pub(?:\(crate\))? )?const (\w+): \w+ = ([\w:]+);", source(f"src/{file}.rs")):
+            yield f"BOOTCORE_{name}", {"usize::MAX": "SIZE_MAX", "u64::MAX": "UINT64_MAX"}.get(value, value)
+
+
+class Built(CrateChecks):
+    def test_tests(self) -> None:
+        ran = self.cargo("test", "--locked", "--offline", "--no-fail-fast")
+        passed = sum(map(int, re.findall(rb"^test result: \w+\. (\d+) passed", ran.out, re.M)))
+        with self.check(f"the tests and the examples in the documentation of the crate pass: {passed}"):
+            self.assert_good(ran)
+            self.assertGreater(passed, 30)
+
+    def test_guest(self) -> None:
+        built = self.cargo("build", "--locked", "--offline", "--example", "guest")
+        with self.check("the guest loader in Rust is built, and has at most 100 lines"):
+            self.assert_good(built)
+            self.assertLessEqual(len(source("examples/guest.rs").splitlines()), 100)
+        guest = self.target / "debug/examples/guest"
+        if not guest.exists():
+            return
+        examples.write_modules(self.room)
+        ran = run(guest, "multiboot2", "kernel.elf", "k", "settings.cfg", cwd=self.room)
+        self.ends("the guest loader in Rust prints how its guest is entered", ran, 0, GUEST)
+        ran = run(guest, "multiboot2", "settings.cfg", "k", cwd=self.room)
+        words = "refused 4 NoHeader: no Multiboot2 header in the first 32768 bytes, at a multiple of 8, with a right sum\n"
+        self.ends("the guest loader in Rust prints which refusal a bad kernel meets", ran, 1, words)
+
+    def test_found(self) -> None:
+        sentence = "the crate finds the archive by bootcore.pc"
+        if not is_at_hand("pkg-config"):
+            self.leave_out(sentence, "pkg-config is not at hand")
+            return
+        folder = self.room / "pkgconfig"
+        folder.mkdir()
+        where = libraries()[0].parent
+        (folder / "bootcore.pc").write_text(f"libdir={where}\n\nName: bootcore\nDescription: x\nVersion: 1.0\nLibs: -L${{libdir}} -lbootcore\n")
+        words = ["env", "-u", "BOOTCORE_LIB_DIR", "cargo", "build", "--locked", "--offline", "--example", "guest"]
+        env = {"PKG_CONFIG_PATH": str(folder), "CARGO_TARGET_DIR": str(self.target)}
+        with self.check(sentence):
+            self.assert_good(run(*words, cwd=CRATE, timeout=TEN_MINUTES, env=env))
+
+    def test_vm_memory(self) -> None:
+        sentence = "a Linux kernel is loaded into vm-memory's guest memory"
+        if not list(PACKAGED.glob("vm-memory-0.10.*")):
+            self.leave_out(sentence, "vm-memory 0.10 is not at hand: Debian's librust-vm-memory-dev has it")
+            return
+        # a copy, since cargo writes a lock beside it
+        copy = self.room / "copy"
+        shutil.copytree(CRATE, copy, ignore=shutil.ignore_patterns("target"))
+        examples.write_linux(self.room, examples.linux64_kernel())
+        from_packages = ["source.crates-io.replace-with='debian'", f"source.debian.directory='{PACKAGED}'"]
+        words = [word for value in from_packages for word in ("--config", value)]
+        with self.check("the loader into vm-memory's guest memory is built"):
+            self.assert_good(self.cargo(*words, "build", "--offline", crate=copy / "vm-memory"))
+        loader = self.target / "debug/bootcore-in-vm-memory"
+        if loader.exists():
+            self.ends(sentence, run(loader, "vmlinuz", "initrd.img", cwd=self.room), 0, IN_VM_MEMORY)
+
+    def test_documented(self) -> None:
+        """rustdoc has nothing to say against the crate's documentation"""
+        if run("rustdoc", "--version").status != 0:
+            self.skipTest("rustdoc is not at hand")
+        found = {"BOOTCORE_LIB_DIR": str(libraries()[0].parent), "RUSTDOCFLAGS": "-D warnings"}
+        self.assert_good(self.cargo("doc", "--locked", "--offline", "--no-deps", env=found))
+
+    def test_format(self) -> None:
+        """rustfmt finds nothing to change in the crate"""
+        if run("cargo", "fmt", "--version").status != 0:
+            self.skipTest("rustfmt is not at hand")
+        self.assert_good(run("cargo", "fmt", "--check", cwd=CRATE))
+        main = CRATE / "vm-memory/src/main.rs"
+        self.assert_good(run("rustfmt", "--edition", "2021", "--check", "--config-path", CRATE, main))
+
+    def test_clippy(self) -> None:
+        """clippy warns of nothing in the crate"""
+        if run("cargo", "clippy", "--version").status != 0:
+            self.skipTest("clippy is not at hand")
+        self.assert_good(self.cargo("clippy", "--locked", "--offline", "--all-targets", "--", "-D", "warnings"))
