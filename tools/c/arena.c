@@ -8,7 +8,7 @@
 #include <stdlib.h>
 #include <string.h>
 
-enum { LENGTH = 1 << 16, BLOCKS = 40, CALLS = 20000 };
+enum { LENGTH = 1 << 16, BLOCKS = 40, CALLS = 4000 };
 
 static uint8_t arena[LENGTH + 16];
 static struct { uint8_t *at; size_t length; uint8_t byte; } blocks[BLOCKS];
@@ -86,7 +86,7 @@ int main(void) {
         bootcore_arena(arena, offset);
         if (rattle_alloc(16, 1).is_there && offset < 32) stop("there is memory in an arena that is too short");
     }
-    for (seed = 1; seed <= 40; seed++) {
+    for (seed = 1; seed <= 16; seed++) {
         uint8_t *begin = arena + seed % 16;
         size_t peak;
         if (try_calls(seed, begin, LENGTH, 900) != 0) stop("an arena that is long enough was too short");
