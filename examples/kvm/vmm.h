@@ -1,0 +1,40 @@
+/* A small virtual machine monitor under KVM: what its files share. Where something fails the program ends
+ * by fail(), so that no function has an error to answer. */
+#ifndef VMM_H
+#define VMM_H
+
+#include "bootcore.h"
+
+#include <linux/kvm.h>
+
+enum { RESTARTED = 0, REFUSED = 1, FAILED = 2, BAD_EXIT = 3, BAD_WORDS = 64 }; /* the program's statuses */
+void fail(int status, const char *format, ...) __attribute__((format(printf, 2, 3), noreturn));
+
+/* memory.c: the guest's memory below 3 GiB, and behind it what the guest has from 4 GiB on. */
+static const uint64_t LOW_END = 0xC0000000, HIGH_BASE = 0x100000000;
+typedef struct guest_memory {
+    uint8_t *low, *high;
+    uint64_t low_size, high_size; /* the second may be 0 */
+} guest_memory;
+guest_memory map_memory(uint64_t size);
+
+/* load.c: plans a kernel with its modules or its initial ramdisk, and reads each file to its places. */
+bootcore_registers load_guest(const guest_memory *memory, uint32_t protocol, const char *line, char **paths,
+                              int count);
+
+/* machine.c: the machine and its one processor, which is about to execute the kernel's first instruction. */
+int kvm_call(int file, unsigned long request, void *argument, const char *name);
+void make_machine(const guest_memory *memory);
+int make_processor(const bootcore_registers *registers, struct kvm_run **shared);
+void set_interrupt(uint32_t number, bool raised);
+
+/* serial.c: the first serial port, whose eight registers are numbered from 0 on. */
+enum { SERIAL_PORT = 0x3F8, SERIAL_INTERRUPT = 4 };
+void start_serial(void);
+uint8_t serial_in(unsigned number);
+void serial_out(unsigned number, uint8_t value);
+
+/* run.c: runs the guest to its end, and answers the program's status. */
+int run_guest(int processor, struct kvm_run *shared);
+
+#endif
