@@ -147,6 +147,6 @@ class OnEmulatedKvm(MonitorChecks):
         written = self.ran.out.decode(errors="replace").replace("\r", "")
         for name in KERNELS:
             with self.check(f"the small kernel {name} is handed under a KVM that QEMU emulates what the loader of examples/c prints"):
-                part = re.search(rf"^begin {name}\n(.*?)^vmm: (.*\n)*?ended {name} 0$", written, re.M | re.S)
+                part = re.search(rf"^begin {name}\n(.*?)^vmm: [^\n]*\nended {name} 0$", written, re.M | re.S)
                 self.assertIsNotNone(part, f"ran: {self.ran}\nstatus {self.ran.status}\n{written[-2000:]}")
                 self.assert_told(self.ran, name, part[1])

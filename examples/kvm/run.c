@@ -25,15 +25,16 @@ static const char *const errors[] = {
 #define WORDS(table, at) ((at) < sizeof(table) / sizeof *(table) ? (table)[at] : NULL)
 
 static int bad_exit(int processor, const struct kvm_run *shared) {
-    const char *why = WORDS(exits, shared->exit_reason), *more = WORDS(errors, shared->internal.suberror);
+    uint32_t number = shared->exit_reason, error = shared->internal.suberror;
+    bool gives_up = number == KVM_EXIT_INTERNAL_ERROR;
+    const char *why = WORDS(exits, number), *more = gives_up ? WORDS(errors, error) : NULL;
     struct kvm_regs general = {0};
     struct kvm_sregs special = {0};
     kvm_call(processor, KVM_GET_REGS, &general, "KVM_GET_REGS");
     kvm_call(processor, KVM_GET_SREGS, &special, "KVM_GET_SREGS");
-    fprintf(stderr, "vmm: the guest stopped: %s%s\n", why ? why : "the monitor does not know this exit",
-            more && shared->exit_reason == KVM_EXIT_INTERNAL_ERROR ? more : "");
-    fprintf(stderr, "vmm: exit %u, its first word %#llx; cs %#x rip %#llx rsp %#llx cr0 %#llx cr2 %#llx cr3 %#llx\n",
-            shared->exit_reason, shared->hw.hardware_exit_reason, special.cs.selector, general.rip, general.rsp,
+    fprintf(stderr, "vmm: the guest stopped: %s%s\n", why ? why : "the monitor does not know this exit", more ? more : "");
+    fprintf(stderr, "vmm: exit %u, reason %#llx; cs %#x rip %#llx rsp %#llx cr0 %#llx cr2 %#llx cr3 %#llx\n", number,
+            gives_up ? error : shared->hw.hardware_exit_reason, special.cs.selector, general.rip, general.rsp,
             special.cr0, special.cr2, special.cr3);
     return BAD_EXIT;
 }
