@@ -33,65 +33,87 @@ static EFI_FILE *open(const char *path, uint64_t mode) {
 
 enum { no_room = 255 };
 
-static uint32_t measure(EFI_FILE *file, uint64_t *length) {
+static uint32_t measure(const char *path, uint64_t *length) {
     static EFI_GUID id = EFI_FILE_INFO_ID;
     static uint64_t room[256];
     EFI_FILE_INFO *info = (EFI_FILE_INFO *)room;
     UINTN size = sizeof room;
+    EFI_FILE *file = open(path, EFI_FILE_MODE_READ);
+    if (file == NULL) return BOOTCORE_REFUSAL_NO_FILE;
     EFI_STATUS status = file->GetInfo(file, &id, &size, info);
+    file->Close(file);
     if (EFI_ERROR(status) || info->Attribute & EFI_FILE_DIRECTORY) return BOOTCORE_REFUSAL_NO_FILE;
     *length = info->FileSize;
     return *length > most_bytes ? BOOTCORE_REFUSAL_FILE_TOO_LONG : 0;
 }
 
 /* A file may end before its length as the disk tells it. */
-static uint32_t fill(EFI_FILE *file, uint8_t *bytes, uint64_t length) {
+static uint32_t fill(const char *path, uint8_t *bytes, uint64_t length) {
     UINTN came = 1;
+    EFI_FILE *file = open(path, EFI_FILE_MODE_READ);
+    if (file == NULL) return BOOTCORE_REFUSAL_NO_FILE;
     while (length && came) {
         came = length < chunk ? length : chunk;
         if (EFI_ERROR(file->Read(file, &came, bytes))) came = 0;
         bytes += came;
         length -= came;
     }
+    file->Close(file);
     return length ? BOOTCORE_REFUSAL_FILE_FAULT : 0;
 }
 
-/* Into pages of its own, with a byte or more of room behind its end. */
-static uint32_t read_file(const char *path, uint8_t **bytes, uint64_t *length) {
-    EFI_FILE *file = open(path, EFI_FILE_MODE_READ);
-    if (file == NULL) return BOOTCORE_REFUSAL_NO_FILE;
-    uint32_t fault = measure(file, length);
-    if (!fault) {
-        *bytes = take_pages(*length / page + 1);
-        fault = *bytes == NULL ? no_room : fill(file, *bytes, *length);
+/* Files one after the other, in pages of their own: each begins at a multiple of 4, with zeros
+   before it, and behind the last one there is a byte or more of room. `at` is the one that is read. */
+static uint32_t read_joined(const char *const *paths, uint32_t count, uint32_t *at,
+                            bootcore_bytes *joined) {
+    static uint64_t lengths[BOOTCORE_MAX_MODULES];
+    uint64_t end = 0;
+    uint32_t fault = 0;
+    for (*at = 0; *at < count; ++*at) {
+        fault = measure(paths[*at], &lengths[*at]);
+        if (fault) return fault;
+        end = (end + 3) / 4 * 4 + lengths[*at];
+        if (end > most_bytes) return BOOTCORE_REFUSAL_FILE_TOO_LONG;
     }
-    file->Close(file);
+    uint8_t *bytes = take_pages(end / page + 1);
+    if (bytes == NULL) return no_room;
+    *joined = (bootcore_bytes){bytes, end};
+    for (*at = 0, end = 0; *at < count && !fault; *at += !fault) {
+        for (; end % 4; end++) bytes[end] = 0;
+        fault = fill(paths[*at], bytes + end, lengths[*at]);
+        end += lengths[*at];
+    }
     return fault;
 }
 
 char *read_text(const char *path) {
-    uint8_t *bytes;
-    uint64_t length;
-    if (read_file(path, &bytes, &length)) return NULL;
-    bytes[length] = 0;
-    return strlen((char *)bytes) == length ? (char *)bytes : NULL;
+    bootcore_bytes read;
+    uint32_t at;
+    if (read_joined(&path, 1, &at, &read)) return NULL;
+    char *text = (char *)(UINTN)read.bytes;
+    text[read.length] = 0;
+    return strlen(text) == read.length ? text : NULL;
 }
 
 /* ---- the files of an entry */
 
+/* To the kernel all ramdisks are one file. */
 const char *read_files(menu_entry *entry) {
-    for (files.count = 0; files.count < entry->file_count; files.count++) {
-        uint32_t i = (uint32_t)files.count;
-        uint8_t *bytes;
-        uint64_t length;
-        print("    Reading %s.\n", entry->paths[i]);
-        uint32_t fault = read_file(entry->paths[i], &bytes, &length);
+    int has_modules = entry->core.protocol == BOOTCORE_MULTIBOOT2;
+    uint32_t first = 0, at;
+    for (files.count = 0; first < entry->file_count; files.count++) {
+        uint32_t count = first == 0 || has_modules ? 1 : entry->file_count - first;
+        for (uint32_t i = first; i < first + count; i++)
+            print("    Reading %s.\n", entry->paths[i]);
+        bootcore_bytes *read = &files.read[files.count];
+        uint32_t fault = read_joined(entry->paths + first, count, &at, read);
         if (fault == no_room) return "There is too little memory for the files.";
-        if (fault) return refusal_words(&(bootcore_refusal){.number = fault, .first = i});
-        files.read[i] = (bootcore_bytes){bytes, length};
-        if (i == 0) entry->core.kernel = files.read[i];
-        else if (entry->core.module_count) entry->modules[i - 1].file = files.read[i];
-        else entry->core.initrd = files.read[i];
+        if (fault)
+            return refusal_words(&(bootcore_refusal){.number = fault, .first = first + at});
+        if (first == 0) entry->core.kernel = *read;
+        else if (has_modules) entry->modules[first - 1].file = *read;
+        else entry->core.initrd = *read;
+        first += count;
     }
     return NULL;
 }

@@ -122,7 +122,7 @@ static void take_kernel(char *path, menu_entry *entry) {
 
 static void take_ramdisk(char *path, menu_entry *entry) {
     check(entry->core.protocol != BOOTCORE_MULTIBOOT2, "a multiboot2 kernel has modules");
-    if (check(entry->file_count == 1, "an entry has one ramdisk"))
+    if (check(entry->file_count <= BOOTCORE_MAX_MODULES, "too many ramdisks of an entry"))
         entry->paths[entry->file_count++] = take_path(path);
 }
 

@@ -17,6 +17,7 @@ static void add_text(const char *key, bootcore_bytes text, int is_copy) {
     print("\"\n");
 }
 
+/* A description has one ramdisk: of several the test makes one file. */
 static void describe_entry(const menu_entry *entry) {
     const bootcore_entry *core = &entry->core;
     print("[[entry]]\ntitle = \"written\"\nprotocol = \"%s\"\n", protocols[core->protocol]);
@@ -28,8 +29,8 @@ static void describe_entry(const menu_entry *entry) {
         print("[[entry.module]]\nfile = \"%s\"\n", entry->paths[1 + i]);
         add_text("line", core->modules[i].line, 0);
     }
-    if (core->module_count == 0 && entry->file_count > 1)
-        print("initrd = \"%s\"\n", entry->paths[1]);
+    if (core->protocol != BOOTCORE_MULTIBOOT2 && entry->file_count > 1)
+        print("initrd = \"%s\"\n", entry->file_count == 2 ? entry->paths[1] : "ramdisks");
 }
 
 /* A boot of a description reads its files into a pool, which a plan has no use for: the largest
