@@ -43,6 +43,7 @@ extern struct menu_file {
     size_t text_length;
 } menu;
 extern const char *const protocols[4]; /* their words, by the core's numbers */
+enum { efi_program = BOOTCORE_LINUX64 + 1 }; /* in a protocol's place: no matter of the core's */
 
 /* Reads the menu out of a text, which it keeps and changes. NULL, or what is wrong: in a line, or
    with line 0 in the whole. */
@@ -59,6 +60,8 @@ extern struct entry_files {
 
 int open_disk(EFI_HANDLE device);
 void close_disk(void);
+/* A path as the firmware has it: 16-bit letters and backslashes, until the next call; or NULL. */
+CHAR16 *file_name(const char *path);
 /* A whole file, which has no zero byte, with one behind it; or NULL. */
 char *read_text(const char *path);
 /* Reads an entry's files, each into pages of its own. NULL, or what is wrong. */
@@ -127,6 +130,11 @@ void enter_alone(void);
    It never returns. */
 void run_alone(void (*function)(void), void *stack_end, uint64_t tables);
 
+/* ---- program.c: another EFI program */
+
+/* Starts an entry's program from a disk. NULL if it ended well, or what is wrong. */
+const char *start_program(EFI_HANDLE image, EFI_HANDLE disk, const menu_entry *entry);
+
 /* ---- screen.c */
 
 /* `%s` a text, `%c` a letter; `%u` and `%x` a uint64_t, by ten and by sixteen. */
@@ -135,7 +143,8 @@ void print(const char *form, ...);
 void print_sentence(const char *about, const char *sentence);
 extern char *kept, *kept_end; /* room where text is kept; it is shown if there is none */
 
-enum choice { chosen_by_time, chosen_by_hand, to_firmware };
+enum choice { chosen_by_time, chosen_by_hand, chosen_with_line, to_firmware };
+extern char edited[BOOTCORE_MAX_LINE + 1]; /* the line that an entry was chosen with, for once */
 int open_screen(void);
 void close_screen(void);
 /* The choice, in menu.chosen. */

@@ -18,15 +18,20 @@ void close_disk(void) {
     if (root != NULL) root->Close(root);
 }
 
-/* A file, or NULL. The firmware's files have names of 16-bit letters, and backslashes. */
-static EFI_FILE *open(const char *path, uint64_t mode) {
-    static CHAR16 name[512];
-    EFI_FILE *file;
+CHAR16 *file_name(const char *path) {
+    static CHAR16 name[512] = {'\\'};
     UINTN i = 0;
-    for (; path[i] && i < 511; i++)
-        name[i] = path[i] == '/' ? '\\' : (CHAR16)(unsigned char)path[i];
-    name[i] = 0;
-    return path[i] || EFI_ERROR(root->Open(root, &file, name, mode, 0)) ? NULL : file;
+    for (; path[i] && i < 510; i++)
+        name[1 + i] = path[i] == '/' ? '\\' : (CHAR16)(unsigned char)path[i];
+    name[1 + i] = 0;
+    return path[i] ? NULL : name;
+}
+
+/* A file, or NULL. */
+static EFI_FILE *open(const char *path, uint64_t mode) {
+    CHAR16 *name = file_name(path);
+    EFI_FILE *file;
+    return name == NULL || EFI_ERROR(root->Open(root, &file, name, mode, 0)) ? NULL : file;
 }
 
 /* ---- reading: each answers 0, or the number of a refusal, or that there is no room for a file */

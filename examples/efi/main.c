@@ -41,8 +41,9 @@ static int begin(EFI_HANDLE image) {
            say("There is too little memory.");
 }
 
-/* Returns only if the entry can't be booted, with the reason. */
+/* Returns only if the entry can't be booted, with the reason; or NULL after a program. */
 static const char *attempt(EFI_HANDLE image, menu_entry *entry) {
+    if (entry->core.protocol == efi_program) return start_program(image, self->DeviceHandle, entry);
     const char *wrong = read_files(entry);
     if (wrong != NULL) return wrong;
     if (!make_tables(self->ImageBase, self->ImageSize)) return "There is too little memory.";
@@ -54,16 +55,24 @@ static const char *attempt(EFI_HANDLE image, menu_entry *entry) {
     return leave_firmware(image, entry);
 }
 
-/* Fallbacks are for the machine that starts alone: who chose an entry wants no other. */
-static void boot_choice(EFI_HANDLE image, enum choice how) {
+/* Fallbacks are for the machine that starts alone: who chose an entry wants no other. NULL, or what
+   was wrong with the last attempt, which was shown. */
+static const char *boot_choice(EFI_HANDLE image, enum choice how) {
+    menu_entry *chosen = &menu.entries[menu.chosen];
+    bootcore_bytes line = chosen->core.line;
+    if (how == chosen_with_line) chosen->core.line = (bootcore_bytes){edited, strlen(edited)};
     list_attempts(how == chosen_by_time);
-    for (uint32_t i = 0; i < menu.attempt_count; i++) {
+    const char *wrong = ""; /* not NULL, so that there is a first attempt */
+    for (uint32_t i = 0; i < menu.attempt_count && wrong != NULL; i++) {
         menu_entry *entry = &menu.entries[menu.attempts[i]];
         uint32_t kept_count = taken_count;
         print("\n");
-        print_sentence(entry->title, attempt(image, entry));
+        wrong = attempt(image, entry);
+        if (wrong != NULL) print_sentence(entry->title, wrong);
         give_back(kept_count);
     }
+    chosen->core.line = line;
+    return wrong;
 }
 
 EFI_STATUS efi_main(EFI_HANDLE image, EFI_SYSTEM_TABLE *table) {
@@ -74,9 +83,8 @@ EFI_STATUS efi_main(EFI_HANDLE image, EFI_SYSTEM_TABLE *table) {
     int has_begun = begin(image);
     if (!has_begun) wait_key();
     while (has_begun && (how = choose_entry()) != to_firmware) {
-        boot_choice(image, how);
+        if (boot_choice(image, how) != NULL) wait_key();
         menu.seconds = no_limit; /* from here on a person decides */
-        wait_key();
     }
     close_screen();
     close_disk();

@@ -96,6 +96,12 @@ static void take_protocol(const char *word, bootcore_entry *core) {
     if (length >= 36 && length <= BOOTCORE_MAX_RSDP) core->rsdp_new = take_bytes(new, length);
 }
 
+static void take_program(char *path, menu_entry *entry) {
+    if (!check(entry->core.protocol == 0, "an entry has one protocol")) return;
+    entry->core.protocol = efi_program;
+    entry->paths[0] = take_path(path);
+}
+
 static void take_module(char *text, menu_entry *entry) {
     check(entry->core.protocol == BOOTCORE_MULTIBOOT2, "only a multiboot2 kernel has modules");
     check(entry->core.module_count < BOOTCORE_MAX_MODULES, "too many modules of an entry");
@@ -116,12 +122,13 @@ static void take_fallbacks(char *text) {
 }
 
 static void take_kernel(char *path, menu_entry *entry) {
-    if (check(entry->paths[0] == NULL, "an entry has one kernel"))
+    if (check(entry->paths[0] == NULL, "an entry has one kernel or program"))
         entry->paths[0] = take_path(path);
 }
 
 static void take_ramdisk(char *path, menu_entry *entry) {
-    check(entry->core.protocol != BOOTCORE_MULTIBOOT2, "a multiboot2 kernel has modules");
+    check(entry->core.protocol == BOOTCORE_LINUX || entry->core.protocol == BOOTCORE_LINUX64,
+          "only a Linux kernel has ramdisks");
     if (check(entry->file_count <= BOOTCORE_MAX_MODULES, "too many ramdisks of an entry"))
         entry->paths[entry->file_count++] = take_path(path);
 }
@@ -150,6 +157,7 @@ static void take(const char *word, char *rest) {
     else if (is_word(word, "title")) begin_entry(rest);
     else if (!check(menu.entry_count != 0, "an entry begins with its title")) return;
     else if (is_word(word, "protocol")) take_protocol(rest, &entry->core);
+    else if (is_word(word, "efi")) take_program(rest, entry);
     else if (!check(entry->core.protocol != 0, "the protocol comes behind the title")) return;
     else if (is_word(word, "kernel")) take_kernel(rest, entry);
     else if (is_word(word, "module")) take_module(rest, entry);

@@ -32,8 +32,10 @@ void print(const char *form, ...) {
     va_end(given);
 }
 
+/* No screen of a firmware's is smaller than 80 by 25. */
 static void measure_screen(UINTN *columns, UINTN *rows) {
-    if (EFI_ERROR(ST->ConOut->QueryMode(ST->ConOut, ST->ConOut->Mode->Mode, columns, rows)))
+    if (EFI_ERROR(ST->ConOut->QueryMode(ST->ConOut, ST->ConOut->Mode->Mode, columns, rows)) ||
+        *columns < 80 || *rows < 25)
         *columns = 80, *rows = 25;
 }
 
@@ -61,11 +63,11 @@ void print_sentence(const char *about, const char *sentence) {
 /* In so many columns: a longer text is cut. */
 static void show_wide(const char *text, size_t width) {
     size_t length = strlen(text);
-    for (size_t i = 0; i < width; i++) put(i < length ? text[i] : ' ');
+    for (size_t i = 0; i < width; i++) put(i < length && text[i] != '\t' ? text[i] : ' ');
 }
 
 static void show_row(uint32_t index, int is_marked) {
-    static const char *const names[] = {"", "Multiboot2", "Linux", "Linux, 64 bits"};
+    static const char *const names[] = {"", "Multiboot2", "Linux", "Linux, 64 bits", "EFI program"};
     print("   ");
     if (is_marked) ST->ConOut->SetAttribute(ST->ConOut, EFI_TEXT_ATTR(EFI_WHITE, EFI_BLUE));
     print(" ");
@@ -80,7 +82,7 @@ static void show_row(uint32_t index, int is_marked) {
 static uint32_t count_rows(void) {
     UINTN columns, rows;
     measure_screen(&columns, &rows);
-    return rows > 8 ? (uint32_t)rows - 7 : 1;
+    return (uint32_t)rows - 7;
 }
 
 static void show_menu(uint32_t marked, uint32_t left) {
@@ -89,7 +91,7 @@ static void show_menu(uint32_t marked, uint32_t left) {
     print("\n    bootcore: a boot manager on a proved loader core\n\n");
     for (uint32_t i = first; i < menu.entry_count && i - first < room; i++)
         show_row(i, i == marked);
-    print("\n    Up and Down choose, Enter boots, Escape leaves to the firmware.\n    ");
+    print("\n    Up and Down choose, Enter boots, e edits the line, Escape leaves.\n    ");
     print(left ? "The marked entry is booted in %u seconds.  \n"
                : "                                               \n", (uint64_t)left);
 }
@@ -123,14 +125,78 @@ static int is_pressed_within(uint64_t milliseconds) {
     return 0;
 }
 
-void wait_key(void) {
+static void await_key(void) {
     UINTN index;
-    print("\n    Press a key.\n");
     do BS->WaitForEvent(1, &ST->ConIn->WaitForKey, &index);
     while (!read_key());
 }
 
+void wait_key(void) {
+    print("\n    Press a key.\n");
+    await_key();
+}
+
+/* ---- an entry's line, for one boot */
+
+char edited[BOOTCORE_MAX_LINE + 1];
+
+static void insert_letter(size_t at, char letter) {
+    for (size_t i = strlen(edited) + 1; i > at; i--) edited[i] = edited[i - 1];
+    edited[at] = letter;
+}
+
+static void remove_letter(size_t at) {
+    for (; edited[at]; at++) edited[at] = edited[at + 1];
+}
+
+/* What the screen has room for, with the cursor at a letter; and a row more, which may have lost
+   its last letter. */
+static void show_edited(size_t at) {
+    UINTN columns, rows;
+    measure_screen(&columns, &rows);
+    size_t width = columns - 8, height = rows - 6, length = strlen(edited);
+    size_t first = at / (width * height) * (width * height);
+    for (size_t row = 0; row < height && first + row * width <= length + width; row++) {
+        size_t start = first + row * width;
+        ST->ConOut->SetCursorPosition(ST->ConOut, 4, 4 + row);
+        show_wide(start < length ? edited + start : "", width);
+    }
+    at -= first;
+    ST->ConOut->SetCursorPosition(ST->ConOut, 4 + at % width, 4 + at / width);
+}
+
+/* Whether the entry is to be booted with the line that is in `edited` then. */
+static int edit_line(const menu_entry *entry) {
+    bootcore_bytes line = entry->core.line;
+    size_t at = line.length < BOOTCORE_MAX_LINE ? line.length : BOOTCORE_MAX_LINE;
+    memcpy(edited, line.bytes, at);
+    edited[at] = 0;
+    ST->ConOut->ClearScreen(ST->ConOut);
+    ST->ConOut->EnableCursor(ST->ConOut, TRUE);
+    print("\n    %s\n    Enter boots once with this line, Escape leads back.", entry->title);
+    for (;;) {
+        size_t length = strlen(edited);
+        show_edited(at);
+        await_key();
+        if (key.UnicodeChar == '\r') return 1;
+        if (key.ScanCode == SCAN_ESC) return 0;
+        if (key.ScanCode == SCAN_HOME) at = 0;
+        if (key.ScanCode == SCAN_END) at = length;
+        if (key.ScanCode == SCAN_LEFT && at > 0) at--;
+        if (key.ScanCode == SCAN_RIGHT && at < length) at++;
+        if (key.ScanCode == SCAN_DELETE) remove_letter(at);
+        if (key.UnicodeChar == '\b' && at > 0) remove_letter(--at);
+        if (key.UnicodeChar >= ' ' && key.UnicodeChar <= '~' && length < BOOTCORE_MAX_LINE)
+            insert_letter(at++, (char)key.UnicodeChar);
+    }
+}
+
 /* ---- the choice */
+
+static void clear_screen(void) {
+    ST->ConOut->EnableCursor(ST->ConOut, FALSE);
+    ST->ConOut->ClearScreen(ST->ConOut);
+}
 
 /* The menu until a key ends it or the time is over. */
 static enum choice ask(uint32_t left) {
@@ -145,13 +211,15 @@ static enum choice ask(uint32_t left) {
         if (key.ScanCode == SCAN_ESC) return to_firmware;
         if (key.ScanCode == SCAN_UP && menu.chosen > 0) menu.chosen--;
         if (key.ScanCode == SCAN_DOWN && menu.chosen + 1 < menu.entry_count) menu.chosen++;
+        if (key.UnicodeChar != 'e') continue;
+        if (edit_line(&menu.entries[menu.chosen])) return chosen_with_line;
+        clear_screen();
     }
 }
 
 /* Without time to choose the menu is shown to who holds a key down, which repeats in this time. */
 enum choice choose_entry(void) {
-    ST->ConOut->EnableCursor(ST->ConOut, FALSE);
-    ST->ConOut->ClearScreen(ST->ConOut);
+    clear_screen();
     if (menu.seconds == 0 && !is_pressed_within(100)) return chosen_by_time;
     return ask(menu.seconds == no_limit ? 0 : menu.seconds);
 }

@@ -1,0 +1,67 @@
+/* Another EFI program, which the firmware loads and starts: a shell, another boot manager. */
+#include "app.h"
+
+/* The way to a file: the nodes of its disk, one of the file's name, and one that ends them. NULL if
+   it is too long. */
+static EFI_DEVICE_PATH *find_way(EFI_HANDLE disk, const char *path) {
+    static EFI_GUID id = DEVICE_PATH_PROTOCOL;
+    static uint8_t made[4096];
+    const CHAR16 *name = file_name(path);
+    size_t size = (strlen(path) + 2) * sizeof *name; /* with the first backslash, and the end */
+    EFI_DEVICE_PATH *first, *end, *node;
+    if (name == NULL || EFI_ERROR(BS->HandleProtocol(disk, &id, (void **)&first))) return NULL;
+    for (end = first; !IsDevicePathEnd(end); end = NextDevicePathNode(end)) continue;
+    size_t length = (size_t)((uint8_t *)end - (uint8_t *)first);
+    if (length + size + 2 * sizeof *node > sizeof made) return NULL;
+    memcpy(made, first, length);
+    node = (EFI_DEVICE_PATH *)(made + length);
+    node->Type = MEDIA_DEVICE_PATH;
+    node->SubType = MEDIA_FILEPATH_DP;
+    SetDevicePathNodeLength(node, sizeof *node + size);
+    memcpy(node + 1, name, size);
+    node = NextDevicePathNode(node);
+    SetDevicePathEndNode(node);
+    return (EFI_DEVICE_PATH *)made;
+}
+
+static const char *load_words(EFI_STATUS status) {
+    switch (status) {
+    case EFI_NOT_FOUND: return "There is no such program.";
+    case EFI_ACCESS_DENIED:
+    case EFI_SECURITY_VIOLATION: return "Secure Boot does not allow this program.";
+    case EFI_OUT_OF_RESOURCES: return "There is too little memory.";
+    default: return "It is no EFI program for this machine.";
+    }
+}
+
+static const char *end_words(EFI_STATUS status) {
+    static char words[64];
+    kept = words;
+    kept_end = words + sizeof words - 1;
+    print("The program ended with the status 0x%x.", (uint64_t)status);
+    *kept = 0;
+    kept = NULL;
+    return words;
+}
+
+const char *start_program(EFI_HANDLE image, EFI_HANDLE disk, const menu_entry *entry) {
+    static EFI_GUID id = LOADED_IMAGE_PROTOCOL;
+    static CHAR16 options[BOOTCORE_MAX_LINE + 1];
+    const bootcore_bytes *line = &entry->core.line;
+    EFI_HANDLE program = NULL;
+    EFI_LOADED_IMAGE *loaded;
+    EFI_DEVICE_PATH *way = find_way(disk, entry->paths[0]);
+    if (way == NULL || line->length > BOOTCORE_MAX_LINE) return "Its path or line is too long.";
+    EFI_STATUS status = BS->LoadImage(FALSE, image, way, NULL, 0, &program);
+    if (!EFI_ERROR(status)) status = BS->HandleProtocol(program, &id, (void **)&loaded);
+    if (EFI_ERROR(status)) {
+        if (program != NULL) BS->UnloadImage(program); /* what Secure Boot forbids is loaded */
+        return load_words(status);
+    }
+    for (size_t i = 0; i < line->length; i++) options[i] = ((const uint8_t *)line->bytes)[i];
+    options[line->length] = 0;
+    loaded->LoadOptions = options;
+    loaded->LoadOptionsSize = line->length ? (UINT32)(line->length + 1) * sizeof *options : 0;
+    status = BS->StartImage(program, NULL, NULL);
+    return EFI_ERROR(status) ? end_words(status) : NULL;
+}
