@@ -34,6 +34,11 @@ uint32_t bootcore_boot(const bootcore_memory *memory, const bootcore_machine *ma
         &outcome->handoff, outcome->places, outcome->place_room,
         outcome->refusal_room ? outcome->refusals : &no_refusal, outcome->refusal_room, &count);
     rattle_dealloc(entries);
+    /* the core says of such a pool that memory ran out, before it writes any */
+    if (status == BOOTCORE_NO_MEMORY && machine->pool_length &&
+        machine->pool_base < memory->address) {
+        return BOOTCORE_LOW_POOL;
+    }
     if (status == BOOTCORE_DONE || status == BOOTCORE_REFUSED) {
         outcome->refusal_count = (size_t)count;
     }

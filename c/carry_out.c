@@ -136,8 +136,9 @@ static uint32_t find_fault(const bootcore_layout *layout, const bootcore_bytes *
             return BOOTCORE_BAD_FILE;
         }
     }
-    /* a layout without enough room has no steps yet, but says how many it wants */
-    if (layout->step_count > layout->step_room || layout->own_length > layout->own_room) {
+    /* without enough room a layout has no steps yet, but says how many it wants; each plan has one */
+    if (!layout->step_count || layout->step_count > layout->step_room ||
+        layout->own_length > layout->own_room) {
         return BOOTCORE_SMALL_ROOM;
     }
     for (i = 0; i < layout->step_count; i++) {

@@ -111,5 +111,10 @@ uint32_t bootcore_plan(const bootcore_machine *machine, const bootcore_entry *en
         layout->step_count = (size_t)counts.steps;
         layout->own_length = (size_t)counts.own;
     }
+    /* steps of an older plan may stand there: none of them is of this one */
+    if (status == BOOTCORE_REFUSED || status == BOOTCORE_NO_MEMORY) {
+        layout->step_count = 0;
+        layout->own_length = 0;
+    }
     return status;
 }

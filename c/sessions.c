@@ -147,12 +147,20 @@ BOOTCORE_CALL
 bool bootcore_session_missing_after(const bootcore_session *session, size_t most,
                                     bootcore_request *request) {
     bootcore_session copy;
-    bootcore_crossing_request piece;
+    bootcore_crossing_request first = {0, 0, 0, 0, 0}, piece;
     uint64_t behind;
     if (!session || !request) {
         return false;
     }
     copy = *session;
+    if (!bootcore_session_missing_record(&copy, &first)) {
+        return false;
+    }
+    /* a request of another attempt is behind none of this one's */
+    if (request->attempt != first.attempt) {
+        tell_run(&copy, most, first, request);
+        return true;
+    }
     piece = first_piece(request, 0);
     behind = request->length ? (request->length - 1) / BOOTCORE_PIECE : 0;
     piece.piece = behind < UINT32_MAX - piece.piece ? piece.piece + (uint32_t)behind : UINT32_MAX;

@@ -80,8 +80,14 @@ const char *bootcore_text(uint32_t number) {
 
 BOOTCORE_CALL
 size_t bootcore_describe(const bootcore_refusal *refusal, char *buffer, size_t length) {
-    struct text text = {buffer, length ? length - 1 : 0, 0};
     const struct refusal_text *found = refusal ? find(refusal->number) : NULL;
+    struct text text = {buffer, 0, 0};
+    if (!buffer) {
+        length = 0;
+    }
+    if (length) {
+        text.room = length - 1;
+    }
     if (refusal) {
         put_words(&text, refusal->number > BOOTCORE_REFUSAL_NO_64_ENTRY ? "bad image " : "refused ");
         put_number(&text, refusal->number, 10);

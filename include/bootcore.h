@@ -1,29 +1,30 @@
-/*
- * bootcore: what a boot loader does with memory, for C99 and later, and C++98 and later.
+/* bootcore: what a boot loader does with memory, for C99 and later, and C++98 and later.
  *
- * To load one entry into memory: bootcore_machine, bootcore_entry, bootcore_load. To learn first
- * what goes where, and read files straight to their places, as a virtual machine monitor does:
- * bootcore_plan. To boot a menu with fallbacks: bootcore_boot, or bootcore_session_make and what
- * follows it if a disk still reads. To check an image: bootcore_walk. docs/EMBED.md shows each.
+ * Kernels are those of Multiboot2, and Linux's bzImage: no vmlinux, no PVH. To load one entry into
+ * memory: bootcore_machine, bootcore_entry, bootcore_load. To learn first what goes where, as a
+ * virtual machine monitor does: bootcore_plan; it wants the kernel's file in memory, the others can
+ * be read straight to their places. To boot a menu with fallbacks: bootcore_boot, or
+ * bootcore_session_make and what follows it if a disk still reads; if memory is mapped in several
+ * pieces, plan each entry instead. To check an image: bootcore_walk. docs/EMBED.md shows each.
  *
  * Archive. Link libbootcore.a, which ./install puts into a prefix, with bootcore.pc for pkg-config,
  * and examples/c/build makes in a checkout. It wants memmove, memset and memcpy, and malloc,
  * realloc and free, which align as the C library's and always return; nothing else: no file, no
  * clock, no thread. libbootcore_freestanding.a, for firmware and kernels, wants nothing at all:
  * bootcore_arena.h gives it memory for its tables. Each function of this file is a symbol of both.
- * What else has a name there that begins with bootcore_ is no interface.
+ * Any other symbol there that begins with bootcore_ is no interface.
  *
  * Target. x86-64 (x86-64-v2, with SSE enabled) and the System V calling convention. A call needs at
  * most BOOTCORE_STACK bytes of stack. libbootcore.a keeps values in the 128 bytes below the stack
  * pointer (the red zone): if interrupts use the same stack, call with interrupts off.
  *
  * Units. Addresses and lengths are in bytes, and addresses are those of the machine that is booted.
- * An index counts from 0.
+ * A frame is 4096 bytes at a multiple of 4096. An index counts from 0.
  *
  * Memory. All of it is the caller's before, during and after a call. What a call takes from malloc
  * it frees before it returns, but for what a session keeps. No pointer is kept, and none is handed
- * out but to constant text. Nothing is read but what is given, and nothing written but parts, the
- * pool and what a call says that it tells.
+ * out but to constant text. A call reads nothing but what it is given, and writes nothing but
+ * parts, the pool and what is said here that it tells.
  *
  * Threads. None is started, and two calls at once know nothing of each other, if they share nothing
  * that either may change; but all that use an arena share it. Call from no signal handler.
@@ -33,13 +34,12 @@
  *   is there, that nobody else changes during the call;
  * - what a call may change overlaps nothing else that it is given, and nothing of the program;
  * - a session's struct and pool, between two calls: see bootcore_session.
- * An array without elements may be null. Whatever else the values are, a call ends, and what is
- * wrong with them has a status.
+ * An array without elements may be null. Whatever else the values are, a call ends, and each
+ * mistake in them has a status.
  *
  * Versions. BOOTCORE_VERSION is that of this file, bootcore_version() that of the archive. Within
  * 1.x a struct keeps its size and its fields, and a number its meaning. A reserved word must be 0;
- * a later version may give another value a meaning. New functions, statuses and refusals may come.
- */
+ * a later version may give other values a meaning. New functions, statuses, refusals may come. */
 #ifndef BOOTCORE_H
 #define BOOTCORE_H
 
@@ -75,25 +75,26 @@ enum {
     BOOTCORE_STACK = 24576      /* with libbootcore.a 16384 is enough */
 };
 
-/* What a call answers. A misuse, from 101 on, has changed nothing; where BOOTCORE_SMALL_ROOM tells
- * what is wanted, the call says so. Of several the first in the order of these lines is told. */
+/* What a call answers. A misuse, from 101 on, has changed nothing; only BOOTCORE_SMALL_ROOM of a
+ * plan or a walk may tell how much is wanted. Of several the first in the order of these lines is
+ * told. */
 enum {
     BOOTCORE_DONE = 0,
     BOOTCORE_REFUSED = 1,   /* the entry is refused; a boot: no entry is left; a walk: the image */
     BOOTCORE_WAITING = 2,   /* a session: pieces are awaited, or it was not started */
     BOOTCORE_NEXT = 3,      /* a session: entries were refused, pieces of another are awaited */
-    BOOTCORE_NO_MEMORY = 4, /* malloc or realloc gave none; may come in place of all that is told
-                             * after BOOTCORE_SMALL_ROOM of places */
+    BOOTCORE_NO_MEMORY = 4, /* malloc or realloc gave none. BOOTCORE_NULL, BAD_RESERVED, BAD_FILE
+                             * and too few places are told before it; it may replace the others */
     BOOTCORE_FAILED = 5,    /* a session: no entry is left, or memory ran out; see its outcome */
     BOOTCORE_OUTSIDE = 6,   /* a load: a part begins below the memory that is given; of
                              * bootcore_carry_out: not all of a step lies in it */
 
-    BOOTCORE_NULL = 101,         /* a null pointer, where one may not be */
+    BOOTCORE_NULL = 101,         /* a pointer is null that may not be */
     BOOTCORE_BAD_RESERVED = 102, /* a reserved word is not 0 */
     BOOTCORE_BAD_FILE = 103,     /* a file has the length BOOTCORE_UNREADABLE, where all are
                                   * wanted; of bootcore_carry_out: see there */
-    BOOTCORE_SMALL_ROOM = 104,   /* an array of the caller's has too little room; of all but places
-                                  * it is told last */
+    BOOTCORE_SMALL_ROOM = 104,   /* an array of the caller's has too little room: too few places are
+                                  * told here, all others last; of bootcore_carry_out: see there */
     BOOTCORE_BAD_KIND = 105,     /* a region's kind is none of BOOTCORE_USABLE and so on */
     BOOTCORE_BAD_SIZE = 106,     /* the size is no multiple of 4096 from 1 MiB to 4 GiB */
     BOOTCORE_TOO_MANY_REGIONS = 107,
@@ -105,52 +106,51 @@ enum {
     BOOTCORE_TOO_MANY = 112,     /* too many entries or modules, or too long a copy of an RSDP */
     BOOTCORE_BAD_INDEX = 113,    /* a menu's first entry or a fallback is no entry */
     BOOTCORE_NO_SESSION = 114,   /* none is kept: it was not made, or it was freed */
-    BOOTCORE_LOW_POOL = 115      /* a session: the pool begins below the memory that is given */
+    BOOTCORE_LOW_POOL = 115      /* a boot or a session: the pool begins below the memory that is
+                                  * given; a boot tells it also in place of BOOTCORE_NO_MEMORY */
 };
+
+/* What a status means, in a sentence; of any other number that there is none. Constant text. */
+BOOTCORE_CALL const char *bootcore_status_text(uint32_t status);
 
 /* ---- what is booted, and on what */
 
 /* Bytes of the caller's: a line, a file. */
-typedef struct bootcore_bytes {
-    const void *bytes;
-    size_t length;
-} bootcore_bytes;
+typedef struct bootcore_bytes { const void *bytes; size_t length; } bootcore_bytes;
 
-#define BOOTCORE_UNREADABLE (~(size_t)0) /* a menu's file can't be read: its entry is refused */
+/* The length of a file of a menu that can't be read: its entry is refused (1). If only a piece
+ * turns out so, tell it by bootcore_session_fault (2). */
+#define BOOTCORE_UNREADABLE (~(size_t)0)
 
 /* Kinds of memory: the numbers of an e820 entry. Where regions overlap, the greatest counts. An
  * address is usable if its kind is BOOTCORE_USABLE and it lies from 4096 on, below the machine's
- * size and below 0xFFFFF000; one in no region is not. */
+ * size and below 0xFFFFF000; an address in no region is not. */
 enum {
-    BOOTCORE_USABLE = 1,
-    BOOTCORE_RESERVED = 2,
-    BOOTCORE_ACPI = 3,
-    BOOTCORE_NVS = 4,
+    BOOTCORE_USABLE = 1, BOOTCORE_RESERVED = 2, BOOTCORE_ACPI = 3, BOOTCORE_NVS = 4,
     BOOTCORE_UNUSABLE = 5
 };
 
 typedef struct bootcore_region {
-    uint64_t base;
-    uint64_t length;
+    uint64_t base, length;
     uint32_t kind;
     uint32_t reserved; /* 0 */
 } bootcore_region;
 
 /* A machine. Its size is where its memory below 4 GiB ends: no part lies above. Regions come in any
  * order, may overlap, and may lie above the size, as a guest's memory above 4 GiB does; the kernel
- * is told the runs of memory that they make, all of them. The pool is where a boot keeps what it
- * has read of files: usable whole frames, as many as the files of one entry have together. A load
- * or a plan needs none: its length may be 0, and its base is any multiple of 4096 then. */
+ * is told the runs of memory that they make, all of them. The pool is where a boot or a session
+ * keeps what it has read of files: usable whole frames, as many as the files of one entry have
+ * together. A load or a plan needs none: leave both words 0. Of length 0 it may begin at any
+ * frame. */
 typedef struct bootcore_machine {
-    uint64_t size;
-    uint64_t pool_base;
-    uint64_t pool_length;
+    uint64_t size, pool_base, pool_length;
     const bootcore_region *regions;
     size_t region_count;
     uint64_t reserved; /* 0 */
 } bootcore_machine;
 
-/* How a kernel is entered. */
+/* How a kernel is entered. Both Linux entries want two usable frames between 0x1000 and 0xA0000:
+ * the lowest one there gets the boot parameters, another one the line. */
 enum {
     BOOTCORE_MULTIBOOT2 = 1,
     BOOTCORE_LINUX = 2,  /* the 32-bit entry of the Linux boot protocol */
@@ -163,12 +163,12 @@ typedef struct bootcore_module {
 } bootcore_module;
 
 /* An entry. What its protocol has no use for is not looked at.
- * A Multiboot2 kernel is an ELF file, or a file with an address tag. A Linux kernel is a bzImage
- * (never a vmlinux) of boot protocol 2.10 or later, for the 64-bit entry 2.12 with bit 0 of
- * xloadflags. Copies of the RSDP are for Multiboot2 alone: on a machine without a BIOS a Linux
- * kernel finds ACPI's tables by acpi_rsdp= in its line.
- * Where files are told by their lengths alone (a plan, a session), a file's bytes may be null. An
- * initial ramdisk whose bytes are null and whose length is 0 is none. */
+ * A Multiboot2 kernel is an ELF file, or a file with an address tag. A Linux kernel is a bzImage of
+ * boot protocol 2.10 or later, for the 64-bit entry 2.12 with bit 0 of xloadflags. Copies of the
+ * RSDP are for Multiboot2 alone. Linux looks for the RSDP from 0xE0000 to 0xFFFFF: lay it there, in
+ * a reserved region; or name it by acpi_rsdp= in the line, where the kernel has that word.
+ * Where a call looks at a file's length alone (a session; a plan, but of the kernel), its bytes may
+ * be null. An initial ramdisk of length 0, as an empty file, is as none. */
 typedef struct bootcore_entry {
     uint32_t protocol;
     uint32_t reserved; /* 0 */
@@ -182,20 +182,17 @@ typedef struct bootcore_entry {
 } bootcore_entry;
 
 /* Memory of the machine that is booted, where the caller has it: the bytes from an address on. */
-typedef struct bootcore_memory {
-    uint64_t address;
-    void *bytes;
-    size_t length;
-} bootcore_memory;
+typedef struct bootcore_memory { uint64_t address; void *bytes; size_t length; } bootcore_memory;
 
 /* ---- what is handed over */
 
 /* The registers as the kernel begins. With 32 bits rip is what eip is to hold, rax what eax is to
  * hold, and so on; r8 to r15, cr3, cr4 and efer are 0 then: no rule gives them, so choose them. A
  * segment register's number is its selector: bootcore_segments has the rest. TR, LDTR, IDTR and the
- * debug registers are yours to choose under each protocol: no kernel may count on them. A20 is 1 if
- * the gate is to be open. gdt_limit is the offset of the table's last byte; under Multiboot2 there
- * is no table, and base and limit are 0. */
+ * debug registers are yours to choose under each protocol: no kernel may count on them. Under KVM
+ * start from what KVM_GET_SREGS tells, since VT-x wants a busy TSS in TR. A20 is 1 if the gate is
+ * to be open. gdt_limit is the offset of the table's last byte; under Multiboot2 there is no table,
+ * and base and limit are 0. */
 typedef struct bootcore_registers {
     uint64_t bits; /* 32 or 64 */
     uint64_t rip, rax, rbx, rcx, rdx, rsi, rdi, rbp, rsp;
@@ -205,10 +202,11 @@ typedef struct bootcore_registers {
     uint64_t gdt_base, gdt_limit, a20;
 } bootcore_registers;
 
-/* A segment register whole, as a virtual processor is given it without loading a descriptor. */
+/* A segment register whole, as a virtual processor is given it without loading a descriptor. Its
+ * limit is the offset of the last byte, already scaled by g, as in kvm_segment and the VMCS. */
 typedef struct bootcore_segment {
     uint64_t base;
-    uint32_t limit; /* in bytes */
+    uint32_t limit;
     uint16_t selector;
     uint8_t type, s, dpl, p, avl, l, db, g;
 } bootcore_segment;
@@ -219,10 +217,9 @@ BOOTCORE_CALL void bootcore_segments(const bootcore_registers *registers,
 
 /* What a part in memory is. */
 enum {
-    BOOTCORE_KERNEL = 1,        BOOTCORE_COMMAND_LINE = 5,
-    BOOTCORE_MODULE = 2,        BOOTCORE_GDT = 6,
-    BOOTCORE_INFORMATION = 3,   BOOTCORE_INITRD = 7,
-    BOOTCORE_BOOT_PARAMS = 4,   BOOTCORE_PAGE_TABLES = 8
+    BOOTCORE_KERNEL = 1,        BOOTCORE_MODULE = 2,        BOOTCORE_INFORMATION = 3,
+    BOOTCORE_BOOT_PARAMS = 4,   BOOTCORE_COMMAND_LINE = 5,  BOOTCORE_GDT = 6,
+    BOOTCORE_INITRD = 7,        BOOTCORE_PAGE_TABLES = 8
 };
 
 /* A part in memory. The length of all but a kernel's part is a multiple of 4096; what a part has no
@@ -230,8 +227,7 @@ enum {
 typedef struct bootcore_place {
     uint32_t role;
     uint32_t index; /* among the parts of its role */
-    uint64_t address;
-    uint64_t length;
+    uint64_t address, length;
 } bootcore_place;
 
 typedef struct bootcore_handoff {
@@ -245,13 +241,11 @@ typedef struct bootcore_handoff {
 /* Why an entry is refused: its index, the refusal's number, and what that refusal carries, else 0:
  * see the numbers at the end of this file. Of a walk: the fault of the image, with entry 0. */
 typedef struct bootcore_refusal {
-    uint32_t entry;
-    uint32_t number;
-    uint64_t first;
-    uint64_t second;
+    uint32_t entry, number;
+    uint64_t first, second;
 } bootcore_refusal;
 
-/* Where a call tells what comes of it: set the arrays and their room, the rest is told. */
+/* Where a call tells what comes of it: set the arrays and their room; the call sets the rest. */
 typedef struct bootcore_outcome {
     bootcore_place *places; /* by ascending address */
     size_t place_room;      /* at least BOOTCORE_MAX_PLACES */
@@ -264,51 +258,50 @@ typedef struct bootcore_outcome {
 /* ---- one entry */
 
 /* Loads one entry into memory, and tells how its kernel is entered. There is no menu and no pool.
- * `memory` reaches at least to the machine's size. It may begin above 0, where no part goes below.
- * - BOOTCORE_DONE: memory holds each part at its place, and each other byte as before; the handoff
- *   and the first places are told (with entry 0), and refusal_count is 0.
- * - BOOTCORE_REFUSED: refusal_count is 1, and the refusal is told, if there is room.
+ * `memory` reaches at least to the machine's size. It may begin above 0 if no part lies below; the
+ * two low frames of a Linux entry do. Memory is yours afterwards, also to change a part; but a walk
+ * of such an image refuses what the rules do not give (82).
+ * - BOOTCORE_DONE: memory holds each part at its place, and each other byte as before; the call
+ *   tells the handoff and the first places (with entry 0), and refusal_count is 0.
+ * - BOOTCORE_REFUSED: refusal_count is 1, and the call tells the refusal, if there is room.
  * - BOOTCORE_OUTSIDE, BOOTCORE_NO_MEMORY, or a misuse.
- * What is not told, and after any answer but BOOTCORE_DONE all of memory, is as before. */
+ * All that is not told is as before, and so is all of memory after any answer but BOOTCORE_DONE. */
 BOOTCORE_CALL uint32_t bootcore_load(const bootcore_memory *memory, const bootcore_machine *machine,
     const bootcore_entry *entry, bootcore_outcome *outcome);
 
 /* Tells what bootcore_load would hand over, or why it would not, from the kernel's bytes and the
- * other files' lengths: it reads no other byte of a file, and no memory. The answers are those
- * of bootcore_load, but BOOTCORE_OUTSIDE and BOOTCORE_BAD_MEMORY. After BOOTCORE_DONE a load of the
+ * other files' lengths: it reads no other byte of a file, and no memory. The answers are those of
+ * bootcore_load, but BOOTCORE_OUTSIDE and BOOTCORE_BAD_MEMORY. After BOOTCORE_DONE a load of the
  * same entry, with files of these lengths, into memory from address 0 up to the machine's size,
- * tells the same handoff and places, or memory runs out. After BOOTCORE_REFUSED none is done, and
- * one that is refused has the same refusal. */
+ * tells the same handoff and places, or memory runs out. After BOOTCORE_REFUSED no such load is
+ * done, and one that is refused has the same refusal. */
 BOOTCORE_CALL uint32_t bootcore_prepare(const bootcore_machine *machine,
     const bootcore_entry *entry, bootcore_outcome *outcome);
 
 /* Where the bytes of a step come from. */
 enum {
     BOOTCORE_FROM_FILE = 1,   /* file 0 is the kernel, k module k - 1, or 1 the initial ramdisk */
-    BOOTCORE_FROM_LAYOUT = 2, /* the layout's own bytes */
+    BOOTCORE_FROM_LAYOUT = 2, /* the bytes `own` of the layout */
     BOOTCORE_ZEROS = 3
 };
 
 /* `length` bytes, at least 1, from `offset` of the source on, go to an address. */
 typedef struct bootcore_step {
-    uint64_t address;
-    uint64_t length;
-    uint64_t offset;
+    uint64_t address, length, offset;
     uint32_t source;
     uint32_t file; /* of BOOTCORE_FROM_FILE, else 0 */
 } bootcore_step;
 
-/* Where a plan is told: set the arrays and their room, the rest is told. */
+/* Where a call tells a plan: set the arrays and their room; the call sets the rest. */
 typedef struct bootcore_layout {
     bootcore_place *places; /* by ascending address */
     size_t place_room;      /* at least BOOTCORE_MAX_PLACES */
     bootcore_step *steps;   /* by ascending address, none meets another */
     size_t step_room;
-    uint8_t *own;           /* the bytes of the parts that no file has */
+    uint8_t *own;           /* the bytes of parts that no file has: those of BOOTCORE_FROM_LAYOUT */
     size_t own_room;
     bootcore_handoff handoff;
-    size_t step_count;
-    size_t own_length;
+    size_t step_count, own_length;
     bootcore_refusal refusal;
 } bootcore_layout;
 
@@ -318,31 +311,33 @@ typedef struct bootcore_layout {
  * its place then, and each other byte as before. Together the steps are exactly the parts. Steps of
  * zeros may be left out where memory is known to be zero, as a fresh mapping is, and nowhere else.
  * If the kernel's file may change meanwhile, read from a copy of it, for which the plan was made.
- * - BOOTCORE_DONE: all but the refusal is told (with entry 0).
- * - BOOTCORE_REFUSED: the refusal is told.
- * - BOOTCORE_SMALL_ROOM: with places for BOOTCORE_MAX_PLACES, step_count and own_length say what is
- *   wanted, and nothing else is told: a call without room for steps and bytes asks for it.
- * - BOOTCORE_NO_MEMORY, or another misuse.
+ * - BOOTCORE_DONE: the call tells all but the refusal (with entry 0).
+ * - BOOTCORE_REFUSED: it tells the refusal, and step_count and own_length are 0.
+ * - BOOTCORE_SMALL_ROOM: with places for BOOTCORE_MAX_PLACES, step_count and own_length say how
+ *   much is wanted, and nothing else is told: a call without room for steps and bytes asks for it.
+ * - BOOTCORE_NO_MEMORY: step_count and own_length are 0.
+ * - Another misuse.
  * What is not told is as before. Equal machines, entries, kernels and lengths have equal plans. */
 BOOTCORE_CALL uint32_t bootcore_plan(const bootcore_machine *machine, const bootcore_entry *entry,
     bootcore_layout *layout);
 
-/* Carries out the steps of a plan, from files in memory into memory in one piece or more, which may
- * lie anywhere and in any order, and may have holes where no part goes. `files` are the entry's:
- * the kernel, then the modules or the initial ramdisk, of the lengths that were planned for.
- * Either all steps are carried out (BOOTCORE_DONE), or nothing is written: BOOTCORE_NULL;
+/* Carries out the steps of a plan: call it after bootcore_plan answered BOOTCORE_DONE for this
+ * layout. Files are in memory; the machine's memory is in one piece or more, which may lie anywhere
+ * and in any order, and may have holes where no part goes. `files` are the entry's: the kernel,
+ * then the modules or the initial ramdisk, of at least the lengths that were planned for. Either
+ * all steps are carried out (BOOTCORE_DONE), or nothing is written: BOOTCORE_NULL;
  * BOOTCORE_BAD_FILE if a file is unreadable, or a step's source is none or has no such bytes;
- * BOOTCORE_SMALL_ROOM if the layout wants more room than it has, so that it has no steps; or
- * BOOTCORE_OUTSIDE if a byte of a step lies in no piece. A step may go over several pieces; a byte
- * that is in two goes to the first. */
+ * BOOTCORE_SMALL_ROOM if the layout holds no whole plan: it has no steps, or wants more room than
+ * it has; or BOOTCORE_OUTSIDE if a byte of a step lies in no piece. A step may go over several
+ * pieces; a byte that is in two goes to the first. */
 BOOTCORE_CALL uint32_t bootcore_carry_out(const bootcore_layout *layout,
     const bootcore_bytes *files, size_t file_count, const bootcore_memory *memory,
     size_t memory_count);
 
 /* ---- a menu */
 
-/* The entries of a menu, and the order in which they are attempted: `first`, then the fallbacks,
- * each entry once. */
+/* The entries of a menu, and the order in which they are attempted: `first`, then the fallbacks. A
+ * repeated entry is skipped. */
 typedef struct bootcore_menu {
     const bootcore_entry *entries;
     size_t entry_count;
@@ -354,15 +349,15 @@ typedef struct bootcore_menu {
 
 /* Boots the first entry of a menu, in the order of attempts, that is not refused. Its files come
  * into the machine's pool, a piece at a time, and from there to their places, as if a disk gave
- * them. `memory` ends at the machine's size. Let no usable byte lie below it: a part or a pool that
- * begins there ends the boot as if memory ran out.
+ * them. `memory` is in one piece, and ends at the machine's size. Let no usable byte lie below it:
+ * if a part would begin there, the boot ends as if memory ran out, and a pool there is a misuse.
  * - BOOTCORE_DONE: memory holds each part at its place, 0 elsewhere in the pool, and each other
- *   byte as before; the handoff and the places are told.
+ *   byte as before; the call tells the handoff and the places.
  * - BOOTCORE_REFUSED: no entry is left. Memory holds 0 in the pool, and each other byte as before.
  * - BOOTCORE_NO_MEMORY: bytes of the pool may have changed, and no other.
  * - A misuse.
- * After the first two the refusals are told in order, as many as there is room for, and their
- * number. What is not told is as before. */
+ * After the first two the call tells the refusals in order, as many as there is room for, and their
+ * number. All that is not told is as before. */
 BOOTCORE_CALL uint32_t bootcore_boot(const bootcore_memory *memory, const bootcore_machine *machine,
     const bootcore_menu *menu, bootcore_outcome *outcome);
 
@@ -378,7 +373,8 @@ enum { BOOTCORE_PIECE = 4096 };
 typedef struct bootcore_session { void *kept; } bootcore_session;
 
 /* Pieces that are awaited, one after the other in a file: `length` bytes from the offset
- * piece * BOOTCORE_PIECE on. */
+ * piece * BOOTCORE_PIECE on. Of a request that you hand back its attempt, file and piece are looked
+ * at, not its entry, and its length by bootcore_session_missing_after alone. */
 typedef struct bootcore_request {
     uint32_t entry;   /* the index of the entry in the menu */
     uint32_t attempt; /* which attempt it is, from 0 on */
@@ -389,15 +385,16 @@ typedef struct bootcore_request {
 
 /* Makes a session of a menu, and keeps it; one that was kept before is freed then. It is not yet
  * started. Of each file the length is looked at; its bytes come later. What is given is read during
- * this call alone. BOOTCORE_DONE: the session is kept. Any other answer: what was kept before is
- * still kept. */
+ * this call alone. BOOTCORE_DONE: the session is kept. After any other answer what was kept before
+ * is still kept. */
 BOOTCORE_CALL uint32_t bootcore_session_make(bootcore_session *session,
     const bootcore_machine *machine, const bootcore_menu *menu);
 
 /* Starts a session: the first attempt begins. One that was started before stays as it is. `memory`
  * is as for bootcore_boot. The pieces that came lie in the pool: hand the same memory to each call
- * of a session, and don't write to its pool before the boot ended. This call and the next two
- * answer:
+ * of a session, and don't write to its pool before the boot ended. The call that begins an attempt
+ * refuses an entry for its files' lengths (1, 3, 21); else the one that brings the last piece of
+ * all its files judges it. This call and the next two answer:
  * - BOOTCORE_WAITING: pieces are awaited. No byte outside the pool changed.
  * - BOOTCORE_NEXT: the same, after one refusal or more. Ask again what is missing.
  * - BOOTCORE_DONE: an entry is handed over. Memory is as after bootcore_boot.
@@ -410,28 +407,30 @@ BOOTCORE_CALL uint32_t bootcore_session_make(bootcore_session *session,
 BOOTCORE_CALL uint32_t bootcore_session_start(bootcore_session *session,
     const bootcore_memory *memory);
 
-/* Tells a session that pieces came: the bytes of a request, which are copied. `length` bytes are
- * told, of which each BOOTCORE_PIECE are a piece, the rest too; they may be fewer than were asked
- * for. In whatever order pieces come, the boot ends in the same way, unless memory runs out. A
- * piece that is not awaited changes nothing: one that came before, one of an earlier attempt, or
- * one of another length. */
+/* Tells a session that pieces came: `length` bytes from the beginning of a request, which are
+ * copied, fewer than were asked for or more. Each BOOTCORE_PIECE of them are a piece, and so is the
+ * rest; only a file's last piece may be shorter. In whatever order pieces come, the boot ends in
+ * the same way, unless memory runs out. A piece that is not awaited changes nothing: one that came
+ * before, one of an earlier attempt, one that is cut or padded. bootcore_session_missing tells
+ * whether one was taken: it is awaited until then. */
 BOOTCORE_CALL uint32_t bootcore_session_pieces(bootcore_session *session,
     const bootcore_memory *memory, const bootcore_request *request, const void *bytes,
     size_t length);
 
-/* Tells a session that the first piece of a request can't be read: its entry is refused, and the
- * next attempt begins, if there is one. A fault of a piece that is not awaited changes nothing. */
+/* Tells a session that the first piece of a request can't be read: its entry is refused (2), and
+ * the next attempt begins, if there is one. A fault of a piece that is not awaited changes
+ * nothing. */
 BOOTCORE_CALL uint32_t bootcore_session_fault(bootcore_session *session,
     const bootcore_memory *memory, const bootcore_request *request);
 
 /* Tells the first pieces that the running attempt awaits, files and pieces ascending, at most so
  * many bytes of one file (at least a piece), and whether there are some. If there are none, or no
- * session, *request is as before. */
+ * session, *request is as before. No piece is marked as asked for: each is told until it came. */
 BOOTCORE_CALL bool bootcore_session_missing(const bootcore_session *session, size_t most,
     bootcore_request *request);
 
-/* Tells the first ones behind those of *request, so that repeated calls tell all of them. Begin
- * anew by bootcore_session_missing after BOOTCORE_NEXT. */
+/* Tells the first ones behind those of *request, so that repeated calls tell all of them; behind a
+ * request of another attempt, as after BOOTCORE_NEXT, the first of the running one. */
 BOOTCORE_CALL bool bootcore_session_missing_after(const bootcore_session *session, size_t most,
     bootcore_request *request);
 
@@ -479,14 +478,15 @@ enum {
     BOOTCORE_FAULT_WRONG_LENGTH = 75,           BOOTCORE_FAULT_WALK_NO_MEMORY = 84
 };
 
-/* What a refusal's number means, in the words of `bootcore explain`; of a walk's fault, in those of
- * docs/REFUSALS.md. Of any other number it says that there is none. The text is constant. */
+/* What a refusal's number means, not a status's, in the words of `bootcore explain`; of a walk's
+ * fault, in those of docs/REFUSALS.md. Of any other number it says that there is none. The text is
+ * constant. */
 BOOTCORE_CALL const char *bootcore_text(uint32_t number);
 
 /* Writes a refusal, or a walk's fault, as a line of text without its end: as `bootcore explain` has
  * it, `refused NUMBER NAME(WHAT IT CARRIES): MEANING`, or `bad image ..`. At most `length` bytes
  * are written, the last one a zero byte; the answer is the whole text's length without that byte,
- * so a buffer that is longer than the answer has all of it. `buffer` may be null where `length` is
+ * so a buffer that is longer than the answer has all of it. A null buffer counts as one of length
  * 0. A null refusal gives an empty text. */
 BOOTCORE_CALL size_t bootcore_describe(const bootcore_refusal *refusal, char *buffer,
     size_t length);

@@ -1,6 +1,6 @@
 /* Memory for the tables of libbootcore_freestanding.a, which has no malloc: an arena, a block of
  * the caller's that the calls of bootcore.h take their memory from. docs/EMBED.md has how long it
- * must be. libbootcore.a has none of this.
+ * must be.
  *
  * The arena belongs to all calls together, and is not safe with threads: make one call at a time,
  * of whichever function of the library. */
@@ -16,6 +16,8 @@ extern "C" {
 /* How long an arena is enough for each load, preparation and plan. A boot, a session and a walk may
  * want more: docs/EMBED.md. */
 enum { BOOTCORE_ARENA = 1048576 };
+
+/* The two functions are in libbootcore_freestanding.a alone: with libbootcore.a they don't link. */
 
 /* Gives the arena its memory, in place of what it had before: first free the sessions that are kept
  * in that. Before this call, and with a length of 0, each call that wants memory answers

@@ -123,6 +123,8 @@ int main(int argc, char **argv) {
     MISUSE(BOOTCORE_TOO_MANY, c.entries[1].rsdp_old = ((bootcore_bytes){kernel, BOOTCORE_MAX_RSDP + 1}));
     MISUSE(BOOTCORE_BAD_INDEX, c.menu.first = 2);
     MISUSE(BOOTCORE_BAD_INDEX, c.menu.entry_count = 0);
+    MISUSE(BOOTCORE_LOW_POOL,
+           c.memory = ((bootcore_memory){POOL + 4096, memory + POOL + 4096, SIZE - POOL - 4096}));
     printf("%d tried, %d wrong\n", tried, wrong);
     return wrong != 0;
 }

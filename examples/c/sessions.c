@@ -184,6 +184,9 @@ static void try_refused(void) {
     EXPECT(true, MISSING_AFTER(0) && IS_REQUEST(1, 9));
     EXPECT(BOOTCORE_WAITING, PIECES(bytes, 8)); /* of another length */
     EXPECT(BOOTCORE_WAITING, PIECES(NULL, 0));
+    EXPECT(BOOTCORE_WAITING, PIECES(bytes, BOOTCORE_PIECE - 1)); /* cut */
+    request.piece = 1;
+    EXPECT(BOOTCORE_WAITING, PIECES(bytes, BOOTCORE_PIECE)); /* padded */
     EXPECT(true, MISSING(SIZE) && IS_REQUEST(0, BOOTCORE_PIECE + 9));
     EXPECT(BOOTCORE_WAITING, PIECES(bytes, BOOTCORE_PIECE + 8)); /* the second one is */
     EXPECT(true, MISSING(SIZE) && IS_REQUEST(1, 9));
@@ -216,7 +219,12 @@ static void try_done(void) {
     EXPECT(BOOTCORE_DONE, MAKE());
     EXPECT(BOOTCORE_NEXT, START(0, SIZE));
     EXPECT(true, MISSING(SIZE) && request.entry == 1 && request.attempt == 1);
+    request.entry = 9; /* of a request neither its entry nor its length is looked at */
+    request.length = 9;
     EXPECT(BOOTCORE_NEXT, PIECES(bytes, BOOTCORE_PIECE + 9));
+    EXPECT(true, MISSING_AFTER(SIZE) && IS_REQUEST(0, sizeof kernel)); /* of the attempt before */
+    EXPECT(true, request.entry == 2 && request.attempt == 2);
+    EXPECT(false, MISSING_AFTER(SIZE));
     EXPECT(true, MISSING(SIZE) && request.entry == 2 && request.attempt == 2);
     EXPECT(BOOTCORE_DONE, PIECES(kernel, sizeof kernel));
     EXPECT(BOOTCORE_DONE, START(0, SIZE));

@@ -1,7 +1,8 @@
 /*
  * Each status of bootcore_load, bootcore_prepare, bootcore_plan and bootcore_carry_out but that of no
- * memory: calls that are right, and these with one thing changed. Prints the name of each change whose
- * status is another than it should be, or after which a byte is, and then how many were tried.
+ * memory: calls that are right, and these with one thing changed; and the words of each status. Prints
+ * the name of each change whose status is another than it should be, or after which a byte is, and then
+ * how many were tried.
  */
 #include "bootcore.h"
 
@@ -71,6 +72,7 @@ static call right(void) {
     c.layout.step_room = STEPS;
     c.layout.own = told.own;
     c.layout.own_room = OWN;
+    c.layout.step_count = c.layout.own_length = 9; /* as an older plan has it */
     return c;
 }
 
@@ -123,8 +125,9 @@ static void expect(const char *name, call c, uint32_t loads, uint32_t prepares, 
     if (status == BOOTCORE_DONE && prepares == plans) {
         same = !memcmp(&layout->handoff, &prepare.outcome.handoff, sizeof layout->handoff);
     } else {
-        same = status != BOOTCORE_REFUSED || !c.outcome.refusal_room ||
-               !memcmp(&layout->refusal, &refusal, sizeof refusal);
+        same = status != BOOTCORE_REFUSED ||
+               (!layout->step_count && !layout->own_length &&
+                (!c.outcome.refusal_room || !memcmp(&layout->refusal, &refusal, sizeof refusal)));
     }
     bool is_told = status == BOOTCORE_REFUSED ||
                    (status == BOOTCORE_SMALL_ROOM && layout->place_room == BOOTCORE_MAX_PLACES);
@@ -260,6 +263,7 @@ static void try_carrying(void) {
           c.pieces[0] = ((bootcore_memory){UINT64_MAX, told.second, SIZE}));
     CARRY(BOOTCORE_DONE, c.pieces[0] = ((bootcore_memory){0x100000, told.memory + 0x100000, 0x3000});
           c.pieces[1] = ((bootcore_memory){0x1000, told.memory + 0x1000, 0x1000}));
+    CARRY(BOOTCORE_DONE, c.files[1] = ((bootcore_bytes){"hello again", 11})); /* longer than planned */
     CARRY(BOOTCORE_OUTSIDE, c.layout.steps[0].address = UINT64_MAX;
           c.pieces[c.piece_count++] = ((bootcore_memory){UINT64_MAX, told.second, SIZE}));
     CARRY(BOOTCORE_OUTSIDE, c.pieces[1].length--);
@@ -272,6 +276,9 @@ static void try_carrying(void) {
     CARRY(BOOTCORE_BAD_FILE, c.layout.own_length = 1);
     CARRY(BOOTCORE_SMALL_ROOM, c.layout.step_room = 0);
     CARRY(BOOTCORE_SMALL_ROOM, c.layout.own_room = 0);
+    CARRY(BOOTCORE_SMALL_ROOM, c.layout.step_count = 0);
+    CARRY(BOOTCORE_SMALL_ROOM, call d = right(); d.entry.kernel.length = 9; /* refused */
+          (void)bootcore_plan(&d.machine, &d.entry, &c.layout));
     CARRY(BOOTCORE_NULL, c.files[1].bytes = NULL);
     CARRY(BOOTCORE_NULL, c.pieces[0].bytes = NULL);
     CARRY(BOOTCORE_NULL, c.layout.steps = NULL);
@@ -279,6 +286,21 @@ static void try_carrying(void) {
     NO_POINTER(bootcore_carry_out(NULL, &c.entry.kernel, 1, &c.memory, 1));
     NO_POINTER(bootcore_carry_out(&c.layout, NULL, 1, &c.memory, 1));
     NO_POINTER(bootcore_carry_out(&c.layout, &c.entry.kernel, 1, NULL, 1));
+}
+
+/* Each status has a sentence of its own, and no other number has one. */
+static void try_texts(void) {
+    const char *none = bootcore_status_text(UINT32_MAX);
+    for (uint32_t status = 0; status <= BOOTCORE_LOW_POOL + 1; status++) {
+        const char *text = bootcore_status_text(status);
+        bool is_one = status <= BOOTCORE_OUTSIDE ||
+                      (status >= BOOTCORE_NULL && status <= BOOTCORE_LOW_POOL);
+        bool holds = text[0] && !strcmp(text, none) != is_one;
+        for (uint32_t other = 0; is_one && other < status; other++) {
+            holds = holds && strcmp(text, bootcore_status_text(other));
+        }
+        count("status_text", text, status, status, holds);
+    }
 }
 
 int main(void) {
@@ -289,6 +311,7 @@ int main(void) {
     try_changes();
     try_no_pointers();
     try_carrying();
+    try_texts();
     printf("%d tried, %d wrong\n", tried, wrong);
     return wrong != 0;
 }

@@ -409,6 +409,7 @@ static void compare_plan(const bootcore_entry *entry, uint32_t status) {
         bootcore_layout untold = empty_layout();
         granted = grants;
         layout = empty_layout();
+        layout.step_count = layout.own_length = 9; /* as an older plan has it */
         came = bootcore_plan(&machine, &bare, &layout);
         granted = SIZE_MAX;
         if (came != BOOTCORE_NO_MEMORY) {

@@ -146,10 +146,16 @@ static void long_rsdp(void) {
 static void many_entries(void) { menu.entry_count = BOOTCORE_MAX_ENTRIES + 1; }
 static void bad_first(void) { menu.first = BOOTCORE_MAX_ENTRIES + 9; }
 static void bad_fallback(void) { fallbacks[1] = BOOTCORE_MAX_ENTRIES + 9; }
+static void low_pool(void) {
+    memory.address = POOL + 4096;
+    memory.bytes = bytes + POOL + 4096;
+    memory.length = MEMORY - POOL - 4096;
+}
 static void no_kernel(void) { entries[0].kernel.length = entries[1].kernel.length = 9; }
 static void file_too_short(void) { files[0].length--; }
 static void file_too_few(void) { file_count = 0; }
 static void file_unreadable(void) { files[1].length = BOOTCORE_UNREADABLE; }
+static void no_steps(void) { layout.step_count = 0; }
 static void no_source(void) { steps[0].source = 4; }
 static void wrapped(void) { steps[0].address = UINT64_MAX; }
 static void nothing(void) {}
@@ -194,7 +200,8 @@ static const change of_boot[] = {
     CHANGE(bad_protocol, BOOTCORE_BAD_PROTOCOL), CHANGE(bad_last_protocol, BOOTCORE_BAD_PROTOCOL),
     CHANGE(many_modules, BOOTCORE_TOO_MANY), CHANGE(more_modules, BOOTCORE_TOO_MANY), CHANGE(long_rsdp, BOOTCORE_TOO_MANY),
     CHANGE(many_entries, BOOTCORE_TOO_MANY), CHANGE(bad_first, BOOTCORE_BAD_INDEX), CHANGE(bad_fallback, BOOTCORE_BAD_INDEX),
-    CHANGE(no_kernel, BOOTCORE_REFUSED), CHANGE(unreadable_kernel, BOOTCORE_DONE), CHANGE(nothing, BOOTCORE_DONE)};
+    CHANGE(low_pool, BOOTCORE_LOW_POOL), CHANGE(no_kernel, BOOTCORE_REFUSED), CHANGE(unreadable_kernel, BOOTCORE_DONE),
+    CHANGE(nothing, BOOTCORE_DONE)};
 static const change of_make[] = {
     CHANGE(null_session, BOOTCORE_NULL), CHANGE(null_regions, BOOTCORE_NULL), CHANGE(null_entries, BOOTCORE_NULL),
     CHANGE(null_line, BOOTCORE_NULL), CHANGE(set_machine, BOOTCORE_BAD_RESERVED), CHANGE(set_region, BOOTCORE_BAD_RESERVED),
@@ -220,6 +227,7 @@ static const change of_outcome[] = {CHANGE(null_session, BOOTCORE_NULL), CHANGE(
 static const change of_carrying[] = {CHANGE(null_memory, BOOTCORE_NULL), CHANGE(null_files, BOOTCORE_NULL),
                                      CHANGE(null_own, BOOTCORE_NULL), CHANGE(file_unreadable, BOOTCORE_BAD_FILE),
                                      CHANGE(few_steps, BOOTCORE_SMALL_ROOM), CHANGE(few_bytes, BOOTCORE_SMALL_ROOM),
+                                     CHANGE(no_steps, BOOTCORE_SMALL_ROOM),
                                      CHANGE(file_too_short, BOOTCORE_BAD_FILE), CHANGE(file_too_few, BOOTCORE_BAD_FILE),
                                      CHANGE(no_source, BOOTCORE_BAD_FILE), CHANGE(high_memory, BOOTCORE_OUTSIDE),
                                      CHANGE(wrapped, BOOTCORE_OUTSIDE), CHANGE(nothing, BOOTCORE_DONE)};

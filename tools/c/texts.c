@@ -17,6 +17,7 @@ static int cuts_rightly(const bootcore_refusal *refusal, const char *whole, size
         if (room && (memcmp(buffer, whole, kept) || buffer[kept])) return 0;
         if (room && buffer[kept + 1] != '#') return 0;
         if (!room && buffer[0] != '#') return 0;
+        if (bootcore_describe(refusal, NULL, room) != length) return 0;
     }
     return 1;
 }

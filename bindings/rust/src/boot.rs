@@ -124,8 +124,9 @@ impl<'m> Session<'m> {
         progress(self.kept.start())
     }
 
-    /// Tells that pieces came: the bytes of a request, which are copied. They may be fewer than were asked for. A piece that
-    /// is not awaited changes nothing.
+    /// Tells that pieces came: bytes from the beginning of a request, which are copied. They are whole pieces; a file's last
+    /// one has its own length. They may be fewer than were asked for. A piece that is not awaited changes nothing, as one
+    /// that is cut or padded: [`missing`](Session::missing) tells it again.
     pub fn pieces(&mut self, request: &Request, bytes: &[u8]) -> Result<Progress, Error> {
         progress(self.kept.pieces(request, bytes))
     }
@@ -140,7 +141,7 @@ impl<'m> Session<'m> {
         self.kept.missing(most)
     }
 
-    /// The first ones behind those of a request.
+    /// The first ones behind those of a request; behind one of another attempt, the first of the running one.
     pub fn missing_after(&self, request: &Request, most: usize) -> Option<Request> {
         self.kept.missing_after(request, most)
     }

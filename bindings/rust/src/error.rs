@@ -29,27 +29,19 @@ numbered! {
         TooMany = 112,
         /// A menu's first entry or a fallback is no entry.
         BadIndex = 113,
-        /// Of a session: the pool begins below the memory that is given.
+        /// Of a boot or a session: the pool begins below the memory that is given.
         LowPool = 115,
     }
 }
 
 impl fmt::Display for Misuse {
     fn fmt(&self, to: &mut fmt::Formatter<'_>) -> fmt::Result {
-        let words = match self {
-            Misuse::NoBytes => "a file is known by its length alone, and its bytes are read",
-            Misuse::BadFile => "a file can't be read, or is missing or too short for a plan",
-            Misuse::BadSize => "the machine's size is no multiple of 4096 from 1 MiB to 4 GiB",
-            Misuse::TooManyRegions => "there are too many regions",
-            Misuse::BadRegion => "a region ends above 2^52",
-            Misuse::BadPool => "the pool is not of whole frames, or not all of it is usable",
-            Misuse::BadMemory => "memory does not end where the machine's does, or begins too high",
-            Misuse::TooMany => "there are too many entries or modules, or a copy of an RSDP is too long",
-            Misuse::BadIndex => "a menu's first entry or a fallback is no entry",
-            Misuse::LowPool => "the pool begins below the memory that is given",
-            Misuse::Other(number) => return write!(to, "misuse {}", number),
-        };
-        to.write_str(words)
+        match self {
+            // the header speaks of a pointer
+            Misuse::NoBytes => to.write_str("a file is known by its length alone, and its bytes are read"),
+            Misuse::Other(number) => write!(to, "misuse {}: {}", number, raw::status_text(*number)),
+            known => to.write_str(raw::status_text(known.number())),
+        }
     }
 }
 
@@ -80,8 +72,8 @@ pub enum Error {
     NoEntry(Vec<RefusedEntry>),
     /// The bytes are no image, or no kernel can be entered with it.
     BadImage(Fault),
-    /// Memory for the core's tables ran out. Of a boot it may also be that a part or the pool begins below the memory
-    /// that was given; bytes of the pool may have changed then.
+    /// Memory for the core's tables ran out. Of a boot it may also be that a part begins below the memory that was given;
+    /// bytes of the pool may have changed then.
     NoMemory,
     /// A part begins below the memory that is given; of a plan that is carried out: not all of a step lies in it.
     Outside,
@@ -115,10 +107,10 @@ impl fmt::Display for Error {
                 Ok(())
             }
             Error::BadImage(fault) => fault.fmt(to),
-            Error::NoMemory => to.write_str("memory ran out"),
-            Error::Outside => to.write_str("a part does not lie in the memory that is given"),
+            Error::NoMemory => to.write_str(raw::status_text(raw::NO_MEMORY)),
+            Error::Outside => to.write_str(raw::status_text(raw::OUTSIDE)),
             Error::Misuse(misuse) => misuse.fmt(to),
-            Error::Other(status) => write!(to, "status {}", status),
+            Error::Other(status) => write!(to, "status {}: {}", status, raw::status_text(*status)),
         }
     }
 }

@@ -8,8 +8,8 @@ use crate::raw;
 
 /// Loads one entry into memory, and tells how its kernel is entered. There is no menu and no pool.
 ///
-/// `memory` reaches at least to the machine's size; it may begin above 0, where no part goes below. After an error all of
-/// it is as before.
+/// `memory` reaches at least to the machine's size; it may begin above 0 if no part lies below. After an error all of it
+/// is as before.
 ///
 /// ```
 /// use bootcore::{load, Entry, Error, Kind, Linux, Machine, Memory, Refusal};

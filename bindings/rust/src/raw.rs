@@ -192,6 +192,7 @@ extern "sysv64" {
     fn bootcore_session_missing_after(session: *const Session, most: usize, request: *mut Request) -> bool;
     fn bootcore_session_outcome(session: *const Session, outcome: *mut Outcome) -> u32;
     fn bootcore_session_free(session: *mut Session);
+    fn bootcore_status_text(status: u32) -> *const c_char;
     fn bootcore_text(number: u32) -> *const c_char;
     fn bootcore_describe(refusal: *const Refusal, buffer: *mut c_char, length: usize) -> usize;
     fn bootcore_image_head(handoff: *const Handoff, places: *const Place, head: *mut u8, length: usize) -> usize;
@@ -380,6 +381,12 @@ fn refusal_told(refusal: &Refusal) -> crate::Refusal {
 pub(crate) fn version() -> u32 {
     // SAFETY: it takes nothing, and reads nothing but a constant
     unsafe { bootcore_version() }
+}
+
+pub(crate) fn status_text(status: u32) -> &'static str {
+    // SAFETY: the answer points to constant text that ends in a zero byte, whatever the status is
+    let text = unsafe { CStr::from_ptr(bootcore_status_text(status)) };
+    text.to_str().unwrap_or_default()
 }
 
 pub(crate) fn text(number: u32) -> &'static str {

@@ -134,6 +134,7 @@ fn of_a_session() {
     let mut above = Session::new(Memory::new(0x2000, &mut memory[0x2000..]), &low, &menu).unwrap();
     assert_eq!(misuse(above.start()), Misuse::LowPool);
     drop(above);
+    assert_eq!(misuse(boot(&mut Memory::new(0x2000, &mut memory[0x2000..]), &low, &menu)), Misuse::LowPool);
     let mut high = Session::new(Memory::new(1 << 32, &mut memory), &machine, &menu).unwrap();
     let request = Request::default();
     assert_eq!(misuse(high.start()), Misuse::BadMemory);

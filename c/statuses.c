@@ -1,0 +1,54 @@
+/* Statuses in words. */
+#include "bootcore.h"
+
+BOOTCORE_CALL
+const char *bootcore_status_text(uint32_t status) {
+    switch (status) {
+    case BOOTCORE_DONE:
+        return "it is done";
+    case BOOTCORE_REFUSED:
+        return "the entry is refused; of a menu: no entry is left; of a walk: the image is refused";
+    case BOOTCORE_WAITING:
+        return "the session awaits pieces of files, or was not started";
+    case BOOTCORE_NEXT:
+        return "an entry was refused, and the session awaits pieces of another";
+    case BOOTCORE_NO_MEMORY:
+        return "memory ran out";
+    case BOOTCORE_FAILED:
+        return "the session ended without an entry: none is left, or memory ran out";
+    case BOOTCORE_OUTSIDE:
+        return "a part does not lie in the memory that is given";
+    case BOOTCORE_NULL:
+        return "a pointer is null that may not be";
+    case BOOTCORE_BAD_RESERVED:
+        return "a reserved word is not 0";
+    case BOOTCORE_BAD_FILE:
+        return "a file can't be read, or a plan is carried out with too few or too short files";
+    case BOOTCORE_SMALL_ROOM:
+        return "an array has too little room, or the layout holds no whole plan";
+    case BOOTCORE_BAD_KIND:
+        return "a region has a kind that there is not";
+    case BOOTCORE_BAD_SIZE:
+        return "the machine's size is no multiple of 4096 from 1 MiB to 4 GiB";
+    case BOOTCORE_TOO_MANY_REGIONS:
+        return "there are more than 128 regions";
+    case BOOTCORE_BAD_REGION:
+        return "a region ends above 2^52";
+    case BOOTCORE_BAD_POOL:
+        return "the pool is not of whole frames, or not all of it is usable";
+    case BOOTCORE_BAD_MEMORY:
+        return "memory does not end where the machine's does, or begins at 4 GiB or above";
+    case BOOTCORE_BAD_PROTOCOL:
+        return "an entry has a protocol that there is not";
+    case BOOTCORE_TOO_MANY:
+        return "there are too many entries or modules, or a copy of an RSDP is too long";
+    case BOOTCORE_BAD_INDEX:
+        return "a menu's first entry or a fallback is no entry";
+    case BOOTCORE_NO_SESSION:
+        return "no session is kept: it was not made, or it was freed";
+    case BOOTCORE_LOW_POOL:
+        return "the pool begins below the memory that is given";
+    default:
+        return "no status has this number";
+    }
+}
