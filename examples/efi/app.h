@@ -27,6 +27,9 @@ typedef struct {
     uint32_t file_count;
     bootcore_module modules[BOOTCORE_MAX_MODULES];
     bootcore_entry core; /* as the core takes it; read_files puts the files in */
+    /* of loader/entries alone: its file's name, what it is sorted by, what is wrong with it */
+    const char *name, *version, *sort_key, *machine, *wrong;
+    uint32_t wrong_line;
 } menu_entry;
 
 extern struct menu_file {
@@ -37,6 +40,9 @@ extern struct menu_file {
     uint32_t entry_count, fallback_count, attempt_count;
     uint32_t seconds; /* the time limit of the choice, no_limit for none */
     uint64_t arena;   /* bytes for the core's own tables */
+    int lists_entries;
+    int keeps;        /* the choice is kept for the next boot */
+    int falls_back;   /* also after a choice by hand */
     int writes;       /* for tests: the handover is written to the disk as well */
     int changes;      /* for tests: the memory map changes as the firmware is to end */
     uint8_t text[max_text];
@@ -51,10 +57,36 @@ const char *read_menu(char *text, uint32_t *line);
 /* The chosen entry, and the fallbacks if they are wanted. */
 void list_attempts(int with_fallbacks);
 
+/* ---- entries.c: the entries of loader/entries */
+
+/* Adds them to the menu. */
+void list_entries(void);
+
+/* ---- text.c: texts of lines */
+
+extern const char *mistake; /* the first thing that is wrong with a text, NULL so far */
+/* Whether it is good; else this is wrong. */
+int check(int is_good, const char *what);
+int is_word(const char *word, const char *wanted);
+/* Cuts a line at its first blank: the word before, and the rest without blanks around it. */
+char *cut_word(char *line);
+/* Calls this for each line, with its word and the rest, until one is wrong: its number, or 0. */
+uint32_t take_lines(char *text, void (*take)(const char *word, char *rest));
+uint32_t take_number(const char *text);
+/* The firmware's RSDP of ACPI 2.0 or of 1.0, or NULL. */
+const uint8_t *find_rsdp(int is_new);
+/* These are kept in menu.text, one behind the other. */
+bootcore_bytes take_bytes(const void *bytes, size_t length);
+/* A line for a kernel. `@rsdp@` in it stands for the address of the firmware's RSDP. */
+bootcore_bytes take_line(const char *text);
+const char *take_path(char *path);
+void take_kernel(char *path, menu_entry *entry);
+void take_ramdisk(char *path, menu_entry *entry);
+
 /* ---- files.c: files of the disk that the application was started from */
 
 extern struct entry_files {
-    bootcore_bytes read[1 + BOOTCORE_MAX_MODULES]; /* in the order of the entry's paths */
+    bootcore_bytes read[1 + BOOTCORE_MAX_MODULES]; /* in the order of the paths; ramdisks are one */
     size_t count;
 } files; /* of the entry that is attempted */
 
@@ -62,6 +94,9 @@ int open_disk(EFI_HANDLE device);
 void close_disk(void);
 /* A path as the firmware has it: 16-bit letters and backslashes, until the next call; or NULL. */
 CHAR16 *file_name(const char *path);
+int has_file(const char *path);
+/* Calls this for each file of a folder whose name is ASCII. */
+void each_file(const char *folder, void (*take)(const char *name));
 /* A whole file, which has no zero byte, with one behind it; or NULL. */
 char *read_text(const char *path);
 /* Reads an entry's files, each into pages of its own. NULL, or what is wrong. */
@@ -130,6 +165,13 @@ void enter_alone(void);
    It never returns. */
 void run_alone(void (*function)(void), void *stack_end, uint64_t tables);
 
+/* ---- keep.c: the choice, kept for the next boot */
+
+/* The entry that was kept is chosen, if the menu wants it and still has it. */
+void mark_kept(void);
+/* 0 if the choice can't be kept. */
+int keep_choice(void);
+
 /* ---- program.c: another EFI program */
 
 /* Starts an entry's program from a disk. NULL if it ended well, or what is wrong. */
@@ -139,6 +181,8 @@ const char *start_program(EFI_HANDLE image, EFI_HANDLE disk, const menu_entry *e
 
 /* `%s` a text, `%c` a letter; `%u` and `%x` a uint64_t, by ten and by sixteen. */
 void print(const char *form, ...);
+/* The same as a text, until the next call. */
+const char *compose(const char *form, ...);
 /* A line, or more where a row has no room for it: what it is about, and a sentence. */
 void print_sentence(const char *about, const char *sentence);
 extern char *kept, *kept_end; /* room where text is kept; it is shown if there is none */

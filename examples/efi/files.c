@@ -68,7 +68,7 @@ static uint32_t fill(const char *path, uint8_t *bytes, uint64_t length) {
 }
 
 /* Files one after the other, in pages of their own: each begins at a multiple of 4, with zeros
-   before it, and behind the last one there is a byte or more of room. `at` is the one that is read. */
+   before it, and behind the last there is a byte or more of room. `at` is the one that is read. */
 static uint32_t read_joined(const char *const *paths, uint32_t count, uint32_t *at,
                             bootcore_bytes *joined) {
     static uint64_t lengths[BOOTCORE_MAX_MODULES];
@@ -98,6 +98,30 @@ char *read_text(const char *path) {
     char *text = (char *)(UINTN)read.bytes;
     text[read.length] = 0;
     return strlen(text) == read.length ? text : NULL;
+}
+
+int has_file(const char *path) {
+    uint64_t length;
+    return measure(path, &length) != BOOTCORE_REFUSAL_NO_FILE;
+}
+
+/* The bytes of a folder are the records of its files. */
+void each_file(const char *folder, void (*take)(const char *name)) {
+    static uint64_t room[256];
+    static char name[256];
+    EFI_FILE_INFO *info = (EFI_FILE_INFO *)room;
+    EFI_FILE *opened = open(folder, EFI_FILE_MODE_READ);
+    UINTN size = sizeof room;
+    if (opened == NULL) return;
+    while (!EFI_ERROR(opened->Read(opened, &size, info)) && size != 0) {
+        UINTN i = 0;
+        for (; i < sizeof name - 1 && info->FileName[i] >= ' ' && info->FileName[i] <= '~'; i++)
+            name[i] = (char)info->FileName[i];
+        name[i] = 0;
+        if (!(info->Attribute & EFI_FILE_DIRECTORY) && info->FileName[i] == 0) take(name);
+        size = sizeof room;
+    }
+    opened->Close(opened);
 }
 
 /* ---- the files of an entry */

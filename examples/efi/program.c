@@ -34,16 +34,6 @@ static const char *load_words(EFI_STATUS status) {
     }
 }
 
-static const char *end_words(EFI_STATUS status) {
-    static char words[64];
-    kept = words;
-    kept_end = words + sizeof words - 1;
-    print("The program ended with the status 0x%x.", (uint64_t)status);
-    *kept = 0;
-    kept = NULL;
-    return words;
-}
-
 const char *start_program(EFI_HANDLE image, EFI_HANDLE disk, const menu_entry *entry) {
     static EFI_GUID id = LOADED_IMAGE_PROTOCOL;
     static CHAR16 options[BOOTCORE_MAX_LINE + 1];
@@ -63,5 +53,6 @@ const char *start_program(EFI_HANDLE image, EFI_HANDLE disk, const menu_entry *e
     loaded->LoadOptions = options;
     loaded->LoadOptionsSize = line->length ? (UINT32)(line->length + 1) * sizeof *options : 0;
     status = BS->StartImage(program, NULL, NULL);
-    return EFI_ERROR(status) ? end_words(status) : NULL;
+    if (!EFI_ERROR(status)) return NULL;
+    return compose("The program ended with the status 0x%x.", (uint64_t)status);
 }

@@ -19,9 +19,7 @@ static void put_number(uint64_t number, uint64_t base) {
     put("0123456789abcdef"[number % base]);
 }
 
-void print(const char *form, ...) {
-    va_list given;
-    va_start(given, form);
+static void print_list(const char *form, va_list given) {
     for (; *form; form++) {
         if (*form != '%') put(*form);
         else if (*++form == 'c') put((char)va_arg(given, int));
@@ -29,7 +27,26 @@ void print(const char *form, ...) {
         else
             for (const char *text = va_arg(given, const char *); *text; text++) put(*text);
     }
+}
+
+void print(const char *form, ...) {
+    va_list given;
+    va_start(given, form);
+    print_list(form, given);
     va_end(given);
+}
+
+const char *compose(const char *form, ...) {
+    static char words[512];
+    va_list given;
+    va_start(given, form);
+    kept = words;
+    kept_end = words + sizeof words - 1;
+    print_list(form, given);
+    *kept = 0;
+    kept = NULL;
+    va_end(given);
+    return words;
 }
 
 /* No screen of a firmware's is smaller than 80 by 25. */
@@ -149,14 +166,13 @@ static void remove_letter(size_t at) {
     for (; edited[at]; at++) edited[at] = edited[at + 1];
 }
 
-/* What the screen has room for, with the cursor at a letter; and a row more, which may have lost
-   its last letter. */
+/* The page of the line with the cursor's letter, so far as the screen may show something else. */
 static void show_edited(size_t at) {
     UINTN columns, rows;
     measure_screen(&columns, &rows);
     size_t width = columns - 8, height = rows - 6, length = strlen(edited);
     size_t first = at / (width * height) * (width * height);
-    for (size_t row = 0; row < height && first + row * width <= length + width; row++) {
+    for (size_t row = 0; row < height && (first || row * width <= length + width); row++) {
         size_t start = first + row * width;
         ST->ConOut->SetCursorPosition(ST->ConOut, 4, 4 + row);
         show_wide(start < length ? edited + start : "", width);
@@ -173,7 +189,9 @@ static int edit_line(const menu_entry *entry) {
     edited[at] = 0;
     ST->ConOut->ClearScreen(ST->ConOut);
     ST->ConOut->EnableCursor(ST->ConOut, TRUE);
-    print("\n    %s\n    Enter boots once with this line, Escape leads back.", entry->title);
+    print("\n    ");
+    show_wide(entry->title, 72);
+    print("\n    Enter boots once with this line, Escape leads back.");
     for (;;) {
         size_t length = strlen(edited);
         show_edited(at);
@@ -193,8 +211,10 @@ static int edit_line(const menu_entry *entry) {
 
 /* ---- the choice */
 
+/* A program may have left it in other colours. */
 static void clear_screen(void) {
     ST->ConOut->EnableCursor(ST->ConOut, FALSE);
+    ST->ConOut->SetAttribute(ST->ConOut, EFI_TEXT_ATTR(EFI_LIGHTGRAY, EFI_BLACK));
     ST->ConOut->ClearScreen(ST->ConOut);
 }
 

@@ -1,0 +1,88 @@
+/* On the host: what the boot manager's own code reads out of a menu and files of loader/entries, as
+   lines; or, with --cut, each of them cut after so many bytes, for each number. */
+#include "app.h"
+
+#include <stdio.h>
+#include <stdlib.h>
+#include <string.h>
+
+static const uint32_t rsdp[9] = {[5] = 36}; /* the length in its place */
+static EFI_CONFIGURATION_TABLE tables[2] = {{ACPI_TABLE_GUID, (void *)rsdp},
+                                            {ACPI_20_TABLE_GUID, (void *)rsdp}};
+static EFI_SYSTEM_TABLE firmware = {.ConfigurationTable = tables};
+EFI_SYSTEM_TABLE *ST = &firmware;
+
+static char **paths; /* the menu's, then those of entries */
+static int path_count;
+static size_t most, longest = 1; /* bytes of a file that are read; and that there are */
+
+static const char *name_of(const char *path) {
+    const char *slash = strrchr(path, '/');
+    return slash ? slash + 1 : path;
+}
+
+static char *read_path(const char *path) {
+    FILE *file = fopen(path, "rb");
+    char *text = calloc(1, 1 << 20);
+    if (file == NULL || text == NULL) exit(2);
+    size_t length = fread(text, 1, 1 << 20, file);
+    fclose(file);
+    if (length > longest) longest = length;
+    if (length > most) memset(text + most, 0, length - most), length = most;
+    if (memchr(text, 0, length)) return free(text), NULL;
+    return realloc(text, length + 1);
+}
+
+/* ---- what files.c has in the boot manager */
+
+static char *texts[64];
+static int text_count;
+
+void each_file(const char *folder, void (*take)(const char *name)) {
+    (void)folder;
+    for (int i = 1; i < path_count; i++) take(name_of(paths[i]));
+}
+
+char *read_text(const char *path) {
+    for (int i = 1; i < path_count; i++)
+        if (strcmp(name_of(paths[i]), name_of(path)) == 0)
+            return texts[text_count++] = read_path(paths[i]);
+    return NULL;
+}
+
+/* ---- */
+
+static void show(const char *wrong, uint32_t line) {
+    if (wrong != NULL) printf("line %u: %s\n", line, wrong);
+    for (uint32_t i = 0; i < menu.entry_count && wrong == NULL; i++) {
+        const menu_entry *entry = &menu.entries[i];
+        printf("%s", entry->title);
+        if (entry->wrong) printf(" | line %u: %s", entry->wrong_line, entry->wrong);
+        for (uint32_t k = 0; k < entry->file_count && !entry->wrong; k++)
+            printf(" | %s", entry->paths[k]);
+        printf(" | %.*s\n", (int)entry->core.line.length, (const char *)entry->core.line.bytes);
+    }
+}
+
+static void read_all(int shows) {
+    uint32_t line = 0;
+    char *text = read_path(paths[0]);
+    memset(&menu, 0, sizeof menu);
+    const char *wrong = text ? read_menu(text, &line) : "no text";
+    if (wrong == NULL) list_attempts(1);
+    if (shows) show(wrong, line);
+    while (text_count > 0) free(texts[--text_count]);
+    free(text);
+}
+
+int main(int count, char **words) {
+    int cuts = count > 1 && strcmp(words[1], "--cut") == 0;
+    paths = words + 1 + cuts;
+    path_count = count - 1 - cuts;
+    if (path_count < 1 || path_count > 64) return 2;
+    firmware.NumberOfTableEntries = 2;
+    for (most = 0; cuts && most <= longest; most++) read_all(0);
+    most = 1 << 20;
+    read_all(!cuts);
+    return 0;
+}

@@ -1,0 +1,110 @@
+/* Texts of lines: their words, and what is kept of them. */
+#include "app.h"
+
+const char *mistake;
+
+int check(int is_good, const char *what) {
+    if (!is_good && mistake == NULL) mistake = what;
+    return is_good;
+}
+
+/* ---- words */
+
+static int is_blank(char letter) { return letter == ' ' || letter == '\t' || letter == '\r'; }
+
+int is_word(const char *word, const char *wanted) {
+    return strlen(word) == strlen(wanted) && memcmp(word, wanted, strlen(word)) == 0;
+}
+
+static int begins_with(const char *text, const char *start) {
+    while (*start && *text == *start) text++, start++;
+    return *start == 0;
+}
+
+char *cut_word(char *line) {
+    while (*line && !is_blank(*line)) line++;
+    while (is_blank(*line)) *line++ = 0;
+    char *end = line + strlen(line);
+    while (end > line && is_blank(end[-1])) *--end = 0;
+    return line;
+}
+
+uint32_t take_number(const char *text) {
+    uint32_t number = 0;
+    check(*text != 0 && strlen(text) <= 9, "a number of at most nine digits is wanted");
+    for (; *text >= '0' && *text <= '9'; text++) number = number * 10 + (uint32_t)(*text - '0');
+    check(*text == 0, "a number is wanted");
+    return number;
+}
+
+uint32_t take_lines(char *text, void (*take)(const char *word, char *rest)) {
+    uint32_t line = 1;
+    mistake = NULL;
+    if (begins_with(text, "\xef\xbb\xbf")) text += 3; /* a mark of UTF-8 */
+    for (; *text; line++) {
+        char *next = text;
+        while (*next && *next != '\n') next++;
+        if (*next) *next++ = 0;
+        while (is_blank(*text)) text++;
+        char *rest = cut_word(text);
+        if (*text && *text != '#') take(text, rest);
+        if (mistake != NULL) return line;
+        text = next;
+    }
+    return 0;
+}
+
+/* ---- what is kept */
+
+const char *take_path(char *path) {
+    while (*path == '/') path++;
+    check(*path != 0, "a file is wanted");
+    return path;
+}
+
+bootcore_bytes take_bytes(const void *bytes, size_t length) {
+    bootcore_bytes taken = {menu.text + menu.text_length, 0};
+    if (!check(length <= max_text - menu.text_length, "too much text")) return taken;
+    memcpy(menu.text + menu.text_length, bytes, length);
+    menu.text_length += length;
+    taken.length = length;
+    return taken;
+}
+
+const uint8_t *find_rsdp(int is_new) {
+    static EFI_GUID old_acpi = ACPI_TABLE_GUID, new_acpi = ACPI_20_TABLE_GUID;
+    const EFI_GUID *version = is_new ? &new_acpi : &old_acpi;
+    for (UINTN i = 0; i < ST->NumberOfTableEntries; i++)
+        if (memcmp(&ST->ConfigurationTable[i].VendorGuid, version, sizeof *version) == 0)
+            return ST->ConfigurationTable[i].VendorTable;
+    return NULL;
+}
+
+bootcore_bytes take_line(const char *text) {
+    static const char mark[] = "@rsdp@";
+    bootcore_bytes line = take_bytes(text, 0);
+    size_t start = menu.text_length;
+    const uint8_t *rsdp = find_rsdp(1) ? find_rsdp(1) : find_rsdp(0);
+    while (*text) {
+        if (!begins_with(text, mark)) {
+            take_bytes(text++, 1);
+            continue;
+        }
+        take_bytes("0x", 2);
+        for (int shift = 60; shift >= 0; shift -= 4)
+            take_bytes(&"0123456789abcdef"[(uint64_t)(UINTN)rsdp >> shift & 15], 1);
+        text += strlen(mark);
+    }
+    line.length = menu.text_length - start;
+    return line;
+}
+
+void take_kernel(char *path, menu_entry *entry) {
+    if (check(entry->paths[0] == NULL, "an entry has one kernel or program"))
+        entry->paths[0] = take_path(path);
+}
+
+void take_ramdisk(char *path, menu_entry *entry) {
+    if (check(entry->file_count <= BOOTCORE_MAX_MODULES, "too many ramdisks of an entry"))
+        entry->paths[entry->file_count++] = take_path(path);
+}
