@@ -60,7 +60,8 @@ static void show(const char *wrong, uint32_t line) {
         if (entry->wrong) printf(" | line %u: %s", entry->wrong_line, entry->wrong);
         for (uint32_t k = 0; k < entry->file_count && !entry->wrong; k++)
             printf(" | %s", entry->paths[k]);
-        printf(" | %.*s\n", (int)entry->core.line.length, (const char *)entry->core.line.bytes);
+        printf(" |%s%.*s\n", entry->core.line.length ? " " : "", (int)entry->core.line.length,
+               (const char *)entry->core.line.bytes);
     }
 }
 
