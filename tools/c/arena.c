@@ -3,6 +3,7 @@
  * alike. The status is 0 if all is so. */
 #include "../../c/crossing.h"
 #include "bootcore_arena.h"
+#include "random.h"
 
 #include <stdio.h>
 #include <stdlib.h>
@@ -12,15 +13,6 @@ enum { LENGTH = 1 << 16, BLOCKS = 40, CALLS = 4000 };
 
 static uint8_t arena[LENGTH + 16];
 static struct { uint8_t *at; size_t length; uint8_t byte; } blocks[BLOCKS];
-static uint64_t state;
-
-static uint64_t random_number(void) {
-    state ^= state << 13;
-    state ^= state >> 7;
-    state ^= state << 17;
-    return state;
-}
-
 static void stop(const char *why) {
     puts(why);
     exit(1);
@@ -45,7 +37,7 @@ static void keep(size_t k, void *at, size_t length) {
 /* So many calls; the answer is how many of them had no memory. Blocks that are kept in the end are forgotten. */
 static int try_calls(uint64_t seed, uint8_t *begin, size_t length, size_t longest) {
     int refused = 0, i;
-    state = seed;
+    random_state = seed;
     memset(blocks, 0, sizeof blocks);
     bootcore_arena(begin, length);
     for (i = 0; i < CALLS; i++) {

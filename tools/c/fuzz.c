@@ -310,14 +310,7 @@ int LLVMFuzzerTestOneInput(const uint8_t *bytes, size_t length) {
 
 /* ---- inputs at random: a head, and one of the kernels with some of its bytes changed */
 
-static uint64_t state;
-
-static uint64_t random_number(void) {
-    state ^= state << 13;
-    state ^= state >> 7;
-    state ^= state << 17;
-    return state;
-}
+#include "random.h"
 
 static uint8_t changed[HEAD + INPUT];
 
@@ -383,7 +376,7 @@ int main(int argc, char **argv) {
         try_input(kernels[0].bytes, kernels[0].length);
         return 0;
     }
-    state = strtoull(argv[2], NULL, 10) | 1;
+    random_state = strtoull(argv[2], NULL, 10) | 1;
     end = time(NULL) + (time_t)strtoull(argv[1], NULL, 10);
     while (time(NULL) < end) {
         try_input(changed, make_input(&kernels[random_number() % count]));
