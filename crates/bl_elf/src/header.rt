@@ -3,7 +3,6 @@ ghost use Rattle.std.specs.Prelude.{◌≡◌, ◌≤◌, Some, None, length, Ma
 ghost use Rattle.bl_elf.specs.Header as spec;
 ghost use Rattle.bl_elf.specs.internal.SoundHeader.{IsSoundHeaderOf};
 
-use crate::bounds_checks::ends_within;
 use crate::class::Class;
 use crate::fault::ElfFault;
 use crate::fields::{
@@ -12,6 +11,7 @@ use crate::fields::{
     EI_VERSION, EI_VERSION_CURRENT, ELFCLASS32, ELFCLASS64, ELFDATA2LSB, ET_DYN, ET_EXEC,
     EV_CURRENT, MAGIC, MAX_PROGRAM_HEADERS,
 };
+use crate::sums::ends_within;
 use bl_mem::{ByteView, u8_at, u16_at, u32_at, u64_at};
 
 /// The fields of a file's ELF header that loading needs (System V gABI, "ELF Header").

@@ -1,7 +1,6 @@
 //! Executables of ELF, 32-bit and 64-bit: their loadable segments, and where they are entered.
 #![tactic(auto)]
 
-mod bounds_checks;
 mod class;
 mod elf;
 mod entry;
@@ -12,6 +11,7 @@ mod laws;
 mod overlap;
 mod program_headers;
 mod segments;
+mod sums;
 
 pub use elf::{Elf, read_elf};
 pub use fault::ElfFault;

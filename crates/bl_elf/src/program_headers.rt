@@ -3,7 +3,6 @@ ghost use Rattle.std.specs.Prelude.{◌≡◌, ◌≤◌, ◌<◌, ◌+◌, ◌^
 ghost use Rattle.bl_elf.specs.internal.SoundHeader.{IsSoundHeaderOf};
 ghost use Rattle.bl_elf.specs.ProgramHeaders as spec;
 
-use crate::bounds_checks::{ends_within, is_before_end};
 use crate::class::Class;
 use crate::fault::ElfFault;
 use crate::fields::{
@@ -11,6 +10,7 @@ use crate::fields::{
     P_PADDR_32, P_PADDR_64, P_VADDR_32, P_VADDR_64, PHDR_SIZE_32, PHDR_SIZE_64, PT_LOAD,
 };
 use crate::header::Header;
+use crate::sums::{ends_within, is_before_end};
 use bl_mem::{ByteView, Segment, u32_at, u64_at};
 
 /// The fields of a program header that loading needs (System V gABI, "Program Header").
