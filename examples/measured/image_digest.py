@@ -1,0 +1,55 @@
+"""The digest that the image of a description must have: the proved program says it."""
+
+import hashlib
+import os
+import re
+import subprocess
+import tempfile
+from pathlib import Path
+from typing import List
+
+from description import Described, Module, written
+from reading import BadInput, fault
+
+TOP = Path(__file__).resolve().parent.parent.parent
+
+
+def joined(ramdisks: List[bytes]) -> bytes:
+    """To a kernel several are one: each begins at a multiple of 4, behind zeros."""
+    whole = b""
+    for ramdisk in ramdisks:
+        whole += bytes(-len(whole) % 4) + ramdisk
+    return whole
+
+
+def image_digest(described: Described, files: List[bytes]) -> bytes:
+    """Of the description's machine and entry with these files, the kernel first. Their names decide nothing of an image, and the
+    paths that were measured may lead anywhere here: so the files have other names."""
+    modules = [Module(f"module{i}", module.line) for i, module in enumerate(described.modules)]
+    held = {"kernel": files[0], **{module.file: file for module, file in zip(modules, files[1:])}}
+    named = described._replace(kernel="kernel", modules=modules)
+    if described.initrd is not None:
+        named = named._replace(initrd="ramdisk")
+        held["ramdisk"] = joined(files[1:])
+    held["description"] = written(named)
+    with tempfile.TemporaryDirectory() as folder:
+        for name, bytes_ in held.items():
+            Path(folder, name).write_bytes(bytes_)
+        return program_digest(folder)
+
+
+def program_digest(folder: str) -> bytes:
+    program = os.environ.get("BOOTCORE") or str(TOP / "bootcore")
+    try:
+        ran = subprocess.run([program, "boot", "description", "--out", "image"], cwd=folder, capture_output=True, check=False)
+    except OSError as error:
+        raise BadInput(f"{program}: {error.strerror}") from None
+    refused = re.search(rb"^refused 0 (\d+)$", ran.stdout, re.M)
+    if refused:
+        fault(f"bootcore refuses this entry on this machine, by the number {refused[1].decode()} of docs/REFUSALS.md")
+    if ran.returncode == 2:
+        fault("bootcore refuses the machine or the entry of its description")
+    if ran.returncode != 0:
+        told = ran.stderr.decode(errors="replace").strip()
+        raise BadInput(f"{program} ends with the status {ran.returncode}: {told}")
+    return hashlib.sha256(Path(folder, "image").read_bytes()).digest()

@@ -1,0 +1,357 @@
+"""Measured boots that no machine made: a firmware's log and a TPM's values, written by the standards' layouts and by
+docs/EFI.md, and nothing of the checker. Here is the writer, and the boots that the checks change."""
+
+import hashlib
+import re
+import struct
+import sys
+from typing import Callable, Dict, Iterable, List, NamedTuple, Set, Tuple
+
+from tests import examples
+from tests.support import TOP
+
+ALGORITHMS = {"sha1": 0x04, "sha256": 0x0B, "sha384": 0x0C, "sha512": 0x0D}
+NO_ACTION, SEPARATOR, VERSION, IPL = 0x03, 0x04, 0x08, 0x0D
+VARIABLE, APPLICATION, ACTION = 0x80000001, 0x80000003, 0x80000007
+
+
+class Event(NamedTuple):
+    pcr: int
+    kind: int
+    measured: bytes
+    data: bytes
+
+    def digest(self, bank: str) -> bytes:
+        return hashlib.new(bank, self.measured).digest()
+
+
+def told(pcr: int, kind: int, text: bytes) -> Event:
+    """An event that measures what it tells."""
+    return Event(pcr, kind, text, text)
+
+
+# ---- the layouts
+
+
+def spelled(event: Event, banks: Iterable[str]) -> bytes:
+    """TCG_PCR_EVENT2."""
+    names = list(banks)
+    digests = b"".join(struct.pack("<H", ALGORITHMS[bank]) + event.digest(bank) for bank in names)
+    return struct.pack("<III", event.pcr, event.kind, len(names)) + digests + struct.pack("<I", len(event.data)) + event.data
+
+
+def first_event(banks: Iterable[str]) -> bytes:
+    """TCG_PCClientPCREvent with TCG_EfiSpecIdEvent."""
+    names = list(banks)
+    sizes = b"".join(struct.pack("<HH", ALGORITHMS[bank], hashlib.new(bank).digest_size) for bank in names)
+    content = b"Spec ID Event03\0" + struct.pack("<IBBBBI", 0, 0, 2, 105, 2, len(names)) + sizes + b"\0"
+    return struct.pack("<II20sI", 0, NO_ACTION, bytes(20), len(content)) + content
+
+
+def log_of(events: Iterable[Event], banks: Iterable[str]) -> bytes:
+    names = list(banks)
+    return first_event(names) + b"".join(spelled(event, names) for event in events)
+
+
+def final_of(events: List[Event], banks: Iterable[str]) -> bytes:
+    """EFI_TCG2_FINAL_EVENTS_TABLE."""
+    return struct.pack("<QQ", 1, len(events)) + b"".join(spelled(event, list(banks)) for event in events)
+
+
+def untold(events: Iterable[Event], banks: Iterable[str], text: str) -> Tuple[Set[int], Set[int]]:
+    """The places of a log's bytes that no PCR has: those that never matter, and those of paths in a description."""
+    names = list(banks)
+    free: Set[int] = {*range(8, 28), *range(48, 56)}  # of the first event: its digest; class, version and size of numbers
+    paths: Set[int] = set()
+    at = len(first_event(names))
+    for event in events:
+        end = at + len(spelled(event, names))
+        data = end - len(event.data)
+        if event.kind == NO_ACTION:
+            free.update(range(at, at + 4), range(data, end - 1))
+            place = at + 12
+            for bank in names:
+                size = hashlib.new(bank).digest_size
+                free.update(range(place + 2, place + 2 + size))
+                place += 2 + size
+        else:
+            free.update(range(at + 4, at + 8))
+            if event.pcr not in (4, 8, 12) or event.kind == APPLICATION:
+                free.update(range(data, end))
+        if event.pcr == 12:
+            for value in re.findall(r'^(?:kernel|initrd) = "(.*)"$', text, re.M):
+                place = data + text.index(f'"{value}"') + 1
+                paths.update(range(place, place + len(value)))
+        at = end
+    return free, paths
+
+
+Pcrs = Dict[str, List[bytes]]
+
+
+def pcrs_of(events: Iterable[Event], banks: Iterable[str]) -> Pcrs:
+    pcrs = {}
+    for bank in banks:
+        size = hashlib.new(bank).digest_size
+        pcrs[bank] = [(b"\xff" if 17 <= pcr <= 22 else b"\0") * size for pcr in range(24)]
+    for event in events:
+        for bank, values in pcrs.items():
+            if event.kind != NO_ACTION:
+                values[event.pcr] = hashlib.new(bank, values[event.pcr] + event.digest(bank)).digest()
+    return pcrs
+
+
+def pcrread(pcrs: Pcrs) -> str:
+    """As tpm2_pcrread prints it."""
+    lines = []
+    for bank, values in pcrs.items():
+        lines += [f"  {bank}:", *(f"    {pcr:<2}: 0x{value.hex().upper()}" for pcr, value in enumerate(values))]
+    return "\n".join([*lines, ""])
+
+
+Selected = List[Tuple[str, List[int]]]
+
+
+def quote_of(pcrs: Pcrs, selected: Selected, nonce: bytes, bank: str = "sha256") -> bytes:
+    """TPMS_ATTEST, as a TPM signs it with this hash."""
+    banks = b""
+    for name, chosen in selected:
+        bits = bytes(sum(1 << pcr % 8 for pcr in chosen if pcr // 8 == byte) for byte in range(3))
+        banks += struct.pack(">HB", ALGORITHMS[name], 3) + bits
+    digest = hashlib.new(bank, b"".join(pcrs[name][pcr] for name, chosen in selected for pcr in sorted(chosen))).digest()
+    start = struct.pack(">IH", 0xFF544347, 0x8018) + struct.pack(">H", 34) + b"\0\x0b" + bytes(32)
+    clock = struct.pack(">QIIBQ", 123456, 7, 2, 1, 0x2020031200000000)
+    rest = struct.pack(">I", len(selected)) + banks + struct.pack(">H", len(digest)) + digest
+    return start + struct.pack(">H", len(nonce)) + nonce + clock + rest
+
+
+def pcr_file_of(pcrs: Pcrs, selected: Selected) -> bytes:
+    """As tpm2_quote writes it: records of a little-endian memory, with the room that they have there."""
+    made = struct.pack("<I", len(selected))
+    for name, chosen in (selected + [("", [])] * 16)[:16]:
+        bits = bytes(sum(1 << pcr % 8 for pcr in chosen if pcr // 8 == byte) for byte in range(4))
+        made += struct.pack("<HB", ALGORITHMS[name], 3) + bits + b"\0" if name else bytes(8)
+    values = [pcrs[name][pcr] for name, chosen in selected for pcr in sorted(chosen)]
+    groups = [values[at : at + 8] for at in range(0, len(values), 8)]
+    made += struct.pack("<I", len(groups))
+    for group in groups:
+        rooms = [struct.pack("<H", len(value)) + value.ljust(64, b"\0") for value in group]
+        made += struct.pack("<I", len(group)) + b"".join(rooms).ljust(8 * 66, b"\0")
+    return made
+
+
+def signature_of(der: bytes) -> bytes:
+    """TPMT_SIGNATURE by ECDSA with SHA-256, of OpenSSL's: a sequence of two whole numbers."""
+    made, at = struct.pack(">HH", 0x18, 0x0B), 2
+    for _ in range(2):
+        length = der[at + 1]
+        number = der[at + 2 : at + 2 + length].lstrip(b"\0").rjust(32, b"\0")
+        made += struct.pack(">H", len(number)) + number
+        at += 2 + length
+    return made
+
+
+# ---- an application
+
+MANAGER_PARTS = [b"code".ljust(512, b"\x90"), b"data".ljust(512, b"\1")]
+
+
+def application(sections: List[bytes], signed: bytes = b"") -> bytes:
+    """A PE32+ file with these sections, whose bytes lie in the file in the opposite order of their headers."""
+    head, optional = 0x40, 0x40 + 24
+    held = bytearray(512)
+    held[:2], held[0x3C:0x40] = b"MZ", struct.pack("<I", head)
+    held[head:optional] = struct.pack("<4sHHIIIHH", b"PE\0\0", 0x8664, len(sections), 0, 0, 0, 240, 0x22)
+    held[optional : optional + 2] = b"\x0b\x02"
+    held[optional + 60 : optional + 68] = struct.pack("<II", 512, 0x12345678)  # the headers' length, the checksum
+    end = 512 + 512 * len(sections)
+    held[optional + 144 : optional + 152] = struct.pack("<II", end if signed else 0, len(signed))
+    for i, section in enumerate(sections):
+        place = end - 512 * (i + 1)
+        header = struct.pack("<8sIIIIIIHHI", b"s", 512, 0x1000 * (i + 1), 512, place, 0, 0, 0, 0, 0)
+        held[optional + 240 + 40 * i : optional + 280 + 40 * i] = header
+    return bytes(held) + b"".join(reversed(sections)) + signed
+
+
+def without_signature(held: bytes) -> bytes:
+    """What is measured of an application of the form above."""
+    optional = 0x40 + 24
+    (length,) = struct.unpack_from("<I", held, optional + 148)
+    return held[: optional + 64] + held[optional + 68 : optional + 144] + held[optional + 152 : len(held) - length]
+
+
+# ---- boots
+
+DESCRIPTION = """\
+size = 0x100000000
+pool = [0x100000, 0x800000]
+
+[[region]]
+base = 0x0
+length = 0x9f000
+kind = "usable"
+
+[[region]]
+base = 0x9f000
+length = 0x61000
+kind = "reserved"
+
+[[region]]
+base = 0x100000
+length = 0x700000
+kind = "usable"
+
+[[region]]
+base = 0x800000
+length = 0x8000
+kind = "acpi"
+
+[[region]]
+base = 0x808000
+length = 0x1000
+kind = "nvs"
+
+[[region]]
+base = 0x900000
+length = 0x600000
+kind = "usable"
+
+[[entry]]
+"""
+LINUX = DESCRIPTION + """\
+title = "Linux"
+protocol = "linux64"
+kernel = "vmlinuz"
+line = "root=/dev/vda1 acpi_rsdp=0x0000000000804014"
+initrd = "initrd.img\\u000amore.img"
+"""
+MULTIBOOT2 = DESCRIPTION + """\
+title = "Kernel"
+protocol = "multiboot2"
+kernel = "kernel.elf"
+line = "say \\"hello\\""
+rsdp_old = "5253442050545220"
+rsdp_new = "52534420505452202f"
+
+[[entry.module]]
+file = "one"
+line = "first @ 0x804014"
+
+[[entry.module]]
+file = "two"
+line = ""
+"""
+FILES = {
+    "menu.txt": b"timeout 5\n",
+    "vmlinuz": examples.linux64_kernel(),
+    "initrd.img": b"hello",
+    "more.img": b"world",
+    "kernel.elf": examples.multiboot2_kernel(),
+    "one": b"module one",
+    "two": b"",
+    "BOOTX64.EFI": application(MANAGER_PARTS),
+}
+POLICY = """\
+managers = ["BOOTX64.EFI"]
+files = ["menu.txt"]
+
+[[entry]]
+title = "Linux"
+protocol = "linux64"
+kernel = "vmlinuz"
+line = "root=/dev/vda1 acpi_rsdp=@rsdp@"
+ramdisks = ["initrd.img", "more.img"]
+
+[[entry]]
+title = "Kernel"
+protocol = "multiboot2"
+kernel = "kernel.elf"
+line = 'say "hello"'
+
+[[entry.module]]
+file = "one"
+line = "first @ @rsdp@"
+
+[[entry.module]]
+file = "two"
+"""
+
+
+def digest_of_application(held: bytes) -> str:
+    return hashlib.sha256(without_signature(held)).hexdigest()
+
+
+def joined(ramdisks: Iterable[bytes]) -> bytes:
+    made = b""
+    for each in ramdisks:
+        made += bytes(-len(made) % 4) + each
+    return made
+
+
+def image_digest(text: str, files: Dict[str, bytes]) -> bytes:
+    """By the model, which shares nothing with the program."""
+    sys.path.insert(0, str(TOP / "model"))
+    try:
+        from rules import booting, image
+    finally:
+        sys.path.pop(0)
+
+    def found(name: str) -> bytes:
+        return joined(files[each] for each in name.split("\n"))
+
+    handover = booting.boot(text.encode(), found).handover
+    return hashlib.sha256(b"".join(image.chunks(handover))).digest()
+
+
+def firmware(manager: bytes) -> List[Event]:
+    """What a firmware measures before it starts an application, and that."""
+    before = [
+        Event(0, NO_ACTION, b"", b"StartupLocality\0\0"),
+        told(0, VERSION, b"1\0.\0\0\0"),
+        told(7, VARIABLE, b"SecureBoot"),
+        told(4, ACTION, b"Calling EFI Application from Boot Option"),
+    ]
+    separators = [told(pcr, SEPARATOR, bytes(4)) for pcr in range(8)]
+    return [*before, *separators, Event(4, APPLICATION, without_signature(manager), b"where it was loaded")]
+
+
+def exit_events() -> List[Event]:
+    texts = (b"Exit Boot Services Invocation", b"Exit Boot Services Returned with Success")
+    return [told(5, ACTION, text) for text in texts]
+
+
+def attempt(title: str, lines: List[str], names: List[str], files: Dict[str, bytes]) -> List[Event]:
+    texts = [f"bootcore_choice: {title}", f"kernel_cmdline: {lines[0]}", *(f"module_cmdline: {line}" for line in lines[1:])]
+    measured = [told(8, IPL, text.encode() + b"\0") for text in texts]
+    return measured + [Event(9, IPL, files[name], name.encode() + b"\0") for name in names]
+
+
+def handover(text: str, files: Dict[str, bytes]) -> Event:
+    return Event(12, IPL, image_digest(text, files), text.encode())
+
+
+def linux_boot(files: Dict[str, bytes], text: str = LINUX) -> List[Event]:
+    made = firmware(files["BOOTX64.EFI"])
+    made.append(Event(9, IPL, files["menu.txt"], b"bootcore/menu.txt\0"))
+    made += attempt("Linux", ["root=/dev/vda1 acpi_rsdp=@rsdp@"], ["vmlinuz", "initrd.img", "more.img"], files)
+    return [*made, handover(text, files), *exit_events()]
+
+
+def multiboot2_boot(files: Dict[str, bytes], text: str = MULTIBOOT2) -> List[Event]:
+    made = firmware(files["BOOTX64.EFI"])
+    made.append(Event(9, IPL, files["menu.txt"], b"bootcore/menu.txt\0"))
+    made += attempt("Kernel", ['say "hello"', "first @ @rsdp@", ""], ["kernel.elf", "one", "two"], files)
+    return [*made, handover(text, files), *exit_events()]
+
+
+Change = Callable[[List[Event]], List[Event]]
+
+
+def at(pcr: int, place: int, change: Callable[[Event], List[Event]]) -> Change:
+    """Puts others in the place of a PCR's event, counted from the front or, below zero, from the end."""
+
+    def changed(events: List[Event]) -> List[Event]:
+        index = [i for i, event in enumerate(events) if event.pcr == pcr][place]
+        return [*events[:index], *change(events[index]), *events[index + 1 :]]
+
+    return changed

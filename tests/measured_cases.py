@@ -1,0 +1,547 @@
+"""The cases of the checker of measured boots: a boot, what is changed of it, and what the checker must say."""
+
+from typing import Callable, Dict, List, NamedTuple, Optional
+
+from tests import measured_boots as boots
+from tests.measured_boots import FILES, IPL, LINUX, MULTIBOOT2, POLICY, Change, Event, Pcrs, at, attempt, told
+
+GOOD, WRONG, UNREADABLE, BAD_WORDS = 0, 1, 2, 64
+ALL_BANKS = ["sha1", "sha256", "sha384", "sha512"]
+OTHER_MANAGER = boots.application([b"other".ljust(512, b"\0")])
+KERNEL_LINES = ['say "hello"', "first @ @rsdp@", ""]
+
+
+def same(it):
+    return it
+
+
+class Case(NamedTuple):
+    sentence: str
+    said: str  # in what the checker prints
+    status: int = WRONG
+    boot: str = "linux"
+    text: str = ""  # the description that is handed over, if it is another one
+    happened: Change = same  # in the machine: log and TPM agree on it
+    logged: Change = same  # in the log alone
+    values: Callable[[Pcrs], Pcrs] = same  # of the TPM's PCRs
+    policy: str = POLICY
+    known: Dict[str, Optional[bytes]] = {}  # files of the folder that are others; None if one is not there
+    booted: Dict[str, bytes] = {}  # files of the machine that are others
+    banks: List[str] = ["sha256"]
+    words: List[str] = []
+
+
+# ---- changes
+
+
+def gone(_: Event) -> List[Event]:
+    return []
+
+
+def before(*added: Event) -> Callable[[Event], List[Event]]:
+    return lambda event: [*added, event]
+
+
+def after(*added: Event) -> Callable[[Event], List[Event]]:
+    return lambda event: [event, *added]
+
+
+def with_data(data: bytes) -> Callable[[Event], List[Event]]:
+    return lambda event: [event._replace(data=data)]
+
+
+def measuring(measured: bytes) -> Callable[[Event], List[Event]]:
+    return lambda event: [event._replace(measured=measured)]
+
+
+def saying(old: str, new: str) -> Callable[[Event], List[Event]]:
+    """Another text; what was measured is the same."""
+    return lambda event: [event._replace(data=event.data.replace(old.encode(), new.encode()))]
+
+
+def swapped(pcr: int, place: int) -> Change:
+    """An event of a PCR and the next one of that PCR."""
+
+    def changed(events: List[Event]) -> List[Event]:
+        first, second = [i for i, event in enumerate(events) if event.pcr == pcr][place:][:2]
+        made = list(events)
+        made[first], made[second] = events[second], events[first]
+        return made
+
+    return changed
+
+
+def first(pcr: int) -> Change:
+    """The events of a PCR before all others."""
+    return lambda events: [it for it in events if it.pcr == pcr] + [it for it in events if it.pcr != pcr]
+
+
+def ended(*added: Event) -> Change:
+    return lambda events: [*events, *added]
+
+
+def valued(bank: str, pcr: int, value: Optional[bytes]) -> Callable[[Pcrs], Pcrs]:
+    def changed(pcrs: Pcrs) -> Pcrs:
+        values = list(pcrs[bank])
+        values[pcr] = value if value is not None else bytes(len(values[pcr]))
+        return {**pcrs, bank: values}
+
+    return changed
+
+
+def one_byte(held: bytes, place: int) -> bytes:
+    return held[:place] + bytes([held[place] ^ 1]) + held[place + 1 :]
+
+
+# ---- texts and policies
+
+SIZE, POOL = "size = 0x100000000\n", "pool = [0x100000, 0x800000]\n"
+OTHER_MAP = LINUX.replace("length = 0x8000\n", "length = 0x7000\n")
+NO_ROOM = LINUX.replace("[0x100000, 0x800000]", "[0x1000, 0x9f000]")
+for high in ("0x700000", "0x600000"):
+    NO_ROOM = NO_ROOM.replace(f'length = {high}\nkind = "usable"', f'length = {high}\nkind = "bad"')
+TOO_LARGE = LINUX.replace("size = 0x100000000", "size = 0x200000000")
+LONG = "A title that has more than sixty-four bytes, for which there is no room in a description"
+ODD = 'é"\\\t and more'
+ODD_TEXT = LINUX.replace("root=/dev/vda1 acpi_rsdp=0x0000000000804014", 'é\\"\\\\\\u0009 and more')
+DIGEST = boots.digest_of_application(FILES["BOOTX64.EFI"])
+TWO_MARKS = POLICY.replace("'say \"hello\"'", "'@rsdp@ or @rsdp@'")
+TWO_ADDRESSES = MULTIBOOT2.replace('say \\"hello\\"', "0x804014 or 0x804014")
+
+
+def titled(title: str, text: str) -> Change:
+    """Another title, in the choice and in the description."""
+
+    def changed(events: List[Event]) -> List[Event]:
+        made = at(8, 0, lambda _: [told(8, IPL, f"bootcore_choice: {title}".encode() + b"\0")])(events)
+        return at(12, 0, saying('title = "Linux"', f'title = "{text}"'))(made)
+
+    return changed
+
+
+def lined(*lines: str, place: int = 1) -> Change:
+    """Other lines, as they are measured."""
+
+    def changed(events: List[Event]) -> List[Event]:
+        for i, line in enumerate(lines):
+            word = "module_cmdline" if place + i > 1 else "kernel_cmdline"
+            events = at(8, place + i, lambda _: [told(8, IPL, f"{word}: {line}".encode() + b"\0")])(events)
+        return events
+
+    return changed
+
+
+# what a boot says before its last words
+LINUX_SAID = """\
+booted    "Linux" by the protocol linux64
+line      "root=/dev/vda1 acpi_rsdp=0x0000000000804014"
+kernel    vmlinuz
+ramdisk   initrd.img
+ramdisk   more.img
+machine   6 ranges of memory, 14282752 bytes usable
+"""
+KERNEL_SAID = """\
+booted    "Kernel" by the protocol multiboot2
+line      "say "hello""
+kernel    kernel.elf
+module    one with the line "first @ 0x804014"
+module    two with the line ""
+"""
+
+# ---- the cases
+
+GIVEN_UP = attempt("Kernel", KERNEL_LINES, ["kernel.elf"], FILES)
+EMPTY = {"initrd.img": b"", "more.img": b""}
+PCR_POLICY = POLICY.replace("\n[[entry]]", "\n[pcr]\n17 = ['" + 32 * "ff" + "']\n\n[[entry]]", 1)
+
+AS_IT_SHOULD_BE = [
+    Case("a boot is told, with the names of the policy", LINUX_SAID),
+    Case("a boot of a Multiboot2 kernel is told, with its modules", KERNEL_SAID, boot="multiboot2"),
+    Case("values that nobody has signed are told to be so", "nobody has signed their values"),
+    Case("each bank of a log is replayed", LINUX_SAID, banks=ALL_BANKS),
+    Case("another bank decides where it is named", "of sha384", banks=ALL_BANKS, words=["--bank", "sha384"]),
+    Case("the order between two PCRs does not matter", LINUX_SAID, logged=lambda it: first(12)(first(4)(it))),
+    Case("the kind of an event does not matter", LINUX_SAID, logged=at(4, -1, lambda it: [it._replace(kind=IPL)])),
+    Case("what extends no PCR does not matter", LINUX_SAID, logged=ended(Event(12, boots.NO_ACTION, b"", b"more"))),
+    Case("a file's path in the log does not matter", LINUX_SAID, logged=at(9, 1, with_data(b"elsewhere\0"))),
+    Case("a path in a description does not matter", LINUX_SAID, logged=at(12, 0, saying('"vmlinuz"', '"elsewhere"'))),
+    Case("a log that was read before the firmware ended is enough", LINUX_SAID, logged=lambda it: it[:-2]),
+    Case(
+        "what was measured later into another PCR is a remark",
+        "remark    PCR 10: not what the log gives",
+        happened=ended(told(10, IPL, b"later")),
+        logged=lambda it: it[:-1],
+    ),
+    Case(
+        "of two handovers the last one counts, and it is told",
+        "remark    the handover was measured 2 times; the last one counts",
+        happened=at(12, 0, before(boots.handover(OTHER_MAP, FILES))),
+    ),
+    Case(
+        "an entry that was given up is a remark",
+        'remark    "Kernel" was attempted before',
+        happened=at(8, 0, before(*GIVEN_UP)),
+    ),
+    Case("a PCR may have a value that the policy names", LINUX_SAID, policy=PCR_POLICY),
+    Case("a boot manager is known by its digest", f"manager   {DIGEST}", policy=POLICY.replace("BOOTX64.EFI", DIGEST)),
+    Case(
+        "an application's signature does not matter",
+        LINUX_SAID,
+        booted={"BOOTX64.EFI": boots.application(boots.MANAGER_PARTS, b"signed8.")},
+    ),
+    Case(
+        "ramdisks that are empty are none",
+        "ramdisk   more.img",
+        text=LINUX.replace('initrd = "initrd.img\\u000amore.img"\n', ""),
+        known=EMPTY,
+        booted=EMPTY,
+    ),
+    Case(
+        "a long title is cut in the description",
+        f'booted    "{LONG[:64]}"',
+        happened=titled(LONG, LONG[:64]),
+        policy=POLICY.replace("Linux", LONG),
+    ),
+    Case(
+        "a title that is no ASCII has question marks in the description",
+        'booted    "B??r"',
+        happened=titled("Bär", "B??r"),
+        policy=POLICY.replace("Linux", "Bär"),
+    ),
+    Case(
+        "a line may have any letter",
+        'line      "\\xc3\\xa9"\\\\x09 and more"',
+        text=ODD_TEXT,
+        happened=lined(ODD),
+        policy=POLICY.replace('"root=/dev/vda1 acpi_rsdp=@rsdp@"', '"é\\"\\\\\\t and more"'),
+    ),
+    Case(
+        "a mark that stands twice is one address",
+        'line      "0x804014 or 0x804014"',
+        boot="multiboot2",
+        text=TWO_ADDRESSES,
+        happened=lined("@rsdp@ or @rsdp@"),
+        policy=TWO_MARKS,
+    ),
+]
+
+LOG = [
+    Case("a log that is cut behind an event", "PCR 12 of sha256 is not what the log gives", logged=lambda it: it[:-3]),
+    Case("an event that is left out", "PCR 9 of sha256 is not what the log gives", logged=at(9, 1, gone)),
+    Case(
+        "an event that is added",
+        "PCR 8 of sha256 is not what the log gives",
+        logged=at(8, 0, after(told(8, IPL, b"x\0"))),
+    ),
+    Case("events of a PCR in another order", "PCR 9 of sha256 is not what the log gives", logged=swapped(9, 1)),
+    Case(
+        "an event with another digest",
+        "PCR 9 of sha256 is not what the log gives",
+        logged=at(9, 1, measuring(b"else")),
+    ),
+    Case("an event of another PCR", "PCR 8, 9 of sha256 is not", logged=at(9, 1, lambda it: [it._replace(pcr=8)])),
+    Case(
+        "an event that extended a PCR and says that it did not",
+        "PCR 12 of sha256 is not",
+        logged=at(12, 0, lambda it: [it._replace(kind=3)]),
+    ),
+    Case(
+        "a locality that the firmware did not start with",
+        "PCR 0 of sha256 is not",
+        logged=at(0, 0, with_data(b"StartupLocality\0\3")),
+    ),
+    Case("a PCR of the TPM that is zero", "PCR 12 of sha256 is zero", values=valued("sha256", 12, None)),
+    Case(
+        "a PCR of the TPM with another value",
+        "PCR 4 of sha256 is not what",
+        values=valued("sha256", 4, bytes(31) + b"1"),
+    ),
+    Case(
+        "a PCR of another bank with another value",
+        "PCR 8 of sha1 is not what",
+        banks=ALL_BANKS,
+        values=valued("sha1", 8, bytes(19) + b"1"),
+    ),
+    Case(
+        "PCR values of another bank",
+        "the bank sha256 is not among the PCR values, only sha384",
+        banks=["sha256", "sha384"],
+        values=lambda it: {"sha384": it["sha384"]},
+    ),
+    Case("a log without the bank", "the bank sha384 is not in the log, only sha256", words=["--bank", "sha384"]),
+    Case(
+        "PCR values without PCR 12",
+        "PCR 12 of sha256 is not among the PCR values",
+        values=lambda it: {"sha256": it["sha256"][:12]},
+    ),
+]
+
+MACHINE = [
+    Case(
+        "a file with another byte",
+        "PCR 9, event 18: no known file is what was measured",
+        booted={"initrd.img": b"hellp"},
+    ),
+    Case(
+        "a known file that is another one",
+        "PCR 9, event 17: no known file",
+        known={"vmlinuz": FILES["vmlinuz"] + b"\0"},
+    ),
+    Case(
+        "a file that the policy does not have",
+        "PCR 9, event 14: no known file",
+        policy=POLICY.replace('["menu.txt"]', "[]"),
+    ),
+    Case(
+        "a file that was read besides",
+        "its files are not those that were read last",
+        happened=at(9, -1, after(Event(9, IPL, FILES["one"], b"one\0"))),
+    ),
+    Case("files in another order", "its files are not those that were read last", happened=swapped(9, 2)),
+    Case(
+        "a line that the policy does not have",
+        'entry "Linux" has other lines',
+        policy=POLICY.replace("vda1", "vda2"),
+    ),
+    Case(
+        "a line that was edited",
+        'has other lines than those measured: "init=/bin/sh"',
+        happened=lined("init=/bin/sh"),
+    ),
+    Case(
+        "a title that the policy does not have",
+        'the policy has no entry "Linux"',
+        policy=POLICY.replace('"Linux"', '"Other"'),
+    ),
+    Case(
+        "a protocol that the policy does not have",
+        "has not the protocol linux,",
+        text=LINUX.replace("linux64", "linux"),
+    ),
+    Case(
+        "a module less in the description",
+        "its lines are not those",
+        boot="multiboot2",
+        text=MULTIBOOT2.rsplit("\n[[", 1)[0],
+    ),
+    Case(
+        "a ramdisk more than the policy has",
+        "or not as many files",
+        logged=at(12, 0, saying("more.img", "more.img\\u000a")),
+    ),
+    Case(
+        "another boot manager",
+        "PCR 4, event 13: something was started that the policy has not",
+        booted={"BOOTX64.EFI": OTHER_MANAGER},
+    ),
+    Case(
+        "an application that was started before",
+        "PCR 4, event 13: something was started",
+        happened=at(4, -1, before(Event(4, boots.APPLICATION, b"shell", b""))),
+    ),
+    Case(
+        "an application that says that it is an action",
+        "PCR 4, event 13: something was started",
+        happened=at(4, -1, before(Event(4, boots.ACTION, b"shell", b"Calling EFI Application from Boot Option"))),
+    ),
+    Case(
+        "a boot manager that returned to the firmware",
+        "PCR 4: the firmware went on behind what was started last",
+        happened=ended(told(4, boots.ACTION, b"Returning from EFI Application from Boot Option")),
+    ),
+    Case("a firmware that started nothing", "PCR 4: nothing was started", happened=at(4, -1, gone)),
+    Case("a text that is not what was measured", "is not what was measured", logged=at(8, 1, saying("vda1", "vda2"))),
+    Case(
+        "a text of another loader",
+        "is no text of the boot manager",
+        happened=at(8, 0, before(told(8, IPL, b"grub_cmd: set\0"))),
+    ),
+    Case(
+        "a text that ends twice",
+        "is no text of the boot manager",
+        happened=at(8, 0, before(told(8, IPL, b"bootcore_choice: a\0b\0"))),
+    ),
+    Case(
+        "a text without an end",
+        "is no text of the boot manager",
+        happened=at(8, 0, before(told(8, IPL, b"bootcore_choice: a"))),
+    ),
+    Case("a line without a choice", "is not the text that follows there", happened=at(8, 0, gone)),
+    Case("a choice without a line", "has other lines than those measured: none", happened=at(8, 1, gone)),
+    Case(
+        "a module's line before the kernel's",
+        "is not the text that follows there",
+        boot="multiboot2",
+        happened=swapped(8, 1),
+    ),
+    Case(
+        "no choice",
+        "PCR 8: the boot manager measured no choice",
+        happened=lambda it: [event for event in it if event.pcr != 8],
+    ),
+    Case("a choice behind the handover", "that is not what was chosen", happened=ended(*GIVEN_UP)),
+    Case("a handover under another title", '"Other" was handed over, and', logged=at(12, 0, saying("Linux", "Other"))),
+    Case("no handover", "PCR 12: nothing was handed over", happened=at(12, 0, gone)),
+    Case(
+        "a PCR with a value that the policy does not have",
+        "PCR 17 of sha256 has not a value of",
+        policy=PCR_POLICY.replace("ff", "fe"),
+    ),
+]
+
+HANDOVER = [
+    Case(
+        "a description of another memory map",
+        "is not the image of its description",
+        logged=at(12, 0, with_data(OTHER_MAP.encode())),
+    ),
+    Case(
+        "an image with another byte",
+        "is not the image of its description",
+        happened=at(12, 0, lambda it: [it._replace(measured=one_byte(it.measured, 7))]),
+    ),
+    Case(
+        "an image of other files",
+        "is not the image",
+        happened=at(12, 0, lambda _: [boots.handover(LINUX, {**FILES, "more.img": b"else"})]),
+    ),
+    Case("the image itself measured, and not its digest", "is not the image", happened=at(12, 0, measuring(b"image"))),
+    Case(
+        "another line in the description",
+        "its lines are not those that were measured",
+        logged=at(12, 0, saying("vda1", "vda2")),
+    ),
+    Case("another address in the description", "is not the image", logged=at(12, 0, saying("804014", "804015"))),
+    Case(
+        "a mark that stands for two addresses",
+        "its lines are not those that were measured",
+        boot="multiboot2",
+        text=TWO_ADDRESSES.replace("or 0x804014", "or 0x804015"),
+        happened=lined("@rsdp@ or @rsdp@"),
+        policy=TWO_MARKS,
+    ),
+    Case(
+        "a description with a blank more",
+        "is not in its one form: line 1 is",
+        logged=at(12, 0, saying("size = ", "size =  ")),
+    ),
+    Case(
+        "a description in another order",
+        "is not in its one form: line 1 is",
+        logged=at(12, 0, saying(SIZE + POOL, POOL + SIZE)),
+    ),
+    Case(
+        "a description in upper case",
+        "is not in its one form: line 6 is",
+        logged=at(12, 0, saying("0x9f000\nkind", "0x9F000\nkind")),
+    ),
+    Case(
+        "a description with another pool",
+        "is not in its one form: line 2 is",
+        logged=at(12, 0, saying("[0x100000, 0x800000]", "[0x900000, 0xf00000]")),
+    ),
+    Case("a description that is no text", "it is no text of TOML", logged=at(12, 0, with_data(b"\xff"))),
+    Case(
+        "a machine without room for the kernel",
+        "bootcore refuses this entry on this machine, by the number",
+        logged=at(12, 0, with_data(NO_ROOM.encode())),
+    ),
+    Case(
+        "a machine that the rules do not allow",
+        "bootcore refuses the machine",
+        logged=at(12, 0, with_data(TOO_LARGE.encode())),
+    ),
+    Case(
+        "a wrong handover before the right one",
+        "is not the image",
+        happened=at(12, 0, before(Event(12, IPL, b"else", LINUX.encode()))),
+    ),
+]
+
+# ---- texts that say what a description in its one form says, or nothing: what stands in place of what
+
+OTHER_FORMS = [
+    ("size = ", "size  = "),
+    ("size = ", "size="),
+    ("size = ", " size = "),
+    ("size = ", "\tsize = "),
+    ("size = ", "\nsize = "),
+    ("size = ", "\ufeffsize = "),
+    ("size = ", '"size" = '),
+    ("size = ", "fill = 0x0\nsize = "),
+    ("pool = ", "default = 0x0\npool = "),
+    ("pool = ", "fallback = []\npool = "),
+    ("size = 0x100000000\n", ""),
+    ("0x100000000", "4294967296"),
+    ("0x100000000", "0x1_0000_0000"),
+    ("0x100000000", "0x0100000000"),
+    ("0x100000000", "0o40000000000"),
+    ("0x100000000", "-0x1"),
+    ("0x100000000", "-1"),
+    ("0x100000000", "true"),
+    ("0x100000000", "1e9"),
+    ("0x100000000", '"0x100000000"'),
+    ("[0x100000, 0x800000]", "[0x100000,0x800000]"),
+    ("[0x100000, 0x800000]", "[0x100000, 0x800000,]"),
+    ("[0x100000, 0x800000]", "[0x100000, 0x7ff000]"),
+    ("[0x100000, 0x800000]", "[0x900000, 0xf00000]"),
+    ("[0x100000, 0x800000]", "[0x0, 0x0]"),
+    ("\n\n", "\n"),
+    ("\n\n", "\n\n\n"),
+    ("\n\n", "\n \n"),
+    ("\n", "\r\n"),
+    ("\n", " \n"),
+    ("\n", " # a comment\n"),
+    ("\n", "\n# a comment\n"),
+    ("[[region]]", "[[ region ]]"),
+    ("[[region]]", '[["region"]]'),
+    ("[[region]]", "[region]"),
+    ("[[region]]", '[[file]]\nname = "x"\nhex = ""\n\n[[region]]'),
+    ("base = 0x0\nlength = 0x9f000\n", "length = 0x9f000\nbase = 0x0\n"),
+    ("base = 0x0\nlength = 0x9f000\n", "length = 0x9f000\n"),
+    ("base = 0x0\nlength = 0x9f000\n", "base = 0x9f000\nlength = 0x0\n"),
+    ("base = 0x0\n", "base = 0x00\n"),
+    ("base = 0x0\n", "base = 0x1000\n"),
+    ("0x9f000\nkind", "0x9F000\nkind"),
+    ("0x9f000\nkind", "0x8f000\nkind = \"usable\"\n\n[[region]]\nbase = 0x8f000\nlength = 0x10000\nkind"),
+    ("length = 0x61000", "length = 0x61001"),
+    ("length = 0x61000\n", "length = 0x61000\nmore = 0x0\n"),
+    ('kind = "reserved"', 'kind = "usable"'),
+    ('"reserved"', "'reserved'"),
+    ('"reserved"', '"""reserved"""'),
+    ('"reserved"', '"\\u0072eserved"'),
+    ('"reserved"', '"Reserved"'),
+    ('"reserved"', '"free"'),
+    ('"reserved"', "0x2"),
+    ('"linux64"', '"linux_64"'),
+    ('title = "Linux"\nprotocol = "linux64"\n', 'protocol = "linux64"\ntitle = "Linux"\n'),
+    ('title = "Linux"\n', ""),
+    ('title = "Linux"', "title = 'Linux'"),
+    ('title = "Linux"', 'title = "\\u004cinux"'),
+    ('kernel = "vmlinuz"\n', ""),
+    ("\\u000a", "\\n"),
+    ("\\u000a", "\\u000A"),
+    ("\\u000a", "\\U0000000a"),
+    ("more.img", "more\\/.img"),
+    ("more.img", "m\u00f6re.img\\u00f6"),
+    ("initrd.img\\u000amore.img", ""),
+    ('initrd = "', 'rsdp_old = "52"\ninitrd = "'),
+    ('more.img"\n', 'more.img"\n\n[[entry.module]]\nfile = "x"\nline = ""\n'),
+    ("[[entry]]\n", '[[entry]]\ntitle = "a"\nprotocol = "linux"\nkernel = "k"\nline = ""\n\n[[entry]]\n'),
+    ("[[entry]]\n", "[entry]\n"),
+    ("[[entry]]\n", "[[entries]]\n"),
+    ('\\"hello\\"', "\\u0022hello\\u0022"),
+    ('"say \\"hello\\""', "'say \"hello\"'"),
+    ('rsdp_new = "52534420505452202f"', 'rsdp_new = "52534420505452202F"'),
+    ('rsdp_new = "52534420505452202f"', 'rsdp_new = ""'),
+    ('rsdp_new = "52534420505452202f"', "rsdp_new = 0x52"),
+    ('rsdp_old = "5253442050545220"\nrsdp_new = "52534420505452202f"\n', 'rsdp_new = "52"\nrsdp_old = "52"\n'),
+    ('rsdp_old = "5253442050545220"\n', 'rsdp_old = "5253442050545220"\ninitrd = "x"\n'),
+    ('file = "two"\nline = ""\n', 'file = "two"\n'),
+    ('file = "two"\nline = ""\n', 'line = ""\nfile = "two"\n'),
+    ('line = ""\n', 'line = ""'),
+    ('line = ""\n', 'line = ""\n\n'),
+    ('more.img"\n', 'more.img"'),
+    ('more.img"\n', 'more.img"\n\n'),
+    ('more.img"\n', 'more.img"\nfile = "x"\n'),
+]
