@@ -150,6 +150,8 @@ module    two with the line ""
 
 # ---- the cases
 
+SHELL = attempt("Shell", ["-options"], [], FILES)
+SHELL_POLICY = POLICY + '\n[[entry]]\ntitle = "Shell"\nprotocol = "efi"\nline = "-options"\n'
 GIVEN_UP = attempt("Kernel", KERNEL_LINES, ["kernel.elf"], FILES)
 EMPTY = {"initrd.img": b"", "more.img": b""}
 PCR_POLICY = POLICY.replace("\n[[entry]]", "\n[pcr]\n17 = ['" + 32 * "ff" + "']\n\n[[entry]]", 1)
@@ -181,6 +183,12 @@ AS_IT_SHOULD_BE = [
         "an entry that was given up is a remark",
         'remark    "Kernel" was attempted before',
         happened=at(8, 0, before(*GIVEN_UP)),
+    ),
+    Case(
+        "a program that was started before is a remark",
+        '"Shell" was attempted before',
+        policy=SHELL_POLICY,
+        happened=at(8, 0, before(*SHELL)),
     ),
     Case("a PCR may have a value that the policy names", LINUX_SAID, policy=PCR_POLICY),
     Case("a boot manager is known by its digest", f"manager   {DIGEST}", policy=POLICY.replace("BOOTX64.EFI", DIGEST)),
@@ -379,8 +387,23 @@ MACHINE = [
         "PCR 8: the boot manager measured no choice",
         happened=lambda it: [event for event in it if event.pcr != 8],
     ),
-    Case("a choice behind the handover", "that is not what was chosen", happened=ended(*GIVEN_UP)),
+    Case(
+        "a choice behind the handover",
+        '"Linux" was handed over, and "Kernel" was chosen last',
+        happened=ended(*GIVEN_UP),
+    ),
+    Case(
+        "a program that was chosen last",
+        "and \"Shell\" was chosen last",
+        policy=SHELL_POLICY,
+        happened=ended(*SHELL),
+    ),
     Case("a handover under another title", '"Other" was handed over, and', logged=at(12, 0, saying("Linux", "Other"))),
+    Case(
+        "a handover of another entry before it, whose kernel may have measured the rest",
+        'PCR 12, event 16: "Kernel" was handed over, and "Linux" was chosen last',
+        happened=lambda it: [*it[:14], *GIVEN_UP[-1:], boots.handover(MULTIBOOT2, FILES), *it[14:]],
+    ),
     Case("no handover", "PCR 12: nothing was handed over", happened=at(12, 0, gone)),
     Case(
         "a PCR with a value that the policy does not have",

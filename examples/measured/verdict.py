@@ -6,7 +6,7 @@ from description import Described, read_description
 from event_log import BANKS, Event, Log, digest, is_replayed, replayed
 from image_digest import image_digest
 from pcr_values import Values
-from policy import PROGRAM, Entry, Policy, described_title, has_files, has_lines
+from policy import Entry, Policy, described_title, has_files, has_lines
 from reading import Fault, fault, shown
 
 # whose values the verdict rests on: what was started, texts, files, handovers
@@ -132,20 +132,20 @@ def files_read(log: Log, policy: Policy) -> List[bytes]:
 # ---- the handovers
 
 
-def handovers(log: Log, policy: Policy, made: List[Attempt], read: List[bytes]) -> List[Handover]:
+def handovers(log: Log, policy: Policy, chosen: Attempt, read: List[bytes]) -> List[Handover]:
     events = log.of_pcr(HANDOVERS)
     if not events:
         fault("PCR 12: nothing was handed over")
-    return [handover(event, policy, made, read, event is events[-1]) for event in events]
+    return [handover(event, policy, chosen, read) for event in events]
 
 
-def handover(event: Event, policy: Policy, made: List[Attempt], read: List[bytes], is_last: bool) -> Handover:
+def handover(event: Event, policy: Policy, chosen: Attempt, read: List[bytes]) -> Handover:
     try:
         described = read_description(event.data)
     except Fault as wrong:
         fault(f"{event.name}: its description is refused: {wrong}")
     try:
-        entry = entry_of(described, policy, made[-1:] if is_last else made, read, is_last)
+        entry = entry_of(described, policy, chosen, read)
         image = image_digest(described, [policy.contents[name] for name in entry.files])
     except Fault as wrong:
         fault(f"{event.name}: {wrong}")
@@ -154,13 +154,12 @@ def handover(event: Event, policy: Policy, made: List[Attempt], read: List[bytes
     return Handover(event, described, entry, image)
 
 
-def entry_of(described: Described, policy: Policy, made: List[Attempt], read: List[bytes], is_last: bool) -> Entry:
-    """The policy's entry that was handed over. The last one was chosen last, and its files were read last."""
-    chosen = [(attempt.title, attempt.lines) for attempt in made]
-    entries = [it for it in policy.entries if it.protocol != PROGRAM and (it.title.encode(), it.measured_lines) in chosen]
-    entries = [it for it in entries if described_title(it) == described.title]
-    if not entries:
-        fault(f"{shown(described.title.encode())} was handed over, and that is not what was chosen")
+def entry_of(described: Described, policy: Policy, chosen: Attempt, read: List[bytes]) -> Entry:
+    """The policy's entry that was handed over: it was chosen last, and its files were read last. That holds of each handover, not
+    of the last one alone: a kernel that was handed over before might have run, and have measured what came after it."""
+    entries = [it for it in policy.entries if (it.title.encode(), it.measured_lines) == (chosen.title, chosen.lines)]
+    if described.title not in [described_title(it) for it in entries]:
+        fault(f"{shown(described.title.encode())} was handed over, and {shown(chosen.title)} was chosen last")
     with_lines = [it for it in entries if has_lines(it, described)]
     if not with_lines:
         fault(f"its lines are not those that were measured: {shown(described.line.encode())}")
@@ -169,7 +168,7 @@ def entry_of(described: Described, policy: Policy, made: List[Attempt], read: Li
         fault(f"the policy's entry has not the protocol {described.protocol}, or not as many files")
     for entry in of_form:
         wanted = [policy.digests[name] for name in entry.files]
-        if read[-len(wanted) :] == wanted or (not is_last and set(wanted) <= set(read)):
+        if read[-len(wanted) :] == wanted:
             return entry
     fault(f"its files are not those that were read last: {', '.join(of_form[0].files)}")
 
@@ -181,4 +180,4 @@ def verdict(log: Log, values: Values, policy: Policy) -> Verdict:
             fault(f"PCR {pcr} of {policy.bank} has not a value of the policy: {values[policy.bank][pcr].hex()}")
     managers = started(log, policy)
     made = attempts(log, policy)
-    return Verdict(handovers(log, policy, made, files_read(log, policy)), made, managers)
+    return Verdict(handovers(log, policy, made[-1], files_read(log, policy)), made, managers)
