@@ -18,14 +18,16 @@ use Rattle.bl_load.specs.PlanContents.{part_in, handover_in}
 use Rattle.bl_image.specs.declared.fault.ImageFault.{ImageFault}
 use Rattle.bl_image.specs.declared.fault.ImageFault.TheVariants.{WrongLength}
 use Rattle.bl_image.specs.declared.version.Version.{Version}
+use Rattle.bl_image.specs.Front.{front_of}
 use Rattle.bl_image.specs.Image.{head, part_record, spelling}
-use Rattle.bl_image.specs.internal.PlaceRecords.{place_record, total_length, PlaceFits}
+use Rattle.bl_image.specs.internal.PlaceRecords.{place_record, total_length, PlaceFits, image_front}
 use Rattle.bl_image.specs.internal.PlaceRecords.{AreSpellable}
 use Rattle.bl_image.specs.ImageFaults.{end_fault}
 use Rattle.bl_image.specs.ImageHandover.{part_place, handoff_of, PartAscends, IsKeptByImages}
 use Rattle.bl_image.specs.Source.{SourceFacts, Comes}
 use Rattle.bl_image.specs.internal.SourceReading.{IsCut}
 use Rattle.bl_image.specs.Spellable.{FitsRecord, AreFit}
+use Rattle.bl_image.specs.Versions.{written_version}
 use Rattle.bl_image.proofs.FieldLemmas.{cut_behind}
 use Rattle.bl_image.proofs.Spelled.{EndsIn, length-place_bytes}
 
@@ -77,6 +79,19 @@ records_at (part ∷ parts) =
     flat_map-cons place_record (part_place part) (map part_place parts)
     ∙ ap (λ (l : List ℕ). part_record part ++ l) (records_at parts)
     ∙ sym (flat_map-cons part_record part parts)
+
+-- what stands before the parts' bytes depends on their places alone
+pub front_by_places : (h : Handover) → front_of written_version h
+    ≡ image_front h.protocol h.registers (map part_place h.parts)
+front_by_places h =
+    ap
+    (λ (n : ℕ).
+    head written_version h.protocol h.registers n ++ flat_map part_record h.parts)
+    (sym (length-map h.parts part_place))
+    ∙ ap
+    (λ (l : List ℕ).
+    head written_version h.protocol h.registers (length (map part_place h.parts)) ++ l)
+    (sym (records_at h.parts))
 
 -- head, records, parts, and nothing: an image
 pub spelled_by : (version : Version) (protocol : Protocol) (registers : Registers) (count : ℕ)

@@ -1,6 +1,7 @@
 pub mod SinkFacts
 pub mod Faults
 pub mod Fields
+pub mod Front
 pub mod Image
 pub mod ImageFaults
 pub mod ImageHandover

@@ -1,6 +1,10 @@
 //! The head of an image, and its records.
 ghost use Rattle.std.specs.Prelude.{◌≡◌, ◌+◌, ◌*◌, ◌<◌, ◌≤◌, ◌^◌, ◌++◌, length, take};
+ghost use Rattle.bl_load.specs.HandoffFacts.{IsWellFormedHandoff};
+ghost use Rattle.bl_load.specs.Handover.{Handover};
+ghost use Rattle.bl_image.specs.Front.{front_of};
 ghost use Rattle.bl_image.specs.Image.{head};
+ghost use Rattle.bl_image.specs.ImageHandover.{handoff_of};
 ghost use Rattle.bl_image.specs.internal.PlaceRecords.{place_record, image_front, AreOfHandoff};
 ghost use Rattle.bl_image.specs.internal.PlaceRecords.{AreSpellable};
 ghost use Rattle.bl_image.specs.internal.SinkWriting.{Writes};
@@ -38,8 +42,8 @@ pub(crate) const RECORD: usize = 24;
 
 const ADDRESS_AT: usize = 8;
 
-/// How many bytes stand at most before those of the parts.
-pub(crate) const MAX_FRONT: usize = HEAD + RECORD * MAX_PARTS;
+/// How many bytes an image has at most before those of its parts.
+pub const MAX_FRONT: usize = HEAD + RECORD * MAX_PARTS;
 
 /// The record of a part.
 fn record_bytes(place: &Place) -> [u8; RECORD]
@@ -125,4 +129,31 @@ pub(crate) fn write_front<S: Sink, P: Places>(
 {
     let count = put_front(buffer, protocol, registers, places);
     write_all(sink, &buffer[..count])
+}
+
+/// Puts all that an image has before the bytes of its parts into the buffer, and says how many
+/// bytes that are: the head with this protocol and these registers, and the records of these places,
+/// which are a handoff's. No byte of a part is asked for.
+pub fn front_bytes<P: Places>(
+    buffer: &mut [u8],
+    protocol: Protocol,
+    registers: &Registers,
+    places: &P,
+) -> usize
+    requires room { MAX_FRONT ≤ length buffer.old }
+    requires kept { IsWellFormedHandoff (record {
+      protocol = protocol;
+      registers = registers.now;
+      places = P.places places.now;
+    }) }
+    ensures within { result ≤ length buffer.new }
+
+    // Whatever bytes the parts have, this stands before them.
+    ensures front { (h : Handover) → handoff_of h ≡ record {
+      protocol = protocol;
+      registers = registers.now;
+      places = P.places places.now;
+    } → take result buffer.new ≡ front_of written_version h }
+{
+    put_front(buffer, protocol, registers, places)
 }

@@ -28,6 +28,7 @@ mod version;
 mod write;
 
 pub use fault::ImageFault;
+pub use front::{MAX_FRONT, front_bytes};
 pub use image::{Image, ImagePart};
 pub use io_sink::IoSink;
 pub use io_source::IoSource;
@@ -35,6 +36,7 @@ pub use laws::{image_tells_all, images_have_no_fault, what_has_no_fault_is_an_im
 pub use lengths::image_len;
 pub use mem_sink::MemSink;
 pub use mem_source::MemSource;
+pub use places::Places;
 pub use read::read_image;
 pub use sink::{DeviceFault, Sink, write_all};
 pub use source::Source;

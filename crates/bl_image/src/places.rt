@@ -3,12 +3,12 @@ ghost use Rattle.std.specs.Prelude.{◌≡◌, ◌<◌, List, length, slice_inde
 ghost use Rattle.bl_plan.specs.declared.part.Place.{Place};
 
 use crate::image::Image;
-use bl_load::Handoff;
+use bl_load::{Handoff, Plan};
 use bl_plan::Place;
 use std::alloc::Allocator;
 
 /// The places of parts, one after the other.
-pub(crate) trait Places {
+pub trait Places {
     /// The places, in their order.
     ghost places: { Self → List Place };
 
@@ -31,6 +31,20 @@ impl<A: Allocator> Places for Handoff<A> {
 
     fn place_at(&self, index: usize) -> Place {
         self.place(index)
+    }
+}
+
+impl<A: Allocator> Places for Plan<A> {
+    ghost use Rattle.bl_load.specs.PlanContents.{places_of};
+
+    ghost places = { λ p. places_of p };
+
+    fn count(&self) -> usize {
+        self.parts.len()
+    }
+
+    fn place_at(&self, index: usize) -> Place {
+        self.parts[index].place
     }
 }
 

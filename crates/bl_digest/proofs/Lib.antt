@@ -1,0 +1,5 @@
+mod HashingLemmas
+mod FillingLemmas
+mod StepBytesLemmas
+mod RangeLemmas
+mod TableLemmas

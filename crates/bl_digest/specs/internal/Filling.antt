@@ -1,0 +1,98 @@
+-- What the code keeps as ranges of files come. Own.
+use Rattle.std.specs.Prelude.{◌≡◌, ℕ, ◌+◌, ◌≤◌, List, [], ◌∷◌, ◌++◌, length, take, drop, replicate}
+use Rattle.std.specs.Prelude.{slice_range, All}
+use Rattle.bl_plan.specs.declared.protocol.Protocol.{Protocol}
+use Rattle.bl_load.specs.declared.step.Step.{Step}
+use Rattle.bl_load.specs.declared.step.StepSource.{StepSource}
+use Rattle.bl_load.specs.declared.step.StepSource.TheVariants.{File, Own, Zeros}
+use Rattle.bl_load.specs.declared.registers.Registers.{Registers}
+use Rattle.bl_load.specs.Handover.{Handover}
+use Rattle.bl_image.specs.Front.{front_of}
+use Rattle.bl_image.specs.ImageHandover.{handoff_of}
+use Rattle.bl_image.specs.Versions.{written_version}
+use Rattle.bl_digest.specs.declared.file_range.FileRange.{FileRange}
+use Rattle.bl_digest.specs.PlanInSteps.{PlanInSteps}
+use Rattle.bl_digest.specs.Ranges.{ranges_of, wanted_after}
+use Rattle.bl_digest.specs.internal.Hashing.{HashedFacts, total_of}
+
+-- so many bytes of a source, where the bytes of files come in this order
+abbrev pub source_fill : List ℕ → StepSource → ℕ → List ℕ → List ℕ
+source_fill own (File file offset) count fed = take count fed
+source_fill own (Own offset) count fed = slice_range own offset (offset + count)
+source_fill own Zeros count fed = replicate count 0
+
+-- the bytes of files that come after them
+abbrev pub fed_behind : StepSource → ℕ → List ℕ → List ℕ
+fed_behind (File file offset) count fed = drop count fed
+fed_behind (Own offset) count fed = fed
+fed_behind Zeros count fed = fed
+
+-- the bytes that steps write, where the bytes of files come in this order
+abbrev pub filled : List ℕ → List Step → List ℕ → List ℕ
+filled own [] fed = []
+filled own (step ∷ steps) fed =
+    source_fill own step.source step.length fed
+    ++ filled own steps (fed_behind step.source step.length fed)
+
+-- and of these so many of a file first
+abbrev pub filled_behind : List ℕ → ℕ → List Step → List ℕ → List ℕ
+filled_behind own count steps fed = take count fed ++ filled own steps (drop count fed)
+
+-- how many bytes steps write
+abbrev pub length_of_steps : List Step → ℕ
+length_of_steps [] = 0
+length_of_steps (step ∷ steps) = step.length + length_of_steps steps
+
+-- the plan has the bytes that a step takes of its own
+abbrev pub HasOwn : ℕ → StepSource → ℕ → Type 0
+HasOwn own (File file offset) count = Unit {0}
+HasOwn own (Own offset) count = offset + count ≤ own
+HasOwn own Zeros count = Unit {0}
+
+abbrev pub TakesWhatIsThere : ℕ → Step → Type 0
+TakesWhatIsThere own step = HasOwn own step.source step.length
+
+-- a plan of these fields, and of the places of which the hasher takes the bytes
+abbrev pub plan_told : Protocol → Registers → List Step → List ℕ → HashedFacts → PlanInSteps
+plan_told protocol registers steps own hashed = record {
+  protocol = protocol;
+  registers = registers;
+  places = hashed.places;
+  steps = steps;
+  own = own;
+}
+
+-- the front is that of each handover with this protocol, these registers and places
+abbrev pub IsFrontOf : PlanInSteps → List ℕ → Type 0
+IsFrontOf plan front = (h : Handover)
+    → handoff_of h ≡ record {
+      protocol = plan.protocol;
+      registers = plan.registers;
+      places = plan.places;
+    }
+    → front ≡ front_of written_version h
+
+-- from some step on: what was taken before, and what these bytes of a file and then the other steps
+-- still give, is what steps give; and so with what is wanted, and with lengths
+pub record GoesOn (own : List ℕ) (steps : List Step) (old new : List ℕ) (range : FileRange)
+    (rest : List Step) : Type 0 where
+  pub filling : (more : List ℕ) → old ++ filled own steps more
+      ≡ new ++ filled_behind own range.length rest more
+  pub wanting : (count : ℕ) → wanted_after (ranges_of steps) count
+      ≡ wanted_after (range ∷ ranges_of rest) count
+  pub count : length old + length_of_steps steps
+      ≡ length new + (range.length + length_of_steps rest)
+
+-- a digest under way: its hasher took what the bytes that came fill, up to the range that is
+-- wanted; `next` is the step behind that range
+pub record IsUnderWay (plan : PlanInSteps) (fed : List ℕ) (hashed : HashedFacts) (range : FileRange)
+    (next : ℕ) : Type 0 where
+  pub front : IsFrontOf plan hashed.front
+  pub filling : (more : List ℕ) → filled plan.own plan.steps (fed ++ more)
+      ≡ hashed.taken ++ filled_behind plan.own range.length (drop next plan.steps) more
+  pub wanting : (count : ℕ) → wanted_after (ranges_of plan.steps) (length fed + count)
+      ≡ wanted_after (range ∷ ranges_of (drop next plan.steps)) count
+  pub count : length hashed.taken + (range.length + length_of_steps (drop next plan.steps))
+      ≡ total_of plan.places
+  pub held : All (TakesWhatIsThere (length plan.own)) plan.steps
+  pub last : range.length ≡ 0 → length plan.steps ≤ next
