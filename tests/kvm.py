@@ -7,8 +7,8 @@ import unittest
 from pathlib import Path
 from typing import Dict, Optional
 
-from tests.c_core import OUT
-from tests.support import TOP, Checks, Ran, run
+from tests.c_core import CC, OUT, WARNINGS
+from tests.support import PROGRAM, TOP, Checks, Ran, need_built, run
 
 MONITOR = TOP / "examples/kvm/run"
 MADE = TOP / "examples/kvm/out"
@@ -128,6 +128,58 @@ class OnThisKvm(MonitorChecks):
         """a small kernel runs under KVM in 5 GiB, of which 2 GiB are above 4 GiB"""
         ran = run(MONITOR, "--memory", "5120", MADE / "linux64", self.file, "k", timeout=120)
         self.assertTrue(ran.out.endswith(b"\nended\n"), f"ran: {ran}\n{ran.out[-300:]!r}\n{ran.err!r}")
+
+
+class FirstInstruction(MonitorChecks):
+    """What KVM says of processor and memory, before the first instruction, beside the image of the same machine's boot."""
+
+    state: Path
+
+    @classmethod
+    def setUpClass(cls) -> None:
+        why = why_no_kvm()
+        if why:
+            raise unittest.SkipTest(why)
+        need_built(PROGRAM, "./bootcore")
+        super().setUpClass()
+        cls.state = cls.room / "kvm_state"
+        monitor = TOP / "examples/kvm"
+        sources = [TOP / "tools/c/kvm_state.c", *(monitor / f"{name}.c" for name in ("load", "machine", "memory"))]
+        built = run(
+            *CC, "-std=c99", "-O2", *WARNINGS, f"-I{TOP / 'include'}", f"-I{monitor}", *sources,
+            OUT / "libbootcore.a", "-o", cls.state,
+        )  # fmt: skip
+        if built.status != 0:
+            raise AssertionError(f"ran: {built}\n{built.err.decode(errors='replace')}")
+
+    def described(self, name: str, mebibytes: int) -> Path:
+        """The machine of the monitor and its entry, as docs/KVM.md tells them."""
+        low = min(mebibytes << 20, 0xC0000000)
+        high = (mebibytes << 20) - low
+        ranges = [(0, 0x9F000), (0x100000, low - 0x100000), *([(1 << 32, high)] if high else [])]
+        regions = [f'[[region]]\nbase = {base}\nlength = {length}\nkind = "usable"\n' for base, length in ranges]
+        file = f'[[entry.module]]\nfile = "{self.file}"\nline = "{self.file}"' if name == "multiboot2" else f'initrd = "{self.file}"'
+        entry = f'[[entry]]\ntitle = "{name}"\nprotocol = "{name}"\nkernel = "{MADE / name}"\nline = "{self.line(name)}"\n{file}\n'
+        description = self.room / f"{name}-{mebibytes}.toml"
+        description.write_text("\n".join([f"size = {low}\npool = [0x800000, 0x900000]\n", *regions, entry]))
+        return description
+
+    def test_state(self) -> None:
+        for name in KERNELS:
+            for mebibytes in (512, 5120):
+                image = self.room / f"{name}-{mebibytes}.image"
+                booted = run(PROGRAM, "boot", self.described(name, mebibytes), "--out", image)
+                ran = run(self.state, "image", name, str(mebibytes), self.line(name), MADE / name, self.file)
+                with self.check(f"before {name}'s first instruction KVM has registers and memory as the image of {mebibytes} MiB, to the byte"):
+                    self.assert_ended(booted, 0, None)
+                    self.assert_ended(ran, 0, None, None)
+                    self.assertEqual(ran.out, image.read_bytes(), f"ran: {ran}")
+                with self.check(f"and of {name} in {mebibytes} MiB it has each segment whole, with the accessed bits that VMX wants"):
+                    wide = name == "linux64"
+                    whole = "base 0 limit 0xffffffff type {} s 1 dpl 0 p 1 avl 0 l {} db {} g 1"
+                    code, data = whole.format(11, int(wide), int(not wide)), whole.format(3, 0, 1)
+                    told = [f"cs 0x10 {code}", *(f"{segment} 0x18 {data}" for segment in ("ds", "es", "fs", "gs", "ss"))]
+                    self.assert_text(ran, "\n".join(told) + "\n", ran.err)
 
 
 class OnEmulatedKvm(MonitorChecks):

@@ -60,8 +60,8 @@ static void make_plan(const bootcore_machine *machine, const bootcore_entry *ent
     }
 }
 
-bootcore_registers load_guest(const guest_memory *memory, uint32_t protocol, const char *line, char **paths,
-                              int count) {
+bootcore_handoff load_guest(const guest_memory *memory, uint32_t protocol, const char *line, char **paths,
+                            int count, bootcore_place *places) {
     int files[MAX_FILES];
     bootcore_module modules[MAX_FILES]; /* the first is the kernel, which is no module */
     if (count > (protocol == BOOTCORE_MULTIBOOT2 ? MAX_FILES : 2)) {
@@ -85,7 +85,6 @@ bootcore_registers load_guest(const guest_memory *memory, uint32_t protocol, con
     const bootcore_entry entry = {.protocol = protocol, .kernel = {kernel, length},
                                   .line = {line, strlen(line)}, .initrd = modules[1].file, /* of Linux */
                                   .modules = modules + 1, .module_count = (size_t)count - 1};
-    bootcore_place places[BOOTCORE_MAX_PLACES];
     bootcore_layout layout = {.places = places, .place_room = BOOTCORE_MAX_PLACES};
     make_plan(&machine, &entry, &layout);
     for (const bootcore_step *step = layout.steps; step < layout.steps + layout.step_count; step++) {
@@ -102,5 +101,5 @@ bootcore_registers load_guest(const guest_memory *memory, uint32_t protocol, con
         close(files[i]);
     }
     free(layout.steps), free(layout.own), free(kernel);
-    return layout.handoff.registers;
+    return layout.handoff;
 }

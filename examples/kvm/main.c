@@ -33,10 +33,11 @@ int main(int argc, char **argv) {
     }
 
     guest_memory memory = map_memory((uint64_t)mebibytes << 20);
-    bootcore_registers registers = load_guest(&memory, protocol, argv[3], argv + 4, argc - 4);
+    bootcore_place places[BOOTCORE_MAX_PLACES];
+    bootcore_handoff handoff = load_guest(&memory, protocol, argv[3], argv + 4, argc - 4, places);
     struct kvm_run *shared;
     make_machine(&memory);
-    int processor = make_processor(&registers, &shared);
+    int processor = make_processor(&handoff.registers, &shared);
     start_serial();
     return run_guest(processor, shared);
 }

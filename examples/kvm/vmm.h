@@ -18,9 +18,10 @@ typedef struct guest_memory {
 } guest_memory;
 guest_memory map_memory(uint64_t size);
 
-/* load.c: plans a kernel with its modules or its initial ramdisk, and reads each file to its places. */
-bootcore_registers load_guest(const guest_memory *memory, uint32_t protocol, const char *line, char **paths,
-                              int count);
+/* load.c: plans a kernel with its modules or its initial ramdisk, reads each file to its places, and answers how
+ * the kernel is entered. `places` has room for BOOTCORE_MAX_PLACES. */
+bootcore_handoff load_guest(const guest_memory *memory, uint32_t protocol, const char *line, char **paths,
+                            int count, bootcore_place *places);
 
 /* machine.c: the machine and its one processor, which is about to execute the kernel's first instruction. */
 int kvm_call(int file, unsigned long request, void *argument, const char *name);

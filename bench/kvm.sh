@@ -1,0 +1,47 @@
+#!/usr/bin/env bash
+# The monitor of examples/kvm up to the guest's first instruction, beside a plain program that reads the same files to the same
+# places of a fresh mapping and starts no machine: seconds from exec to the end, their difference, the calls of the system that
+# each makes (with strace), and what the monitor takes of memory beside the guest's.
+#
+#   bench/kvm.sh
+#
+# The files are a Linux kernel of 10 MiB and an initial ramdisk of 200 MiB, the guest has 512 MiB; then a kernel of 14 KiB alone.
+# The programs take turns, and the best of all rounds counts. Needs /dev/kvm, bash 5, coreutils, awk, cc, and the static library
+# that examples/c/build makes.
+# shellcheck source-path=SCRIPTDIR source=loads.sh
+source "$(dirname "${BASH_SOURCE[0]}")/loads.sh"
+
+top=$here/..
+archive=$top/examples/c/out/libbootcore.a
+[ -e "$archive" ] || fail "$archive is not built: examples/c/build builds it"
+[ -w /dev/kvm ] || fail "/dev/kvm is not at hand"
+cc -std=c99 -O2 -o "$work/kvm_reads" "$here/kvm_reads.c" || fail "kvm_reads.c does not build"
+cc -std=c99 -O2 -I"$top/include" -I"$top/examples/kvm" -o "$work/kvm_state" "$top/tools/c/kvm_state.c" \
+    "$top"/examples/kvm/{load,machine,memory}.c "$archive" || fail "kvm_state.c does not build"
+cd "$work"
+echo 'int main(void) { return 0; }' > nothing.c
+cc -O2 -o nothing nothing.c || fail "nothing.c does not build"
+weigh_command ./nothing
+least_kib=$kib
+make_files
+
+# FILE..: both programs with these files
+compare_starts() {
+    local round beside plain=999999999 monitor=999999999
+    for ((round = 0; round < rounds; round++)); do
+        time_command ./kvm_reads "$@"
+        [ "$micros" -ge "$plain" ] || plain=$micros
+        time_command ./kvm_state ready linux 512 k "$@"
+        [ "$micros" -ge "$monitor" ] || monitor=$micros
+    done
+    echo "$# files: reads $plain us, up to the first instruction $monitor us, beyond the reads $((monitor - plain)) us (goal 2000)"
+    beside=$(./kvm_state ready linux 512 k "$@")
+    echo "memory beside the guest's: $beside KiB, of which a program that does nothing has $least_kib (goal 1024 beyond that)"
+    if type -P strace > /dev/null; then
+        echo "calls of the system: $(strace -f ./kvm_state ready linux 512 k "$@" 2>&1 > /dev/null | wc -l)," \
+            "of the reads alone $(strace -f ./kvm_reads "$@" 2>&1 > /dev/null | wc -l)"
+    fi
+}
+compare_starts vmlinuz initrd.img
+"$here/make_bzimage.sh" small $((14 << 10))
+compare_starts small
