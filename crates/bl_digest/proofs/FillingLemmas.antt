@@ -1,20 +1,21 @@
 -- What steps write, as the bytes of files come.
 use Rattle.std.proofs.Common.{◌≡◌, ℕ, ◌+◌, ◌-◌, ◌<◌, ◌≤◌, ◌%◌, ◌^◌, List, [], ◌∷◌, ◌++◌, length}
-use Rattle.std.proofs.Common.{zero, suc, get_or, take, drop, All, arith, refl, sym, ap, ◌∙◌, replicate}
-use Rattle.std.proofs.Common.{append_assoc, length-append, length-drop, length-take, subst}
-use Rattle.std.proofs.Common.{add_assoc, slice_range, Option, Some, None, inl, inr, nat_lt, true, false}
-use Rattle.std.proofs.lemmas.List.{append-nil, drop_all, drop_more, take_all, take-append-drop}
+use Rattle.std.proofs.Common.{take, drop, arith, refl, sym, ap, ◌∙◌, replicate}
+use Rattle.std.proofs.Common.{append_assoc, length-append}
+use Rattle.std.proofs.Common.{add_assoc, Some, inl, inr, nat_lt, true, false}
+use Rattle.std.proofs.lemmas.List.{take-replicate, replicate-append-replicate}
 use Rattle.std.proofs.lemmas.Bool.{cases_lt}
 use Rattle.std.proofs.lemmas.Bool.Decides.{nat_tests}
 use Rattle.std.proofs.Math.Nat.{mod-add-mod}
 use Rattle.std.proofs.Math.Seq.{take-append-add, drop-append-add}
 use Rattle.bl_load.specs.declared.step.Step.{Step}
 use Rattle.bl_load.specs.declared.step.StepSource.{StepSource}
-use Rattle.bl_load.specs.declared.step.StepSource.TheVariants.{File, Own, Zeros}
+use Rattle.bl_load.specs.declared.step.StepSource.TheVariants.{File}
 use Rattle.bl_digest.specs.declared.file_range.FileRange.{FileRange}
 use Rattle.bl_digest.specs.Ranges.{ranges_of, source_ranges, range_behind, wanted_after}
 use Rattle.bl_digest.specs.internal.Filling.{filled, filled_behind, source_fill, fed_behind}
 use Rattle.bl_digest.specs.internal.Filling.{length_of_steps, GoesOn}
+use Rattle.bl_digest.specs.internal.Hashing.{HashedFacts}
 
 -- ---- what is wanted
 
@@ -47,7 +48,7 @@ same_range : (range : FileRange) (n count : ℕ)
 same_range range n count =
     let offset = same_offset range.offset n count in
     let left : range.length - (n + count) ≡ range.length - n - count = omega arith in
-    cc
+    rw (offset, left) refl
 
 -- some bytes of a range came, and then others
 pub wanted_more : (range : FileRange) (ranges : List FileRange) (n count : ℕ) → n ≤ range.length
@@ -144,3 +145,40 @@ stops_behind own steps rest old new range none at = record {
       ∙ sym (wanted_empty range (ranges_of rest) count none);
   count = omega (arith, at.count);
 }
+
+-- zeros more are taken, out of a block of zeros
+pub zeros_more : (hasher first : HashedFacts) (count left next block : ℕ)
+    → hasher ≡ record {
+      front = first.front;
+      places = first.places;
+      taken = first.taken ++ replicate (count - left) 0;
+    }
+    → next ≤ block → next ≤ left → left ≤ count
+    → ◌≡◌ {A = HashedFacts}
+    (record {
+      front = hasher.front;
+      places = hasher.places;
+      taken = hasher.taken ++ take next (replicate block 0);
+    })
+    (record {
+      front = first.front;
+      places = first.places;
+      taken = first.taken ++ replicate (count - (left - next)) 0;
+    })
+zeros_more hasher first count left next block is fits here within =
+    let made : List ℕ → HashedFacts =
+    λ l. record { front = first.front; places = first.places; taken = l } in
+    ap
+    (λ (h : HashedFacts).
+    record {
+      front = h.front;
+      places = h.places;
+      taken = h.taken ++ take next (replicate block 0);
+    })
+    is
+    ∙ ap (λ (l : List ℕ). made ((first.taken ++ replicate (count - left) 0) ++ l))
+    (take-replicate next block 0 fits)
+    ∙ ap made (append_assoc first.taken (replicate (count - left) 0) (replicate next 0))
+    ∙ ap (λ (l : List ℕ). made (first.taken ++ l))
+    (replicate-append-replicate (count - left) next 0)
+    ∙ ap (λ (n : ℕ). made (first.taken ++ replicate n 0)) (omega arith)

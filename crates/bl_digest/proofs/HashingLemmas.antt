@@ -2,16 +2,16 @@
 use Rattle.std.proofs.Common.{◌≡◌, ℕ, ◌+◌, ◌-◌, ◌<◌, ◌≤◌, ◌^◌, List, [], ◌∷◌, ◌++◌, length, zero, suc}
 use Rattle.std.proofs.Common.{get_or, set, take, drop, map, All, AllPairs, arith, refl, sym, ap, ◌∙◌}
 use Rattle.std.proofs.Common.{append_assoc, length-append, length-drop, subst}
-use Rattle.std.proofs.lemmas.List.{append-nil, take_all, drop_all, take_at, drop_at, length-map}
+use Rattle.std.proofs.lemmas.List.{append-nil, take_all, take_at, drop_at, length-map}
 use Rattle.std.proofs.lemmas.List.{take_more, take_more_set, map-append, drop_more}
-use Rattle.std.proofs.Math.Seq.{map-set_same}
+use Rattle.std.proofs.Math.Seq.{map-set_same, take-add}
 use Rattle.std.proofs.Math.ListN.{get_or-map}
 use Rattle.sha2.specs.Sha256.{sha256}
 use Rattle.bl_plan.specs.declared.part.Place.{Place}
 use Rattle.bl_load.specs.HandoffFacts.{Ascends}
 use Rattle.bl_digest.specs.declared.part_digest.PartDigest.{PartDigest}
 use Rattle.bl_digest.specs.internal.Hashing.{total_of, first_length, part_digests, row_place}
-use Rattle.bl_digest.specs.internal.Hashing.{IsInside, AreBegun}
+use Rattle.bl_digest.specs.internal.Hashing.{IsInside, AreBegun, PartsFacts}
 
 -- ---- lengths
 
@@ -252,3 +252,79 @@ module _ (rows : List PartDigest) (index : ℕ) (begun : List ℕ) (left room : 
             (λ (l : List Place). length (taken ++ piece) + (room - left) ≡ total_of l) same
             (omega (arith, length-append taken piece));
       }
+
+-- before the first byte is taken
+pub begun_first : (rows : List PartDigest) (places : List Place) (begun taken : List ℕ)
+    (left room : ℕ) → map row_place rows ≡ places → begun ≡ [] → taken ≡ []
+    → left ≡ first_length (map row_place rows) → room ≡ total_of places
+    → All (λ p. 1 ≤ p.length) places → AreBegun rows 0 begun left room taken
+begun_first rows places begun taken left room are none_begun none_taken left_is room_is filled =
+    let all : All (λ p. 1 ≤ p.length) (map row_place rows) =
+    subst (All (λ (p : Place). 1 ≤ p.length)) (sym are) filled in
+    let total : total_of (map row_place rows) ≡ total_of places = ap total_of are in
+    let inside : IsInside (map row_place rows) [] (first_length (map row_place rows))
+    (total_of (map row_place rows)) = inside_first (map row_place rows) all in
+    let here : IsInside (map row_place rows) [] left room =
+    subst (λ (n : ℕ). IsInside (map row_place rows) [] left n) (total ∙ sym room_is)
+    (subst (λ (n : ℕ). IsInside (map row_place rows) [] n (total_of (map row_place rows)))
+    (sym left_is) inside) in
+    record {
+      digests = λ more.
+          ap (λ (l : List ℕ). part_digests (map row_place rows) (l ++ more)) none_taken
+          ∙ ap (λ (l : List ℕ). part_digests (map row_place rows) (l ++ more)) (sym none_begun);
+      inside = subst (λ (l : List ℕ). IsInside (map row_place rows) l left room) (sym none_begun) here;
+      filled = all;
+      count =
+          let none : length taken ≡ 0 = ap length none_taken in omega arith;
+    }
+
+-- as `part_ended`, of what the code has then
+pub part_ended_as : (rows rows' : List PartDigest) (index : ℕ) (begun begun' : List ℕ)
+    (left left' room room' : ℕ) (taken taken' piece : List ℕ) (row d : PartDigest)
+    → AreBegun rows index begun left room taken → 1 ≤ left → length piece ≡ left
+    → rows' ≡ set rows index row → row.place ≡ (get_or rows index d).place
+    → row.sha256 ≡ sha256 (begun ++ piece) → begun' ≡ []
+    → left' ≡ first_length (drop (index + 1) (map row_place rows')) → room' ≡ room - left
+    → taken' ≡ taken ++ piece → AreBegun rows' (index + 1) begun' left' room' taken'
+part_ended_as rows rows' index begun begun' left left' room room' taken taken' piece row d is some
+    whole rows_are placed hashed begun_is left_is room_is taken_is =
+    let ended =
+    part_ended rows index begun left room taken is piece d row whole some placed hashed in
+    rw (rows_are, begun_is, room_is, taken_is, left_is, rows_are) ended
+
+-- a row more
+pub rows_more : (places : List Place) (rows rows' : List PartDigest) (i : ℕ) (row : PartDigest)
+    → map row_place rows ≡ take i places → rows' ≡ rows ++ row ∷ []
+    → row.place ≡ get_or places i row.place → i < length places
+    → map row_place rows' ≡ take (i + 1) places
+rows_more places rows rows' i row are more is inside =
+    ap (map row_place) more
+    ∙ map-append row_place rows (row ∷ [])
+    ∙ ap (λ (l : List Place). l ++ row.place ∷ []) are
+    ∙ ap (λ (p : Place). take i places ++ p ∷ []) is
+    ∙ sym (take_more places i row.place inside)
+
+-- what a row is long, is how long the first of the places from it on is
+pub first_at : (rows : List PartDigest) (i : ℕ) (row : PartDigest) → i < length rows
+    → row ≡ get_or rows i row → row.place.length ≡ first_length (drop i (map row_place rows))
+first_at rows i row inside is =
+    let count = length-map rows row_place in
+    sym
+    (ap first_length (drop_more (map row_place rows) i row.place (omega arith))
+    ∙ ap (λ (p : Place). p.length) (get_or-map row_place rows i row)
+    ∙ ap (λ (r : PartDigest). r.place.length) (sym is))
+
+-- the next bytes of a piece
+pub piece_more : (taken bytes : List ℕ) (done n : ℕ)
+    → (taken ++ take done bytes) ++ take n (drop done bytes) ≡ taken ++ take (done + n) bytes
+piece_more taken bytes done n =
+    append_assoc taken (take done bytes) (take n (drop done bytes))
+    ∙ ap (λ (l : List ℕ). taken ++ l) (sym (take-add done n bytes))
+
+pub same_facts : (places places' : List Place) (taken taken' : List ℕ) → places ≡ places'
+    → taken ≡ taken'
+    → ◌≡◌ {A = PartsFacts} (record { places = places; taken = taken })
+    (record { places = places'; taken = taken' })
+same_facts places places' taken taken' places_are taken_is =
+    ap (λ (l : List Place). record { places = l; taken = taken }) places_are
+    ∙ ap (λ (l : List ℕ). record { places = places'; taken = l }) taken_is

@@ -3,3 +3,4 @@ mod FillingLemmas
 mod StepBytesLemmas
 mod RangeLemmas
 mod TableLemmas
+mod UnderWayLemmas

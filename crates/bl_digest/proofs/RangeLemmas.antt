@@ -1,9 +1,11 @@
 -- The bytes of ranges, whole and as far as they came.
 use Rattle.std.proofs.Common.{◌≡◌, ℕ, ◌+◌, ◌-◌, ◌<◌, ◌≤◌, ◌%◌, ◌^◌, List, [], ◌∷◌, ◌++◌, length}
-use Rattle.std.proofs.Common.{zero, suc, get_or, take, drop, All, arith, refl, sym, ap, ◌∙◌, replicate}
-use Rattle.std.proofs.Common.{append_assoc, length-append, length-take, subst, slice_range, rules}
-use Rattle.std.proofs.Common.{Option, Some, None, inl, inr}
+use Rattle.std.proofs.Common.{suc, get_or, take, map, All, arith, refl, sym, ap, ◌∙◌}
+use Rattle.std.proofs.Common.{append_assoc, length-append, subst, slice_range, rules}
+use Rattle.std.proofs.Common.{Some, None, inl, inr}
 use Rattle.std.proofs.lemmas.List.{places, same_lists, take_at, drop_at, take-append-le, length-map}
+use Rattle.std.proofs.lemmas.List.{take_all, get_or_default}
+use Rattle.std.proofs.Math.ListN.{get_or-map}
 use Rattle.std.proofs.lemmas.List.Elements.{All-nil, All-cons, All-append}
 use Rattle.std.proofs.Math.Nat.{mod-eq_of_lt}
 use Rattle.std.proofs.Math.Seq.{take-append-add}
@@ -22,13 +24,9 @@ use Rattle.bl_digest.specs.declared.file_range.FileRange.{FileRange}
 use Rattle.bl_digest.specs.PlanInSteps.{bytes_of_steps, CanBeLoadedFrom}
 use Rattle.bl_digest.specs.Ranges.{ranges_of, source_ranges, bytes_of_ranges, range_behind}
 use Rattle.bl_digest.specs.Ranges.{wanted_after}
-use Rattle.bl_digest.specs.internal.Filling.{filled, source_fill, fed_behind, length_of_steps}
+use Rattle.bl_digest.specs.internal.Coming.{length_of_ranges, LiesInFiles, AreFirstOf}
+use Rattle.bl_digest.specs.internal.Filling.{filled, source_fill, fed_behind}
 use Rattle.bl_digest.proofs.FillingLemmas.{wanted_here, wanted_later}
-
--- how many bytes ranges have
-abbrev pub length_of_ranges : List FileRange → ℕ
-length_of_ranges [] = 0
-length_of_ranges (range ∷ ranges) = range.length + length_of_ranges ranges
 
 abbrev range_bytes : List (List ℕ) → FileRange → List ℕ
 range_bytes texts range =
@@ -38,7 +36,7 @@ range_short : (texts : List (List ℕ)) (range : FileRange)
     → length (range_bytes texts range) ≤ range.length
 range_short texts range = grind (arith, places)
 
-ranges_short : (texts : List (List ℕ)) (ranges : List FileRange)
+pub ranges_short : (texts : List (List ℕ)) (ranges : List FileRange)
     → length (bytes_of_ranges texts ranges) ≤ length_of_ranges ranges
 ranges_short texts [] = omega arith
 ranges_short texts (range ∷ ranges) =
@@ -102,15 +100,11 @@ module _ (own : List ℕ) (texts : List (List ℕ)) where
 
 -- ---- what is wanted of files
 
--- a range of these files, of which no file has 2^64 bytes
-pub record LiesInFiles (texts : List (List ℕ)) (range : FileRange) : Type 0 where
-  pub file : range.file < length texts
-  pub inside : range.offset + range.length ≤ length (nth_file texts range.file)
-
 -- what is wanted lies in its file, and is what comes next
 pub record IsNextOf (texts : List (List ℕ)) (ranges : List FileRange) (count : ℕ)
     (range : FileRange) : Type 0 where
   pub some : 1 ≤ range.length
+  pub file : range.file < length texts
   pub inside : length (nth_file texts range.file) < 2 ^ 64
       → range.offset + range.length ≤ length (nth_file texts range.file)
   pub next : length (nth_file texts range.file) < 2 ^ 64
@@ -146,6 +140,7 @@ module _ (texts : List (List ℕ)) where
       λ small. mod-eq_of_lt (omega arith) in
       record {
         some = omega arith;
+        file = lies.file;
         inside = λ small. rw (offset small) (omega arith);
         next = λ small n within.
             rw (offset small)
@@ -168,6 +163,7 @@ module _ (texts : List (List ℕ)) where
       let at : count ≡ length mine + behind = omega arith in
       record {
         some = is.some;
+        file = is.file;
         inside = is.inside;
         next = λ small n within.
             let more : count + n ≡ length mine + (behind + n) = omega arith in
@@ -232,3 +228,67 @@ pub plan_lies : {A : Type 0} (texts : List (List ℕ)) (plan : Plan A)
 plan_lies texts plan can =
     steps_lie texts (length (own_bytes plan.parts.items)) can.0 (steps_from 0 plan.parts.items)
     (plan_sound (lengths_of texts) can.0 plan can.1)
+
+-- a view that is one of the files
+pub view_is : {V : Type 0} (bytes : V → List ℕ) (files : List V) (file : ℕ) (view : V)
+    → file < length files → view ≡ get_or files file view
+    → nth_file (map bytes files) file ≡ bytes view
+view_is bytes files file view inside is =
+    get_or_default (map bytes files) file [] (bytes view) (rw length-map inside)
+    ∙ get_or-map bytes files file view
+    ∙ ap bytes (sym is)
+
+-- all ranges came
+pub all_came : (texts : List (List ℕ)) (ranges : List FileRange) (fed : List ℕ)
+    → wanted_after ranges (length fed) ≡ None
+    → AreFirstOf texts ranges fed → fed ≡ bytes_of_ranges texts ranges
+all_came texts ranges fed none so_far =
+    so_far
+    ∙ take_all (length fed) (bytes_of_ranges texts ranges)
+    (omega (arith, none_wanted ranges (length fed) none, ranges_short texts ranges))
+
+-- a range that is wanted lies in the view of its file
+pub next_inside : (texts : List (List ℕ)) (ranges : List FileRange) (count : ℕ)
+    (range : FileRange) (text : List ℕ) → IsNextOf texts ranges count range
+    → nth_file texts range.file ≡ text → length text < 2 ^ 64
+    → range.offset + range.length ≤ length text
+next_inside texts ranges count range text is text_is small =
+    rw text_is at (is.inside (rw text_is small))
+
+-- the first bytes of a range that is wanted came, too
+module _ (texts : List (List ℕ)) (ranges : List FileRange) (fed fed' text piece : List ℕ)
+    (range : FileRange) (n : ℕ) (is : IsNextOf texts ranges (length fed) range)
+    (text_is : nth_file texts range.file ≡ text) (small : length text < 2 ^ 64)
+    (some : 1 ≤ n) (within : n ≤ range.length)
+    (piece_is : piece ≡ slice_range text range.offset (range.offset + n))
+    (are : fed' ≡ fed ++ piece) where
+  little : length (nth_file texts range.file) < 2 ^ 64
+  little = rw text_is small
+
+  count : length fed' ≡ length fed + n
+  count =
+      let inside : range.offset + range.length ≤ length text =
+      next_inside texts ranges (length fed) range text is text_is small in
+      let long : length (slice_range text range.offset (range.offset + n)) ≡ n =
+      search (rules, places) in
+      ap length are ∙ length-append fed piece
+      ∙ ap (λ (l : List ℕ). length fed + length l) piece_is
+      ∙ ap (λ (k : ℕ). length fed + k) long
+
+  pub comes_more : length fed < length fed'
+  comes_more = omega (arith, count)
+
+  pub comes_within : length fed' ≤ length_of_ranges ranges
+  comes_within = omega (arith, count, is.left)
+
+  pub comes_first : AreFirstOf texts ranges fed → AreFirstOf texts ranges fed'
+  comes_first so_far =
+      let all : List ℕ = bytes_of_ranges texts ranges in
+      are
+      ∙ ap (λ (l : List ℕ). l ++ piece) so_far
+      ∙ ap (λ (l : List ℕ). take (length fed) all ++ l) piece_is
+      ∙ ap
+      (λ (l : List ℕ). take (length fed) all ++ slice_range l range.offset (range.offset + n))
+      (sym text_is)
+      ∙ sym (is.next little n within)
+      ∙ ap (λ (k : ℕ). take k all) (sym count)

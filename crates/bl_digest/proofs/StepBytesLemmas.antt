@@ -1,7 +1,7 @@
 -- The bytes that a plan's steps write are those of its parts.
-use Rattle.std.proofs.Common.{◌≡◌, ℕ, ◌+◌, ◌-◌, ◌<◌, ◌≤◌, List, [], ◌∷◌, ◌++◌, length}
-use Rattle.std.proofs.Common.{zero, suc, get_or, take, drop, map, All, AllPairs, arith, refl, sym, ap}
-use Rattle.std.proofs.Common.{◌∙◌, replicate, append_assoc, length-append, subst, slice_range}
+use Rattle.std.proofs.Common.{◌≡◌, ℕ, ◌+◌, ◌-◌, ◌≤◌, List, [], ◌∷◌, ◌++◌, length}
+use Rattle.std.proofs.Common.{zero, suc, get_or, drop, map, All, AllPairs, arith, refl, sym, ap}
+use Rattle.std.proofs.Common.{◌∙◌, replicate, append_assoc, subst, slice_range}
 use Rattle.std.proofs.Common.{add-zero}
 use Rattle.std.proofs.lemmas.List.{append-nil, nil_from_length, drop-drop, drop_at, take_at}
 use Rattle.bl_mem.specs.declared.segment.Segment.{Segment}
@@ -15,11 +15,11 @@ use Rattle.bl_load.specs.declared.plan.Plan.{Plan}
 use Rattle.bl_load.specs.declared.step.Step.{Step}
 use Rattle.bl_load.specs.declared.step.StepSource.{StepSource}
 use Rattle.bl_load.specs.declared.step.StepSource.TheVariants as source
-use Rattle.bl_load.specs.Handover.{Part, placed_part, zero_padded}
+use Rattle.bl_load.specs.Handover.{Part, placed_part}
 use Rattle.bl_load.specs.Loadable.{lengths_of, content_length, IsCopyable, SegmentsAscend}
 use Rattle.bl_load.specs.Loadable.{IsInFiles, IsBacked, IsLoadable}
 use Rattle.bl_load.specs.Parts.{no_segment}
-use Rattle.bl_load.specs.PlanContents.{content_by, bytes_by, part_by, handover_by, places_of}
+use Rattle.bl_load.specs.PlanContents.{content_by, bytes_by, part_by, handover_by}
 use Rattle.bl_load.specs.PlannedPlaces.{planned_place}
 use Rattle.bl_load.specs.PlanSteps.{one_step, segment_steps, steps_in_block, own_of}
 use Rattle.bl_load.specs.PlanSteps.{content_steps, part_steps, steps_from, own_bytes}

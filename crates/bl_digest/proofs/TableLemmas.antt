@@ -1,12 +1,15 @@
 -- The digests along an image are those of the handover.
-use Rattle.std.proofs.Common.{◌≡◌, ℕ, ◌+◌, ◌-◌, ◌<◌, ◌≤◌, List, [], ◌∷◌, ◌++◌, length}
-use Rattle.std.proofs.Common.{zero, suc, get_or, take, drop, map, All, arith, refl, sym, ap, ◌∙◌}
+use Rattle.std.proofs.Common.{◌≡◌, ℕ, ◌+◌, ◌<◌, ◌≤◌, List, [], ◌∷◌, ◌++◌, length}
+use Rattle.std.proofs.Common.{get_or, take, drop, map, arith, refl, sym, ap, ◌∙◌}
 use Rattle.std.proofs.Common.{append_assoc, length-append, length-take, length-drop, subst}
-use Rattle.std.proofs.lemmas.List.{append-nil, take_at, drop_at, take-append-drop, nil_from_length}
+use Rattle.std.proofs.lemmas.List.{take_at, drop_at, take-append-drop, nil_from_length}
 use Rattle.std.proofs.lemmas.List.Concat.{flat_map-cons}
+use Rattle.std.proofs.lemmas.List.Folds.{length-flat_map-take}
 use Rattle.std.specs.List.{flat_map}
 use Rattle.sha2.specs.Sha256.{sha256}
 use Rattle.bl_plan.specs.declared.part.Place.{Place}
+use Rattle.bl_plan.specs.declared.protocol.Protocol.{Protocol}
+use Rattle.bl_load.specs.declared.registers.Registers.{Registers}
 use Rattle.bl_load.specs.Handover.{Part, Handover, placed_part}
 use Rattle.bl_image.specs.Front.{front_of}
 use Rattle.bl_image.specs.Image.{head, part_record, spelling}
@@ -92,6 +95,29 @@ digests_are h front places taken front_is places_are taken_is =
     same_digests (front ++ taken) (spelling written_version h) front (front_of written_version h)
     (part_digests places taken) (map part_digest h.parts) whole front_is rows
 
+-- a part's bytes are among all parts' bytes
+pub parts_within : (parts : List Part) (i : ℕ) (d : Part) → i < length parts
+    → length (bytes_of_parts (take i parts)) + length (get_or parts i d).bytes
+    ≤ total_of (map part_place parts)
+parts_within parts i d inside =
+    let within = length-flat_map-take (λ (part : Part). part.bytes) parts i d inside in
+    omega (arith, within, total_taken parts)
+
+-- what a handoff of a handover says, by its protocol and registers
+pub handed : (h : Handover) (protocol : Protocol) (registers : Registers) → protocol ≡ h.protocol
+    → registers ≡ h.registers
+    → handoff_of h
+    ≡ record { protocol = protocol; registers = registers; places = map part_place h.parts }
+handed h protocol registers protocol_is registers_are =
+    ap
+    (λ (p : Protocol).
+    record { protocol = p; registers = h.registers; places = map part_place h.parts })
+    (sym protocol_is)
+    ∙ ap
+    (λ (r : Registers).
+    record { protocol = protocol; registers = r; places = map part_place h.parts })
+    (sym registers_are)
+
 -- ---- parts along their places
 
 -- bytes that are as many as the places want
@@ -129,12 +155,11 @@ table_parts [] = refl
 table_parts (part ∷ parts) =
     let rest : List ℕ = bytes_of_parts parts in
     let size : ℕ = length part.bytes in
-    let behind : drop size (part.bytes ++ rest) ≡ rest = drop_at part.bytes rest size refl in
-    (
+    let behind : drop size (part.bytes ++ rest) ≡ rest = drop_at part.bytes rest size refl in (
       omega (arith, length-append part.bytes rest),
       ap sha256 (sym (take_at part.bytes rest size refl)),
       subst (λ (l : List ℕ). AreDigestsOf l (map part_digest parts)) (sym behind)
-      (table_parts parts),
+          (table_parts parts),
     )
 
 pub table_of : (h : Handover) → IsTableOf (spelling written_version h) (digests_of h)

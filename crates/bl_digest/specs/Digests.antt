@@ -1,5 +1,5 @@
 -- The digests of the image of a handover, and of its parts: SHA-256 (FIPS 180-4, 6.2). Own.
-use Rattle.std.specs.Prelude.{List, length, map}
+use Rattle.std.specs.Prelude.{length, map}
 use Rattle.sha2.specs.Sha256.{sha256}
 use Rattle.bl_load.specs.Handover.{Part, Handover}
 use Rattle.bl_image.specs.Front.{front_of}

@@ -1,2 +1,3 @@
 pub mod Hashing
 pub mod Filling
+pub mod Coming

@@ -1,11 +1,11 @@
 //! The digests of a plan's image, for one who feeds the files' bytes.
 use crate::digests::Digests;
 use crate::file_range::FileRange;
+use crate::image_digest::ImageDigest;
 use crate::image_hasher::ImageHasher;
 use crate::message::Message;
 use crate::part_digest::PartDigest;
 use crate::step_taking::take_steps;
-use crate::image_digest::ImageDigest;
 use bl_load::{Plan, Protocol, Registers, Steps};
 use std::alloc::{AllocError, Allocator};
 use std::marker::Model;
@@ -34,13 +34,13 @@ impl<A: Allocator> Model for Digesting<A> {
     ghost Value = { DigestingFacts };
 
     ghost view = { λ d. record {
-      plan = plan_told d.protocol d.registers d.told.steps.items d.told.own d.hasher;
+      plan = plan_told d.protocol d.registers d.hasher.places d.told.steps.items d.told.own;
       fed = d.fed.bytes;
     } };
 
-    ghost invariant = { λ d.
-        IsUnderWay (plan_told d.protocol d.registers d.told.steps.items d.told.own d.hasher)
-        d.fed.bytes d.hasher d.range d.next };
+    ghost invariant = { λ d. IsUnderWay
+        (plan_told d.protocol d.registers d.hasher.places d.told.steps.items d.told.own)
+        d.fed.bytes d.hasher.front d.hasher.taken d.range d.next };
 }
 
 impl<A: Allocator + Copy> Digesting<A> {

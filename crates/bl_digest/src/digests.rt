@@ -1,6 +1,6 @@
 //! The digests of an image.
-use crate::part_digest::PartDigest;
 use crate::image_digest::ImageDigest;
+use crate::part_digest::PartDigest;
 use std::alloc::Allocator;
 use std::marker::Model;
 

@@ -1,10 +1,10 @@
 //! Takes the bytes of an image's parts, and digests the image and each part.
 use crate::digests::Digests;
 use crate::hasher::Hasher;
+use crate::image_digest::ImageDigest;
 use crate::message::Message;
 use crate::part_digest::PartDigest;
 use crate::parts_hasher::PartsHasher;
-use crate::image_digest::ImageDigest;
 use bl_image::{MAX_FRONT, Places, front_bytes};
 use bl_load::{Protocol, Registers};
 use std::alloc::{AllocError, Allocator};

@@ -1,10 +1,11 @@
 //! The digests of a plan's image, with its files at hand.
-ghost use Rattle.std.specs.Prelude.{◌≡◌, ◌+◌, ◌-◌, ◌<◌, ◌≤◌, ◌++◌, length, map, slice_range, IfOk};
+ghost use Rattle.std.specs.Prelude.{◌≡◌, ◌<◌, ◌≤◌, length, map, All, Some, IfOk};
 ghost use Rattle.bl_load.specs.Loadable.{lengths_of};
 ghost use Rattle.bl_load.specs.PlanContents.{handover_by};
 ghost use Rattle.bl_digest.specs.Digests.{digests_of};
 ghost use Rattle.bl_digest.specs.PlanInSteps.{CanBeLoadedFrom};
-ghost use Rattle.bl_digest.specs.Ranges.{IsWithinWanted, ranges_of, wanted_after};
+ghost use Rattle.bl_digest.specs.Ranges.{ranges_of, wanted_after};
+ghost use Rattle.bl_digest.specs.internal.Coming.{length_of_ranges, LiesInFiles, AreFirstOf};
 
 use crate::digesting::Digesting;
 use crate::digests::Digests;
@@ -20,25 +21,30 @@ const MAX_LENT: u64 = 65536;
 /// How many bytes are copied at once at most where a view lends none.
 const MAX_COPIED: usize = 16384;
 
-/// Feeds the first bytes of a range that is wanted, one at least.
+/// Feeds the first bytes of the range that is wanted of these files, one at least.
 fn feed_some<A: Allocator, V: ByteView>(
     digesting: &mut Digesting<A>,
-    view: &V,
+    files: &[V],
     range: FileRange,
     buffer: &mut [u8],
 )
-    requires some { 1 ≤ range.length }
-    requires inside { range.offset + range.length ≤ length (V.bytes view.now) }
     requires room { 1 ≤ length buffer.old }
-    requires wanted { IsWithinWanted (wanted_after (ranges_of digesting.old.plan.steps)
-        (length digesting.old.fed)) range.length }
+    requires wanted { wanted_after (ranges_of digesting.old.plan.steps)
+        (length digesting.old.fed) ≡ Some range }
+    requires lie { All (LiesInFiles (map V.bytes files.now))
+        (ranges_of digesting.old.plan.steps) }
+    requires first { AreFirstOf (map V.bytes files.now) (ranges_of digesting.old.plan.steps)
+        digesting.old.fed }
     ensures plan { digesting.new.plan ≡ digesting.old.plan }
     ensures more { length digesting.old.fed < length digesting.new.fed }
-    ensures within { length digesting.new.fed ≤ length digesting.old.fed + range.length }
-    ensures fed { digesting.new.fed ≡ digesting.old.fed
-        ++ slice_range (V.bytes view.now) range.offset
-        (range.offset + (length digesting.new.fed - length digesting.old.fed)) }
+    ensures within { length digesting.new.fed
+        ≤ length_of_ranges (ranges_of digesting.old.plan.steps) }
+    ensures first { AreFirstOf (map V.bytes files.now) (ranges_of digesting.old.plan.steps)
+        digesting.new.fed }
 {
+    let view = &files[range.file];
+    // For the proof: a file has fewer than 2^64 bytes, so no offset wraps.
+    let _length = view.len();
     let count = range.length.min(MAX_LENT) as usize;
     match view.lend(range.offset, count) {
         Some(bytes) => digesting.feed(bytes),
@@ -67,7 +73,7 @@ pub fn digest_plan<A: Allocator + Copy, B: Allocator, V: ByteView>(
     let mut digesting = Digesting::begin(alloc, plan)?;
     let mut buffer = [0u8; MAX_COPIED];
     while let Some(range) = digesting.wanted() {
-        feed_some(&mut digesting, &files[range.file], range, &mut buffer);
+        feed_some(&mut digesting, files, range, &mut buffer);
     }
     Ok(digesting.end())
 }

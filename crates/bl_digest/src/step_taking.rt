@@ -1,5 +1,5 @@
 //! Takes the steps of a plan that read no file.
-ghost use Rattle.std.specs.Prelude.{◌≡◌, ◌+◌, ◌≤◌, ◌++◌, length, drop, replicate, All};
+ghost use Rattle.std.specs.Prelude.{◌≡◌, ◌+◌, ◌<◌, ◌≤◌, ◌^◌, ◌++◌, length, drop, replicate, All};
 ghost use Rattle.bl_digest.specs.internal.Filling.{GoesOn, TakesWhatIsThere, length_of_steps};
 ghost use Rattle.bl_digest.specs.internal.Hashing.{total_of};
 
@@ -17,6 +17,20 @@ const MAX_ZEROS: usize = 4096;
 pub(crate) struct Stop {
     pub(crate) range: FileRange,
     pub(crate) next: usize,
+}
+
+/// This range.
+fn range_at(file: usize, offset: u64, length: u64) -> FileRange
+    ensures range { result ≡ record { file = file; offset = offset; length = length } }
+
+    // For the proof: an offset is a number of 64 bits.
+    ensures small { offset < 2 ^ 64 }
+{
+    FileRange {
+        file,
+        offset,
+        length,
+    }
 }
 
 /// Takes so many zeros.
@@ -49,6 +63,7 @@ pub(crate) fn take_steps<A: Allocator>(
     requires held { All (TakesWhatIsThere (length told.now.own)) told.now.steps.items }
     ensures goes_on { GoesOn told.now.own (drop from told.now.steps.items) hasher.old.taken
         hasher.new.taken result.range (drop result.next told.now.steps.items) }
+    ensures small { result.range.offset < 2 ^ 64 }
     ensures last { result.range.length ≡ 0 → length told.now.steps.items ≤ result.next }
     ensures same { (hasher.new.front ≡ hasher.old.front)
         × (hasher.new.places ≡ hasher.old.places) }
@@ -59,25 +74,19 @@ pub(crate) fn take_steps<A: Allocator>(
         at += 1;
         match step.source {
             StepSource::File { file, offset } => {
-                let length = step.length;
-                let range = FileRange {
-                    file,
-                    offset,
-                    length,
-                };
+                let range = range_at(file, offset, step.length);
                 return Stop { range, next: at };
             }
             StepSource::Own { offset } => {
+                let own = told.own.as_slice();
                 let end = offset + step.length as usize;
-                hasher.take(&told.own.as_slice()[offset..end]);
+                hasher.take(&own[offset..end]);
             }
             StepSource::Zeros => take_zeros(hasher, step.length),
         }
     }
-    let range = FileRange {
-        file: 0,
-        offset: 0,
-        length: 0,
-    };
-    Stop { range, next: at }
+    Stop {
+        range: range_at(0, 0, 0),
+        next: at,
+    }
 }

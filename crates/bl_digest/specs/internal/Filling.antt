@@ -1,6 +1,7 @@
 -- What the code keeps as ranges of files come. Own.
-use Rattle.std.specs.Prelude.{◌≡◌, ℕ, ◌+◌, ◌≤◌, List, [], ◌∷◌, ◌++◌, length, take, drop, replicate}
-use Rattle.std.specs.Prelude.{slice_range, All}
+use Rattle.std.specs.Prelude.{◌≡◌, ℕ, ◌+◌, ◌<◌, ◌≤◌, ◌^◌, List, [], ◌∷◌, ◌++◌, length, take, drop}
+use Rattle.std.specs.Prelude.{replicate, slice_range, All}
+use Rattle.bl_plan.specs.declared.part.Place.{Place}
 use Rattle.bl_plan.specs.declared.protocol.Protocol.{Protocol}
 use Rattle.bl_load.specs.declared.step.Step.{Step}
 use Rattle.bl_load.specs.declared.step.StepSource.{StepSource}
@@ -13,7 +14,7 @@ use Rattle.bl_image.specs.Versions.{written_version}
 use Rattle.bl_digest.specs.declared.file_range.FileRange.{FileRange}
 use Rattle.bl_digest.specs.PlanInSteps.{PlanInSteps}
 use Rattle.bl_digest.specs.Ranges.{ranges_of, wanted_after}
-use Rattle.bl_digest.specs.internal.Hashing.{HashedFacts, total_of}
+use Rattle.bl_digest.specs.internal.Hashing.{total_of}
 
 -- so many bytes of a source, where the bytes of files come in this order
 abbrev pub source_fill : List ℕ → StepSource → ℕ → List ℕ → List ℕ
@@ -49,15 +50,16 @@ HasOwn own (File file offset) count = Unit {0}
 HasOwn own (Own offset) count = offset + count ≤ own
 HasOwn own Zeros count = Unit {0}
 
+-- a step is not empty, and the plan has what it takes of it
 abbrev pub TakesWhatIsThere : ℕ → Step → Type 0
-TakesWhatIsThere own step = HasOwn own step.source step.length
+TakesWhatIsThere own step = (1 ≤ step.length) × HasOwn own step.source step.length
 
--- a plan of these fields, and of the places of which the hasher takes the bytes
-abbrev pub plan_told : Protocol → Registers → List Step → List ℕ → HashedFacts → PlanInSteps
-plan_told protocol registers steps own hashed = record {
+-- a plan of these fields
+abbrev pub plan_told : Protocol → Registers → List Place → List Step → List ℕ → PlanInSteps
+plan_told protocol registers places steps own = record {
   protocol = protocol;
   registers = registers;
-  places = hashed.places;
+  places = places;
   steps = steps;
   own = own;
 }
@@ -83,16 +85,22 @@ pub record GoesOn (own : List ℕ) (steps : List Step) (old new : List ℕ) (ran
   pub count : length old + length_of_steps steps
       ≡ length new + (range.length + length_of_steps rest)
 
--- a digest under way: its hasher took what the bytes that came fill, up to the range that is
--- wanted; `next` is the step behind that range
-pub record IsUnderWay (plan : PlanInSteps) (fed : List ℕ) (hashed : HashedFacts) (range : FileRange)
-    (next : ℕ) : Type 0 where
-  pub front : IsFrontOf plan hashed.front
+-- what was taken is what the bytes that came fill, up to the range that is wanted; `next` is the
+-- step behind that range
+pub record IsFed (plan : PlanInSteps) (fed front taken : List ℕ) (range : FileRange) (next : ℕ) :
+    Type 0 where
+  pub fronted : IsFrontOf plan front
   pub filling : (more : List ℕ) → filled plan.own plan.steps (fed ++ more)
-      ≡ hashed.taken ++ filled_behind plan.own range.length (drop next plan.steps) more
+      ≡ taken ++ filled_behind plan.own range.length (drop next plan.steps) more
   pub wanting : (count : ℕ) → wanted_after (ranges_of plan.steps) (length fed + count)
       ≡ wanted_after (range ∷ ranges_of (drop next plan.steps)) count
-  pub count : length hashed.taken + (range.length + length_of_steps (drop next plan.steps))
+  pub count : length taken + (range.length + length_of_steps (drop next plan.steps))
       ≡ total_of plan.places
   pub held : All (TakesWhatIsThere (length plan.own)) plan.steps
+
+-- a digest under way: a range that is wanted is not empty, but behind the last step
+pub record IsUnderWay (plan : PlanInSteps) (fed front taken : List ℕ) (range : FileRange)
+    (next : ℕ) : Type 0 where
+  pub is_fed : IsFed plan fed front taken range next
+  pub small : range.offset < 2 ^ 64
   pub last : range.length ≡ 0 → length plan.steps ≤ next

@@ -1,17 +1,16 @@
-use Rattle.std.proofs.Common.{◌≡◌, ◌-◌, length, map, take}
+use Rattle.std.proofs.Common.{◌≡◌, ◌-◌, length, map}
 use Rattle.bl_load.specs.PlanSteps.{steps_from}
 use Rattle.bl_digest.specs.PlanInSteps.{plan_in_steps}
-use Rattle.bl_digest.specs.Ranges.{ranges_of, bytes_of_ranges}
-use Rattle.bl_digest.proofs.RangeLemmas.{length_of_ranges}
+use Rattle.bl_digest.specs.Ranges.{ranges_of}
+use Rattle.bl_digest.specs.internal.Coming.{length_of_ranges, AreFirstOf}
 use Rattle.bl_digest.proofs.plan_digest.digest_plan.Given as goal
 
 -- the first bytes of the ranges were fed
 abbrev pub invariant-loop-range : goal.invariant-loop-range
 invariant-loop-range g l = record {
   plan : l.digesting.plan ≡ plan_in_steps l.plan;
-  fed : l.digesting.fed
-      ≡ take (length l.digesting.fed)
-      (bytes_of_ranges (map g.V.ByteView.bytes l.files) (ranges_of (steps_from 0 l.plan.parts.items)));
+  first : AreFirstOf (map g.V.ByteView.bytes l.files) (ranges_of l.digesting.plan.steps)
+      l.digesting.fed;
   room : length l.buffer ≡ 16384;
 }
 

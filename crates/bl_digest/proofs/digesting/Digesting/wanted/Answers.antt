@@ -1,0 +1,32 @@
+use Rattle.std.proofs.Common.{◌≡◌, length, sym, subst, arith, Some, None, Option}
+use Rattle.bl_digest.specs.declared.file_range.FileRange.{FileRange}
+use Rattle.bl_digest.specs.PlanInSteps.{DigestingFacts}
+use Rattle.bl_digest.specs.Ranges.{ranges_of, wanted_after}
+use Rattle.bl_digest.specs.internal.Filling.{plan_told}
+use Rattle.bl_digest.proofs.UnderWayLemmas.{wants_none, wants_some}
+use Rattle.bl_digest.proofs.digesting.Digesting.wanted.Goals as goal
+
+pub returns-then-self-eq0 : goal.returns-then-self-eq0
+returns-then-self-eq0 g c =
+    let i = c.self.inside in
+    let plan = plan_told i.protocol i.registers i.hasher.places i.told.steps.items i.told.own in
+    subst
+    (λ (f : DigestingFacts).
+    ◌≡◌ {A = Option FileRange} None (wanted_after (ranges_of f.plan.steps) (length f.fed)))
+    c.self.view_is
+    (sym
+    (wants_none plan i.fed.bytes i.hasher.front i.hasher.taken i.range i.next c.self.invariant
+    c.if-self-eq0.true))
+
+pub returns : goal.returns
+returns g c =
+    let i = c.self.inside in
+    let plan = plan_told i.protocol i.registers i.hasher.places i.told.steps.items i.told.own in
+    subst
+    (λ (f : DigestingFacts).
+    ◌≡◌ {A = Option FileRange} (Some i.range)
+    (wanted_after (ranges_of f.plan.steps) (length f.fed)))
+    c.self.view_is
+    (sym
+    (wants_some plan i.fed.bytes i.hasher.front i.hasher.taken i.range i.next c.self.invariant
+    (omega (arith, c.if-self-eq0.false))))
