@@ -166,7 +166,7 @@ adjoin_content before at (Own bytes) ordered =
 adjoin_content before at (File file offset count) ordered =
     adjoin_one at count (at + count) (source.File file offset) refl
 adjoin_content before at (Block file segments) ordered =
-    adjoin_block at file segments.items ordered.0 ordered.1 ordered.2
+    adjoin_block at file segments.items ordered.some ordered.fits ordered.ascending
 
 adjoin_part : {A : Type 0} (before : ℕ) (part : PlannedPart A) → CanBeTold part
     → Adjoin part.place.address (part_steps before part) (part.place.address + part.place.length)

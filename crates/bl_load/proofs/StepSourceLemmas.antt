@@ -98,7 +98,11 @@ ordered_in : {A : Type 0} (lengths : List ℕ) (content : Content A) → IsInFil
     → HasSegmentsInOrder content
 ordered_in lengths (Own bytes) is = tt
 ordered_in lengths (File file offset count) is = tt
-ordered_in lengths (Block file segments) is = (is.1, λ k d h. (is.2 k d h).fits, is.3)
+ordered_in lengths (Block file segments) is = record {
+  some = is.1;
+  fits = λ k d h. (is.2 k d h).fits;
+  ascending = is.3;
+}
 
 module _ {A : Type 0} (lengths : List ℕ) (size : ℕ) (plan : Plan A)
     (loadable : IsLoadable lengths size plan) where

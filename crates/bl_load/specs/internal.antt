@@ -5,6 +5,7 @@ pub mod Placing
 pub mod ReadKernels
 pub mod CheckedEntries
 pub mod Contents
+pub mod Plans
 pub mod KnownFiles
 pub mod Told
 pub mod Checks

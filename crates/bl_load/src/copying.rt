@@ -3,8 +3,8 @@
 //! They are copied through no buffer where the files lend them, or where they lie in memory and
 //! memory moves bytes by itself; else through one of 4096 bytes.
 ghost use Rattle.std.specs.Prelude.{◌+◌, ◌≤◌, length, slice_range};
-ghost use Rattle.bl_mem.specs.Files.{nth_file};
 ghost use Rattle.bl_load.specs.internal.Copying.{IsVacant, IsPutBesideFiles};
+ghost use Rattle.bl_load.specs.internal.Copying.{IsCopiedBesideFiles};
 ghost use Rattle.bl_load.specs.internal.Copying.{IsRangeOfFile, IsSmallRangeOfFile};
 
 use bl_map::FRAME_SIZE;
@@ -43,9 +43,8 @@ fn copy_through_buffer<M: PhysMem, F: FileSet>(
 )
     requires free { IsVacant M.bytes M.room F.holds memory.old files.now at count }
     requires piece { IsSmallRangeOfFile (F.texts files.now (M.bytes memory.old)) file offset count }
-    ensures { IsPutBesideFiles M.lender M.bytes M.room F.texts files.now memory.old memory.new at
-        (slice_range (nth_file (F.texts files.now (M.bytes memory.old)) file) offset
-        (offset + count)) }
+    ensures { IsCopiedBesideFiles M.lender M.bytes M.room F.texts files.now memory.old memory.new
+        at file offset count }
 {
     let mut frame = [0u8; 4096];
     let buffer = &mut frame[..count];
@@ -65,9 +64,8 @@ fn copy_piece<M: PhysMem, F: FileSet>(
 )
     requires free { IsVacant M.bytes M.room F.holds memory.old files.now at count }
     requires piece { IsSmallRangeOfFile (F.texts files.now (M.bytes memory.old)) file offset count }
-    ensures { IsPutBesideFiles M.lender M.bytes M.room F.texts files.now memory.old memory.new at
-        (slice_range (nth_file (F.texts files.now (M.bytes memory.old)) file) offset
-        (offset + count)) }
+    ensures { IsCopiedBesideFiles M.lender M.bytes M.room F.texts files.now memory.old memory.new
+        at file offset count }
 {
     if let Some(lent) = files.lend(memory, file, offset, count) {
         write_beside(memory, at, files, lent);
@@ -91,9 +89,8 @@ fn copy_by_pieces<M: PhysMem, F: FileSet>(
 )
     requires free { IsVacant M.bytes M.room F.holds memory.old files.now at count }
     requires piece { IsRangeOfFile (F.texts files.now (M.bytes memory.old)) file offset count }
-    ensures { IsPutBesideFiles M.lender M.bytes M.room F.texts files.now memory.old memory.new at
-        (slice_range (nth_file (F.texts files.now (M.bytes memory.old)) file) offset
-        (offset + count)) }
+    ensures { IsCopiedBesideFiles M.lender M.bytes M.room F.texts files.now memory.old memory.new
+        at file offset count }
 {
     // For the proof: both lengths are below 2^64, so no sum here wraps.
     let _source = files.len(memory, file);
@@ -119,9 +116,8 @@ pub(crate) fn copy<M: PhysMem, F: FileSet>(
 )
     requires free { IsVacant M.bytes M.room F.holds memory.old files.now at count }
     requires piece { IsRangeOfFile (F.texts files.now (M.bytes memory.old)) file offset count }
-    ensures { IsPutBesideFiles M.lender M.bytes M.room F.texts files.now memory.old memory.new at
-        (slice_range (nth_file (F.texts files.now (M.bytes memory.old)) file) offset
-        (offset + count)) }
+    ensures { IsCopiedBesideFiles M.lender M.bytes M.room F.texts files.now memory.old memory.new
+        at file offset count }
 {
     if count == 0 {
         return;

@@ -1,10 +1,10 @@
 //! A relocatable kernel's image comes into memory.
-ghost use Rattle.std.specs.Prelude.{◌≡◌, ◌<◌, ◌≤◌, length, All, AllPairs};
+ghost use Rattle.std.specs.Prelude.{◌≡◌, ◌<◌, length};
 ghost use Rattle.bl_mem.specs.SegmentContents.{contents_of};
 ghost use Rattle.bl_mem.specs.Files.{nth_file};
-ghost use Rattle.bl_load.specs.internal.Copying.{IsVacant, IsPutBesideFiles};
+ghost use Rattle.bl_load.specs.internal.Copying.{IsVacant, IsPutBesideFiles, IsBlockOfFile};
 ghost use Rattle.bl_load.specs.KernelBlock.{span_of, block_of};
-ghost use Rattle.bl_load.specs.Loadable.{IsCopyable, SegmentsAscend};
+ghost use Rattle.bl_load.specs.Loadable.{IsCopyable};
 
 use crate::copying::copy;
 use bl_mem::{FileSet, PhysMem, Segment};
@@ -39,11 +39,7 @@ pub(crate) fn load_block<M: PhysMem, F: FileSet>(
     file: usize,
     segments: &[Segment],
 ) -> u64
-    requires file { file < length (F.texts files.now (M.bytes memory.old)) }
-    requires some { 1 ≤ length segments.now }
-    requires copied { All (IsCopyable
-        (length (nth_file (F.texts files.now (M.bytes memory.old)) file))) segments.now }
-    requires ascending { AllPairs SegmentsAscend segments.now }
+    requires block { IsBlockOfFile (F.texts files.now (M.bytes memory.old)) file segments.now }
     requires free { IsVacant M.bytes M.room F.holds memory.old files.now at (span_of segments.now) }
     ensures count { result ≡ span_of segments.now }
     ensures put { IsPutBesideFiles M.lender M.bytes M.room F.texts files.now memory.old memory.new

@@ -3,10 +3,8 @@ ghost use Rattle.std.specs.Prelude.{◌≡◌, ◌≤◌, true, IfOk, IfErr, len
 ghost use Rattle.bl_load.specs.KernelReading.{linux};
 ghost use Rattle.bl_load.specs.EntryValue.{linux_value};
 ghost use Rattle.bl_load.specs.Protocols.{has_params};
-ghost use Rattle.bl_load.specs.Parts.{IsHandover, IsPrepFault};
-ghost use Rattle.bl_load.specs.Origins.{planned_origin, AreOrigins};
-ghost use Rattle.bl_load.specs.PlanContents.{handover_by};
-ghost use Rattle.bl_load.specs.Loadable.{lengths_of, IsLoadable, IsLean};
+ghost use Rattle.bl_load.specs.Parts.{IsPrepFault};
+ghost use Rattle.bl_load.specs.internal.Plans.{IsPlanOfValue};
 ghost use Rattle.bl_load.specs.Unplaced.{IsUnplaced, IsFaultBeforePlacing};
 
 use crate::addresses::address_of;
@@ -85,17 +83,10 @@ pub fn prepare<A: Allocator + Copy, V: ByteView>(
 ) -> Result<Plan<A>, PrepFault>
     requires params { has_params protocol ≡ true }
     requires files { 1 ≤ length files.now }
-    ensures handover { IfOk result (λ plan. IsHandover machine.now
-        (linux_value protocol (map V.bytes files.now) line.now)
-        (handover_by (map V.bytes files.now) plan)) }
-    ensures loadable { IfOk result (λ plan. IsLoadable
-        (lengths_of (map V.bytes files.now)) machine.now.size plan) }
-    ensures lean { IfOk result (λ plan. IsLean plan.parts.items) }
-    ensures origins { IfOk result (λ plan. AreOrigins machine.now
-        (linux_value protocol (map V.bytes files.now) line.now)
-        (map planned_origin plan.parts.items)) }
-    ensures fault { IfErr result (λ fault. IsPrepFault machine.now
-        (linux_value protocol (map V.bytes files.now) line.now) fault) }
+    ensures ok { IfOk result (IsPlanOfValue machine.now
+        (linux_value protocol (map V.bytes files.now) line.now)) }
+    ensures fault { IfErr result (IsPrepFault machine.now
+        (linux_value protocol (map V.bytes files.now) line.now)) }
 {
     check_line(line)?;
     let setup = read_linux(protocol, &files[0], line, machine.normal())?;

@@ -1,12 +1,11 @@
 //! What an entry's parts are by its kernel's file.
 ghost use Rattle.std.specs.Prelude.{◌≡◌, All, IfOk};
-ghost use Rattle.bl_load.specs.Parts.{content_of, registers_of};
-ghost use Rattle.bl_load.specs.Origins.{origin_from};
-ghost use Rattle.bl_load.specs.internal.Contents.{IsPlacedAmong, IsContentOf};
+ghost use Rattle.bl_load.specs.Parts.{registers_of};
+ghost use Rattle.bl_load.specs.internal.Contents.{IsPlacedAmong, IsContentAt};
 ghost use Rattle.bl_load.specs.internal.Placing.{EndsLow, capped_rows_of};
 ghost use Rattle.bl_load.specs.internal.ReadKernels.{EntersBy, EntryPointFits32Bits};
 ghost use Rattle.bl_load.specs.KernelReading.{KernelReading};
-ghost use Rattle.bl_load.specs.internal.CheckedEntries.{texts_in, value_of_files, IsReadWithFiles};
+ghost use Rattle.bl_load.specs.internal.CheckedEntries.{value_of_files, IsReadWithFiles};
 
 use crate::checked_entry::CheckedEntry;
 use crate::plan::Content;
@@ -40,11 +39,7 @@ pub trait LoadableKernel {
         place: &Place,
     ) -> Result<Content<A>, AllocError>
         requires { IsPlacedAmong entry.now (reading self.now) places.now place.now }
-        ensures { IfOk result (IsContentOf (texts_in entry.now) place.now.role
-            (content_of entry.now.machine.now (value_of_files entry.now) (reading self.now)
-            places.now place.now.role place.now.index)
-            (origin_from entry.now.machine.now (value_of_files entry.now) (reading self.now)
-            places.now place.now.role place.now.index) place.now.length) };
+        ensures { IfOk result (IsContentAt entry.now (reading self.now) places.now place.now) };
 
     /// The registers as a kernel begins that is entered by this protocol, where the parts have
     /// these places.

@@ -2,7 +2,7 @@
 ghost use Rattle.std.specs.Prelude.{◌≡◌, ℕ, ◌+◌, ◌-◌, ◌<◌, ◌≤◌, length, map, slice_index, All};
 ghost use Rattle.bl_mem.specs.Files.{AreAddressesBelow, AllApartFrom};
 ghost use Rattle.bl_mem.specs.Memory.{AllHaveRoom, KeepsSizeAndRoom};
-ghost use Rattle.bl_load.specs.internal.Copying.{IsVacant, IsPutBesideFiles};
+ghost use Rattle.bl_load.specs.internal.Copying.{IsVacant, IsPutBesideFiles, ArePutBesideFiles};
 ghost use Rattle.bl_plan.specs.Placed.{Covers, place_range};
 ghost use Rattle.bl_load.specs.Handover.{overwrite_parts};
 ghost use Rattle.bl_load.specs.PlanContents.{content_by, bytes_by, part_by, handover_by};
@@ -74,12 +74,8 @@ fn load_parts<M: PhysMem, F: FileSet, A: Allocator>(
     requires held { AreAddressesBelow (F.holds files.now) (length (M.bytes memory.old)) }
     requires can { All (CanLoad (lengths_of (F.texts files.now (M.bytes memory.old)))
         (length (M.bytes memory.old)) (M.room memory.old) (F.holds files.now)) parts.now }
-    ensures after { M.bytes memory.new ≡ overwrite_parts
-        (map (part_by (F.texts files.now (M.bytes memory.old))) parts.now)
-        (M.bytes memory.old) }
-    ensures texts { F.texts files.now (M.bytes memory.new)
-        ≡ F.texts files.now (M.bytes memory.old) }
-    ensures kept { KeepsSizeAndRoom M.lender M.bytes M.room memory.old memory.new }
+    ensures { ArePutBesideFiles M.lender M.bytes M.room F.texts files.now memory.old memory.new
+        (map (part_by (F.texts files.now (M.bytes memory.old))) parts.now) }
 {
     for part in parts {
         load_part(memory, part, files);

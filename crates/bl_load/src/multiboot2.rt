@@ -4,11 +4,9 @@ ghost use Rattle.bl_load.specs.KernelBlock as blocks;
 ghost use Rattle.bl_load.specs.internal.ReadMultiboot2Kernels.{kernel_by};
 ghost use Rattle.bl_load.specs.KernelReading.{multiboot2};
 ghost use Rattle.bl_load.specs.Parts as parts;
-ghost use Rattle.bl_load.specs.Parts.{IsHandover, IsPrepFault};
-ghost use Rattle.bl_load.specs.Origins.{planned_origin, AreOrigins};
-ghost use Rattle.bl_load.specs.PlanContents.{handover_by};
+ghost use Rattle.bl_load.specs.Parts.{IsPrepFault};
 ghost use Rattle.bl_load.specs.internal.Loading.{value_by, AreOfMultiboot2};
-ghost use Rattle.bl_load.specs.Loadable.{lengths_of, IsLoadable, IsLean};
+ghost use Rattle.bl_load.specs.internal.Plans.{IsPlanOfValue};
 ghost use Rattle.bl_load.specs.Unplaced.{IsUnplaced, IsFaultBeforePlacing};
 
 use crate::addresses::address_of;
@@ -87,15 +85,8 @@ pub fn prepare<A: Allocator + Copy, V: ByteView>(
     files: &[V],
 ) -> Result<Plan<A>, PrepFault>
     requires { AreOfMultiboot2 files.now modules.now rsdps.now }
-    ensures handover { IfOk result (λ plan. IsHandover machine.now
-        (value_by (map V.bytes files.now) line.now modules.now rsdps.now)
-        (handover_by (map V.bytes files.now) plan)) }
-    ensures loadable { IfOk result (λ plan. IsLoadable
-        (lengths_of (map V.bytes files.now)) machine.now.size plan) }
-    ensures lean { IfOk result (λ plan. IsLean plan.parts.items) }
-    ensures origins { IfOk result (λ plan. AreOrigins machine.now
-        (value_by (map V.bytes files.now) line.now modules.now rsdps.now)
-        (map planned_origin plan.parts.items)) }
+    ensures ok { IfOk result (IsPlanOfValue machine.now
+        (value_by (map V.bytes files.now) line.now modules.now rsdps.now)) }
     ensures fault { IfErr result (IsPrepFault machine.now
         (value_by (map V.bytes files.now) line.now modules.now rsdps.now)) }
 {

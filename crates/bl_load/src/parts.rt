@@ -1,9 +1,6 @@
 //! The parts of an entry, at their places.
-ghost use Rattle.std.specs.Prelude.{◌≤◌, ◌^◌, All, IfOk};
-ghost use Rattle.bl_load.specs.internal.Contents.{ArePartsAt};
-ghost use Rattle.bl_load.specs.internal.Placing.{HasRowLength, EndsLow};
-ghost use Rattle.bl_load.specs.internal.ReadKernels.{ToldFits32Bits};
-ghost use Rattle.bl_load.specs.internal.CheckedEntries.{value_of_files, IsReadWithFiles};
+ghost use Rattle.std.specs.Prelude.{All, IfOk};
+ghost use Rattle.bl_load.specs.internal.Contents.{IsPlacedAmong, ArePartsAt};
 
 use crate::checked_entry::CheckedEntry;
 use crate::loadable_kernel::LoadableKernel;
@@ -20,12 +17,7 @@ pub fn parts_at<A: Allocator + Copy, V: ByteView, K: LoadableKernel>(
     places: &[Place],
     sorted: &[Place],
 ) -> Result<Vec<PlannedPart<A>, A>, AllocError>
-    requires ready { IsReadWithFiles entry.now (K.reading kernel.now) }
-    requires fits { ToldFits32Bits (value_of_files entry.now) (K.reading kernel.now) places.now }
-    requires low { All EndsLow places.now }
-    requires rowed { All (HasRowLength entry.now.machine.now (value_of_files entry.now)
-        (K.reading kernel.now)) sorted.now }
-    requires small { All (λ place. place.length ≤ 2 ^ 32) sorted.now }
+    requires { All (IsPlacedAmong entry.now (K.reading kernel.now) places.now) sorted.now }
     ensures { IfOk result (λ parts. ArePartsAt entry.now (K.reading kernel.now) places.now
         sorted.now parts.items) }
 {

@@ -4,12 +4,10 @@ ghost use Rattle.bl_load.specs.Rows as table;
 ghost use Rattle.bl_plan.specs.Placed.{place_range};
 ghost use Rattle.bl_plan.specs.declared.fault.PlanFault.TheVariants.{Overlap};
 ghost use Rattle.bl_load.specs.internal.Placing as kept;
-ghost use Rattle.bl_load.specs.internal.Placing.{IsPlacedHandover, IsPlaceFault};
+ghost use Rattle.bl_load.specs.internal.Placing.{IsPlaceFault};
 ghost use Rattle.bl_load.specs.PlannedPlaces.{planned_place};
-ghost use Rattle.bl_load.specs.Origins.{planned_origin, AreOrigins};
-ghost use Rattle.bl_load.specs.PlanContents.{handover_by};
-ghost use Rattle.bl_load.specs.Loadable.{lengths_of, IsLoadable, IsLean};
-ghost use Rattle.bl_load.specs.internal.CheckedEntries.{texts_in, value_of_files, IsReadWithFiles};
+ghost use Rattle.bl_load.specs.internal.CheckedEntries.{value_of_files, IsReadWithFiles};
+ghost use Rattle.bl_load.specs.internal.Plans.{IsPlacedPlan};
 
 use crate::checked_entry::CheckedEntry;
 use crate::loadable_kernel::LoadableKernel;
@@ -56,16 +54,9 @@ pub fn plan_parts<A: Allocator + Copy, V: ByteView, K: LoadableKernel>(
     kernel: &K,
 ) -> Result<Plan<A>, PrepFault>
     requires { IsReadWithFiles entry.now (K.reading kernel.now) }
-    ensures handover { IfOk result (λ plan. IsPlacedHandover entry.now.machine.now
-        (value_of_files entry.now) (K.reading kernel.now) (handover_by (texts_in entry.now) plan)) }
-    ensures loadable { IfOk result (λ plan. IsLoadable
-        (lengths_of (texts_in entry.now)) entry.now.machine.now.size plan) }
-    ensures lean { IfOk result (λ plan. IsLean plan.parts.items) }
-    ensures origins { IfOk result (λ plan. AreOrigins entry.now.machine.now
-        (value_of_files entry.now) (map planned_origin plan.parts.items)) }
-    ensures fault { IfErr result (λ fault. IsPlaceFault entry.now.machine.now
-        (table.rows_of entry.now.machine.now (value_of_files entry.now) (K.reading kernel.now))
-        fault) }
+    ensures ok { IfOk result (IsPlacedPlan entry.now (K.reading kernel.now)) }
+    ensures fault { IfErr result (IsPlaceFault entry.now.machine.now
+        (table.rows_of entry.now.machine.now (value_of_files entry.now) (K.reading kernel.now))) }
 {
     let rows = kernel.rows(alloc, entry)?;
     let places = match place_rows(alloc, entry.machine, rows.as_slice()) {

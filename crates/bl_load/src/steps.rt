@@ -1,10 +1,11 @@
 //! A plan told as steps, which its caller carries out.
-ghost use Rattle.std.specs.Prelude.{◌≡◌, ◌+◌, ◌<◌, ◌≤◌, ◌^◌, ◌++◌, length, IfOk, All, AllPairs};
+ghost use Rattle.std.specs.Prelude.{◌≡◌, ◌+◌, ◌<◌, ◌^◌, ◌++◌, length, IfOk, OnOk, All};
 ghost use Rattle.bl_load.specs.KernelBlock.{span_of};
-ghost use Rattle.bl_load.specs.Loadable.{content_length, SegmentsAscend};
+ghost use Rattle.bl_load.specs.Loadable.{content_length};
 ghost use Rattle.bl_load.specs.PlanSteps.{one_step, segment_steps, block_steps, content_steps};
 ghost use Rattle.bl_load.specs.PlanSteps.{part_steps, own_of, AreStepsOf};
-ghost use Rattle.bl_load.specs.internal.Stepping.{HasSegmentsInOrder, CanBeTold, HoldsNoMore};
+ghost use Rattle.bl_load.specs.internal.Stepping.{HasSegmentsInOrder, AreInOrder};
+ghost use Rattle.bl_load.specs.internal.Stepping.{CanBeTold, HoldsNoMore};
 
 use crate::plan::{Content, Plan, PlannedPart};
 use crate::step::{Step, StepSource, Steps};
@@ -19,8 +20,7 @@ fn push_step<A: Allocator>(
     length: u64,
     source: StepSource,
 ) -> Result<(), AllocError>
-    ensures { IfOk result (λ _. steps.new.items
-        ≡ steps.old.items ++ one_step address length source) }
+    ensures { OnOk result (steps.new.items ≡ steps.old.items ++ one_step address length source) }
 {
     if length == 0 {
         return Ok(());
@@ -42,8 +42,7 @@ fn push_segment_steps<A: Allocator>(
 ) -> Result<(), AllocError>
     requires fits { HoldsNoMore segment.now }
     requires inside { at + segment.now.memsz < 2 ^ 64 }
-    ensures { IfOk result (λ _. steps.new.items
-        ≡ steps.old.items ++ segment_steps at file segment.now) }
+    ensures { OnOk result (steps.new.items ≡ steps.old.items ++ segment_steps at file segment.now) }
 {
     let offset = segment.offset;
     let filled = segment.filesz;
@@ -63,9 +62,7 @@ fn push_block_steps<A: Allocator>(
     file: usize,
     segments: &[Segment],
 ) -> Result<u64, AllocError>
-    requires some { 1 ≤ length segments.now }
-    requires fits { All HoldsNoMore segments.now }
-    requires ascending { AllPairs SegmentsAscend segments.now }
+    requires ordered { AreInOrder segments.now }
     requires inside { at + span_of segments.now < 2 ^ 64 }
     ensures count { IfOk result (λ count. count ≡ span_of segments.now) }
     ensures steps { IfOk result (λ _. steps.new.items
@@ -128,8 +125,7 @@ fn push_part_steps<A: Allocator, B: Allocator>(
     requires { CanBeTold part.now }
     ensures steps { IfOk result (λ _. steps.new.items
         ≡ steps.old.items ++ part_steps (length own.old.items) part.now) }
-    ensures own { IfOk result (λ _. own.new.items
-        ≡ own.old.items ++ own_of part.now.content) }
+    ensures own { OnOk result (own.new.items ≡ own.old.items ++ own_of part.now.content) }
 {
     let (address, length) = (part.place.address, part.place.length);
     let count = push_content_steps(steps, own, address, &part.content)?;

@@ -1,8 +1,11 @@
 -- What the code's own functions that write into memory ask for, and what they leave: files may lie
 -- in that memory.
-use Rattle.std.specs.Prelude.{◌≡◌, ℕ, ◌+◌, ◌<◌, ◌≤◌, List, length}
+use Rattle.std.specs.Prelude.{◌≡◌, ℕ, ◌+◌, ◌<◌, ◌≤◌, List, length, slice_range, All, AllPairs}
+use Rattle.bl_mem.specs.declared.segment.Segment.{Segment}
 use Rattle.bl_mem.specs.Files.{nth_file, AreAddressesBelow, IsApartFrom}
 use Rattle.bl_mem.specs.Memory.{overwrite, HasRoom, KeepsSizeAndRoom}
+use Rattle.bl_load.specs.Handover.{Part, overwrite_parts}
+use Rattle.bl_load.specs.Loadable.{IsCopyable, SegmentsAscend}
 
 -- the files lie in memory, and so do the addresses from `at` on, so many of them; each of these has
 -- room, and no file lies there
@@ -32,3 +35,28 @@ pub record IsPutBesideFiles {M F : Type 0} (lender_in : M → ℕ) (bytes_in : M
   pub after : bytes_in new ≡ overwrite (bytes_in old) at part
   pub texts : texts_in files (bytes_in new) ≡ texts_in files (bytes_in old)
   pub kept : KeepsSizeAndRoom lender_in bytes_in room_in old new
+
+-- memory has the parts, one after the other, and is else the same, and each file reads as before
+pub record ArePutBesideFiles {M F : Type 0} (lender_in : M → ℕ) (bytes_in : M → List ℕ)
+    (room_in : M → ℕ → Type 0) (texts_in : F → List ℕ → List (List ℕ)) (files : F) (old : M)
+    (new : M) (parts : List Part) : Type 0 where
+  pub after : bytes_in new ≡ overwrite_parts parts (bytes_in old)
+  pub texts : texts_in files (bytes_in new) ≡ texts_in files (bytes_in old)
+  pub kept : KeepsSizeAndRoom lender_in bytes_in room_in old new
+
+-- memory has so many bytes of a file, those from `offset` on, from `at` on, and is else the same, and
+-- each file reads as before
+abbrev pub IsCopiedBesideFiles : {M F : Type 0} → (lender_in : M → ℕ) → (bytes_in : M → List ℕ)
+    → (room_in : M → ℕ → Type 0) → (texts_in : F → List ℕ → List (List ℕ)) → (files : F)
+    → (old new : M) → (at number offset count : ℕ) → Type 0
+IsCopiedBesideFiles lender_in bytes_in room_in texts_in files old new at number offset count =
+    IsPutBesideFiles lender_in bytes_in room_in texts_in files old new at
+    (slice_range (nth_file (texts_in files (bytes_in old)) number) offset (offset + count))
+
+-- a file has the bytes of a block of these segments
+pub record IsBlockOfFile (texts : List (List ℕ)) (number : ℕ) (segments : List Segment)
+    : Type 0 where
+  pub file : number < length texts
+  pub some : 1 ≤ length segments
+  pub copied : All (IsCopyable (length (nth_file texts number))) segments
+  pub ascending : AllPairs SegmentsAscend segments

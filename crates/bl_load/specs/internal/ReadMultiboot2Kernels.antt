@@ -12,7 +12,7 @@ use Rattle.bl_load.specs.declared.refusal.PrepFault.{PrepFault}
 use Rattle.bl_load.specs.declared.refusal.PrepFault.TheVariants as prep_fault
 use Rattle.bl_load.specs.KernelBlock.{span_of}
 use Rattle.bl_load.specs.Multiboot2Kernel.{Multiboot2KernelFacts, HasElfRefusal, HasMultiboot2Fault}
-use Rattle.bl_load.specs.Multiboot2Kernel.{elf_refusal}
+use Rattle.bl_load.specs.Multiboot2Kernel.{elf_refusal, IsMultiboot2Kernel}
 
 -- what was read
 
@@ -58,3 +58,8 @@ pub record AreLoadable (file : List ℕ) (segments : List Segment) : Type 0 wher
   pub low : All (λ s. s.address < 2 ^ 32) segments
   pub apart : AllPairs AreApartSegments segments
   pub span : span_of segments < 2 ^ 64
+
+-- this is what was read of a kernel's file, which can be loaded
+pub record IsKernelOf (file : List ℕ) (kernel : Multiboot2KernelFacts) : Type 0 where
+  pub is : IsMultiboot2Kernel file kernel
+  pub loadable : AreLoadable file kernel.segments

@@ -1,5 +1,5 @@
 -- What the code keeps of parts that it tells as steps: no sum of theirs wraps.
-use Rattle.std.specs.Prelude.{◌+◌, ◌≤◌, ◌^◌, length, All, AllPairs}
+use Rattle.std.specs.Prelude.{◌+◌, ◌≤◌, ◌^◌, List, length, All, AllPairs}
 use Rattle.bl_mem.specs.declared.segment.Segment.{Segment}
 use Rattle.bl_load.specs.declared.plan.Content.{Content}
 use Rattle.bl_load.specs.declared.plan.Content.TheVariants.{Own, File, Block}
@@ -10,13 +10,17 @@ use Rattle.bl_load.specs.Loadable.{content_length, SegmentsAscend}
 abbrev pub HoldsNoMore : Segment → Type 0
 HoldsNoMore s = s.filesz ≤ s.memsz
 
--- the segments of a block ascend, and there are some
+-- segments as those of a block: there are some, and they ascend
+pub record AreInOrder (segments : List Segment) : Type 0 where
+  pub some : 1 ≤ length segments
+  pub fits : All HoldsNoMore segments
+  pub ascending : AllPairs SegmentsAscend segments
+
+-- the segments of a block are so
 abbrev pub HasSegmentsInOrder : {A : Type 0} → Content A → Type 0
 HasSegmentsInOrder (Own bytes) = Unit {0}
 HasSegmentsInOrder (File file offset count) = Unit {0}
-HasSegmentsInOrder (Block file segments) =
-    (1 ≤ length segments.items) × All HoldsNoMore segments.items
-    × AllPairs SegmentsAscend segments.items
+HasSegmentsInOrder (Block file segments) = AreInOrder segments.items
 
 -- a part can be told
 pub record CanBeTold {A : Type 0} (part : PlannedPart A) : Type 0 where

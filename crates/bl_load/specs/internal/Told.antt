@@ -1,24 +1,14 @@
 -- What the code tells a kernel, spelled from what its own functions are given.
-use Rattle.std.specs.Prelude.{ℕ, ◌+◌, List, Option}
-use Rattle.bl_map.specs.MachineFacts.{MachineFacts}
+use Rattle.std.specs.Prelude.{◌≡◌, ℕ, ◌+◌, List, Option, All, length}
 use Rattle.bl_map.specs.NormalMap.{low_kib, high_kib}
 use Rattle.bl_mem.specs.declared.byte_view.ByteView.{Ghosts}
 use Rattle.bl_mbi.specs.InfoToWriteFacts.{InfoToWriteFacts, ModuleInfo}
-use Rattle.bl_params.specs.ParamsToWriteFacts.{ParamsToWriteFacts}
 use Rattle.bl_plan.specs.declared.part.Place.{Place}
-use Rattle.bl_plan.specs.declared.part.Role.TheVariants.{CommandLine, Initrd, Kernel, Module}
+use Rattle.bl_plan.specs.declared.part.Role.TheVariants.{Module}
 use Rattle.bl_load.specs.declared.checked_entry.CheckedEntry.{CheckedEntry}
 use Rattle.bl_load.specs.Addresses.{address_of}
-
--- boot parameters, by how long the initrd is
-abbrev pub params_facts : MachineFacts → ℕ → List Place → ParamsToWriteFacts
-params_facts facts size places = record {
-  code32_start = address_of Kernel 0 places;
-  ramdisk_image = address_of Initrd 0 places;
-  ramdisk_size = size;
-  cmd_line_ptr = address_of CommandLine 0 places;
-  runs = facts.runs;
-}
+use Rattle.bl_load.specs.internal.CheckedEntries.{texts_in}
+use Rattle.bl_load.specs.internal.Placing.{EndsLow, ModulesEndLow}
 
 -- a module, by its line and by how long its file is
 abbrev pub module_info : ℕ → List ℕ → ℕ → List Place → ModuleInfo
@@ -41,3 +31,11 @@ info_with entry modules load_base = record {
   rsdp_new = entry.rsdp_new.now;
   load_base = load_base;
 }
+
+-- an entry has a file for each of its modules, and none of them ends too high, where the parts have
+-- these places
+pub record HasModulesAt {A V : Type 0} {view : Ghosts V} (entry : CheckedEntry A V view)
+    (places : List Place) : Type 0 where
+  pub files : length entry.files.now ≡ 1 + length entry.modules.now
+  pub low : All EndsLow places
+  pub ends : ModulesEndLow (texts_in entry) places (length entry.modules.now)

@@ -8,13 +8,8 @@ ghost use Rattle.bl_load.specs.Addresses as addresses;
 ghost use Rattle.bl_load.specs.LinuxRows as table;
 ghost use Rattle.bl_load.specs.Protocols as protocols;
 ghost use Rattle.bl_load.specs.KernelReading.{linux};
-ghost use Rattle.bl_load.specs.Parts.{content_of, payload_of};
-ghost use Rattle.bl_bzimage.specs.Setup.{IsSetup};
-ghost use Rattle.bl_mem.specs.Files.{nth_file};
-ghost use Rattle.bl_load.specs.Origins.{file_range, origin_from};
-ghost use Rattle.bl_load.specs.internal.Contents.{IsPlacedAmong, IsContentOf};
+ghost use Rattle.bl_load.specs.internal.Contents.{IsPlacedAmong, IsContentAt};
 ghost use Rattle.bl_load.specs.internal.Placing.{EndsLow};
-ghost use Rattle.bl_load.specs.internal.Told.{params_facts};
 ghost use Rattle.bl_load.specs.internal.ReadKernels.{TablesFit};
 ghost use Rattle.bl_load.specs.internal.CheckedEntries.{texts_in, value_of_files};
 ghost use Rattle.bl_params.specs.ParamsToWriteFacts.{max_e820_entries};
@@ -25,31 +20,11 @@ use crate::linux::rows::initrd_size;
 use crate::plan::Content;
 use crate::segment_descriptors::descriptors_of;
 use bl_bzimage::Setup;
-use bl_map::{FRAME_SIZE, Machine};
+use bl_map::FRAME_SIZE;
 use bl_mem::{ByteView, Bytes};
 use bl_params::{ParamsToWrite, page_tables, write_params};
 use bl_plan::{Place, Protocol, Role};
 use std::alloc::{AllocError, Allocator};
-
-/// What a kernel is told of an entry's parts, where they have these places.
-fn boot_params_facts<'a, A: Allocator>(
-    machine: &'a Machine<A>,
-    ramdisk_size: u64,
-    places: &[Place],
-) -> ParamsToWrite<'a>
-    requires few { length machine.now.runs ≤ max_e820_entries }
-    requires size { ramdisk_size < 2 ^ 32 }
-    requires low { All EndsLow places.now }
-    ensures { result ≡ params_facts machine.now ramdisk_size places.now }
-{
-    ParamsToWrite {
-        code32_start: address_of(Role::Kernel, 0, places),
-        ramdisk_image: address_of(Role::Initrd, 0, places),
-        ramdisk_size: ramdisk_size as u32,
-        cmd_line_ptr: address_of(Role::CommandLine, 0, places),
-        runs: machine.normal(),
-    }
-}
 
 /// The boot parameters, where the parts have these places. Never inlined, as `page_tables_at`: each
 /// has 4096 bytes on the stack.
@@ -66,7 +41,13 @@ fn boot_params<A: Allocator, V: ByteView>(
     ensures { IfOk result (λ bytes. bytes ≡ params.boot_params setup.now.header
         (table.boot_params_facts entry.now.machine.now (value_of_files entry.now) places.now)) }
 {
-    let facts = boot_params_facts(entry.machine, initrd_size(entry.files), places);
+    let facts = ParamsToWrite {
+        code32_start: address_of(Role::Kernel, 0, places),
+        ramdisk_image: address_of(Role::Initrd, 0, places),
+        ramdisk_size: initrd_size(entry.files) as u32,
+        cmd_line_ptr: address_of(Role::CommandLine, 0, places),
+        runs: entry.machine.normal(),
+    };
     let mut bytes = [0u8; 4096];
     write_params(setup, &facts, &mut bytes);
     Bytes::copy(alloc, &bytes)
@@ -100,36 +81,6 @@ fn page_tables_at<A: Allocator>(alloc: A, places: &[Place]) -> Result<Bytes<A>, 
     Ok(Bytes::from(bytes))
 }
 
-/// The content of the initrd's part: its whole file.
-fn initrd_content<A: Allocator, V: ByteView>(files: &[V]) -> Content<A>
-    requires some { 1 ≤ length (initrd_file (map V.bytes files.now)) }
-    ensures { IsContentOf (map V.bytes files.now) role.Initrd (initrd_file (map V.bytes files.now))
-        (file_range 1 0 (length (initrd_file (map V.bytes files.now))))
-        (length (initrd_file (map V.bytes files.now))) result }
-{
-    Content::File {
-        file: 1,
-        offset: 0,
-        count: initrd_size(files),
-    }
-}
-
-/// The content of the kernel's part: its payload.
-fn payload_content<A: Allocator, V: ByteView>(files: &[V], setup: &Setup) -> Content<A>
-    requires some { 1 ≤ length files.now }
-    requires setup { IsSetup (nth_file (map V.bytes files.now) 0) setup.now }
-    ensures { IsContentOf (map V.bytes files.now) role.Kernel
-        (payload_of (nth_file (map V.bytes files.now) 0) setup.now)
-        (file_range 0 setup.now.payload_offset setup.now.payload_size)
-        setup.now.payload_size result }
-{
-    Content::File {
-        file: 0,
-        offset: setup.payload_offset,
-        count: setup.payload_size,
-    }
-}
-
 /// The content of the part at a place, where the parts have these places.
 pub fn linux_content<A: Allocator + Copy, V: ByteView>(
     alloc: A,
@@ -139,18 +90,24 @@ pub fn linux_content<A: Allocator + Copy, V: ByteView>(
     place: &Place,
 ) -> Result<Content<A>, AllocError>
     requires { IsPlacedAmong entry.now (linux setup.now) places.now place.now }
-    ensures { IfOk result (IsContentOf (texts_in entry.now) place.now.role
-        (content_of entry.now.machine.now (value_of_files entry.now) (linux setup.now) places.now
-        place.now.role place.now.index)
-        (origin_from entry.now.machine.now (value_of_files entry.now) (linux setup.now) places.now
-        place.now.role place.now.index) place.now.length) }
+    ensures { IfOk result (IsContentAt entry.now (linux setup.now) places.now place.now) }
 {
     match place.role {
-        Role::Kernel => Ok(payload_content(entry.files, setup)),
+        // Its payload.
+        Role::Kernel => Ok(Content::File {
+            file: 0,
+            offset: setup.payload_offset,
+            count: setup.payload_size,
+        }),
         Role::BootParams => Ok(Content::Own(boot_params(alloc, entry, setup, places)?)),
         Role::CommandLine => Ok(Content::Own(Bytes::copy(alloc, entry.line)?)),
         Role::Gdt => Ok(Content::Own(descriptors(alloc, entry.protocol)?)),
-        Role::Initrd => Ok(initrd_content(entry.files)),
+        // Its whole file.
+        Role::Initrd => Ok(Content::File {
+            file: 1,
+            offset: 0,
+            count: initrd_size(entry.files),
+        }),
         Role::PageTables => Ok(Content::Own(page_tables_at(alloc, places)?)),
         // A Linux entry has no such part, and this is no byte of it.
         Role::Module | Role::Information => Ok(Content::File {

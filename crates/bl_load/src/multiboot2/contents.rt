@@ -1,17 +1,12 @@
 //! The contents of a Multiboot2 entry's parts, at their places.
-ghost use Rattle.std.specs.Prelude.{◌≡◌, ◌≤◌, ◌<◌, ◌^◌, ◌+◌, IfOk, length, map};
+ghost use Rattle.std.specs.Prelude.{◌≡◌, ◌<◌, ◌+◌, IfOk, length, map};
 ghost use Rattle.bl_load.specs.EntryValue.{module_file};
-ghost use Rattle.bl_load.specs.KernelReading.{multiboot2};
-ghost use Rattle.bl_load.specs.internal.ReadMultiboot2Kernels.{AreLoadable, kernel_by};
-ghost use Rattle.bl_plan.specs.declared.part.Role.TheVariants as role;
 ghost use Rattle.bl_load.specs.Rows.{module_length};
-ghost use Rattle.bl_load.specs.Parts as parts;
-ghost use Rattle.bl_load.specs.Parts.{content_of};
-ghost use Rattle.bl_mem.specs.Files.{nth_file};
-ghost use Rattle.bl_load.specs.internal.CheckedEntries.{texts_in, value_of_files};
-ghost use Rattle.bl_load.specs.Origins.{file_range, kernel_origin, origin_from};
-ghost use Rattle.bl_load.specs.internal.Contents.{IsPlacedAmong, IsContentOf};
-ghost use Rattle.bl_load.specs.internal.Placing.{HasKernelLength};
+ghost use Rattle.bl_load.specs.KernelReading.{multiboot2};
+ghost use Rattle.bl_load.specs.internal.ReadMultiboot2Kernels.{kernel_by};
+ghost use Rattle.bl_load.specs.internal.Contents.{IsPlacedAmong, IsContentAt};
+ghost use Rattle.bl_load.specs.internal.Contents.{IsPlaceOfKernel, IsKernelContent};
+ghost use Rattle.bl_load.specs.internal.Contents.{IsModuleContent};
 
 use crate::checked_entry::CheckedEntry;
 use crate::multiboot2::information::information;
@@ -28,17 +23,9 @@ fn kernel_content<A: Allocator + Copy, B: Allocator, V: ByteView>(
     files: &[V],
     place: &Place,
 ) -> Result<Content<A>, AllocError>
-    requires file { 1 ≤ length files.now }
-    requires loadable { AreLoadable (nth_file (map V.bytes files.now) 0)
-        (kernel_by kernel.now).segments }
-    requires length { HasKernelLength (kernel_by kernel.now).segments kernel.now.relocation
-        place.now.index place.now.length }
-    requires small { place.now.length ≤ 2 ^ 32 }
-    ensures { IfOk result (IsContentOf (map V.bytes files.now) role.Kernel
-        (parts.kernel_content (nth_file (map V.bytes files.now) 0) (kernel_by kernel.now).segments
-        kernel.now.relocation place.now.index)
-        (kernel_origin (kernel_by kernel.now).segments kernel.now.relocation place.now.index)
-        place.now.length) }
+    requires { IsPlaceOfKernel (map V.bytes files.now) (kernel_by kernel.now) place.now }
+    ensures { IfOk result
+        (IsKernelContent (map V.bytes files.now) (kernel_by kernel.now) place.now) }
 {
     let segments = kernel.executable.segments();
     match kernel.relocation {
@@ -62,11 +49,7 @@ fn module_content<A: Allocator, V: ByteView>(files: &[V], place: &Place) -> Cont
     requires within { place.now.index + 1 < length files.now }
     requires length { place.now.length
         ≡ module_length (module_file (map V.bytes files.now) place.now.index) }
-    ensures { IsContentOf (map V.bytes files.now) role.Module
-        (module_file (map V.bytes files.now) place.now.index)
-        (file_range (place.now.index + 1) 0
-        (length (module_file (map V.bytes files.now) place.now.index)))
-        place.now.length result }
+    ensures { IsModuleContent (map V.bytes files.now) place.now result }
 {
     let file = place.index as usize + 1;
     Content::File {
@@ -85,12 +68,8 @@ pub fn multiboot2_content<A: Allocator + Copy, B: Allocator, V: ByteView>(
     place: &Place,
 ) -> Result<Content<A>, AllocError>
     requires { IsPlacedAmong entry.now (multiboot2 (kernel_by kernel.now)) places.now place.now }
-    ensures { IfOk result (IsContentOf (texts_in entry.now) place.now.role
-        (content_of entry.now.machine.now (value_of_files entry.now)
-        (multiboot2 (kernel_by kernel.now)) places.now place.now.role place.now.index)
-        (origin_from entry.now.machine.now (value_of_files entry.now)
-        (multiboot2 (kernel_by kernel.now)) places.now place.now.role place.now.index)
-        place.now.length) }
+    ensures { IfOk result
+        (IsContentAt entry.now (multiboot2 (kernel_by kernel.now)) places.now place.now) }
 {
     match place.role {
         Role::Kernel => kernel_content(alloc, kernel, entry.files, place),

@@ -9,15 +9,13 @@ ghost use Rattle.bl_load.specs.Addresses.{address_of};
 ghost use Rattle.bl_load.specs.EntryValue.{line_fault};
 ghost use Rattle.bl_load.specs.Rows.{told_modules, information_of};
 ghost use Rattle.bl_load.specs.internal.Loading.{lines_by};
-ghost use Rattle.bl_load.specs.internal.Placing.{EndsLow, ModulesEndLow};
-ghost use Rattle.bl_load.specs.internal.Told.{info_with, module_info};
+ghost use Rattle.bl_load.specs.internal.Placing.{EndsLow};
+ghost use Rattle.bl_load.specs.internal.Told.{info_with, module_info, HasModulesAt};
 ghost use Rattle.bl_load.specs.internal.CheckedEntries.{texts_in, value_of_files};
-ghost use Rattle.bl_plan.specs.MenuLimits.{max_modules};
 ghost use Rattle.bl_map.specs.Limits.{usable_limit};
 
 use crate::addresses;
 use crate::checked_entry::CheckedEntry;
-use crate::entry::Module;
 use bl_mb2head::Relocation;
 use bl_mbi::{InfoToWrite, ModuleToWrite, write_info};
 use bl_mem::{ByteView, Bytes};
@@ -53,23 +51,18 @@ fn module_at<'a>(index: u32, line: &'a [u8], size: u64, places: &[Place]) -> Mod
 /// What the information tells of the modules, where the parts have these places.
 fn modules_at<'a, A: Allocator, V: ByteView>(
     alloc: A,
-    modules: &'a [Module<A>],
-    files: &[V],
+    entry: &'a CheckedEntry<'_, A, V>,
     places: &[Place],
 ) -> Result<Vec<ModuleToWrite<'a>, A>, AllocError>
-    requires sound { All (λ m. line_fault m.line ≡ None) modules.now }
-    requires few { length modules.now ≤ max_modules }
-    requires files { length files.now ≡ 1 + length modules.now }
-    requires low { All EndsLow places.now }
-    requires ends { ModulesEndLow (map V.bytes files.now) places.now (length modules.now) }
+    requires { HasModulesAt entry.now places.now }
     ensures told { IfOk result (λ told. told.items
-        ≡ told_modules (map V.bytes files.now) places.now 0 (lines_by modules.now)) }
+        ≡ told_modules (texts_in entry.now) places.now 0 (lines_by entry.now.modules.now)) }
     ensures fits { IfOk result (λ told. All IsModule told.items) }
 {
-    let mut told = Vec::with_capacity(alloc, modules.len())?;
-    for (index, module) in modules.iter().enumerate() {
+    let mut told = Vec::with_capacity(alloc, entry.modules.len())?;
+    for (index, module) in entry.modules.iter().enumerate() {
         let line = module.line.as_slice();
-        let size = files[index + 1].len();
+        let size = entry.files[index + 1].len();
         told.push(module_at(index as u32, line, size, places))?;
     }
     Ok(told)
@@ -132,17 +125,14 @@ pub fn information<A: Allocator + Copy, V: ByteView>(
     relocation: &Option<Relocation>,
     places: &[Place],
 ) -> Result<Bytes<A>, AllocError>
-    requires files { length entry.now.files.now ≡ 1 + length entry.now.modules.now }
-    requires low { All EndsLow places.now }
-    requires ends { ModulesEndLow (texts_in entry.now) places.now
-        (length entry.now.modules.now) }
+    requires { HasModulesAt entry.now places.now }
     ensures { IfOk result (λ bytes. bytes
         ≡ info_spelling (codes "bootcore") (information_of entry.now.machine.now
         (value_of_files entry.now) relocation.now places.now)) }
 {
     let base = addresses::address_of(Role::Kernel, 0, places);
     let load_base = load_base_of(relocation, base);
-    let told = modules_at(alloc, entry.modules, entry.files, places)?;
+    let told = modules_at(alloc, entry, places)?;
     let facts = facts_of(entry, told.as_slice(), load_base);
     let mut out = Vec::new(alloc);
     write_info(&facts, &mut out)?;

@@ -4,10 +4,9 @@ ghost use Rattle.std.specs.Prelude.{IfErr, MatchResult};
 ghost use Rattle.std.specs.List.{list_any};
 ghost use Rattle.bl_load.specs.Multiboot2Kernel as kernel;
 ghost use Rattle.bl_mem.specs.SegmentContents.{is_in_segment};
-ghost use Rattle.bl_load.specs.Multiboot2Kernel.{IsMultiboot2Kernel, IsLoadedBy, entry_point_fault};
+ghost use Rattle.bl_load.specs.Multiboot2Kernel.{IsLoadedBy, entry_point_fault};
 ghost use Rattle.bl_load.specs.internal.ReadMultiboot2Kernels.{IsElfFault, IsElfRefusal};
-ghost use Rattle.bl_load.specs.internal.ReadMultiboot2Kernels.{IsMultiboot2Fault};
-ghost use Rattle.bl_load.specs.internal.ReadMultiboot2Kernels.{AreLoadable};
+ghost use Rattle.bl_load.specs.internal.ReadMultiboot2Kernels.{IsMultiboot2Fault, IsKernelOf};
 ghost use Rattle.bl_load.specs.internal.ReadMultiboot2Kernels.{executable_facts, kernel_by};
 ghost use Rattle.bl_load.specs.declared.refusal.PrepFault.TheVariants.{Refused};
 
@@ -140,11 +139,8 @@ pub fn read_kernel<A: Allocator + Copy, V: ByteView>(
     alloc: A,
     file: &V,
 ) -> Result<Kernel<A>, PrepFault>
-    ensures kernel { IfOk result (λ kernel. IsMultiboot2Kernel (V.bytes file.now)
-        (kernel_by kernel)) }
-    ensures loadable { IfOk result (λ kernel. AreLoadable (V.bytes file.now)
-        (kernel_by kernel).segments) }
-    ensures fault { IfErr result (λ fault. IsMultiboot2Fault (V.bytes file.now) fault) }
+    ensures ok { IfOk result (λ kernel. IsKernelOf (V.bytes file.now) (kernel_by kernel)) }
+    ensures fault { IfErr result (IsMultiboot2Fault (V.bytes file.now)) }
 {
     // For the proof: the file's length, and so that of the tag's segment, is below 2^64.
     let _len = file.len();

@@ -16,13 +16,13 @@ loop-segment-init g c =
     let first =
     block_from_first
     (nth_file (g.F.FileSet.texts c.args.files.now (g.M.PhysMem.bytes c.args.memory.now))
-    c.args.file) segments no_segment c.requires.some c.requires.copied
-    c.requires.ascending in
+    c.args.file) segments no_segment c.requires.block.some c.requires.block.copied
+    c.requires.block.ascending in
     record {
       same = refl;
       above =
           λ k d from within. let low =
-          first_below segments no_segment c.requires.ascending k d within in omega arith;
+          first_below segments no_segment c.requires.block.ascending k d within in omega arith;
       count = simp (add-zero, zero-add) (sym first.0);
       rest = simp (add-zero, first.1);
       kept = keeps_all;
@@ -44,7 +44,7 @@ files_kept g c =
     c.args.file in
     let here = c.loop-segment-test.true in
     let rest = drop (i + 1) segments in
-    let copied = c.requires.copied i no_segment here in
+    let copied = c.requires.block.copied i no_segment here in
     let up = c.loop-segment.invariant.above i no_segment (omega arith) here in
     let left = rw (drop_more segments i no_segment here) at c.loop-segment.invariant.count in
     let inside : c.args.at + (done + length (block_from text (low + done) (s ∷ rest)))
@@ -57,12 +57,12 @@ files_kept g c =
     rw c.zero.ensures.after same
 
 pub load_segment-requires-clause-file : goal.load_segment-requires-clause-file
-load_segment-requires-clause-file g c = rw (files_kept g c) c.requires.file
+load_segment-requires-clause-file g c = rw (files_kept g c) c.requires.block.file
 
 pub load_segment-requires-clause-copied : goal.load_segment-requires-clause-copied
 load_segment-requires-clause-copied g c =
     rw (files_kept g c)
-    (c.requires.copied c.loop-segment.segment-index no_segment c.loop-segment-test.true)
+    (c.requires.block.copied c.loop-segment.segment-index no_segment c.loop-segment-test.true)
 
 pub load_segment-requires-clause-free : goal.load_segment-requires-clause-free
 load_segment-requires-clause-free g c =
@@ -77,7 +77,7 @@ load_segment-requires-clause-free g c =
     c.args.file in
     let here = c.loop-segment-test.true in
     let rest = drop (i + 1) segments in
-    let copied = c.requires.copied i no_segment here in
+    let copied = c.requires.block.copied i no_segment here in
     let up = c.loop-segment.invariant.above i no_segment (omega arith) here in
     let left = rw (drop_more segments i no_segment here) at c.loop-segment.invariant.count in
     let inside : c.args.at + (done + length (block_from text (low + done) (s ∷ rest)))
@@ -110,7 +110,7 @@ loop-segment-preserved g c =
     c.args.file in
     let here = c.loop-segment-test.true in
     let rest = drop (i + 1) segments in
-    let copied = c.requires.copied i no_segment here in
+    let copied = c.requires.block.copied i no_segment here in
     let up = c.loop-segment.invariant.above i no_segment (omega arith) here in
     let left = rw (drop_more segments i no_segment here) at c.loop-segment.invariant.count in
     let inside : c.args.at + (done + length (block_from text (low + done) (s ∷ rest)))
@@ -129,7 +129,7 @@ loop-segment-preserved g c =
       above =
           λ k d next within. let ahead =
           rw (get_or_default segments i d no_segment here) at
-          (c.requires.ascending i k d (omega arith) within) in omega arith;
+          (c.requires.block.ascending i k d (omega arith) within) in omega arith;
       count = left_behind text old c.args.at low done s rest copied up inside ∙ left;
       rest =
           rw (c.load_segment.ensures.after, kept, c.zero.ensures.after)

@@ -38,8 +38,8 @@ plan_parts-requires g c =
       files = omega (arith, c.requires.files, length-map c.args.files.now g.V.ByteView.bytes);
     }
 
-pub returns-clause-handover : goal.returns-clause-handover
-returns-clause-handover g c =
+pub returns-clause-ok : goal.returns-clause-ok
+returns-clause-ok g c =
     let facts = c.args.machine.now in
     let protocol = c.args.protocol in
     let texts = map g.V.ByteView.bytes c.args.files.now in
@@ -55,8 +55,15 @@ returns-clause-handover g c =
     runs c.in_ok-setup.ensures.kernel) in
     IfOk-weaker c.plan_parts.result
     _ _ (λ plan h.
-    prepared facts (linux_value protocol texts line) (one_sound line c.in_ok-check_line.ensures)
-    (linux setup) (handover_by texts plan) (c.requires.params, is) h) c.plan_parts.ensures.handover
+    record {
+      handover =
+          prepared facts (linux_value protocol texts line)
+          (one_sound line c.in_ok-check_line.ensures) (linux setup) (handover_by texts plan)
+          (c.requires.params, is) h.handover;
+      loadable = h.loadable;
+      lean = h.lean;
+      origins = h.origins;
+    }) c.plan_parts.ensures.ok
 
 pub returns-clause-fault : goal.returns-clause-fault
 returns-clause-fault g c =
@@ -79,23 +86,8 @@ returns-clause-fault g c =
     (one_sound line c.in_ok-check_line.ensures) (linux setup) fault (c.requires.params, is) h)
     c.plan_parts.ensures.fault
 
-pub returns-in_err-check_line-clause-handover : goal.returns-in_err-check_line-clause-handover
-returns-in_err-check_line-clause-handover g c =
-    let p = err_from_is_err_and c.from_residual.result c.from_residual.ensures.1 in
-    rw p.1 tt
-
-pub returns-in_err-check_line-clause-loadable : goal.returns-in_err-check_line-clause-loadable
-returns-in_err-check_line-clause-loadable g c =
-    let p = err_from_is_err_and c.from_residual.result c.from_residual.ensures.1 in
-    rw p.1 tt
-
-pub returns-in_err-check_line-clause-lean : goal.returns-in_err-check_line-clause-lean
-returns-in_err-check_line-clause-lean g c =
-    let p = err_from_is_err_and c.from_residual.result c.from_residual.ensures.1 in
-    rw p.1 tt
-
-pub returns-in_err-check_line-clause-origins : goal.returns-in_err-check_line-clause-origins
-returns-in_err-check_line-clause-origins g c =
+pub returns-in_err-check_line-clause-ok : goal.returns-in_err-check_line-clause-ok
+returns-in_err-check_line-clause-ok g c =
     let p = err_from_is_err_and c.from_residual.result c.from_residual.ensures.1 in
     rw p.1 tt
 
@@ -104,29 +96,8 @@ returns-in_err-check_line-clause-fault g c =
     let p = err_from_is_err_and c.from_residual.result c.from_residual.ensures.1 in
     rw (p.1, p.2) (inl (rw c.in_err-check_line.ensures refl))
 
-pub returns-in_err-setup-clause-handover : goal.returns-in_err-setup-clause-handover
-returns-in_err-setup-clause-handover g c =
-    let p =
-    err_from_is_err_and c.from_residual-in_err-setup.result
-    c.from_residual-in_err-setup.ensures.1 in
-    rw p.1 tt
-
-pub returns-in_err-setup-clause-loadable : goal.returns-in_err-setup-clause-loadable
-returns-in_err-setup-clause-loadable g c =
-    let p =
-    err_from_is_err_and c.from_residual-in_err-setup.result
-    c.from_residual-in_err-setup.ensures.1 in
-    rw p.1 tt
-
-pub returns-in_err-setup-clause-lean : goal.returns-in_err-setup-clause-lean
-returns-in_err-setup-clause-lean g c =
-    let p =
-    err_from_is_err_and c.from_residual-in_err-setup.result
-    c.from_residual-in_err-setup.ensures.1 in
-    rw p.1 tt
-
-pub returns-in_err-setup-clause-origins : goal.returns-in_err-setup-clause-origins
-returns-in_err-setup-clause-origins g c =
+pub returns-in_err-setup-clause-ok : goal.returns-in_err-setup-clause-ok
+returns-in_err-setup-clause-ok g c =
     let p =
     err_from_is_err_and c.from_residual-in_err-setup.result
     c.from_residual-in_err-setup.ensures.1 in

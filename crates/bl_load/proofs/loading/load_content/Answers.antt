@@ -19,19 +19,8 @@ copy-requires-clause-piece g c =
       source = λ some. let inside = there.1 some in omega (arith, inside, size);
     }
 
-pub load_block-requires-clause-file : goal.load_block-requires-clause-file
-load_block-requires-clause-file g c =
-    let texts = g.F.FileSet.texts c.args.files.now (g.M.PhysMem.bytes c.args.memory.now) in
-    let file = c.in-Block.file in
-    let segments = c.in-Block.segments.items in
-    let lengths = lengths_of texts in
-    let there : (file < length lengths) × (1 ≤ length segments)
-    × All (IsCopyable (slice_index lengths file)) segments × AllPairs SegmentsAscend segments =
-    rw c.in-Block.is at c.requires.there in
-    within_texts texts file there.0
-
-pub load_block-requires-clause-copied : goal.load_block-requires-clause-copied
-load_block-requires-clause-copied g c =
+pub load_block-requires-clause-block : goal.load_block-requires-clause-block
+load_block-requires-clause-block g c =
     let texts = g.F.FileSet.texts c.args.files.now (g.M.PhysMem.bytes c.args.memory.now) in
     let file = c.in-Block.file in
     let segments = c.in-Block.segments.items in
@@ -40,7 +29,12 @@ load_block-requires-clause-copied g c =
     × All (IsCopyable (slice_index lengths file)) segments × AllPairs SegmentsAscend segments =
     rw c.in-Block.is at c.requires.there in
     rw c.as_slice-in-Block.ensures.value
-    (subst (λ (n : ℕ). All (IsCopyable n) segments) (length_at texts file) there.2)
+    (record {
+      file = within_texts texts file there.0;
+      some = there.1;
+      copied = subst (λ (n : ℕ). All (IsCopyable n) segments) (length_at texts file) there.2;
+      ascending = there.3;
+    })
 
 -- the block is as long as the content
 block_length : (g : _) (c : goal.After-as_slice-in-Block g)

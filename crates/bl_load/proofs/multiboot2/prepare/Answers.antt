@@ -34,11 +34,11 @@ plan_parts-requires g c =
     let kernel = kernel_by c.in_ok-kernel.kernel in
     record {
       read =
-          (refl, subst (λ (f : List ℕ). IsMultiboot2Kernel f kernel) file c.in_ok-kernel.ensures.kernel);
+          (refl, subst (λ (f : List ℕ). IsMultiboot2Kernel f kernel) file c.in_ok-kernel.ensures.ok.is);
       files = (
         omega (arith, c.requires.files, length-map c.args.files.now g.V.ByteView.bytes),
         subst (λ (f : List ℕ). AreLoadable f kernel.segments)
-            file c.in_ok-kernel.ensures.loadable,
+            file c.in_ok-kernel.ensures.ok.loadable,
       );
     }
 
@@ -58,8 +58,8 @@ returns-in_err-kernel-clause-fault g c =
     c.args.rsdps.now.old.now c.args.rsdps.now.new.now c.in_ok-check_lines.ensures fault
     (subst (λ (f : List ℕ). IsMultiboot2Fault f fault) file c.in_err-kernel.ensures.fault))
 
-pub returns-clause-handover : goal.returns-clause-handover
-returns-clause-handover g c =
+pub returns-clause-ok : goal.returns-clause-ok
+returns-clause-ok g c =
     let facts = c.args.machine.now in
     let texts = map g.V.ByteView.bytes c.args.files.now in
     let value = multiboot2_value texts c.args.line.now (lines_by c.args.modules.now)
@@ -69,11 +69,17 @@ returns-clause-handover g c =
     let file =
     first_text g.V.ByteView.bytes c.args.files.now c.index-files-0.result some
     c.index-files-0.is in
-    let is = subst (λ (f : List ℕ). IsMultiboot2Kernel f kernel) file c.in_ok-kernel.ensures.kernel in
+    let is = subst (λ (f : List ℕ). IsMultiboot2Kernel f kernel) file c.in_ok-kernel.ensures.ok.is in
     IfOk-weaker c.plan_parts.result
     _ _ (λ plan h.
-    prepared facts value c.in_ok-check_lines.ensures (multiboot2 kernel)
-    (handover_by texts plan) (refl, is) h) c.plan_parts.ensures.handover
+    record {
+      handover =
+          prepared facts value c.in_ok-check_lines.ensures (multiboot2 kernel)
+          (handover_by texts plan) (refl, is) h.handover;
+      loadable = h.loadable;
+      lean = h.lean;
+      origins = h.origins;
+    }) c.plan_parts.ensures.ok
 
 pub returns-clause-fault : goal.returns-clause-fault
 returns-clause-fault g c =
@@ -86,29 +92,14 @@ returns-clause-fault g c =
     let file =
     first_text g.V.ByteView.bytes c.args.files.now c.index-files-0.result some
     c.index-files-0.is in
-    let is = subst (λ (f : List ℕ). IsMultiboot2Kernel f kernel) file c.in_ok-kernel.ensures.kernel in
+    let is = subst (λ (f : List ℕ). IsMultiboot2Kernel f kernel) file c.in_ok-kernel.ensures.ok.is in
     IfErr-weaker c.plan_parts.result
     _ _ (λ fault h.
     refused_places facts value c.in_ok-check_lines.ensures (multiboot2 kernel) fault
     (refl, is) h) c.plan_parts.ensures.fault
 
-pub returns-in_err-check_lines-clause-handover : goal.returns-in_err-check_lines-clause-handover
-returns-in_err-check_lines-clause-handover g c =
-    let p = err_from_is_err_and c.from_residual.result c.from_residual.ensures.1 in
-    rw p.1 tt
-
-pub returns-in_err-check_lines-clause-loadable : goal.returns-in_err-check_lines-clause-loadable
-returns-in_err-check_lines-clause-loadable g c =
-    let p = err_from_is_err_and c.from_residual.result c.from_residual.ensures.1 in
-    rw p.1 tt
-
-pub returns-in_err-check_lines-clause-lean : goal.returns-in_err-check_lines-clause-lean
-returns-in_err-check_lines-clause-lean g c =
-    let p = err_from_is_err_and c.from_residual.result c.from_residual.ensures.1 in
-    rw p.1 tt
-
-pub returns-in_err-check_lines-clause-origins : goal.returns-in_err-check_lines-clause-origins
-returns-in_err-check_lines-clause-origins g c =
+pub returns-in_err-check_lines-clause-ok : goal.returns-in_err-check_lines-clause-ok
+returns-in_err-check_lines-clause-ok g c =
     let p = err_from_is_err_and c.from_residual.result c.from_residual.ensures.1 in
     rw p.1 tt
 
@@ -117,29 +108,8 @@ returns-in_err-check_lines-clause-fault g c =
     let p = err_from_is_err_and c.from_residual.result c.from_residual.ensures.1 in
     rw (p.1, p.2) (inl c.in_err-check_lines.ensures)
 
-pub returns-in_err-kernel-clause-handover : goal.returns-in_err-kernel-clause-handover
-returns-in_err-kernel-clause-handover g c =
-    let p =
-    err_from_is_err_and c.from_residual-in_err-kernel.result
-    c.from_residual-in_err-kernel.ensures.1 in
-    rw p.1 tt
-
-pub returns-in_err-kernel-clause-loadable : goal.returns-in_err-kernel-clause-loadable
-returns-in_err-kernel-clause-loadable g c =
-    let p =
-    err_from_is_err_and c.from_residual-in_err-kernel.result
-    c.from_residual-in_err-kernel.ensures.1 in
-    rw p.1 tt
-
-pub returns-in_err-kernel-clause-lean : goal.returns-in_err-kernel-clause-lean
-returns-in_err-kernel-clause-lean g c =
-    let p =
-    err_from_is_err_and c.from_residual-in_err-kernel.result
-    c.from_residual-in_err-kernel.ensures.1 in
-    rw p.1 tt
-
-pub returns-in_err-kernel-clause-origins : goal.returns-in_err-kernel-clause-origins
-returns-in_err-kernel-clause-origins g c =
+pub returns-in_err-kernel-clause-ok : goal.returns-in_err-kernel-clause-ok
+returns-in_err-kernel-clause-ok g c =
     let p =
     err_from_is_err_and c.from_residual-in_err-kernel.result
     c.from_residual-in_err-kernel.ensures.1 in

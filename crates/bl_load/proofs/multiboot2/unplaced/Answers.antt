@@ -34,11 +34,11 @@ unplaced_part-requires g c =
     let kernel = kernel_by c.in_ok-kernel.kernel in
     record {
       read =
-          (refl, subst (λ (f : List ℕ). IsMultiboot2Kernel f kernel) file c.in_ok-kernel.ensures.kernel);
+          (refl, subst (λ (f : List ℕ). IsMultiboot2Kernel f kernel) file c.in_ok-kernel.ensures.ok.is);
       files = (
         omega (arith, c.requires.files, length-map c.args.files.now g.V.ByteView.bytes),
         subst (λ (f : List ℕ). AreLoadable f kernel.segments)
-            file c.in_ok-kernel.ensures.loadable,
+            file c.in_ok-kernel.ensures.ok.loadable,
       );
     }
 
@@ -69,7 +69,7 @@ returns-clause-which g c =
     let file =
     first_text g.V.ByteView.bytes c.args.files.now c.index-files-0.result some
     c.index-files-0.is in
-    let is = subst (λ (f : List ℕ). IsMultiboot2Kernel f kernel) file c.in_ok-kernel.ensures.kernel in
+    let is = subst (λ (f : List ℕ). IsMultiboot2Kernel f kernel) file c.in_ok-kernel.ensures.ok.is in
     IfOk-weaker c.unplaced_part.result
     _ _ (λ which h.
     unplaced_read facts value c.in_ok-check_lines.ensures (multiboot2 kernel) which (refl, is) h)

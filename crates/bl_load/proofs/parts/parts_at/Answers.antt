@@ -15,13 +15,7 @@ use Rattle.bl_load.specs.internal.CheckedEntries.{texts_in, value_of_files}
 use Rattle.bl_load.proofs.parts.parts_at.Goals as goal
 
 pub content-requires : goal.content-requires
-content-requires g c = record {
-  ready = c.requires.ready;
-  fits = c.requires.fits;
-  low = c.requires.low;
-  rowed = c.requires.rowed c.loop-place.place-index _ c.loop-place-test.true;
-  small = c.requires.small c.loop-place.place-index _ c.loop-place-test.true;
-}
+content-requires g c = c.requires c.loop-place.place-index _ c.loop-place-test.true
 
 pub loop-place-preserved : goal.loop-place-preserved
 loop-place-preserved g c =

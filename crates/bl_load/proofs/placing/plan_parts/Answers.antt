@@ -14,7 +14,7 @@ use Rattle.bl_load.specs.Origins.{origin_at}
 use Rattle.bl_load.specs.Parts.{registers_of}
 use Rattle.bl_load.specs.declared.registers.Registers.{Registers}
 use Rattle.bl_load.specs.declared.plan.PlannedPart.{PlannedPart}
-use Rattle.bl_load.specs.internal.Placing.{HasRowLength, capped_rows_of}
+use Rattle.bl_load.specs.internal.Placing.{HasRowLength, EndsLow, capped_rows_of}
 use Rattle.bl_load.specs.Rows.{rows_of}
 use Rattle.bl_load.specs.internal.ReadKernels.{ToldFits32Bits, EntryPointFits32Bits}
 use Rattle.bl_load.specs.internal.CheckedEntries.{value_of_files}
@@ -83,8 +83,8 @@ registers-registers-requires-clause-enter g c =
     (can_enter facts value reading _ c.in-Ok.places.items c.requires.read c.requires.files placed
     c.in-Ok.ensures.below)
 
-pub parts_at-requires-clause-fits : goal.parts_at-requires-clause-fits
-parts_at-requires-clause-fits g c =
+pub parts_at-requires : goal.parts_at-requires
+parts_at-requires g c =
     let facts = c.args.entry.now.machine.now in
     let reading = g.K.LoadableKernel.reading c.args.kernel.now in
     let value = value_of_files c.args.entry.now in
@@ -94,36 +94,30 @@ parts_at-requires-clause-fits g c =
     subst (λ (rs : List Row). ArePlaced facts [] rs c.in-Ok.places.items) rows
     c.in-Ok.ensures.placed in
     let placed = told_placed facts value reading c.in-Ok.places.items told in
+    let sorted : c.as_slice-5.result.now ≡ places_in_order c.in-Ok.places.items =
+    c.as_slice-5.ensures.value ∙ c.in_ok-sorted.ensures
+    ∙ ap places_in_order c.as_slice-3.ensures.value in
+    let fits =
     subst (λ (ps : List Place). ToldFits32Bits value reading ps) (sym c.as_slice-4.ensures.value)
     (fits_told facts value reading c.in-Ok.places.items placed
-    (reading_rowed facts value reading c.in-Ok.places.items placed) c.in-Ok.ensures.below)
-
-pub parts_at-requires-clause-rowed : goal.parts_at-requires-clause-rowed
-parts_at-requires-clause-rowed g c =
-    let facts = c.args.entry.now.machine.now in
-    let reading = g.K.LoadableKernel.reading c.args.kernel.now in
-    let value = value_of_files c.args.entry.now in
-    let rows : c.as_slice.result.now ≡ capped_rows_of facts value reading =
-    c.as_slice.ensures.value ∙ c.in_ok-rows.ensures in
-    let told : ArePlaced facts [] (capped_rows_of facts value reading) c.in-Ok.places.items =
-    subst (λ (rs : List Row). ArePlaced facts [] rs c.in-Ok.places.items) rows
-    c.in-Ok.ensures.placed in
-    let placed = told_placed facts value reading c.in-Ok.places.items told in
-    let sorted : c.as_slice-5.result.now ≡ places_in_order c.in-Ok.places.items =
-    c.as_slice-5.ensures.value ∙ c.in_ok-sorted.ensures
-    ∙ ap places_in_order c.as_slice-3.ensures.value in
+    (reading_rowed facts value reading c.in-Ok.places.items placed) c.in-Ok.ensures.below) in
+    let low : All EndsLow c.as_slice-4.result.now =
+    rw c.as_slice-4.ensures.value c.in-Ok.ensures.below in
+    let rowed =
     subst (λ (ps : List Place). All (HasRowLength facts value reading) ps) (sym sorted)
     (in_order_all place_key (HasRowLength facts value reading) c.in-Ok.places.items
-    (reading_rowed facts value reading c.in-Ok.places.items placed))
-
-pub parts_at-requires-clause-small : goal.parts_at-requires-clause-small
-parts_at-requires-clause-small g c =
-    let sorted : c.as_slice-5.result.now ≡ places_in_order c.in-Ok.places.items =
-    c.as_slice-5.ensures.value ∙ c.in_ok-sorted.ensures
-    ∙ ap places_in_order c.as_slice-3.ensures.value in
+    (reading_rowed facts value reading c.in-Ok.places.items placed)) in
+    let small =
     subst (λ (ps : List Place). All (λ p. p.length ≤ 2 ^ 32) ps) (sym sorted)
     (in_order_all place_key (λ (p : Place). p.length ≤ 2 ^ 32) c.in-Ok.places.items
-    (λ k d within. let low = c.in-Ok.ensures.below k d within in omega arith))
+    (λ k d within. let low = c.in-Ok.ensures.below k d within in omega arith)) in
+    λ k d within. record {
+      ready = c.requires;
+      fits = fits;
+      low = low;
+      rowed = rowed k d within;
+      small = small k d within;
+    }
 
 pub ranges_of-requires : goal.ranges_of-requires
 ranges_of-requires g c =
@@ -149,8 +143,8 @@ ranges_of-requires g c =
     λ k d within. let low = kept.below k d within in omega arith in
     rw (c.as_slice-6.ensures.value, places) small
 
-pub returns-clause-loadable : goal.returns-clause-loadable
-returns-clause-loadable g c =
+pub returns-clause-ok : goal.returns-clause-ok
+returns-clause-ok g c =
     let facts = c.args.entry.now.machine.now in
     let reading = g.K.LoadableKernel.reading c.args.kernel.now in
     let value = value_of_files c.args.entry.now in
@@ -184,74 +178,37 @@ returns-clause-loadable g c =
     (are_inside facts [] (rows_of facts value reading) c.in-Ok.places.items placed
     (reading_rows facts value reading c.requires.read)) in
     record {
-      backed = c.in_ok-parts.ensures.backed;
-      inside =
-          subst (λ (ps : List Place). All (λ p. p.address + p.length ≤ facts.size) ps)
-          (sym places) inside;
-      kept =
-          subst (λ (ps : List Place). IsWellFormedHandoff (record {
-            protocol = c.args.entry.now.protocol;
-            registers = c.registers-registers.result;
-            places = ps;
-          })) (sym places) kept;
+      handover = record {
+        places = c.in-Ok.places.items;
+        placed = placed;
+        is = search (rules);
+      };
+      loadable = record {
+        backed = c.in_ok-parts.ensures.backed;
+        inside =
+            subst (λ (ps : List Place). All (λ p. p.address + p.length ≤ facts.size) ps)
+            (sym places) inside;
+        kept =
+            subst (λ (ps : List Place). IsWellFormedHandoff (record {
+              protocol = c.args.entry.now.protocol;
+              registers = c.registers-registers.result;
+              places = ps;
+            })) (sym places) kept;
+      };
+      lean = c.in_ok-parts.ensures.lean;
+      origins = record {
+        reading = reading;
+        places = c.in-Ok.places.items;
+        read = c.requires.read;
+        placed = placed;
+        are = c.in_ok-parts.ensures.origins
+            ∙ ap₂ (λ (all ps : List Place). map (origin_at facts value reading all) ps)
+            c.as_slice-4.ensures.value sorted;
+      };
     }
 
-pub returns-clause-handover : goal.returns-clause-handover
-returns-clause-handover g c =
-    let facts = c.args.entry.now.machine.now in
-    let reading = g.K.LoadableKernel.reading c.args.kernel.now in
-    let value = value_of_files c.args.entry.now in
-    let rows : c.as_slice.result.now ≡ capped_rows_of facts value reading =
-    c.as_slice.ensures.value ∙ c.in_ok-rows.ensures in
-    let told : ArePlaced facts [] (capped_rows_of facts value reading) c.in-Ok.places.items =
-    subst (λ (rs : List Row). ArePlaced facts [] rs c.in-Ok.places.items) rows
-    c.in-Ok.ensures.placed in
-    record {
-      places = c.in-Ok.places.items;
-      placed = told_placed facts value reading c.in-Ok.places.items told;
-      is = search (rules);
-    }
-
-pub returns-clause-origins : goal.returns-clause-origins
-returns-clause-origins g c =
-    let facts = c.args.entry.now.machine.now in
-    let reading = g.K.LoadableKernel.reading c.args.kernel.now in
-    let value = value_of_files c.args.entry.now in
-    let rows : c.as_slice.result.now ≡ capped_rows_of facts value reading =
-    c.as_slice.ensures.value ∙ c.in_ok-rows.ensures in
-    let told : ArePlaced facts [] (capped_rows_of facts value reading) c.in-Ok.places.items =
-    subst (λ (rs : List Row). ArePlaced facts [] rs c.in-Ok.places.items) rows
-    c.in-Ok.ensures.placed in
-    let sorted : c.as_slice-5.result.now ≡ places_in_order c.in-Ok.places.items =
-    c.as_slice-5.ensures.value ∙ c.in_ok-sorted.ensures
-    ∙ ap places_in_order c.as_slice-3.ensures.value in
-    record {
-      reading = reading;
-      places = c.in-Ok.places.items;
-      read = c.requires.read;
-      placed = told_placed facts value reading c.in-Ok.places.items told;
-      are = c.in_ok-parts.ensures.origins
-          ∙ ap₂ (λ (all ps : List Place). map (origin_at facts value reading all) ps)
-          c.as_slice-4.ensures.value sorted;
-    }
-
-pub returns-in_err-rows-clause-handover : goal.returns-in_err-rows-clause-handover
-returns-in_err-rows-clause-handover g c =
-    let p = err_from_is_err_and c.from_residual.result c.from_residual.ensures.1 in
-    rw p.1 tt
-
-pub returns-in_err-rows-clause-loadable : goal.returns-in_err-rows-clause-loadable
-returns-in_err-rows-clause-loadable g c =
-    let p = err_from_is_err_and c.from_residual.result c.from_residual.ensures.1 in
-    rw p.1 tt
-
-pub returns-in_err-rows-clause-lean : goal.returns-in_err-rows-clause-lean
-returns-in_err-rows-clause-lean g c =
-    let p = err_from_is_err_and c.from_residual.result c.from_residual.ensures.1 in
-    rw p.1 tt
-
-pub returns-in_err-rows-clause-origins : goal.returns-in_err-rows-clause-origins
-returns-in_err-rows-clause-origins g c =
+pub returns-in_err-rows-clause-ok : goal.returns-in_err-rows-clause-ok
+returns-in_err-rows-clause-ok g c =
     let p = err_from_is_err_and c.from_residual.result c.from_residual.ensures.1 in
     rw p.1 tt
 
@@ -260,29 +217,8 @@ returns-in_err-rows-clause-fault g c =
     let p = err_from_is_err_and c.from_residual.result c.from_residual.ensures.1 in
     rw (p.1, p.2) tt
 
-pub returns-in_err-sorted-clause-handover : goal.returns-in_err-sorted-clause-handover
-returns-in_err-sorted-clause-handover g c =
-    let p =
-    err_from_is_err_and c.from_residual-in_err-sorted.result
-    c.from_residual-in_err-sorted.ensures.1 in
-    rw p.1 tt
-
-pub returns-in_err-sorted-clause-loadable : goal.returns-in_err-sorted-clause-loadable
-returns-in_err-sorted-clause-loadable g c =
-    let p =
-    err_from_is_err_and c.from_residual-in_err-sorted.result
-    c.from_residual-in_err-sorted.ensures.1 in
-    rw p.1 tt
-
-pub returns-in_err-sorted-clause-lean : goal.returns-in_err-sorted-clause-lean
-returns-in_err-sorted-clause-lean g c =
-    let p =
-    err_from_is_err_and c.from_residual-in_err-sorted.result
-    c.from_residual-in_err-sorted.ensures.1 in
-    rw p.1 tt
-
-pub returns-in_err-sorted-clause-origins : goal.returns-in_err-sorted-clause-origins
-returns-in_err-sorted-clause-origins g c =
+pub returns-in_err-sorted-clause-ok : goal.returns-in_err-sorted-clause-ok
+returns-in_err-sorted-clause-ok g c =
     let p =
     err_from_is_err_and c.from_residual-in_err-sorted.result
     c.from_residual-in_err-sorted.ensures.1 in
@@ -295,29 +231,8 @@ returns-in_err-sorted-clause-fault g c =
     c.from_residual-in_err-sorted.ensures.1 in
     rw (p.1, p.2) tt
 
-pub returns-in_err-parts-clause-handover : goal.returns-in_err-parts-clause-handover
-returns-in_err-parts-clause-handover g c =
-    let p =
-    err_from_is_err_and c.from_residual-in_err-parts.result
-    c.from_residual-in_err-parts.ensures.1 in
-    rw p.1 tt
-
-pub returns-in_err-parts-clause-loadable : goal.returns-in_err-parts-clause-loadable
-returns-in_err-parts-clause-loadable g c =
-    let p =
-    err_from_is_err_and c.from_residual-in_err-parts.result
-    c.from_residual-in_err-parts.ensures.1 in
-    rw p.1 tt
-
-pub returns-in_err-parts-clause-lean : goal.returns-in_err-parts-clause-lean
-returns-in_err-parts-clause-lean g c =
-    let p =
-    err_from_is_err_and c.from_residual-in_err-parts.result
-    c.from_residual-in_err-parts.ensures.1 in
-    rw p.1 tt
-
-pub returns-in_err-parts-clause-origins : goal.returns-in_err-parts-clause-origins
-returns-in_err-parts-clause-origins g c =
+pub returns-in_err-parts-clause-ok : goal.returns-in_err-parts-clause-ok
+returns-in_err-parts-clause-ok g c =
     let p =
     err_from_is_err_and c.from_residual-in_err-parts.result
     c.from_residual-in_err-parts.ensures.1 in
@@ -330,29 +245,8 @@ returns-in_err-parts-clause-fault g c =
     c.from_residual-in_err-parts.ensures.1 in
     rw (p.1, p.2) tt
 
-pub returns-in_err-ranges-clause-handover : goal.returns-in_err-ranges-clause-handover
-returns-in_err-ranges-clause-handover g c =
-    let p =
-    err_from_is_err_and c.from_residual-in_err-ranges.result
-    c.from_residual-in_err-ranges.ensures.1 in
-    rw p.1 tt
-
-pub returns-in_err-ranges-clause-loadable : goal.returns-in_err-ranges-clause-loadable
-returns-in_err-ranges-clause-loadable g c =
-    let p =
-    err_from_is_err_and c.from_residual-in_err-ranges.result
-    c.from_residual-in_err-ranges.ensures.1 in
-    rw p.1 tt
-
-pub returns-in_err-ranges-clause-lean : goal.returns-in_err-ranges-clause-lean
-returns-in_err-ranges-clause-lean g c =
-    let p =
-    err_from_is_err_and c.from_residual-in_err-ranges.result
-    c.from_residual-in_err-ranges.ensures.1 in
-    rw p.1 tt
-
-pub returns-in_err-ranges-clause-origins : goal.returns-in_err-ranges-clause-origins
-returns-in_err-ranges-clause-origins g c =
+pub returns-in_err-ranges-clause-ok : goal.returns-in_err-ranges-clause-ok
+returns-in_err-ranges-clause-ok g c =
     let p =
     err_from_is_err_and c.from_residual-in_err-ranges.result
     c.from_residual-in_err-ranges.ensures.1 in
@@ -365,26 +259,11 @@ returns-in_err-ranges-clause-fault g c =
     c.from_residual-in_err-ranges.ensures.1 in
     rw (p.1, p.2) tt
 
-pub returns-in-Err-clause-handover : goal.returns-in-Err-clause-handover
-returns-in-Err-clause-handover g c = tt
-
-pub returns-in-Err-clause-loadable : goal.returns-in-Err-clause-loadable
-returns-in-Err-clause-loadable g c = tt
-
-pub returns-in-Err-clause-lean : goal.returns-in-Err-clause-lean
-returns-in-Err-clause-lean g c = tt
-
-pub returns-in-Err-clause-origins : goal.returns-in-Err-clause-origins
-returns-in-Err-clause-origins g c = tt
+pub returns-in-Err-clause-ok : goal.returns-in-Err-clause-ok
+returns-in-Err-clause-ok g c = tt
 
 pub rows-requires : goal.rows-requires
 rows-requires g c = c.requires
-
-pub parts_at-requires-clause-ready : goal.parts_at-requires-clause-ready
-parts_at-requires-clause-ready g c = c.requires
-
-pub parts_at-requires-clause-low : goal.parts_at-requires-clause-low
-parts_at-requires-clause-low g c = rw c.as_slice-4.ensures.value c.in-Ok.ensures.below
 
 pub invariant_of-result : goal.invariant_of-result
 invariant_of-result g c = record {
@@ -393,9 +272,6 @@ invariant_of-result g c = record {
       ∙ ap (λ (parts : List (PlannedPart g.row.A.Denot)).
       map place_range (map planned_place parts)) c.as_slice-6.ensures.value;
 }
-
-pub returns-clause-lean : goal.returns-clause-lean
-returns-clause-lean g c = c.in_ok-parts.ensures.lean
 
 pub returns-clause-fault : goal.returns-clause-fault
 returns-clause-fault g c = tt

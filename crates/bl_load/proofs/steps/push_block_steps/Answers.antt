@@ -9,15 +9,15 @@ use Rattle.bl_load.proofs.steps.push_block_steps.Goals as goal
 pub loop-segment-init : goal.loop-segment-init
 loop-segment-init g c =
     let segments = c.args.segments.now in
-    let least = first_is_low segments no_segment c.requires.some c.requires.ascending in
-    let top = high_all segments 0 no_segment c.requires.some in
+    let least = first_is_low segments no_segment c.requires.ordered.some c.requires.ordered.ascending in
+    let top = high_all segments 0 no_segment c.requires.ordered.some in
     record {
       above =
           λ k d from within. let up =
-          first_below segments no_segment c.requires.ascending k d within in omega arith;
+          first_below segments no_segment c.requires.ordered.ascending k d within in omega arith;
       fits =
           λ k d from within.
-          let up = first_below segments no_segment c.requires.ascending k d within in
+          let up = first_below segments no_segment c.requires.ordered.ascending k d within in
           let high = high_all segments k d within in
           omega (arith, up, high, least);
       end = omega (arith, top);
@@ -37,7 +37,7 @@ loop-segment-preserved g c =
       above =
           λ k d next within. let ahead =
           rw (get_or_default segments i d no_segment here) at
-          (c.requires.ascending i k d (omega arith) within) in omega arith;
+          (c.requires.ordered.ascending i k d (omega arith) within) in omega arith;
       fits = λ k d next within. before.fits k d (omega arith) within;
       end = omega (arith, up, end);
       rest =
@@ -49,7 +49,7 @@ pub returns-clause-count : goal.returns-clause-count
 returns-clause-count g c =
     let segments = c.args.segments.now in
     let i = c.loop-segment.segment-index in
-    let least = first_is_low segments no_segment c.requires.some c.requires.ascending in
+    let least = first_is_low segments no_segment c.requires.ordered.some c.requires.ordered.ascending in
     let end = rw (drop_all i segments c.loop-segment-test.false) at c.loop-segment.invariant.end in
     omega (arith, least, end)
 

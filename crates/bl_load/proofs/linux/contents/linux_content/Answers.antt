@@ -1,4 +1,7 @@
-use Rattle.std.proofs.Common.{◌≡◌, ℕ, true, List, length, arith, ap, subst}
+use Rattle.std.proofs.Common.{◌≡◌, ℕ, true, List, length, arith, ap, subst, rules, refl}
+use Rattle.std.proofs.lemmas.List.{length-map}
+use Rattle.bl_bzimage.proofs.SetupLaws.{payload_is_tail}
+use Rattle.bl_mem.specs.Files.{nth_file}
 use Rattle.bl_plan.specs.declared.part.Role.{Role}
 use Rattle.bl_params.proofs.Lengths.{length-boot_params}
 use Rattle.bl_params.proofs.PagingLemmas.{length-paging}
@@ -9,12 +12,28 @@ use Rattle.bl_load.specs.Protocols.{is_wide}
 use Rattle.bl_load.specs.LinuxRows.{boot_params_facts}
 use Rattle.bl_load.specs.KernelReading.{linux}
 use Rattle.bl_load.specs.internal.Placing.{HasLength}
-use Rattle.bl_load.specs.internal.CheckedEntries.{value_of_files}
+use Rattle.bl_load.specs.internal.CheckedEntries.{texts_in, value_of_files}
+use Rattle.bl_load.proofs.HeldLemmas.{length_at}
 use Rattle.bl_load.proofs.LinuxKernelLemmas.{setup_is, few_runs}
 use Rattle.bl_load.proofs.linux.contents.linux_content.Goals as goal
 
-pub payload_content-requires-clause-setup : goal.payload_content-requires-clause-setup
-payload_content-requires-clause-setup g c = setup_is c.requires.ready.read.1
+pub returns-in-Kernel : goal.returns-in-Kernel
+returns-in-Kernel g c =
+    let texts = texts_in c.args.entry.now in
+    let setup = c.args.setup.now in
+    let some = c.requires.ready.files in
+    let tail = (payload_is_tail (nth_file texts 0) setup (setup_is c.requires.ready.read.1)).0 in
+    rw c.in-Kernel.is
+    (record {
+      is = search rules;
+      comes = refl;
+      there = (
+        omega (arith, some, length-map texts (λ (text : List ℕ). length text)),
+        rw (length_at texts 0) (λ _. omega (arith, tail)),
+      );
+      short = search rules;
+      lean = tt;
+    })
 
 pub boot_params-requires-clause-few : goal.boot_params-requires-clause-few
 boot_params-requires-clause-few g c = few_runs c.requires.ready.read.1

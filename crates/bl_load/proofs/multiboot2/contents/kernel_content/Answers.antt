@@ -27,11 +27,11 @@ returns-in_ok-in_order-in-Some g c =
         block_some _ segments _ loadable is,
         rw (length_at texts 0)
             (block_copied _ segments _ _ c.in-Some.field-0 _ _ loadable is c.in-Some.is
-            c.requires.length c.requires.small),
+            c.requires.long c.requires.small),
         block_ascends _ segments _ loadable is,
       );
       short =
           block_short _ segments _ _ c.in-Some.field-0 _ _ loadable is c.in-Some.is
-          c.requires.length;
+          c.requires.long;
       lean = tt;
     }

@@ -1,4 +1,5 @@
 use Rattle.std.proofs.Common.{◌≡◌, ◌⊎◌, ℕ, List, [], length, arith, ap, subst, inl, inr}
+use Rattle.std.proofs.lemmas.List.{length-map}
 use Rattle.bl_mbi.specs.InfoToWriteFacts.{info_size}
 use Rattle.bl_map.specs.MachineFacts.{MachineFacts}
 use Rattle.bl_plan.specs.declared.part.Role.{Role}
@@ -17,13 +18,31 @@ use Rattle.bl_load.proofs.InformationLemmas.{information_short}
 use Rattle.bl_load.proofs.ReadingLemmas.{modules_fit}
 use Rattle.bl_load.proofs.multiboot2.contents.multiboot2_content.Goals as goal
 
-pub kernel_content-requires-clause-loadable : goal.kernel_content-requires-clause-loadable
-kernel_content-requires-clause-loadable g c = c.requires.ready.files.1
+pub kernel_content-requires : goal.kernel_content-requires
+kernel_content-requires g c =
+    let files = c.args.entry.now.files.now in
+    let place = c.args.place.now in
+    record {
+      file = omega (arith, c.requires.ready.files.0, length-map files g.V.ByteView.bytes);
+      loadable = c.requires.ready.files.1;
+      long =
+          subst
+          (λ (role : Role).
+          HasLength c.args.entry.now.machine.now (value_of_files c.args.entry.now)
+          (multiboot2 (kernel_by c.args.kernel.now)) role place.index place.length)
+          c.in-Kernel.is c.requires.rowed;
+      small = c.requires.small;
+    }
 
-pub information-requires-clause-ends : goal.information-requires-clause-ends
-information-requires-clause-ends g c =
-    modules_fit c.args.entry.now.modules.now (texts_in c.args.entry.now) c.args.places.now
-    c.requires.fits
+pub information-requires : goal.information-requires
+information-requires g c =
+    let entry = c.args.entry.now in
+    record {
+      files =
+          omega (arith, c.requires.ready.files.0, length-map entry.files.now g.V.ByteView.bytes);
+      low = c.requires.low;
+      ends = modules_fit entry.modules.now (texts_in entry) c.args.places.now c.requires.fits;
+    }
 
 pub returns-in_ok-bytes-in-Information : goal.returns-in_ok-bytes-in-Information
 returns-in_ok-bytes-in-Information g c =

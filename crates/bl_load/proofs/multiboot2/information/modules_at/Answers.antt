@@ -1,4 +1,5 @@
 use Rattle.std.proofs.Common.{◌≡◌, ℕ, List, ◌∷◌, ◌++◌, ◌+◌, get_or, map, drop, arith, sym, ap, ◌∙◌}
+use Rattle.std.proofs.Common.{length}
 use Rattle.std.proofs.lemmas.List.{drop_more}
 use Rattle.std.proofs.lemmas.List.Elements.{All-push}
 use Rattle.bl_plan.specs.declared.part.Role.TheVariants as role
@@ -14,35 +15,37 @@ pub module_at-requires-clause-end : goal.module_at-requires-clause-end
 module_at-requires-clause-end g c =
     let size =
     c.len-size.ensures
-    ∙ view_length_at g.V.ByteView.bytes c.args.files.now (c.loop-index.index + 1)
-    c.index-files-index.result c.index-files-index.is
+    ∙ ap (λ (v : g.row.V.Denot). length (g.V.ByteView.bytes v)) (sym c.index-entry-index.is)
+    ∙ view_length_at g.V.ByteView.bytes c.args.entry.now.files.now (c.loop-index.index + 1)
+    c.index-entry-index.result c.index-entry-index.is
     (omega (arith, c.requires.files, c.loop-index-test.true)) in
     rw size (c.requires.ends c.loop-index.index c.loop-index-test.true)
 
 pub module_at-requires-clause-sound : goal.module_at-requires-clause-sound
 module_at-requires-clause-sound g c =
-    rw (c.as_slice-line.ensures, c.index-modules-index.is)
-    (c.requires.sound c.loop-index.index c.index-modules-index.result c.loop-index-test.true)
+    rw (c.as_slice-line.ensures, c.module-item.is)
+    (c.args.entry.now.sound_modules c.loop-index.index c.module-item.result c.loop-index-test.true)
 
 pub loop-index-preserved : goal.loop-index-preserved
 loop-index-preserved g c =
-    let texts = map g.V.ByteView.bytes c.args.files.now in
+    let texts = map g.V.ByteView.bytes c.args.entry.now.files.now in
     let places = c.args.places.now in
     let k = c.loop-index.index in
-    let modules = c.args.modules.now in
+    let modules = c.args.entry.now.modules.now in
     let i = c.loop-index.invariant in
-    let m = get_or modules k c.index-modules-index.result in
+    let m = get_or modules k c.module-item.result in
     let rest = drop (k + 1) modules in
     let new = c.module_at.result in
     let left : lines_by (drop k modules) ≡ m.line ∷ lines_by rest =
-    ap lines_by (drop_more modules k c.index-modules-index.result c.loop-index-test.true) in
+    ap lines_by (drop_more modules k c.module-item.result c.loop-index-test.true) in
     let size =
     c.len-size.ensures
-    ∙ view_length_at g.V.ByteView.bytes c.args.files.now (k + 1) c.index-files-index.result
-    c.index-files-index.is (omega (arith, c.requires.files, c.loop-index-test.true)) in
+    ∙ ap (λ (v : g.row.V.Denot). length (g.V.ByteView.bytes v)) (sym c.index-entry-index.is)
+    ∙ view_length_at g.V.ByteView.bytes c.args.entry.now.files.now (k + 1) c.index-entry-index.result
+    c.index-entry-index.is (omega (arith, c.requires.files, c.loop-index-test.true)) in
     let line : c.as_slice-line.result.now ≡ m.line =
     c.as_slice-line.ensures
-    ∙ ap (λ (x : Module g.row.A.Denot). x.line) c.index-modules-index.is in
+    ∙ ap (λ (x : Module g.row.A.Denot). x.line) c.module-item.is in
     let is : new ≡ told_module texts places k m.line =
     c.module_at.ensures.told
     ∙ ap (λ (n : ℕ). told_by (address_of role.Module k places) n c.as_slice-line.result.now) size

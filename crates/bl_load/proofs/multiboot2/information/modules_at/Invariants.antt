@@ -8,8 +8,8 @@ use Rattle.bl_load.proofs.multiboot2.information.modules_at.Given as goal
 abbrev pub invariant-loop-index : goal.invariant-loop-index
 invariant-loop-index g l = record {
   told : l.told.items
-      ++ told_modules (map g.V.ByteView.bytes l.files) l.places l.index
-      (lines_by (drop l.index l.modules))
-      ≡ told_modules (map g.V.ByteView.bytes l.files) l.places 0 (lines_by l.modules);
+      ++ told_modules (map g.V.ByteView.bytes l.entry.files.now) l.places l.index
+      (lines_by (drop l.index l.entry.modules.now))
+      ≡ told_modules (map g.V.ByteView.bytes l.entry.files.now) l.places 0 (lines_by l.entry.modules.now);
   fits : All IsModule l.told.items;
 }

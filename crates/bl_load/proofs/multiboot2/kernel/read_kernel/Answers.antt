@@ -1,4 +1,4 @@
-use Rattle.std.proofs.Common.{ap, ◌∙◌, subst, refl, inl, inr, arith, List, None, Some, ◌≡◌}
+use Rattle.std.proofs.Common.{ap, ◌∙◌, subst, refl, inl, inr, arith, rules, List, None, Some, ◌≡◌}
 use Rattle.std.specs.Option.{option_or}
 use Rattle.std.proofs.lemmas.Result.{err_from_is_err_and}
 use Rattle.bl_mem.specs.declared.segment.Segment.{Segment}
@@ -43,12 +43,16 @@ returns-in_err-entry-clause-fault g c =
       faulty,
     )))
 
-pub returns-clause-loadable : goal.returns-clause-loadable
-returns-clause-loadable g c =
+pub returns-clause-ok : goal.returns-clause-ok
+returns-clause-ok g c =
     let facts = executable_facts c.in_ok-executable.executable in
     let sound : entry_point_fault facts.segments c.or-counted.result ≡ None =
     subst (λ (ss : List Segment). entry_point_fault ss c.or-counted.result ≡ None) c.segments.ensures
     c.in_ok-entry.ensures.1 in
-    kernel_loadable _ c.in_ok-header.header.segment facts c.or-counted.result
-    c.in_ok-header.ensures.segment c.in_ok-executable.ensures.loaded sound
-    (omega (arith, c.len-len.ensures))
+    record {
+      is = search rules;
+      loadable =
+          kernel_loadable _ c.in_ok-header.header.segment facts c.or-counted.result
+          c.in_ok-header.ensures.segment c.in_ok-executable.ensures.loaded sound
+          (omega (arith, c.len-len.ensures));
+    }
