@@ -59,10 +59,8 @@ pub fn each_step_leads_on()
 pub fn first_entry_not_refused()
     ensures exact { (facts : BootFacts) (files : List File) (faults : ℕ → Option ℕ)
         (events : List EventFacts) (begun end : State) → facts.sizes ≡ map size_of files
-        → Begins facts facts.menu.attempts [] begun
-        → IsGenuine facts files faults begun events
-        → LeadsTo facts begun events end → HasEnded end
-        → IsOutcome facts files faults end }
+        → Begins facts facts.menu.attempts [] begun → IsGenuine facts files faults begun events
+        → LeadsTo facts begun events end → HasEnded end → IsOutcome facts files faults end }
     ensures one { (facts : BootFacts) (files : List File) (faults : ℕ → Option ℕ) (a b : State)
         → IsOutcome facts files faults a → IsOutcome facts files faults b → a ≡ b }
 {}

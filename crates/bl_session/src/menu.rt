@@ -60,10 +60,8 @@ fn is_among(index: u32, earlier: &[u32]) -> bool
 
 /// Appends an index, if it is not among the earlier ones.
 fn add_once<A: Allocator>(attempts: &mut Vec<u32, A>, index: u32) -> Result<(), AllocError>
-    ensures { OnOk result (attempts.new.items
-        ≡ (if list_any (λ i. i == index) attempts.old.items
-        then attempts.old.items
-        else attempts.old.items ++ index ∷ [])) }
+    ensures { OnOk result (attempts.new.items ≡ (if list_any (λ i. i == index) attempts.old.items
+        then attempts.old.items else attempts.old.items ++ index ∷ [])) }
 {
     if !is_among(index, attempts) {
         attempts.push(index)?;

@@ -1,5 +1,5 @@
 //! A whole boot over a store.
-ghost use Rattle.std.specs.Prelude.{◌≡◌, ◌≢◌, ◌+◌, ◌≤◌, ◌^◌, [], All, None, false};
+ghost use Rattle.std.specs.Prelude.{◌≡◌, ◌+◌, ◌≤◌, ◌^◌, [], All, None};
 ghost use Rattle.std.specs.Prelude.{IfOk, OnErr, length, map};
 ghost use Rattle.bl_mem.specs.Memory.{KeepsSizeAndRoom};
 ghost use Rattle.bl_stage.specs.Ranges.{IsSameOutside};
@@ -9,8 +9,7 @@ ghost use Rattle.bl_session.specs.session.BootMemory.{IsMemoryAt};
 ghost use Rattle.bl_session.specs.store.Faithful.{IsFaithful};
 ghost use Rattle.bl_session.specs.session.Schedules.{Faults};
 ghost use Rattle.bl_session.specs.session.Outcome.{IsOutcome, HasEnded};
-ghost use Rattle.bl_session.specs.session.Phases.{boot_facts, state_at, is_waiting, not_started};
-ghost use Rattle.bl_session.specs.session.Phases.{LiesWithin};
+ghost use Rattle.bl_session.specs.session.Phases.{boot_facts, state_at};
 ghost use Rattle.bl_session.specs.runs.Run.{IsRun, IsGenuineRun, final_phase};
 ghost use Rattle.bl_session.specs.internal.runs.RunParts.{asked_sizes};
 ghost use Rattle.bl_session.specs.internal.runs.AnswerSteps.{RunsOrStops};
@@ -71,20 +70,6 @@ fn run_session<'a, M: PhysMem, S: Store, A: Allocator + Copy>(
     Ok(session)
 }
 
-/// The end of a session that has ended.
-fn outcome_of<A: Allocator + Copy>(session: Session<A>) -> Result<Outcome<A>, BootFault<A>>
-    requires started { session.phase ≢ not_started }
-    requires ended { is_waiting session.phase ≡ false }
-    ensures end { final_phase result ≡ session.entry.phase }
-    ensures inside { IfOk result (λ outcome.
-        LiesWithin session.entry.boot.machine.size outcome.handoff) }
-{
-    match session.into_outcome() {
-        Some(end) => end,
-        None => unreachable!(),
-    }
-}
-
 /// Boots the first entry of a menu, in the order of attempts, that is not refused: the default is
 /// attempted first, then the fallbacks. Pieces come from a store, which is asked once for the size
 /// of each file below `Menu::files`. As an attempt begins the store is asked for each piece of its
@@ -115,8 +100,7 @@ pub fn run<M: PhysMem, S: Store, A: Allocator + Copy>(
         → HasEnded (state_at (M.bytes memory.new) (final_phase result))
         → IsOutcome (boot_facts machine.now menu.now (map menu_files.size_of (S.files store.old)))
         (S.files store.old) faults (state_at (M.bytes memory.new) (final_phase result)) }
-    ensures faithful { S.given store.old ≡ []
-        → IsFaithful (S.files store.old) (S.given store.new)
+    ensures faithful { S.given store.old ≡ [] → IsFaithful (S.files store.old) (S.given store.new)
         → HasEnded (state_at (M.bytes memory.new) (final_phase result))
         → IsOutcome (boot_facts machine.now menu.now (map menu_files.size_of (S.files store.old)))
         (S.files store.old) (λ _. None) (state_at (M.bytes memory.new) (final_phase result)) }
@@ -129,7 +113,10 @@ pub fn run<M: PhysMem, S: Store, A: Allocator + Copy>(
     ensures kept { KeepsSizeAndRoom M.lender M.bytes M.room memory.old memory.new }
 {
     match run_session(alloc, memory, store, machine, menu) {
-        Ok(session) => outcome_of(session),
+        Ok(session) => match session.into_outcome() {
+            Some(end) => end,
+            None => unreachable!(),
+        },
         Err(_) => Err(BootFault::NoMemory),
     }
 }

@@ -92,8 +92,7 @@ impl<'a, A: Allocator + Copy> Session<'a, A> {
     pub fn start<M: PhysMem>(&mut self, memory: &mut M) -> Progress
         requires size { length (M.bytes memory.old) ≡ self.old.boot.machine.size }
         ensures boot { self.new.boot ≡ self.old.boot }
-        ensures step { StartsOrFails self.old.boot
-            (state_at (M.bytes memory.old) self.old.phase)
+        ensures step { StartsOrFails self.old.boot (state_at (M.bytes memory.old) self.old.phase)
             (state_at (M.bytes memory.new) self.new.phase) }
         ensures progress { result ≡ boot.progress
             (attempt_number (state_at (M.bytes memory.old) self.old.phase))
@@ -127,9 +126,8 @@ impl<'a, A: Allocator + Copy> Session<'a, A> {
         requires room { is_waiting self.old.phase ≡ true → HasRoom (M.room memory.old)
             self.old.boot.machine.pool.start self.old.boot.machine.pool.end }
         ensures boot { self.new.boot ≡ self.old.boot }
-        ensures step { StepsToOrFails self.old.boot
-            (state_at (M.bytes memory.old) self.old.phase) (event_facts event.entry)
-            (state_at (M.bytes memory.new) self.new.phase) }
+        ensures step { StepsToOrFails self.old.boot (state_at (M.bytes memory.old) self.old.phase)
+            (event_facts event.entry) (state_at (M.bytes memory.new) self.new.phase) }
         ensures progress { result ≡ boot.progress
             (attempt_number (state_at (M.bytes memory.old) self.old.phase))
             (state_at (M.bytes memory.new) self.new.phase) }

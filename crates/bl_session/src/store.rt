@@ -91,8 +91,7 @@ pub trait Store {
         ensures none { IfOk result (λ answer. IsNone answer ↔ (left self.old ≡ 0)) }
         ensures fewer { IfOk result (λ answer.
             IfSome answer (λ _. left self.new + 1 ≡ left self.old)) }
-        ensures as_many { IfOk result (λ answer.
-            IsNone answer → left self.new ≡ left self.old) }
+        ensures as_many { IfOk result (λ answer. IsNone answer → left self.new ≡ left self.old) }
         ensures err { OnErr result
             ((given self.new ≡ given self.old) × (left self.new ≡ left self.old)) };
 }

@@ -1,11 +1,7 @@
 //! A cursor over the pieces of an attempt: nothing looks for a missing one from the first on.
-ghost use Rattle.std.specs.Prelude.{◌≡◌, ◌<◌, ◌^◌, ℕ, List, IfSome, Some, length, true};
-ghost use Rattle.bl_stage.specs.Pieces.{is_missing};
-ghost use Rattle.bl_stage.specs.PieceStates.{piece_states};
 ghost use Rattle.bl_session.specs.attempt.Tickets.{first_ticket};
-ghost use Rattle.bl_session.specs.internal.session.SessionPhases.{HasSmallFiles, LacksPiece};
 ghost use Rattle.bl_session.specs.internal.attempt.Cursors.{NoneMissingBelow};
-ghost use Rattle.bl_session.specs.internal.attempt.MissingPieces.{HasCountablePieces, FindsMissing};
+ghost use Rattle.bl_session.specs.internal.attempt.MissingPieces.{CanSearchFrom, FindsMissing};
 
 use crate::attempt::missing_pieces::missing_from;
 use crate::attempt::ticket::Ticket;
@@ -21,8 +17,7 @@ pub struct Cursor {
 
 /// The ticket of the first piece that did not come.
 pub fn first_missing<A: Allocator>(attempt: u32, stage: &Stage<A>, cursor: Cursor) -> Option<Ticket>
-    requires countable { HasCountablePieces stage.now }
-    requires below { NoneMissingBelow stage.now cursor.file cursor.piece }
+    requires { CanSearchFrom stage.now cursor.file cursor.piece }
     ensures { FindsMissing stage.now (first_ticket attempt 0) result }
 {
     missing_from(attempt, stage, cursor.file, cursor.piece as usize)
@@ -30,8 +25,7 @@ pub fn first_missing<A: Allocator>(attempt: u32, stage: &Stage<A>, cursor: Curso
 
 /// The cursor once more pieces came: at the first one that did not, or where it was if each came.
 pub fn advanced<A: Allocator>(stage: &Stage<A>, cursor: Cursor) -> Cursor
-    requires countable { HasCountablePieces stage.now }
-    requires below { NoneMissingBelow stage.now cursor.file cursor.piece }
+    requires { CanSearchFrom stage.now cursor.file cursor.piece }
     ensures { NoneMissingBelow stage.now result.file result.piece }
 {
     match first_missing(0, stage, cursor) {
@@ -40,21 +34,5 @@ pub fn advanced<A: Allocator>(stage: &Stage<A>, cursor: Cursor) -> Cursor
             piece: found.piece,
         },
         None => cursor,
-    }
-}
-
-/// The ticket of the first piece that did not come, where one did not.
-pub fn missing_piece<A: Allocator>(attempt: u32, stage: &Stage<A>, cursor: Cursor) -> Ticket
-    requires countable { HasCountablePieces stage.now }
-    requires below { NoneMissingBelow stage.now cursor.file cursor.piece }
-    requires lacks { LacksPiece stage.now }
-    ensures { (bytes : List ℕ) → first_ticket attempt 0 (piece_states bytes stage.now)
-        ≡ Some result }
-{
-    // For the proof: each file has its frames.
-    stage.are_staged();
-    match first_missing(attempt, stage, cursor) {
-        Some(ticket) => ticket,
-        None => unreachable!(),
     }
 }

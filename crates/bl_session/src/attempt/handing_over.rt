@@ -1,15 +1,13 @@
 //! An attempt ends, once each piece of its files came.
-ghost use Rattle.std.specs.Prelude.{◌≡◌, ◌<◌, ◌^◌, IfErr, IfOk, OnErr, OnOk, length, map};
-ghost use Rattle.bl_map.specs.PoolFrames.{HasFramesFor};
+ghost use Rattle.std.specs.Prelude.{◌≡◌, IfErr, IfOk, length, map};
 ghost use Rattle.bl_mem.specs.Memory.{HasRoom, KeepsSizeAndRoom};
-ghost use Rattle.bl_stage.specs.Ranges.{IsSameOutside};
-ghost use Rattle.bl_stage.specs.Staged.{AllCame, HasPool, staged, staged_texts, with_frames};
+ghost use Rattle.bl_stage.specs.Staged.{AllCame, staged, staged_texts, with_frames};
 ghost use Rattle.bl_load.specs.Parts.{IsPrepFault};
 ghost use Rattle.bl_load.specs.EntryValue.{value_of, file_count, IsWithinLimits};
 ghost use Rattle.bl_session.specs.attempt.FinishedAttempt.{IsHandedOver, IsNotHandedOver};
 ghost use Rattle.bl_session.specs.attempt.FinishedAttempt.{IsStageAfterFault};
-ghost use Rattle.bl_session.specs.internal.attempt.HandoverSteps.{IsPlanFor, HasMadeWay};
-ghost use Rattle.bl_session.specs.internal.attempt.HandoverSteps.{CanHandOver};
+ghost use Rattle.bl_session.specs.internal.attempt.HandoverSteps.{AreFilesWhole, HasFilesOf};
+ghost use Rattle.bl_session.specs.internal.attempt.HandoverSteps.{IsPlanFor, CanHandOver};
 ghost use Rattle.bl_session.specs.internal.attempt.HandoverSteps.{HasLoadedPlan};
 
 use bl_load::{Entry, Handoff, Plan, PrepFault, Refusal, load, prepare};
@@ -17,7 +15,6 @@ use bl_map::Machine;
 use bl_mem::PhysMem;
 use bl_stage::{FrameView, Stage, scrub};
 use std::alloc::{AllocError, Allocator};
-use std::ops::Range;
 
 /// Views of a stage's files, in order.
 fn views_of<'a, M: PhysMem, A: Allocator + Copy>(
@@ -25,9 +22,7 @@ fn views_of<'a, M: PhysMem, A: Allocator + Copy>(
     memory: &'a M,
     stage: &'a Stage<A>,
 ) -> Result<Vec<FrameView<'a, M>, A>, AllocError>
-    requires few { length stage.now.sizes < 2 ^ 32 }
-    requires complete { AllCame stage.now }
-    requires inside { HasPool (M.bytes memory.now) stage.now.pool }
+    requires { AreFilesWhole (M.bytes memory.now) stage.now }
     ensures { IfOk result (λ views.
         map (λ view. staged (M.bytes view.memory.now) view.frames.now view.size) views.items
         ≡ staged_texts (M.bytes memory.now) stage.now) }
@@ -48,10 +43,8 @@ fn prepare_staged<M: PhysMem, A: Allocator + Copy>(
     entry: &Entry<A>,
     stage: &Stage<A>,
 ) -> Result<Plan<A>, PrepFault>
-    requires files { length stage.now.sizes ≡ file_count entry.now }
-    requires limits { IsWithinLimits entry.now }
-    requires complete { AllCame stage.now }
-    requires inside { HasPool (M.bytes memory.now) stage.now.pool }
+    requires entry { HasFilesOf entry.now stage.now }
+    requires whole { AreFilesWhole (M.bytes memory.now) stage.now }
     ensures ok { IfOk result
         (IsPlanFor machine.now entry.now (staged_texts (M.bytes memory.now) stage.now)) }
     ensures fault { IfErr result (λ fault. IsPrepFault machine.now
@@ -59,31 +52,6 @@ fn prepare_staged<M: PhysMem, A: Allocator + Copy>(
 {
     let views = views_of(alloc, memory, stage)?;
     prepare(alloc, machine, entry, &views)
-}
-
-/// Makes way for the ranges of an entry's parts, or refuses the entry if the pool has too few
-/// frames beside them.
-fn evacuate_ranges<M: PhysMem, A: Allocator>(
-    memory: &mut M,
-    stage: &mut Stage<A>,
-    ranges: &[Range<u64>],
-) -> Result<(), Refusal>
-    requires inside { HasPool (M.bytes memory.old) stage.old.pool }
-    requires room { HasRoom (M.room memory.old) stage.old.pool.start stage.old.pool.end }
-    ensures ok { OnOk result (HasMadeWay stage.old stage.new ranges.now
-        (M.bytes memory.old) (M.bytes memory.new)) }
-    ensures refused { IfErr result (λ refusal. (refusal ≡ Refusal.NoPool)
-        × ¬ HasFramesFor stage.old.pool ranges.now (staged_texts (M.bytes memory.old) stage.old)) }
-    ensures unchanged { OnErr result
-        ((stage.new ≡ stage.old) × (M.bytes memory.new ≡ M.bytes memory.old)) }
-    ensures stage { stage.new ≡ with_frames stage.old stage.new.frames }
-    ensures outside { IsSameOutside stage.old.pool (M.bytes memory.old) (M.bytes memory.new) }
-    ensures kept { KeepsSizeAndRoom M.lender M.bytes M.room memory.old memory.new }
-{
-    if stage.evacuate(memory, ranges).is_err() {
-        return Err(Refusal::NoPool);
-    }
-    Ok(())
 }
 
 /// Loads a plan out of staged files, and clears the rest of the pool.
@@ -143,7 +111,9 @@ pub fn finish_attempt<M: PhysMem, A: Allocator + Copy>(
     // For the proof: where the pool lies.
     machine.pool();
     let plan = prepare_staged(alloc, machine, memory, entry, stage)?;
-    evacuate_ranges(memory, stage, plan.ranges())?;
+    if stage.evacuate(memory, plan.ranges()).is_err() {
+        return Err(PrepFault::Refused(Refusal::NoPool));
+    }
     memory.reserve(plan.ranges())?;
     Ok(hand_over(machine, memory, stage, plan))
 }

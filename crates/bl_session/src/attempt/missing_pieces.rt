@@ -35,9 +35,8 @@ pub fn pieces_of<A: Allocator>(stage: &Stage<A>, place: usize) -> u32
 fn piece_from<A: Allocator>(stage: &Stage<A>, place: u32, start: usize) -> Option<u32>
     requires file { place < length stage.now.sizes }
     requires small { HasSmallFiles stage.now }
-    ensures first { (bytes : List ℕ) → result
-        ≡ first_awaited_piece start (drop start
-        (slice_index_or (piece_states bytes stage.now) place [])) }
+    ensures first { (bytes : List ℕ) → result ≡ first_awaited_piece start
+        (drop start (slice_index_or (piece_states bytes stage.now) place [])) }
     ensures missing { IfSome result (λ piece. is_missing stage.now place piece ≡ true) }
 {
     for piece in start..pieces_of(stage, place as usize) as usize {
@@ -75,8 +74,7 @@ pub fn missing_from<A: Allocator>(
     piece: usize,
 ) -> Option<Ticket>
     requires { HasCountablePieces stage.now }
-    ensures { FindsMissing stage.now
-        (λ files. first_ticket_from attempt files file piece) result }
+    ensures { FindsMissing stage.now (λ files. first_ticket_from attempt files file piece) result }
 {
     let place = file as usize;
     if place >= stage.files() {

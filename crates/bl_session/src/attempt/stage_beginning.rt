@@ -1,15 +1,11 @@
 //! An attempt begins: the sizes of its entry's files are checked, and its stage is begun.
 ghost use Rattle.std.specs.Prelude.{◌≡◌, ◌≤◌, ◌+◌, ◌∷◌, ℕ, List, None, Some, Option, IfOk};
-ghost use Rattle.std.specs.Prelude.{IfErr};
-ghost use Rattle.std.specs.Prelude.{length, map, slice_index_or, MatchResult};
+ghost use Rattle.std.specs.Prelude.{IfErr, MatchResult, length, slice_index_or};
 ghost use Rattle.bl_load.specs.EntryValue.{IsWithinLimits};
-ghost use Rattle.bl_stage.specs.Staged.{AreStaged};
-ghost use Rattle.bl_session.specs.attempt.AttemptResult.{file_refusal, size_refusal};
-ghost use Rattle.bl_session.specs.attempt.AttemptResult as attempt;
-ghost use Rattle.bl_session.specs.menu.Menu as menu;
-ghost use Rattle.bl_session.specs.internal.session.SessionPhases.{IsFreshStage, IsSizeFault};
-ghost use Rattle.bl_session.specs.internal.session.SessionPhases.{IsFileRefusal};
-ghost use Rattle.bl_session.specs.internal.session.SessionPhases.{HasSmallFiles};
+ghost use Rattle.bl_session.specs.attempt.AttemptResult.{file_refusal};
+ghost use Rattle.bl_session.specs.internal.session.SessionPhases.{sizes_for, sizes_in};
+ghost use Rattle.bl_session.specs.internal.session.SessionPhases.{AreLengths, IsFileRefusal};
+ghost use Rattle.bl_session.specs.internal.session.SessionPhases.{IsBegunStage, IsSizeFault};
 
 use crate::menu::entry_files::files_of;
 use bl_load::{Entry, PrepFault, Refusal};
@@ -49,11 +45,8 @@ fn lengths_of<A: Allocator + Copy>(
     sizes: &[Option<u64>],
 ) -> Result<Vec<u64, A>, PrepFault>
     requires { length files.now ≤ 65 }
-    ensures ok { IfOk result (λ lengths.
-        let known = map (λ file. slice_index_or sizes.now file None) files.now in
-        (file_refusal 0 known ≡ None) × (lengths.items ≡ attempt.known_lengths known)) }
-    ensures err { IfErr result (λ fault. IsFileRefusal
-        (map (λ file. slice_index_or sizes.now file None) files.now) fault) }
+    ensures ok { IfOk result (λ lengths. AreLengths (sizes_in sizes.now files.now) lengths.items) }
+    ensures err { IfErr result (IsFileRefusal (sizes_in sizes.now files.now)) }
 {
     let mut lengths = Vec::new(alloc);
     for (place, file) in files.iter().enumerate() {
@@ -71,14 +64,8 @@ pub fn begin_stage<A: Allocator + Copy>(
     sizes: &[Option<u64>],
 ) -> Result<Stage<A>, PrepFault>
     requires { IsWithinLimits entry.now }
-    ensures fresh { IfOk result (IsFreshStage machine.now
-        (map (λ file. slice_index_or sizes.now file None) (menu.files_of entry.now))) }
-    ensures fits { IfOk result (λ _. size_refusal machine.now
-        (map (λ file. slice_index_or sizes.now file None) (menu.files_of entry.now)) ≡ None) }
-    ensures staged { IfOk result AreStaged }
-    ensures small { IfOk result HasSmallFiles }
-    ensures fault { IfErr result (IsSizeFault machine.now
-        (map (λ file. slice_index_or sizes.now file None) (menu.files_of entry.now))) }
+    ensures begun { IfOk result (IsBegunStage machine.now (sizes_for sizes.now entry.now)) }
+    ensures fault { IfErr result (IsSizeFault machine.now (sizes_for sizes.now entry.now)) }
 {
     let files = files_of(alloc, entry)?;
     let lengths = lengths_of(alloc, &files, sizes)?;

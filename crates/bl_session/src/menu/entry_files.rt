@@ -1,5 +1,5 @@
 //! The files of an entry, by their index in the menu.
-ghost use Rattle.std.specs.Prelude.{◌≡◌, ◌<◌, ◌++◌, ℕ, IfOk, length, map, slice_index_or};
+ghost use Rattle.std.specs.Prelude.{◌≡◌, ◌<◌, ◌++◌, ℕ, IfOk, OnOk, length, map, slice_index_or};
 ghost use Rattle.bl_load.specs.EntryValue.{IsWithinLimits};
 ghost use Rattle.bl_session.specs.menu.Menu as menu;
 
@@ -11,8 +11,7 @@ fn push_modules<A: Allocator>(
     files: &mut Vec<u32, A>,
     modules: &[Module<A>],
 ) -> Result<(), AllocError>
-    ensures { IfOk result (λ _.
-        files.new.items ≡ files.old.items ++ map (λ m. m.file) modules.now) }
+    ensures { OnOk result (files.new.items ≡ files.old.items ++ map (λ m. m.file) modules.now) }
 {
     for module in modules {
         files.push(module.file)?;

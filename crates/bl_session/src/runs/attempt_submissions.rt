@@ -1,9 +1,9 @@
 //! What an attempt asks a store for.
-ghost use Rattle.std.specs.Prelude.{◌≡◌, ◌<◌, ◌^◌, ℕ, List, length};
+ghost use Rattle.std.specs.Prelude.{◌≡◌, ℕ, List, length};
 ghost use Rattle.bl_stage.specs.PieceStates.{piece_states};
 ghost use Rattle.bl_session.specs.menu.Menu.{files_of};
 ghost use Rattle.bl_session.specs.store.Submissions.{piece_submissions, submissions_for_files};
-ghost use Rattle.bl_session.specs.internal.session.SessionPhases.{HasSmallFiles};
+ghost use Rattle.bl_session.specs.internal.attempt.MissingPieces.{HasCountablePieces};
 ghost use Rattle.bl_session.specs.internal.runs.RunParts.{AreSubmitted};
 
 use crate::attempt::missing_pieces::pieces_of;
@@ -48,8 +48,7 @@ pub fn submit_files<S: Store, A: Allocator>(
     stage: &Stage<A>,
 ) -> Result<(), AllocError>
     requires files { length stage.now.sizes ≡ length (files_of entry.now) }
-    requires few { length stage.now.sizes < 2 ^ 32 }
-    requires small { HasSmallFiles stage.now }
+    requires countable { HasCountablePieces stage.now }
     ensures asked { (bytes : List ℕ) → AreSubmitted result
         (submissions_for_files attempt 0 (files_of entry.now) (piece_states bytes stage.now))
         (S.given store.old) (S.given store.new) }

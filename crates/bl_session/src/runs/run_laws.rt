@@ -51,6 +51,5 @@ pub fn faithful_stores_boot_by_their_files()
         → IsGenuineRun facts files (λ _. None) [] new }
     ensures exact { (facts : BootFacts) (files : List File) (new : List HistoryItem) (end : State)
         → facts.sizes ≡ map size_of files → IsFaithful files new
-        → IsRun facts files [] new end → HasEnded end
-        → IsOutcome facts files (λ _. None) end }
+        → IsRun facts files [] new end → HasEnded end → IsOutcome facts files (λ _. None) end }
 {}

@@ -1,10 +1,6 @@
 //! The end of a boot, by its phase.
-ghost use Rattle.std.specs.Prelude.{◌≡◌, ℕ, List, IfOk, IfSome, option_map};
-ghost use Rattle.bl_map.specs.MachineFacts.{MachineFacts};
-ghost use Rattle.bl_session.specs.menu.Menu.{MenuFacts};
-ghost use Rattle.bl_session.specs.session.Phases.{phase_facts, end_facts, told_end, LiesWithin};
-ghost use Rattle.bl_session.specs.internal.session.SessionPhases.{IsPhaseKept};
-ghost use Rattle.bl_session.specs.runs.Run.{final_phase};
+ghost use Rattle.std.specs.Prelude.{◌≡◌};
+ghost use Rattle.bl_session.specs.internal.session.SessionPhases.{end_of, lent_end};
 
 use crate::session::outcome::{BootFault, Outcome};
 use crate::session::phase::Phase;
@@ -12,12 +8,7 @@ use std::alloc::Allocator;
 
 /// The end, if a phase is one.
 pub fn boot_end<A: Allocator>(phase: &Phase<A>) -> Option<Result<&Outcome<A>, &BootFault<A>>>
-    ensures end { (attempts : List ℕ)
-        → told_end result ≡ end_facts (phase_facts attempts phase.now) }
-    ensures inside { (machine : MachineFacts) → (menu : MenuFacts)
-        → IsPhaseKept machine menu phase.now
-        → IfSome result (λ end. IfOk end (λ outcome.
-        LiesWithin machine.size outcome.now.handoff)) }
+    ensures { lent_end result ≡ end_of phase.now }
 {
     match phase {
         Phase::HandedOver(outcome) => Some(Ok(outcome)),
@@ -29,11 +20,7 @@ pub fn boot_end<A: Allocator>(phase: &Phase<A>) -> Option<Result<&Outcome<A>, &B
 
 /// The end, if a phase is one, for good.
 pub fn into_boot_end<A: Allocator>(phase: Phase<A>) -> Option<Result<Outcome<A>, BootFault<A>>>
-    ensures end { (attempts : List ℕ)
-        → option_map final_phase result ≡ end_facts (phase_facts attempts phase) }
-    ensures inside { (machine : MachineFacts) → (menu : MenuFacts)
-        → IsPhaseKept machine menu phase
-        → IfSome result (λ end. IfOk end (λ outcome. LiesWithin machine.size outcome.handoff)) }
+    ensures { result ≡ end_of phase }
 {
     match phase {
         Phase::HandedOver(outcome) => Some(Ok(outcome)),

@@ -1,17 +1,13 @@
 //! A session takes an event.
-ghost use Rattle.std.specs.Prelude.{◌≡◌, ◌≢◌, ◌==◌, ℕ, List, true, false, MatchBool, length};
-ghost use Rattle.bl_mem.specs.Memory.{HasRoom, KeepsSizeAndRoom};
+ghost use Rattle.std.specs.Prelude.{◌≡◌, ◌≢◌, ◌==◌, ℕ, List, MatchBool, length};
+ghost use Rattle.bl_mem.specs.Memory.{KeepsSizeAndRoom};
 ghost use Rattle.bl_stage.specs.PieceStates.{piece_states};
-ghost use Rattle.bl_session.specs.session.BootSteps.{StepsToOrFails, piece, fault, is_wanted};
-ghost use Rattle.bl_session.specs.session.BootSteps.{is_taken, attempt_number};
-ghost use Rattle.bl_session.specs.session.BootSteps as boot_specs;
-ghost use Rattle.bl_session.specs.session.BootMemory.{IsMemoryAt};
-ghost use Rattle.bl_session.specs.session.Phases.{event_facts, phase_facts, is_waiting};
-ghost use Rattle.bl_session.specs.internal.session.SessionPhases.{facts_of_boot, state_in};
-ghost use Rattle.bl_session.specs.internal.session.SessionPhases.{IsPhaseKept, IsWaiting};
-ghost use Rattle.bl_session.specs.internal.session.SessionPhases.{LacksPiece};
+ghost use Rattle.bl_session.specs.session.BootSteps.{fault, is_wanted};
+ghost use Rattle.bl_session.specs.session.Phases.{event_facts};
+ghost use Rattle.bl_session.specs.declared.session.phase.Phase.TheVariants.{Waits};
+ghost use Rattle.bl_session.specs.internal.session.SessionPhases.{IsPhaseKept};
 ghost use Rattle.bl_session.specs.internal.session.BootCalls.{HasPoolRoom, TakesEventOn};
-ghost use Rattle.bl_session.specs.internal.session.BootCalls.{HasRoomWhileWaiting};
+ghost use Rattle.bl_session.specs.internal.session.BootCalls.{HasRoomWhileWaiting, HasTakenEvent};
 
 use crate::attempt::ticket::{Event, Ticket};
 use crate::session::falling_back::{continue_attempt, refuse};
@@ -56,8 +52,7 @@ fn take_in_attempt<M: PhysMem, A: Allocator + Copy>(
     running: &mut Running<A>,
     event: Event,
 ) -> Result<Option<Phase<A>>, AllocError>
-    requires waiting { IsWaiting boot.now.machine.now boot.now.menu.now running.old }
-    requires missing { LacksPiece running.old.stage }
+    requires kept { IsPhaseKept boot.now.machine.now boot.now.menu.now (Waits running.old) }
     requires memory { HasPoolRoom boot.now.machine.now (M.bytes memory.old) (M.room memory.old) }
     ensures taken { TakesEventOn boot.now (event_facts event.entry) running.old running.new
         (M.bytes memory.old) (M.bytes memory.new) result }
@@ -95,21 +90,8 @@ pub fn take_event<M: PhysMem, A: Allocator + Copy>(
     requires standing { IsPhaseKept boot.now.machine.now boot.now.menu.now phase.old }
     requires memory { HasRoomWhileWaiting boot.now phase.old
         (M.bytes memory.old) (M.room memory.old) }
-    ensures step { StepsToOrFails (facts_of_boot boot.now)
-        (state_in boot.now (M.bytes memory.old) phase.old) (event_facts event.entry)
-        (state_in boot.now (M.bytes memory.new) phase.new) }
-    ensures progress { result ≡ boot_specs.progress
-        (attempt_number (state_in boot.now (M.bytes memory.old) phase.old))
-        (state_in boot.now (M.bytes memory.new) phase.new) }
-    ensures memory { MatchBool
-        (is_taken (state_in boot.now (M.bytes memory.old) phase.old)
-        (event_facts event.entry))
-        (IsMemoryAt boot.now.machine.now.pool (state_in boot.now (M.bytes memory.new) phase.new)
-        (M.bytes memory.old) (M.bytes memory.new))
-        (M.bytes memory.new ≡ M.bytes memory.old) }
-    ensures unchanged { is_taken (state_in boot.now (M.bytes memory.old) phase.old)
-        (event_facts event.entry) ≡ false → phase.new ≡ phase.old }
-    ensures stands { IsPhaseKept boot.now.machine.now boot.now.menu.now phase.new }
+    ensures taken { HasTakenEvent boot.now (event_facts event.entry) phase.old phase.new
+        (M.bytes memory.old) (M.bytes memory.new) result }
     ensures kept { KeepsSizeAndRoom M.lender M.bytes M.room memory.old memory.new }
 {
     let attempt = number_of(phase);

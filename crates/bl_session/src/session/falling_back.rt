@@ -1,13 +1,11 @@
 //! Attempts, one after the other.
-ghost use Rattle.std.specs.Prelude.{◌≡◌, ◌<◌, ◌≤◌, ◌++◌, ◌∷◌, [], true, OnErr, length, drop};
+ghost use Rattle.std.specs.Prelude.{◌≡◌, ◌<◌, ◌≤◌, true, OnErr, length};
 ghost use Rattle.bl_mem.specs.Memory.{KeepsSizeAndRoom};
 ghost use Rattle.bl_stage.specs.PieceStates.{piece_states};
-ghost use Rattle.bl_session.specs.session.BootSteps.{Begins, Continues};
 ghost use Rattle.bl_session.specs.attempt.AwaitedPieces.{are_whole};
-ghost use Rattle.bl_session.specs.internal.session.SessionPhases.{facts_of_boot, phase_by};
-ghost use Rattle.bl_session.specs.internal.session.SessionPhases.{IsWaiting};
-ghost use Rattle.bl_session.specs.internal.session.BootCalls.{HasPoolRoom, LeadsToPhase, FallsBack};
-ghost use Rattle.bl_session.specs.internal.session.BootCalls.{GoesOnOrEnds};
+ghost use Rattle.bl_session.specs.internal.session.SessionPhases.{IsWaiting, phase_by};
+ghost use Rattle.bl_session.specs.internal.session.BootCalls.{HasPoolRoom, LeadsToPhase, BeginsAt};
+ghost use Rattle.bl_session.specs.internal.session.BootCalls.{FallsBack, GoesOnOrEnds};
 
 use crate::attempt::cursor::{Cursor, advanced};
 use crate::attempt::{Attempt, AttemptEnd, begin_attempt, finish_if_complete};
@@ -29,8 +27,7 @@ pub fn begin<M: PhysMem, A: Allocator + Copy>(
 ) -> Result<Phase<A>, AllocError>
     requires number { length earlier.items ≤ next }
     requires memory { HasPoolRoom boot.now.machine.now (M.bytes memory.old) (M.room memory.old) }
-    ensures phase { LeadsToPhase boot.now (Begins (facts_of_boot boot.now)
-        (drop next boot.now.menu.now.attempts) earlier.items) (λ phase. phase)
+    ensures phase { LeadsToPhase boot.now (BeginsAt boot.now next earlier.items) (λ phase. phase)
         (M.bytes memory.old) (M.bytes memory.new) result }
     ensures kept { KeepsSizeAndRoom M.lender M.bytes M.room memory.old memory.new }
 {

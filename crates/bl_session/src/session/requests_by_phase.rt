@@ -7,7 +7,7 @@ ghost use Rattle.bl_session.specs.internal.session.SessionPhases.{state_in};
 ghost use Rattle.bl_session.specs.session.Requests.{first_request, request_after};
 ghost use Rattle.bl_session.specs.internal.runs.RunParts.{AreSubmitted, first_awaited_ticket};
 
-use crate::attempt::cursor::{first_missing, missing_piece};
+use crate::attempt::cursor::first_missing;
 use crate::attempt::missing_pieces::{next_missing, request_of};
 use crate::attempt::ticket::{Request, Ticket};
 use crate::runs::attempt_submissions::submit_files;
@@ -93,7 +93,13 @@ impl<'a, A: Allocator + Copy> BootContext<'a, A> {
                 // For the proof: there are few attempts and files, so the numbers fit.
                 self.menu.attempts();
                 self.menu.entry(waiting.entry);
-                missing_piece(waiting.earlier.len() as u32, &waiting.stage, waiting.cursor)
+                // For the proof: each file has its frames.
+                waiting.stage.are_staged();
+                let attempt = waiting.earlier.len() as u32;
+                match first_missing(attempt, &waiting.stage, waiting.cursor) {
+                    Some(ticket) => ticket,
+                    None => unreachable!(),
+                }
             }
             Phase::Unstarted | Phase::HandedOver(_) | Phase::Failed(_) => unreachable!(),
         }

@@ -1,16 +1,9 @@
 //! A session starts: its first attempt begins.
-ghost use Rattle.std.specs.Prelude.{◌≡◌, ◌≢◌, [], true, OnOk};
-ghost use Rattle.std.specs.Prelude.{length};
-ghost use Rattle.bl_mem.specs.Memory.{HasRoom, KeepsSizeAndRoom};
-ghost use Rattle.bl_session.specs.session.BootSteps.{attempt_number, Begins};
-ghost use Rattle.bl_session.specs.session.BootSteps.{StartsOrFails};
-ghost use Rattle.bl_session.specs.session.BootSteps as boot_specs;
-ghost use Rattle.bl_session.specs.session.BootMemory.{IsMemoryAt};
-ghost use Rattle.bl_session.specs.session.Phases.{phase_facts};
-ghost use Rattle.bl_session.specs.session.Phases.{is_waiting, not_started};
-ghost use Rattle.bl_session.specs.internal.session.SessionPhases.{facts_of_boot, state_in};
+ghost use Rattle.std.specs.Prelude.{◌≡◌, [], OnOk, length};
+ghost use Rattle.bl_mem.specs.Memory.{KeepsSizeAndRoom};
 ghost use Rattle.bl_session.specs.internal.session.SessionPhases.{IsPhaseKept};
-ghost use Rattle.bl_session.specs.internal.session.BootCalls.{LeadsToPhase, HasStarted};
+ghost use Rattle.bl_session.specs.internal.session.BootCalls.{HasPoolRoom, BeginsAt, LeadsToPhase};
+ghost use Rattle.bl_session.specs.internal.session.BootCalls.{HasStarted};
 
 use crate::session::falling_back::begin;
 use crate::session::outcome::{BootFault, Progress};
@@ -26,8 +19,7 @@ fn reserve_pool<M: PhysMem, A: Allocator>(
 ) -> Result<(), AllocError>
     requires { length (M.bytes memory.old) ≡ machine.now.size }
     ensures same { M.bytes memory.new ≡ M.bytes memory.old }
-    ensures room { OnOk result
-        (HasRoom (M.room memory.new) machine.now.pool.start machine.now.pool.end) }
+    ensures room { OnOk result (HasPoolRoom machine.now (M.bytes memory.new) (M.room memory.new)) }
     ensures kept { KeepsSizeAndRoom M.lender M.bytes M.room memory.old memory.new }
 {
     let pool = machine.pool();
@@ -44,12 +36,10 @@ fn reserve_and_begin<M: PhysMem, A: Allocator + Copy>(
     memory: &mut M,
 ) -> Result<Phase<A>, AllocError>
     requires { length (M.bytes memory.old) ≡ boot.now.machine.now.size }
-    ensures phase { LeadsToPhase boot.now (Begins (facts_of_boot boot.now)
-        boot.now.menu.now.attempts []) (λ phase. phase)
+    ensures phase { LeadsToPhase boot.now (BeginsAt boot.now 0 []) (λ phase. phase)
         (M.bytes memory.old) (M.bytes memory.new) result }
     ensures room { OnOk result
-        (HasRoom (M.room memory.new)
-        boot.now.machine.now.pool.start boot.now.machine.now.pool.end) }
+        (HasPoolRoom boot.now.machine.now (M.bytes memory.new) (M.room memory.new)) }
     ensures kept { KeepsSizeAndRoom M.lender M.bytes M.room memory.old memory.new }
 {
     reserve_pool(boot.machine, memory)?;

@@ -99,8 +99,7 @@ impl<A: Allocator + Copy> Store for FileStore<A> {
     }
 
     fn next(&mut self) -> Result<Option<Completion<A>>, AllocError>
-        ensures answer { IfOk result (λ answer.
-            option_map event_of answer ≡ next_event self.old) }
+        ensures answer { IfOk result (λ answer. option_map event_of answer ≡ next_event self.old) }
         ensures ok { IfOk result (λ answer.
             self.new ≡ after_answer self.old (option_map event_of answer)) }
         ensures err { OnErr result (self.new ≡ self.old) }

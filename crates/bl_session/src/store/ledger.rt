@@ -162,8 +162,7 @@ impl<F: StoredFiles, A: Allocator + Copy> Ledger<F, A> {
         ensures given { IfOk result (λ answer. (item : HistoryItem)
             × IsItemOfAnswer self.old.files self.old.given answer item
             × (self.new.given ≡ self.old.given ++ item ∷ [])) }
-        ensures none { IfOk result (λ answer.
-            IsNone answer ↔ (length self.old.pending ≡ 0)) }
+        ensures none { IfOk result (λ answer. IsNone answer ↔ (length self.old.pending ≡ 0)) }
         ensures fewer { IfOk result (λ answer. IfSome answer (λ _.
             length self.new.pending + 1 ≡ length self.old.pending)) }
         ensures as_many { IfOk result (λ answer.

@@ -143,8 +143,7 @@ fn leave_out<A: Allocator>(
 ) -> Result<(), AllocError>
     requires run { index < vec_len runs.old }
     requires at { at < length (slice_index_or runs.old.items index []) }
-    ensures ok { OnOk result
-        (runs_listed runs.new.items ≡ listed_without runs.old.items index at) }
+    ensures ok { OnOk result (runs_listed runs.new.items ≡ listed_without runs.old.items index at) }
     ensures err { OnErr result (runs.new.items ≡ runs.old.items) }
     ensures first { at ≡ 0 → IsOk result }
     ensures last { at + 1 ≡ length (slice_index_or runs.old.items index []) → IsOk result }

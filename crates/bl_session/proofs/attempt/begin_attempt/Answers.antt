@@ -16,9 +16,9 @@ pub finish_if_complete-requires : goal.finish_if_complete-requires
 finish_if_complete-requires g c = record {
   limits = c.requires.limits;
   files = staged_lengths c.args.sizes.now (files_of c.args.entry.now) c.args.machine.now c.in-Ok.stage
-      c.in-Ok.ensures.fresh;
-  small = c.in-Ok.ensures.small;
-  pool = ap (λ (s : Staging). s.pool) c.in-Ok.ensures.fresh.1;
+      c.in-Ok.ensures.begun.fresh;
+  small = c.in-Ok.ensures.begun.small;
+  pool = ap (λ (s : Staging). s.pool) c.in-Ok.ensures.begun.fresh.1;
   size = c.requires.memory.size;
   room = c.requires.memory.room;
 }
@@ -41,7 +41,7 @@ returns-in_ok-end-in-Ok-clause-begun g c = record {
       let sizes =
       map (λ file. slice_index_or c.args.sizes.now file None) (files_of c.args.entry.now) in
       begun_staged c.args.machine.now (facts_of c.args.entry.now) sizes old new c.in-Ok.stage
-      c.attempt_with.result c.in-Ok.ensures.fits c.in-Ok.ensures.fresh
+      c.attempt_with.result c.in-Ok.ensures.begun.fits c.in-Ok.ensures.begun.fresh
       (rw c.attempt_with.ensures c.in_ok-end-in-Ok.ensures.ends.attempt));
   keeps = rw c.attempt_with.ensures c.in_ok-end-in-Ok.ensures.ends.keeps;
   memory = rw c.attempt_with.ensures c.in_ok-end-in-Ok.ensures.ends.memory;

@@ -1,6 +1,6 @@
 -- Where an attempt stands, and what memory holds then.
 use Rattle.std.specs.Prelude.{◌≡◌, ℕ, List, map, length, true, false, Option, None, Some}
-use Rattle.std.specs.Prelude.{MatchOption, Result, IfOk, OnErr, slice_index_or}
+use Rattle.std.specs.Prelude.{MatchOption, Result, IfOk, OnErr}
 use Rattle.std.specs.declared.ops.Range.{Range}
 use Rattle.bl_map.specs.MachineFacts.{MachineFacts}
 use Rattle.bl_mem.specs.Memory.{HasRoom}
@@ -22,6 +22,7 @@ use Rattle.bl_session.specs.menu.Menu.{EntryFacts, files_of, value_with}
 use Rattle.bl_session.specs.attempt.AwaitedPieces.{are_whole, waiting_files}
 use Rattle.bl_session.specs.session.Phases.{handover_held, LiesWithin}
 use Rattle.bl_session.specs.internal.session.SessionPhases.{HasSmallFiles, LacksPiece}
+use Rattle.bl_session.specs.internal.session.SessionPhases.{sizes_in}
 
 -- an attempt with this stage, unless it has ended
 abbrev pub attempt_with : {A : Type 0} → Staging → Option (AttemptEnd A) → Attempt A
@@ -103,7 +104,7 @@ pub record EndsOrWaits {A E : Type 0} (facts : MachineFacts) (entry : EntryFacts
 pub record BeginsOrEnds {A E : Type 0} (facts : MachineFacts) (entry : EntryFacts)
     (sizes : List (Option ℕ)) (old new : List ℕ) (result : Result (Attempt A) E) : Type 0 where
   pub begun : IfOk result
-      (IsAttemptBegun facts entry (map (λ file. slice_index_or sizes file None) entry.files) new)
+      (IsAttemptBegun facts entry (sizes_in sizes entry.files) new)
   pub keeps : IfOk result (KeepsAttempt facts (length entry.files))
   pub memory : IfOk result (IsMemoryAfterAttempt facts.pool old new)
   pub err : OnErr result (IsSameOutside facts.pool old new)

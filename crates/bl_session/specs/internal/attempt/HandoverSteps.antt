@@ -1,18 +1,16 @@
--- What the steps of a handover need and leave: a plan, way made for its parts, the parts in memory.
-use Rattle.std.specs.Prelude.{◌≡◌, ℕ, List, length, map}
-use Rattle.std.specs.declared.ops.Range.{Range}
+-- What the steps of a handover need and leave: whole files, a plan, its parts in memory.
+use Rattle.std.specs.Prelude.{◌≡◌, ◌<◌, ◌^◌, ℕ, List, length, map}
 use Rattle.bl_map.specs.MachineFacts.{MachineFacts}
-use Rattle.bl_map.specs.PoolFrames.{HasFramesFor}
 use Rattle.bl_mem.specs.Files.{AreAddressesBelow, AllApartFrom}
 use Rattle.bl_mem.specs.Memory.{HasRoom, AllHaveRoom}
 use Rattle.bl_plan.specs.Placed.{place_range}
-use Rattle.bl_stage.specs.Staged.{Staging, HasPool, IsStagedOn, staged_texts}
+use Rattle.bl_stage.specs.Staged.{Staging, AllCame, HasPool, IsStagedOn, staged_texts}
 use Rattle.bl_load.specs.MemoryAfter.{IsMemoryAfter}
 use Rattle.bl_load.specs.HandoffFacts.{HandoffFacts}
 use Rattle.bl_load.specs.Loadable.{lengths_of, IsLoadable}
 use Rattle.bl_load.specs.Parts.{IsHandover}
 use Rattle.bl_load.specs.PlanContents.{handover_by, handover_in, places_of}
-use Rattle.bl_load.specs.EntryValue.{value_of}
+use Rattle.bl_load.specs.EntryValue.{value_of, file_count, IsWithinLimits}
 use Rattle.bl_load.specs.declared.entry.Entry.{Entry}
 use Rattle.bl_load.specs.declared.plan.Plan.{Plan}
 
@@ -24,17 +22,16 @@ pub record IsPlanFor {A : Type 0} (facts : MachineFacts) (entry : Entry A) (text
   -- it can be loaded into memory of the machine's size
   pub loadable : IsLoadable (lengths_of texts) facts.size plan
 
--- way was made for these ranges among the files of a stage
-pub record HasMadeWay (old new : Staging) (ranges : List (Range ℕ)) (before after : List ℕ)
-    : Type 0 where
-  -- the pool has frames for the files beside the ranges
-  pub room : HasFramesFor old.pool ranges (staged_texts before old)
-  -- each file reads as before
-  pub texts : staged_texts after new ≡ staged_texts before old
-  -- the files lie in memory
-  pub held : AreAddressesBelow (λ a. IsStagedOn new a) (length after)
-  -- none lies in one of the ranges
-  pub beside : AllApartFrom (λ a. IsStagedOn new a) ranges
+-- the files of a stage are whole, lie in memory of these bytes, and can be counted in 32 bits
+pub record AreFilesWhole (bytes : List ℕ) (stage : Staging) : Type 0 where
+  pub few : length stage.sizes < 2 ^ 32
+  pub complete : AllCame stage
+  pub inside : HasPool bytes stage.pool
+
+-- a stage has a file for each of those of an entry, which is within its limits
+pub record HasFilesOf {A : Type 0} (entry : Entry A) (stage : Staging) : Type 0 where
+  pub files : length stage.sizes ≡ file_count entry
+  pub limits : IsWithinLimits entry
 
 -- a plan can be loaded out of the files of a stage, and the rest of the pool be cleared
 pub record CanHandOver {A : Type 0} (facts : MachineFacts) (stage : Staging) (plan : Plan A)

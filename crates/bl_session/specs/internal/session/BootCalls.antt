@@ -5,6 +5,7 @@ use Rattle.std.specs.Prelude.{Option, None, Result, Ok, IfOk, OnErr}
 use Rattle.bl_map.specs.MachineFacts.{MachineFacts}
 use Rattle.bl_mem.specs.Memory.{HasRoom}
 use Rattle.bl_load.specs.declared.refusal.Refusal.{Refusal}
+use Rattle.bl_load.specs.declared.refused_entry.RefusedEntry.{RefusedEntry}
 use Rattle.bl_stage.specs.Ranges.{IsSameOutside}
 use Rattle.bl_stage.specs.PieceStates.{piece_states}
 use Rattle.bl_session.specs.declared.session.phase.BootContext.{BootContext}
@@ -55,11 +56,15 @@ pub record TakesEventOn {A E : Type 0} (boot : BootContext A) (event : EventFact
       (λ ended. IsPhaseKept boot.machine.now boot.menu.now (phase_by next ended))
   pub err : OnErr result (IsSameOutside boot.machine.now.pool old new)
 
--- where a boot goes from an attempt that is refused for this: on with the next ones
+-- where a boot goes that begins the attempt of this number, after these refusals
+abbrev pub BeginsAt : {A : Type 0} → BootContext A → ℕ → List RefusedEntry → State → Type 0
+BeginsAt boot number earlier =
+    Begins (facts_of_boot boot) (drop number boot.menu.now.attempts) earlier
+
+-- where it goes from an attempt that is refused for this: on with the next ones
 abbrev pub FallsBack : {A : Type 0} → BootContext A → Running A → Refusal → State → Type 0
 FallsBack boot r refusal =
-    Begins (facts_of_boot boot) (drop r.next boot.menu.now.attempts)
-    (r.earlier.items ++ record { entry = r.entry; refusal = refusal } ∷ [])
+    BeginsAt boot r.next (r.earlier.items ++ record { entry = r.entry; refusal = refusal } ∷ [])
 
 -- where it goes from an attempt with the pieces that memory of these bytes holds: it runs on while
 -- one is missing, and else ends
@@ -88,4 +93,16 @@ pub record HasStarted {A : Type 0} (boot : BootContext A) (p q : Phase A) (old n
   pub room : phase_facts boot.menu.now.attempts p ≡ not_started
       → is_waiting (phase_facts boot.menu.now.attempts q) ≡ true
       → HasRoom has_room boot.machine.now.pool.start boot.machine.now.pool.end
+  pub stands : IsPhaseKept boot.machine.now boot.menu.now q
+
+-- a boot that stood at a phase took an event, and told how far it came. One that it does not wait
+-- for changes nothing
+pub record HasTakenEvent {A : Type 0} (boot : BootContext A) (event : EventFacts) (p q : Phase A)
+    (old new : List ℕ) (told : Progress) : Type 0 where
+  pub step : StepsToOrFails (facts_of_boot boot) (state_in boot old p) event (state_in boot new q)
+  pub progress : told ≡ steps.progress (attempt_number (state_in boot old p)) (state_in boot new q)
+  pub memory :
+      MatchBool (is_taken (state_in boot old p) event)
+      (IsMemoryAt boot.machine.now.pool (state_in boot new q) old new) (new ≡ old)
+  pub unchanged : is_taken (state_in boot old p) event ≡ false → q ≡ p
   pub stands : IsPhaseKept boot.machine.now boot.menu.now q

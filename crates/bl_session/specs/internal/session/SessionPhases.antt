@@ -1,17 +1,23 @@
 -- What a session keeps of its phase, and of the stage of an attempt that waits.
-use Rattle.std.specs.Prelude.{◌≡◌, ℕ, ◌<◌, ◌≤◌, List, length, All, Option, None, Some}
+use Rattle.std.specs.Prelude.{◌≡◌, ℕ, ◌<◌, ◌≤◌, List, length, All, Option, None, Some, Result}
+use Rattle.std.specs.Prelude.{map, slice_index_or}
+use Rattle.std.specs.Prelude.{Ok, Err}
+use Rattle.std.specs.Borrow.{Bor}
 use Rattle.bl_map.specs.MachineFacts.{MachineFacts}
 use Rattle.bl_load.specs.declared.refusal.PrepFault.{PrepFault}
 use Rattle.bl_load.specs.declared.refusal.PrepFault.TheVariants as prep_fault
-use Rattle.bl_stage.specs.Staged.{Staging, AllCame, empty_stage}
+use Rattle.bl_stage.specs.Staged.{Staging, AllCame, AreStaged, empty_stage}
 use Rattle.bl_stage.specs.Files.{file_limit}
+use Rattle.bl_session.specs.declared.session.outcome.Outcome.{Outcome}
+use Rattle.bl_session.specs.declared.session.outcome.BootFault.{BootFault}
 use Rattle.bl_session.specs.declared.session.phase.BootContext.{BootContext}
 use Rattle.bl_session.specs.declared.session.phase.Running.{Running}
 use Rattle.bl_session.specs.declared.session.phase.Phase.{Phase}
 use Rattle.bl_session.specs.declared.session.phase.Phase.TheVariants.{Unstarted, Waits, HandedOver}
 use Rattle.bl_session.specs.declared.session.phase.Phase.TheVariants.{Failed}
 use Rattle.bl_session.specs.attempt.AttemptResult.{file_refusal, size_refusal, known_lengths}
-use Rattle.bl_session.specs.menu.Menu.{MenuFacts, entry_at}
+use Rattle.bl_load.specs.declared.entry.Entry.{Entry}
+use Rattle.bl_session.specs.menu.Menu.{MenuFacts, entry_at, files_of}
 use Rattle.bl_session.specs.session.BootSteps.{BootFacts, State}
 use Rattle.bl_session.specs.internal.attempt.Cursors.{NoneMissingBelow}
 use Rattle.bl_session.specs.session.Phases.{state_at, running_facts, phase_facts, boot_facts}
@@ -22,6 +28,19 @@ running_state attempts bytes r = state_at bytes (running_facts attempts r)
 
 abbrev pub state_of : {A : Type 0} → (attempts bytes : List ℕ) → Phase A → State
 state_of attempts bytes phase = state_at bytes (phase_facts attempts phase)
+
+-- the sizes of the files of these indices
+abbrev pub sizes_in : List (Option ℕ) → List ℕ → List (Option ℕ)
+sizes_in sizes files = map (λ file. slice_index_or sizes file None) files
+
+-- the sizes of the files of an entry, by those of the menu's files
+abbrev pub sizes_for : {A : Type 0} → List (Option ℕ) → Entry A → List (Option ℕ)
+sizes_for sizes entry = sizes_in sizes (files_of entry)
+
+-- files of these sizes are there, none is too long, and these are their lengths
+pub record AreLengths (sizes : List (Option ℕ)) (lengths : List ℕ) : Type 0 where
+  pub taken : file_refusal 0 sizes ≡ None
+  pub known : lengths ≡ known_lengths sizes
 
 -- why files of these sizes are not taken, unless memory ran out
 abbrev pub IsFileRefusal : List (Option ℕ) → PrepFault → Type 0
@@ -38,6 +57,18 @@ abbrev pub IsFreshStage : MachineFacts → List (Option ℕ) → Staging → Typ
 IsFreshStage facts sizes stage =
     (frames : List ℕ) × (stage ≡ empty_stage facts.pool (known_lengths sizes) frames)
 
+-- each file has at most the most bytes
+pub record HasSmallFiles (stage : Staging) : Type 0 where
+  pub all : All (λ size. size ≤ file_limit) stage.sizes
+
+-- a stage was begun for files of these sizes, which don't refuse it
+pub record IsBegunStage (facts : MachineFacts) (sizes : List (Option ℕ)) (stage : Staging)
+    : Type 0 where
+  pub fresh : IsFreshStage facts sizes stage
+  pub fits : size_refusal facts sizes ≡ None
+  pub staged : AreStaged stage
+  pub small : HasSmallFiles stage
+
 abbrev pub facts_of_boot : {A : Type 0} → BootContext A → BootFacts
 facts_of_boot boot = boot_facts boot.machine.now boot.menu.now boot.sizes.now
 
@@ -52,10 +83,6 @@ running_in boot bytes r = running_state boot.menu.now.attempts bytes r
 abbrev pub phase_by : {A : Type 0} → Running A → Option (Phase A) → Phase A
 phase_by r None = Waits r
 phase_by r (Some phase) = phase
-
--- each file has at most the most bytes
-pub record HasSmallFiles (stage : Staging) : Type 0 where
-  pub all : All (λ size. size ≤ file_limit) stage.sizes
 
 -- a piece did not come
 pub record LacksPiece (stage : Staging) : Type 0 where
@@ -78,3 +105,17 @@ IsPhaseKept machine menu Unstarted = Unit {0}
 IsPhaseKept machine menu (Waits r) = IsWaiting machine menu r × LacksPiece r.stage
 IsPhaseKept machine menu (HandedOver outcome) = LiesWithin machine.size outcome.handoff
 IsPhaseKept machine menu (Failed why) = Unit {0}
+
+-- the end, if a phase is one
+abbrev pub end_of : {A : Type 0} → Phase A → Option (Result (Outcome A) (BootFault A))
+end_of Unstarted = None
+end_of (Waits r) = None
+end_of (HandedOver outcome) = Some (Ok outcome)
+end_of (Failed why) = Some (Err why)
+
+-- an end that is lent
+abbrev pub lent_end : {A : Type 0} → Option (Result (Bor (Outcome A)) (Bor (BootFault A)))
+    → Option (Result (Outcome A) (BootFault A))
+lent_end None = None
+lent_end (Some (Ok outcome)) = Some (Ok outcome.now)
+lent_end (Some (Err why)) = Some (Err why.now)

@@ -1,5 +1,3 @@
-use Rattle.std.proofs.Common.{arith}
-use Rattle.bl_session.proofs.menu_lemmas.MenuLemmas.{few_counted}
 use Rattle.std.proofs.Common.{List, ℕ, length, ap, sym, ◌∙◌}
 use Rattle.std.proofs.lemmas.List.{length-map}
 use Rattle.std.proofs.lemmas.List.FromFn.{length-map-range_with_len}
@@ -8,17 +6,14 @@ use Rattle.bl_session.proofs.attempt_lemmas.EarlyReturnLemmas.{no_value}
 use Rattle.bl_session.proofs.attempt_lemmas.FinishLemmas.{plan_for}
 use Rattle.bl_session.proofs.attempt.handing_over.prepare_staged.Goals as goal
 
-pub views_of-requires-clause-complete : goal.views_of-requires-clause-complete
-views_of-requires-clause-complete g c = c.requires.complete
-
-pub views_of-requires-clause-inside : goal.views_of-requires-clause-inside
-views_of-requires-clause-inside g c = c.requires.inside
+pub views_of-requires : goal.views_of-requires
+views_of-requires g c = c.requires.whole
 
 pub returns-in_err-views-clause-ok : goal.returns-in_err-views-clause-ok
 returns-in_err-views-clause-ok g c = no_value _ _ c.from_residual.result c.from_residual.ensures.1
 
 pub prepare-requires-clause-limits : goal.prepare-requires-clause-limits
-prepare-requires-clause-limits g c = c.requires.limits
+prepare-requires-clause-limits g c = c.requires.entry.limits
 
 pub returns-clause-ok : goal.returns-clause-ok
 returns-clause-ok g c =
@@ -37,13 +32,8 @@ prepare-requires-clause-files g c =
     ∙ ap (λ (texts : List (List ℕ)). length texts) c.in_ok-views.ensures
     ∙ length-map-range_with_len (λ file. staged_file (bytes c.args.memory.now) stage file) 0
     (length stage.sizes)
-    ∙ c.requires.files
+    ∙ c.requires.entry.files
 
 pub returns-clause-fault : goal.returns-clause-fault
 returns-clause-fault g c =
     rw (← c.in_ok-views.ensures, ← c.deref.ensures.value) c.prepare.ensures.fault
-
-pub views_of-requires-clause-few : goal.views_of-requires-clause-few
-views_of-requires-clause-few g c =
-    let few = few_counted c.args.entry.now c.requires.limits in
-    omega (arith, few, c.requires.files)

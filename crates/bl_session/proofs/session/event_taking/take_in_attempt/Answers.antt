@@ -17,7 +17,7 @@ use Rattle.bl_session.proofs.session.event_taking.take_in_attempt.Goals as goal
 pub continue_attempt-requires-clause-waiting : goal.continue_attempt-requires-clause-waiting
 continue_attempt-requires-clause-waiting g c =
     let w = c.args.running.now in
-    let waiting = c.requires.waiting in
+    let waiting = c.requires.kept.0 in
     let old = g.M.PhysMem.bytes c.args.memory.now in
     let mid = g.M.PhysMem.bytes c.put-answer.new.memory in
     let bytes = c.in-Piece.bytes.now in
@@ -42,7 +42,7 @@ continue_attempt-requires-clause-waiting g c =
     }
 
 pub put-answer-requires-clause-inside : goal.put-answer-requires-clause-inside
-put-answer-requires-clause-inside g c = rw c.requires.waiting.pool (λ some.
+put-answer-requires-clause-inside g c = rw c.requires.kept.0.pool (λ some.
     let end = pool_in_memory c.args.boot.now.machine.now c.pool.ensures.facts some in
     omega (arith, end, c.requires.memory.size))
 
@@ -79,7 +79,7 @@ returns-then-not-is_stored-clause-taken g c = rw c.in-Piece.is
           (λ (s : Staging).
           IsPhaseKept {A = g.row.A.Denot} c.args.boot.now.machine.now c.args.boot.now.menu.now
           (Waits (record w { stage = s }))) (sym same.0)
-          (c.requires.waiting, c.requires.missing));
+          (c.requires.kept.0, c.requires.kept.1));
       err = (tt);
     })
 

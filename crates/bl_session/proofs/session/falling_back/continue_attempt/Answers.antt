@@ -23,18 +23,18 @@ use Rattle.bl_session.proofs.attempt_lemmas.EarlyReturnLemmas.{on_error}
 use Rattle.bl_session.proofs.menu_lemmas.MenuLemmas.{few_files}
 use Rattle.bl_session.proofs.session.falling_back.continue_attempt.Goals as goal
 
-pub advanced-running-requires-clause-countable : goal.advanced-running-requires-clause-countable
-advanced-running-requires-clause-countable g c =
+pub advanced-running-requires : goal.advanced-running-requires
+advanced-running-requires g c =
     let same = c.in_ok-finish_if_complete.ensures.ends.same c.in-None.is in
     let few = few_files c.entry.result.now c.entry.ensures.limits in
     let files = c.requires.waiting.files in
     let entry = ap (λ (e : EntryFacts). length e.files) c.entry.ensures.entry in
     rw same
-    (record { few = omega (arith, few, files, entry); small = c.requires.waiting.small })
-
-pub advanced-running-requires-clause-below : goal.advanced-running-requires-clause-below
-advanced-running-requires-clause-below g c =
-    rw (c.in_ok-finish_if_complete.ensures.ends.same c.in-None.is) c.requires.waiting.below
+    (record {
+      countable =
+          record { few = omega (arith, few, files, entry); small = c.requires.waiting.small };
+      below = c.requires.waiting.below;
+    })
 
 pub returns-in-None-clause-phase : goal.returns-in-None-clause-phase
 returns-in-None-clause-phase g c = record {

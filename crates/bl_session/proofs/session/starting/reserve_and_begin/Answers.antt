@@ -1,4 +1,4 @@
-use Rattle.std.proofs.Common.{◌≡◌, ◌∙◌, List, [], ℕ, ap, rules, slice_index, subst}
+use Rattle.std.proofs.Common.{◌≡◌, List, [], ℕ, ap, rules, slice_index, subst}
 use Rattle.bl_load.specs.declared.refused_entry.RefusedEntry.{RefusedEntry}
 use Rattle.bl_session.specs.session.BootSteps.{Begins}
 use Rattle.bl_session.specs.internal.session.SessionPhases.{facts_of_boot}
@@ -12,10 +12,7 @@ returns-in_err-reserve_pool-clause-phase g c =
     (λ a out. ap (λ (bytes : List ℕ). slice_index bytes a) c.reserve_pool.ensures.same)
 
 pub begin-requires-clause-memory : goal.begin-requires-clause-memory
-begin-requires-clause-memory g c = record {
-  size = c.reserve_pool.ensures.kept.size ∙ c.requires;
-  room = c.in_ok-reserve_pool.ensures.room;
-}
+begin-requires-clause-memory g c = c.in_ok-reserve_pool.ensures.room
 
 pub returns-clause-phase : goal.returns-clause-phase
 returns-clause-phase g c =

@@ -7,11 +7,14 @@ use Rattle.bl_session.proofs.menu_lemmas.MenuLemmas.{few_files}
 use Rattle.bl_session.proofs.attempt_lemmas.RequestLemmas.{first_request_is}
 use Rattle.bl_session.proofs.session.phase.BootContext.missing.Goals as goal
 
-pub first_missing-found-requires-clause-countable : goal.first_missing-found-requires-clause-countable
-first_missing-found-requires-clause-countable g c =
+pub first_missing-found-requires : goal.first_missing-found-requires
+first_missing-found-requires g c =
     let few = few_files c.entry-entry.result.now c.entry-entry.ensures.limits in
     let stands = rw c.in-Waits.is at c.requires in
-    record { few = grind (arith, common_steps, few); small = stands.0.small }
+    record {
+      countable = record { few = grind (arith, common_steps, few); small = stands.0.small };
+      below = stands.0.below;
+    }
 
 pub returns-in-Waits : goal.returns-in-Waits
 returns-in-Waits g c = λ bytes.

@@ -23,7 +23,8 @@ returns-clause-asked g c =
     (ap (λ (e : EntryFacts). e.files) c.entry-entry.ensures.entry)
     c.submit_files.ensures.asked
 
-pub submit_files-requires-clause-few : goal.submit_files-requires-clause-few
-submit_files-requires-clause-few g c =
+pub submit_files-requires-clause-countable : goal.submit_files-requires-clause-countable
+submit_files-requires-clause-countable g c =
     let few = few_files c.entry-entry.result.now c.entry-entry.ensures.limits in
-    grind (arith, common_steps, few)
+    let stands = rw c.in-Waits.is at c.requires.standing in
+    record { few = grind (arith, common_steps, few); small = stands.0.small }
