@@ -8,3 +8,4 @@ pub mod RefusalWords
 pub mod HandoffLines
 pub mod DetailLines
 pub mod AttemptLines
+pub mod DigestLines

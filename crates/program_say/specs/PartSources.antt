@@ -1,5 +1,5 @@
 -- Where the bytes of a part come from, told in a line. Own.
-use Rattle.std.specs.Prelude.{ℕ, ◌+◌, ◌-◌, ◌&&◌, Bool, true, false, nat_le, nat_lt, List, []}
+use Rattle.std.specs.Prelude.{ℕ, ◌-◌, ◌&&◌, Bool, true, false, nat_le, nat_lt, List, []}
 use Rattle.std.specs.Prelude.{◌∷◌, ◌++◌, codes, decimal, if◌then◌else◌}
 use Rattle.std.specs.List.{filter}
 use Rattle.bl_plan.specs.declared.part.Place.{Place}

@@ -2,6 +2,8 @@
 
 mod attempts;
 mod bad_image;
+mod digests;
+mod fields;
 mod frames;
 mod hints;
 mod kernel_handoff;
@@ -18,6 +20,7 @@ mod walk;
 
 pub use attempts::{say_attempt, say_refused_attempts};
 pub use bad_image::say_bad_image;
+pub use digests::say_digests;
 pub use frames::say_handoff_frames;
 pub use hints::say_hints;
 pub use kernel_handoff::say_handoff;
