@@ -90,10 +90,11 @@ impl<A: Allocator> Digesting<A> {
         ensures { result
             ≡ wanted_after (ranges_of self.now.plan.steps) (length self.now.fed) }
     {
-        if self.range.length == 0 {
-            return None;
+        if self.range.length > 0 {
+            Some(self.range)
+        } else {
+            None
         }
-        Some(self.range)
     }
 
     /// Takes the next bytes of what is wanted: all of them, or fewer.

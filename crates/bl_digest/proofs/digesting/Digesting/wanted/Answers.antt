@@ -6,8 +6,8 @@ use Rattle.bl_digest.specs.internal.Filling.{plan_told}
 use Rattle.bl_digest.proofs.UnderWayLemmas.{wants_none, wants_some}
 use Rattle.bl_digest.proofs.digesting.Digesting.wanted.Goals as goal
 
-pub returns-then-self-eq0 : goal.returns-then-self-eq0
-returns-then-self-eq0 g c =
+pub returns-else-self-gt0 : goal.returns-else-self-gt0
+returns-else-self-gt0 g c =
     let i = c.self.inside in
     let plan = plan_told i.protocol i.registers i.hasher.places i.told.steps.items i.told.own in
     subst
@@ -16,10 +16,10 @@ returns-then-self-eq0 g c =
     c.self.view_is
     (sym
     (wants_none plan i.fed.bytes i.hasher.front i.hasher.taken i.range i.next c.self.invariant
-    c.if-self-eq0.true))
+    (omega (arith, c.if-self-gt0.false))))
 
-pub returns : goal.returns
-returns g c =
+pub returns-then-self-gt0 : goal.returns-then-self-gt0
+returns-then-self-gt0 g c =
     let i = c.self.inside in
     let plan = plan_told i.protocol i.registers i.hasher.places i.told.steps.items i.told.own in
     subst
@@ -29,4 +29,4 @@ returns g c =
     c.self.view_is
     (sym
     (wants_some plan i.fed.bytes i.hasher.front i.hasher.taken i.range i.next c.self.invariant
-    (omega (arith, c.if-self-eq0.false))))
+    c.if-self-gt0.true))
