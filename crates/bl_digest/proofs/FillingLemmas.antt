@@ -14,7 +14,7 @@ use Rattle.bl_load.specs.declared.step.StepSource.TheVariants.{File}
 use Rattle.bl_digest.specs.declared.file_range.FileRange.{FileRange}
 use Rattle.bl_digest.specs.Ranges.{ranges_of, source_ranges, range_behind, wanted_after}
 use Rattle.bl_digest.specs.internal.Filling.{filled, filled_behind, source_fill, fed_behind}
-use Rattle.bl_digest.specs.internal.Filling.{length_of_steps, GoesOn}
+use Rattle.bl_digest.specs.internal.Filling.{length_of_steps, TakesUpTo}
 use Rattle.bl_digest.specs.internal.Hashing.{HashedFacts}
 
 -- ---- what is wanted
@@ -115,7 +115,7 @@ stands_more own steps rest old new bytes step at fill behind none size = record 
 pub stops_at_file : (own : List ℕ) (steps rest : List Step) (old new : List ℕ) (step : Step)
     (file offset : ℕ) → step.source ≡ File file offset
     → StandsAt own steps (step ∷ rest) old new
-    → GoesOn own steps old new (record { file = file; offset = offset; length = step.length }) rest
+    → TakesUpTo own steps old new (record { file = file; offset = offset; length = step.length }) rest
 stops_at_file own steps rest old new step file offset is at = record {
   filling = λ more.
       at.filling more
@@ -135,7 +135,7 @@ stops_at_file own steps rest old new step file offset is at = record {
 
 -- behind the last step nothing is wanted
 pub stops_behind : (own : List ℕ) (steps rest : List Step) (old new : List ℕ) (range : FileRange)
-    → range.length ≡ 0 → StandsAt own steps rest old new → GoesOn own steps old new range rest
+    → range.length ≡ 0 → StandsAt own steps rest old new → TakesUpTo own steps old new range rest
 stops_behind own steps rest old new range none at = record {
   filling = λ more.
       at.filling more

@@ -10,7 +10,7 @@ use Rattle.sha2.specs.Sha256.{sha256}
 use Rattle.bl_plan.specs.declared.part.Place.{Place}
 use Rattle.bl_load.specs.HandoffFacts.{Ascends}
 use Rattle.bl_digest.specs.declared.part_digest.PartDigest.{PartDigest}
-use Rattle.bl_digest.specs.internal.Hashing.{total_of, first_length, part_digests, row_place}
+use Rattle.bl_digest.specs.internal.Hashing.{total_of, first_length, part_digests, told_place}
 use Rattle.bl_digest.specs.internal.Hashing.{IsInside, AreBegun, PartsFacts}
 
 -- ---- lengths
@@ -133,20 +133,20 @@ all_behind P (suc n) (x ∷ xs) h =
 
 module _ (rows : List PartDigest) (index : ℕ) (begun : List ℕ) (left room : ℕ) (taken : List ℕ)
     (is : AreBegun rows index begun left room taken) where
-  pub room_is : length taken + room ≡ total_of (map row_place rows)
+  pub room_is : length taken + room ≡ total_of (map told_place rows)
   room_is = is.count
 
   pub has_left : 1 ≤ room → 1 ≤ left
-  has_left some = left_some (drop index (map row_place rows)) begun left room is.inside some
+  has_left some = left_some (drop index (map told_place rows)) begun left room is.inside some
 
   pub left_short : left ≤ room
-  left_short = left_within (drop index (map row_place rows)) begun left room is.inside
+  left_short = left_within (drop index (map told_place rows)) begun left room is.inside
 
   pub has_row : 1 ≤ left → index < length rows
   has_row some =
       let there =
-      part_there (map row_place rows) index begun left room is.inside some in
-      omega (arith, there, length-map rows row_place)
+      part_there (map told_place rows) index begun left room is.inside some in
+      omega (arith, there, length-map rows told_place)
 
   -- a piece that does not end the part
   pub begun_more : (piece : List ℕ) → length piece < left
@@ -154,32 +154,32 @@ module _ (rows : List PartDigest) (index : ℕ) (begun : List ℕ) (left room : 
       (taken ++ piece)
   begun_more piece short =
       let within : left ≤ room = left_short in
-      let count : length taken + room ≡ total_of (map row_place rows) = is.count in
+      let count : length taken + room ≡ total_of (map told_place rows) = is.count in
       record {
         digests = λ more.
-            ap (part_digests (map row_place rows)) (append_assoc taken piece more)
+            ap (part_digests (map told_place rows)) (append_assoc taken piece more)
             ∙ is.digests (piece ++ more)
             ∙ ap
-            (λ (l : List ℕ). take index rows ++ part_digests (drop index (map row_place rows)) l)
+            (λ (l : List ℕ). take index rows ++ part_digests (drop index (map told_place rows)) l)
             (sym (append_assoc begun piece more));
         inside =
-            inside_more (drop index (map row_place rows)) begun piece left room is.inside short;
+            inside_more (drop index (map told_place rows)) begun piece left room is.inside short;
         filled = is.filled;
         count = omega (arith, length-append taken piece);
       }
 
   -- all was taken
-  pub all_begun : length taken ≡ total_of (map row_place rows)
-      → rows ≡ part_digests (map row_place rows) taken
+  pub all_begun : length taken ≡ total_of (map told_place rows)
+      → rows ≡ part_digests (map told_place rows) taken
   all_begun all =
-      let places : List Place = map row_place rows in
+      let places : List Place = map told_place rows in
       let none : room ≡ 0 = omega (arith, is.count) in
       let end =
       none_inside (drop index places) begun left
       (subst (IsInside (drop index places) begun left) none is.inside) in
       let count = ap length end.1 in
       let behind : length rows ≤ index =
-      omega (arith, length-map rows row_place, length-drop index places) in
+      omega (arith, length-map rows told_place, length-drop index places) in
       sym
       (ap (part_digests places) (sym (append-nil taken))
       ∙ is.digests []
@@ -191,21 +191,21 @@ module _ (rows : List PartDigest) (index : ℕ) (begun : List ℕ) (left room : 
   pub part_ended : (piece : List ℕ) (d row : PartDigest) → length piece ≡ left → 1 ≤ left
       → row.place ≡ (get_or rows index d).place → row.sha256 ≡ sha256 (begun ++ piece)
       → AreBegun (set rows index row) (index + 1) []
-      (first_length (drop (index + 1) (map row_place (set rows index row)))) (room - left)
+      (first_length (drop (index + 1) (map told_place (set rows index row)))) (room - left)
       (taken ++ piece)
   part_ended piece d row whole some placed hashed =
-      let places : List Place = map row_place rows in
+      let places : List Place = map told_place rows in
       let place : Place = (get_or rows index d).place in
       let rest : List Place = drop (index + 1) places in
       let inside : index < length rows = has_row some in
       let within : left ≤ room = left_short in
       let total : length taken + room ≡ total_of places = is.count in
-      let count = length-map rows row_place in
-      let same : places ≡ map row_place (set rows index row) =
-      sym (map-set_same row_place rows index row d placed) in
-      let at : get_or places index (row_place d) ≡ place = get_or-map row_place rows index d in
+      let count = length-map rows told_place in
+      let same : places ≡ map told_place (set rows index row) =
+      sym (map-set_same told_place rows index row d placed) in
+      let at : get_or places index (told_place d) ≡ place = get_or-map told_place rows index d in
       let next : drop index places ≡ place ∷ rest =
-      drop_more places index (row_place d) (omega arith)
+      drop_more places index (told_place d) (omega arith)
       ∙ ap (λ (p : Place). p ∷ rest) at in
       let here : IsInside (place ∷ rest) begun left room =
       subst (λ (l : List Place). IsInside l begun left room) next is.inside in
@@ -255,24 +255,24 @@ module _ (rows : List PartDigest) (index : ℕ) (begun : List ℕ) (left room : 
 
 -- before the first byte is taken
 pub begun_first : (rows : List PartDigest) (places : List Place) (begun taken : List ℕ)
-    (left room : ℕ) → map row_place rows ≡ places → begun ≡ [] → taken ≡ []
-    → left ≡ first_length (map row_place rows) → room ≡ total_of places
+    (left room : ℕ) → map told_place rows ≡ places → begun ≡ [] → taken ≡ []
+    → left ≡ first_length (map told_place rows) → room ≡ total_of places
     → All (λ p. 1 ≤ p.length) places → AreBegun rows 0 begun left room taken
 begun_first rows places begun taken left room are none_begun none_taken left_is room_is filled =
-    let all : All (λ p. 1 ≤ p.length) (map row_place rows) =
+    let all : All (λ p. 1 ≤ p.length) (map told_place rows) =
     subst (All (λ (p : Place). 1 ≤ p.length)) (sym are) filled in
-    let total : total_of (map row_place rows) ≡ total_of places = ap total_of are in
-    let inside : IsInside (map row_place rows) [] (first_length (map row_place rows))
-    (total_of (map row_place rows)) = inside_first (map row_place rows) all in
-    let here : IsInside (map row_place rows) [] left room =
-    subst (λ (n : ℕ). IsInside (map row_place rows) [] left n) (total ∙ sym room_is)
-    (subst (λ (n : ℕ). IsInside (map row_place rows) [] n (total_of (map row_place rows)))
+    let total : total_of (map told_place rows) ≡ total_of places = ap total_of are in
+    let inside : IsInside (map told_place rows) [] (first_length (map told_place rows))
+    (total_of (map told_place rows)) = inside_first (map told_place rows) all in
+    let here : IsInside (map told_place rows) [] left room =
+    subst (λ (n : ℕ). IsInside (map told_place rows) [] left n) (total ∙ sym room_is)
+    (subst (λ (n : ℕ). IsInside (map told_place rows) [] n (total_of (map told_place rows)))
     (sym left_is) inside) in
     record {
       digests = λ more.
-          ap (λ (l : List ℕ). part_digests (map row_place rows) (l ++ more)) none_taken
-          ∙ ap (λ (l : List ℕ). part_digests (map row_place rows) (l ++ more)) (sym none_begun);
-      inside = subst (λ (l : List ℕ). IsInside (map row_place rows) l left room) (sym none_begun) here;
+          ap (λ (l : List ℕ). part_digests (map told_place rows) (l ++ more)) none_taken
+          ∙ ap (λ (l : List ℕ). part_digests (map told_place rows) (l ++ more)) (sym none_begun);
+      inside = subst (λ (l : List ℕ). IsInside (map told_place rows) l left room) (sym none_begun) here;
       filled = all;
       count =
           let none : length taken ≡ 0 = ap length none_taken in omega arith;
@@ -284,7 +284,7 @@ pub part_ended_as : (rows rows' : List PartDigest) (index : ℕ) (begun begun' :
     → AreBegun rows index begun left room taken → 1 ≤ left → length piece ≡ left
     → rows' ≡ set rows index row → row.place ≡ (get_or rows index d).place
     → row.sha256 ≡ sha256 (begun ++ piece) → begun' ≡ []
-    → left' ≡ first_length (drop (index + 1) (map row_place rows')) → room' ≡ room - left
+    → left' ≡ first_length (drop (index + 1) (map told_place rows')) → room' ≡ room - left
     → taken' ≡ taken ++ piece → AreBegun rows' (index + 1) begun' left' room' taken'
 part_ended_as rows rows' index begun begun' left left' room room' taken taken' piece row d is some
     whole rows_are placed hashed begun_is left_is room_is taken_is =
@@ -294,24 +294,24 @@ part_ended_as rows rows' index begun begun' left left' room room' taken taken' p
 
 -- a row more
 pub rows_more : (places : List Place) (rows rows' : List PartDigest) (i : ℕ) (row : PartDigest)
-    → map row_place rows ≡ take i places → rows' ≡ rows ++ row ∷ []
+    → map told_place rows ≡ take i places → rows' ≡ rows ++ row ∷ []
     → row.place ≡ get_or places i row.place → i < length places
-    → map row_place rows' ≡ take (i + 1) places
+    → map told_place rows' ≡ take (i + 1) places
 rows_more places rows rows' i row are more is inside =
-    ap (map row_place) more
-    ∙ map-append row_place rows (row ∷ [])
+    ap (map told_place) more
+    ∙ map-append told_place rows (row ∷ [])
     ∙ ap (λ (l : List Place). l ++ row.place ∷ []) are
     ∙ ap (λ (p : Place). take i places ++ p ∷ []) is
     ∙ sym (take_more places i row.place inside)
 
 -- what a row is long, is how long the first of the places from it on is
 pub first_at : (rows : List PartDigest) (i : ℕ) (row : PartDigest) → i < length rows
-    → row ≡ get_or rows i row → row.place.length ≡ first_length (drop i (map row_place rows))
+    → row ≡ get_or rows i row → row.place.length ≡ first_length (drop i (map told_place rows))
 first_at rows i row inside is =
-    let count = length-map rows row_place in
+    let count = length-map rows told_place in
     sym
-    (ap first_length (drop_more (map row_place rows) i row.place (omega arith))
-    ∙ ap (λ (p : Place). p.length) (get_or-map row_place rows i row)
+    (ap first_length (drop_more (map told_place rows) i row.place (omega arith))
+    ∙ ap (λ (p : Place). p.length) (get_or-map told_place rows i row)
     ∙ ap (λ (r : PartDigest). r.place.length) (sym is))
 
 -- the next bytes of a piece

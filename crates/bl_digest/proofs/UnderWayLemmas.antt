@@ -30,8 +30,8 @@ use Rattle.bl_digest.specs.Ranges.{ranges_of, bytes_of_ranges, range_behind, wan
 use Rattle.bl_digest.specs.Ranges.{IsWithinWanted}
 use Rattle.bl_digest.specs.internal.Coming.{length_of_ranges}
 use Rattle.bl_digest.specs.internal.Filling.{filled, filled_behind, length_of_steps, IsFrontOf}
-use Rattle.bl_digest.specs.internal.Filling.{GoesOn, IsFed, IsUnderWay, TakesWhatIsThere, HasOwn}
-use Rattle.bl_digest.specs.internal.Filling.{plan_told}
+use Rattle.bl_digest.specs.internal.Filling.{TakesUpTo, IsFed, IsUnderWay, TakesWhatIsThere, HasOwn}
+use Rattle.bl_digest.specs.internal.Filling.{plan_kept}
 use Rattle.bl_digest.specs.internal.Hashing.{total_of, digests_along}
 use Rattle.bl_digest.proofs.FillingLemmas.{wanted_here, wanted_more, wanted_empty, filled_more}
 use Rattle.bl_digest.proofs.RangeLemmas.{none_wanted, filled_by_files}
@@ -49,7 +49,7 @@ range_begun range small =
 -- before the first byte comes
 pub fed_first : (plan : PlanInSteps) (front old taken : List ℕ) (range : FileRange) (next : ℕ)
     → IsFrontOf plan front → old ≡ []
-    → GoesOn plan.own plan.steps old taken range (drop next plan.steps)
+    → TakesUpTo plan.own plan.steps old taken range (drop next plan.steps)
     → length_of_steps plan.steps ≡ total_of plan.places
     → All (TakesWhatIsThere (length plan.own)) plan.steps
     → IsFed plan [] front taken range next
@@ -96,7 +96,7 @@ module _ (plan : PlanInSteps) (fed front taken : List ℕ) (range : FileRange) (
 
   -- the range came whole, and steps that read no file follow
   pub fed_on : (taken' : List ℕ) (range' : FileRange) (next' : ℕ) → range.length ≡ 0
-      → GoesOn plan.own (drop next plan.steps) taken taken' range' (drop next' plan.steps)
+      → TakesUpTo plan.own (drop next plan.steps) taken taken' range' (drop next' plan.steps)
       → IsFed plan fed front taken' range' next'
   fed_on taken' range' next' whole on =
       let rest : List Step = drop next plan.steps in
@@ -201,9 +201,9 @@ module _ (plan : PlanInSteps) (fed front taken : List ℕ) (range : FileRange) (
 pub under_way : (protocol : Protocol) (registers : Registers) (places places' : List Place)
     (steps : List Step) (own fed fed' front front' taken : List ℕ) (range : FileRange) (next : ℕ)
     → places' ≡ places → fed' ≡ fed → front' ≡ front
-    → IsFed (plan_told protocol registers places steps own) fed front taken range next
+    → IsFed (plan_kept protocol registers places steps own) fed front taken range next
     → range.offset < 2 ^ 64 → (range.length ≡ 0 → length steps ≤ next)
-    → IsUnderWay (plan_told protocol registers places' steps own) fed' front' taken range next
+    → IsUnderWay (plan_kept protocol registers places' steps own) fed' front' taken range next
 under_way protocol registers places places' steps own fed fed' front front' taken range next
     places_are fed_is front_is is small last =
     rw (places_are, fed_is, front_is) (record { is_fed = is; small = small; last = last })
@@ -238,11 +238,11 @@ takes_there lengths own size steps sound k d h =
 pub same_plan : {A : Type 0} (plan : Plan A) (places : List Place) (steps : List Step)
     (own : List ℕ) → places ≡ places_of plan → steps ≡ steps_from 0 plan.parts.items
     → own ≡ own_bytes plan.parts.items
-    → plan_told plan.protocol plan.registers places steps own ≡ plan_in_steps plan
+    → plan_kept plan.protocol plan.registers places steps own ≡ plan_in_steps plan
 same_plan plan places steps own places_are steps_are own_is =
-    ap (λ (l : List Place). plan_told plan.protocol plan.registers l steps own) places_are
-    ∙ ap (λ (l : List Step). plan_told plan.protocol plan.registers (places_of plan) l own) steps_are
+    ap (λ (l : List Place). plan_kept plan.protocol plan.registers l steps own) places_are
+    ∙ ap (λ (l : List Step). plan_kept plan.protocol plan.registers (places_of plan) l own) steps_are
     ∙ ap
     (λ (l : List ℕ).
-    plan_told plan.protocol plan.registers (places_of plan) (steps_from 0 plan.parts.items) l)
+    plan_kept plan.protocol plan.registers (places_of plan) (steps_from 0 plan.parts.items) l)
     own_is

@@ -10,9 +10,9 @@ use bl_load::{Plan, Protocol, Registers, Steps};
 use std::alloc::{AllocError, Allocator};
 use std::marker::Model;
 
-/// The digests of a plan's image under way. It says which range of which file it wants next, and is
-/// fed the bytes, in pieces of any length; what the plan has itself, and zeros, it takes on its own.
-/// It keeps of the plan what it needs, and no file. Memory of the machine's size is not needed.
+/// The digests of a plan's image under way. It says which range of which file it wants next, and
+/// is fed the bytes, in pieces of any length; what the plan has itself, and zeros, it takes on its
+/// own. It keeps of the plan what it needs, and no file. It needs no memory of the machine's size.
 #[derive(Drop)]
 pub struct Digesting<A: Allocator> {
     protocol: Protocol,
@@ -29,17 +29,17 @@ pub struct Digesting<A: Allocator> {
 
 impl<A: Allocator> Model for Digesting<A> {
     ghost use Rattle.bl_digest.specs.PlanInSteps.{PlanInSteps, DigestingFacts};
-    ghost use Rattle.bl_digest.specs.internal.Filling.{IsUnderWay, plan_told};
+    ghost use Rattle.bl_digest.specs.internal.Filling.{IsUnderWay, plan_kept};
 
     ghost Value = { DigestingFacts };
 
     ghost view = { λ d. record {
-      plan = plan_told d.protocol d.registers d.hasher.places d.told.steps.items d.told.own;
+      plan = plan_kept d.protocol d.registers d.hasher.places d.told.steps.items d.told.own;
       fed = d.fed.bytes;
     } };
 
     ghost invariant = { λ d. IsUnderWay
-        (plan_told d.protocol d.registers d.hasher.places d.told.steps.items d.told.own)
+        (plan_kept d.protocol d.registers d.hasher.places d.told.steps.items d.told.own)
         d.fed.bytes d.hasher.front d.hasher.taken d.range d.next };
 }
 

@@ -26,11 +26,11 @@ pub(crate) struct PartsHasher<A: Allocator> {
 
 impl<A: Allocator> Model for PartsHasher<A> {
     ghost use Rattle.std.specs.Prelude.{map};
-    ghost use Rattle.bl_digest.specs.internal.Hashing.{PartsFacts, row_place, AreBegun};
+    ghost use Rattle.bl_digest.specs.internal.Hashing.{PartsFacts, told_place, AreBegun};
 
     ghost Value = { PartsFacts };
 
-    ghost view = { λ h. record { places = map row_place h.rows.items; taken = h.taken.bytes } };
+    ghost view = { λ h. record { places = map told_place h.rows.items; taken = h.taken.bytes } };
 
     ghost invariant = { λ h.
         AreBegun h.rows.items h.index h.part h.left h.room h.taken.bytes };

@@ -58,8 +58,8 @@ fn feed_some<A: Allocator, V: ByteView>(
 }
 
 /// The digests of the image that is written for a plan, and of its parts, out of these files: it
-/// loads nothing. What the plan reads of a file is lent by the file's view, or else copied through a
-/// buffer of 16384 bytes on the stack; beside it memory is taken for the steps and a row for each
+/// loads nothing. What the plan reads of a file is lent by the file's view, or else copied through
+/// a buffer of 16384 bytes on the stack; beside it memory is taken for the steps and a row for each
 /// part. It fails only where that is refused.
 pub fn digest_plan<A: Allocator + Copy, B: Allocator, V: ByteView>(
     alloc: A,

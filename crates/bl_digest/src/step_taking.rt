@@ -1,6 +1,6 @@
 //! Takes the steps of a plan that read no file.
 ghost use Rattle.std.specs.Prelude.{◌≡◌, ◌+◌, ◌<◌, ◌≤◌, ◌^◌, ◌++◌, length, drop, replicate, All};
-ghost use Rattle.bl_digest.specs.internal.Filling.{GoesOn, TakesWhatIsThere, length_of_steps};
+ghost use Rattle.bl_digest.specs.internal.Filling.{TakesUpTo, TakesWhatIsThere, length_of_steps};
 ghost use Rattle.bl_digest.specs.internal.Hashing.{total_of};
 
 use crate::file_range::FileRange;
@@ -61,7 +61,7 @@ pub(crate) fn take_steps<A: Allocator>(
     requires room { length hasher.old.taken + length_of_steps (drop from told.now.steps.items)
         ≤ total_of hasher.old.places }
     requires held { All (TakesWhatIsThere (length told.now.own)) told.now.steps.items }
-    ensures goes_on { GoesOn told.now.own (drop from told.now.steps.items) hasher.old.taken
+    ensures goes_on { TakesUpTo told.now.own (drop from told.now.steps.items) hasher.old.taken
         hasher.new.taken result.range (drop result.next told.now.steps.items) }
     ensures small { result.range.offset < 2 ^ 64 }
     ensures last { result.range.length ≡ 0 → length told.now.steps.items ≤ result.next }

@@ -1,7 +1,7 @@
 -- What an image has before the bytes of its parts. Own.
 use Rattle.std.specs.Prelude.{ℕ, List, ◌++◌, length}
 use Rattle.std.specs.List.{flat_map}
-use Rattle.bl_load.specs.Handover.{Part, Handover}
+use Rattle.bl_load.specs.Handover.{Handover}
 use Rattle.bl_image.specs.declared.version.Version.{Version}
 use Rattle.bl_image.specs.Image.{head, part_record}
 

@@ -132,28 +132,28 @@ pub(crate) fn write_front<S: Sink, P: Places>(
 }
 
 /// Puts all that an image has before the bytes of its parts into the buffer, and says how many
-/// bytes that are: the head with this protocol and these registers, and the records of these places,
-/// which are a handoff's. No byte of a part is asked for.
+/// bytes that are: the head with this protocol and these registers, and the records of these
+/// places, which are a handoff's. No byte of a part is asked for.
 pub fn front_bytes<P: Places>(
-    buffer: &mut [u8],
+    out: &mut [u8],
     protocol: Protocol,
     registers: &Registers,
     places: &P,
 ) -> usize
-    requires room { MAX_FRONT ≤ length buffer.old }
+    requires room { MAX_FRONT ≤ length out.old }
     requires kept { IsWellFormedHandoff (record {
       protocol = protocol;
       registers = registers.now;
       places = P.places places.now;
     }) }
-    ensures within { result ≤ length buffer.new }
+    ensures within { result ≤ length out.new }
 
     // Whatever bytes the parts have, this stands before them.
     ensures front { (h : Handover) → handoff_of h ≡ record {
       protocol = protocol;
       registers = registers.now;
       places = P.places places.now;
-    } → take result buffer.new ≡ front_of written_version h }
+    } → take result out.new ≡ front_of written_version h }
 {
-    put_front(buffer, protocol, registers, places)
+    put_front(out, protocol, registers, places)
 }

@@ -55,8 +55,8 @@ abbrev pub TakesWhatIsThere : ℕ → Step → Type 0
 TakesWhatIsThere own step = (1 ≤ step.length) × HasOwn own step.source step.length
 
 -- a plan of these fields
-abbrev pub plan_told : Protocol → Registers → List Place → List Step → List ℕ → PlanInSteps
-plan_told protocol registers places steps own = record {
+abbrev pub plan_kept : Protocol → Registers → List Place → List Step → List ℕ → PlanInSteps
+plan_kept protocol registers places steps own = record {
   protocol = protocol;
   registers = registers;
   places = places;
@@ -76,7 +76,7 @@ IsFrontOf plan front = (h : Handover)
 
 -- from some step on: what was taken before, and what these bytes of a file and then the other steps
 -- still give, is what steps give; and so with what is wanted, and with lengths
-pub record GoesOn (own : List ℕ) (steps : List Step) (old new : List ℕ) (range : FileRange)
+pub record TakesUpTo (own : List ℕ) (steps : List Step) (old new : List ℕ) (range : FileRange)
     (rest : List Step) : Type 0 where
   pub filling : (more : List ℕ) → old ++ filled own steps more
       ≡ new ++ filled_behind own range.length rest more

@@ -46,8 +46,8 @@ digests_along h = record {
   parts = part_digests h.places h.taken;
 }
 
-abbrev pub row_place : PartDigest → Place
-row_place row = row.place
+abbrev pub told_place : PartDigest → Place
+told_place row = row.place
 
 -- of the first of these places these bytes were taken, so many are left of it, and so many of all
 abbrev pub IsInside : List Place → List ℕ → ℕ → ℕ → Type 0
@@ -59,11 +59,11 @@ IsInside (place ∷ places) begun left room =
 -- `begun` was taken of the part behind them
 pub record AreBegun (rows : List PartDigest) (index : ℕ) (begun : List ℕ) (left room : ℕ)
     (taken : List ℕ) : Type 0 where
-  pub digests : (more : List ℕ) → part_digests (map row_place rows) (taken ++ more)
-      ≡ take index rows ++ part_digests (drop index (map row_place rows)) (begun ++ more)
-  pub inside : IsInside (drop index (map row_place rows)) begun left room
-  pub filled : All (λ place. 1 ≤ place.length) (map row_place rows)
-  pub count : length taken + room ≡ total_of (map row_place rows)
+  pub digests : (more : List ℕ) → part_digests (map told_place rows) (taken ++ more)
+      ≡ take index rows ++ part_digests (drop index (map told_place rows)) (begun ++ more)
+  pub inside : IsInside (drop index (map told_place rows)) begun left room
+  pub filled : All (λ place. 1 ≤ place.length) (map told_place rows)
+  pub count : length taken + room ≡ total_of (map told_place rows)
 
 -- the image so far is its front and what was taken of its parts; front and lengths are told
 pub record IsHashed (before : List ℕ) (parts : PartsFacts) (image : List ℕ)

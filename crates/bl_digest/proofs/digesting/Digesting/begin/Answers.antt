@@ -1,7 +1,7 @@
 use Rattle.std.proofs.Common.{◌≡◌, length, ap, ◌∙◌, arith}
 use Rattle.bl_load.specs.PlanContents.{places_of}
 use Rattle.bl_digest.specs.PlanInSteps.{handover_in_steps}
-use Rattle.bl_digest.specs.internal.Filling.{length_of_steps, plan_told}
+use Rattle.bl_digest.specs.internal.Filling.{length_of_steps, plan_kept}
 use Rattle.bl_digest.specs.internal.Hashing.{total_of}
 use Rattle.bl_digest.proofs.StepBytesLemmas.{steps_hand_over}
 use Rattle.bl_digest.proofs.UnderWayLemmas.{steps_long, parts_long, takes_there, same_plan, fed_first}
@@ -36,7 +36,7 @@ invariant_of-result g c =
     c.in_ok-hasher.hasher.front new.front new.taken stop.range stop.next
     (c.take_steps-stop.ensures.same.1 ∙ c.in_ok-hasher.ensures.places) c.empty.ensures
     c.take_steps-stop.ensures.same.0
-    (fed_first (plan_told plan.protocol plan.registers places steps own)
+    (fed_first (plan_kept plan.protocol plan.registers places steps own)
     c.in_ok-hasher.hasher.front c.in_ok-hasher.hasher.taken new.taken stop.range stop.next
     c.in_ok-hasher.ensures.front c.in_ok-hasher.ensures.taken c.take_steps-stop.ensures.goes_on all
     (takes_there c.requires.0 (length own) c.requires.1 steps

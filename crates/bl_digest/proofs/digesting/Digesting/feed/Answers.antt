@@ -2,7 +2,7 @@ use Rattle.std.proofs.Common.{◌≡◌, ◌++◌, ℕ, List, length, drop, ap, 
 use Rattle.std.proofs.Common.{subst, arith}
 use Rattle.std.proofs.Math.Nat.{mod-lt}
 use Rattle.bl_digest.specs.Ranges.{range_behind}
-use Rattle.bl_digest.specs.internal.Filling.{plan_told, GoesOn}
+use Rattle.bl_digest.specs.internal.Filling.{plan_kept, TakesUpTo}
 use Rattle.bl_digest.specs.internal.Hashing.{HashedFacts, total_of}
 use Rattle.bl_digest.proofs.UnderWayLemmas.{is_within, has_room, fed_more, fed_on, under_way}
 use Rattle.bl_digest.proofs.digesting.Digesting.feed.Goals as goal
@@ -10,7 +10,7 @@ use Rattle.bl_digest.proofs.digesting.Digesting.feed.Goals as goal
 pub take-requires : goal.take-requires
 take-requires g c =
     let i = c.self.inside in
-    let plan = plan_told i.protocol i.registers i.hasher.places i.told.steps.items i.told.own in
+    let plan = plan_kept i.protocol i.registers i.hasher.places i.told.steps.items i.told.own in
     let within =
     is_within plan i.fed.bytes i.hasher.front i.hasher.taken i.range i.next c.self.invariant
     (length c.args.bytes.now) (rw (← c.self.view_is) at c.requires) in
@@ -20,14 +20,14 @@ take-requires g c =
 pub overflow_sub-self : goal.overflow_sub-self
 overflow_sub-self g c =
     let i = c.self.inside in
-    let plan = plan_told i.protocol i.registers i.hasher.places i.told.steps.items i.told.own in
+    let plan = plan_kept i.protocol i.registers i.hasher.places i.told.steps.items i.told.own in
     is_within plan i.fed.bytes i.hasher.front i.hasher.taken i.range i.next c.self.invariant
     (length c.args.bytes.now) (rw (← c.self.view_is) at c.requires)
 
 pub take_steps-stop-requires-clause-room : goal.take_steps-stop-requires-clause-room
 take_steps-stop-requires-clause-room g c =
     let i = c.self.inside in
-    let plan = plan_told i.protocol i.registers i.hasher.places i.told.steps.items i.told.own in
+    let plan = plan_kept i.protocol i.registers i.hasher.places i.told.steps.items i.told.own in
     let within =
     is_within plan i.fed.bytes i.hasher.front i.hasher.taken i.range i.next c.self.invariant
     (length c.args.bytes.now) (rw (← c.self.view_is) at c.requires) in
@@ -42,7 +42,7 @@ pub invariant_of-self : goal.invariant_of-self
 invariant_of-self g c =
     let i = c.self.inside in
     let bytes = c.args.bytes.now in
-    let plan = plan_told i.protocol i.registers i.hasher.places i.told.steps.items i.told.own in
+    let plan = plan_kept i.protocol i.registers i.hasher.places i.told.steps.items i.told.own in
     let new = c.take_steps-stop.new.hasher in
     let stop = c.take_steps-stop.result in
     let steps = i.told.steps.items in
@@ -58,7 +58,7 @@ invariant_of-self g c =
     let goes_on =
     subst
     (λ (l : List ℕ).
-    GoesOn i.told.own (drop i.next steps) l new.taken stop.range (drop stop.next steps))
+    TakesUpTo i.told.own (drop i.next steps) l new.taken stop.range (drop stop.next steps))
     taken c.take_steps-stop.ensures.goes_on in
     under_way i.protocol i.registers i.hasher.places new.places steps i.told.own
     (i.fed.bytes ++ bytes) c.with_part-self-inside.result.bytes i.hasher.front new.front new.taken
@@ -73,7 +73,7 @@ pub invariant_of-self-else-self-eq0 : goal.invariant_of-self-else-self-eq0
 invariant_of-self-else-self-eq0 g c =
     let i = c.self.inside in
     let bytes = c.args.bytes.now in
-    let plan = plan_told i.protocol i.registers i.hasher.places i.told.steps.items i.told.own in
+    let plan = plan_kept i.protocol i.registers i.hasher.places i.told.steps.items i.told.own in
     let new = c.take.new.self in
     let within =
     is_within plan i.fed.bytes i.hasher.front i.hasher.taken i.range i.next c.self.invariant

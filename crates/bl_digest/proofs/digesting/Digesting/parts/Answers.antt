@@ -3,21 +3,21 @@ use Rattle.bl_digest.specs.Digests.{digests_of}
 use Rattle.bl_digest.specs.DigestsFacts.{DigestsFacts}
 use Rattle.bl_digest.specs.PlanInSteps.{DigestingFacts, handover_in_steps}
 use Rattle.bl_digest.specs.Ranges.{ranges_of, bytes_of_ranges}
-use Rattle.bl_digest.specs.internal.Filling.{plan_told}
+use Rattle.bl_digest.specs.internal.Filling.{plan_kept}
 use Rattle.bl_digest.proofs.UnderWayLemmas.{all_taken, fed_digests}
 use Rattle.bl_digest.proofs.digesting.Digesting.parts.Goals as goal
 
 pub rows-requires : goal.rows-requires
 rows-requires g c =
     let i = c.self.inside in
-    let plan = plan_told i.protocol i.registers i.hasher.places i.told.steps.items i.told.own in
+    let plan = plan_kept i.protocol i.registers i.hasher.places i.told.steps.items i.told.own in
     all_taken plan i.fed.bytes i.hasher.front i.hasher.taken i.range i.next c.self.invariant
     (rw (← c.self.view_is) at c.requires)
 
 pub returns : goal.returns
 returns g c =
     let i = c.self.inside in
-    let plan = plan_told i.protocol i.registers i.hasher.places i.told.steps.items i.told.own in
+    let plan = plan_kept i.protocol i.registers i.hasher.places i.told.steps.items i.told.own in
     let ended = rw (← c.self.view_is) at c.requires in
     subst
     (λ (f : DigestingFacts).

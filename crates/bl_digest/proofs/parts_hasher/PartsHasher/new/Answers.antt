@@ -1,7 +1,7 @@
 use Rattle.std.proofs.Common.{◌≡◌, ◌<◌, List, length, take, map, ap, ◌∙◌, arith}
 use Rattle.std.proofs.lemmas.List.{take_all}
 use Rattle.bl_plan.specs.declared.part.Place.{Place}
-use Rattle.bl_digest.specs.internal.Hashing.{row_place, total_of, first_length}
+use Rattle.bl_digest.specs.internal.Hashing.{told_place, total_of, first_length}
 use Rattle.bl_digest.proofs.HashingLemmas.{total_upto, total_more, rows_more, begun_first}
 use Rattle.bl_digest.proofs.parts_hasher.PartsHasher.new.Goals as goal
 
@@ -35,5 +35,5 @@ invariant_of-result g c =
     c.length_at-left.result c.loop-i.room (c.loop-i.invariant.rows ∙ all) c.new.ensures
     c.empty.ensures
     (c.length_at-left.ensures
-    ∙ ap (λ (l : List _). first_length (map row_place l)) c.as_slice.ensures.value)
+    ∙ ap (λ (l : List _). first_length (map told_place l)) c.as_slice.ensures.value)
     (c.loop-i.invariant.room ∙ ap total_of all) c.requires.filled

@@ -3,7 +3,7 @@ use Rattle.std.proofs.Common.{◌∙◌, refl, arith, length-take}
 use Rattle.std.proofs.Math.Seq.{map-set_same}
 use Rattle.sha2.specs.Sha256.{sha256}
 use Rattle.bl_digest.specs.declared.part_digest.PartDigest.{PartDigest}
-use Rattle.bl_digest.specs.internal.Hashing.{PartsFacts, row_place, first_length}
+use Rattle.bl_digest.specs.internal.Hashing.{PartsFacts, told_place, first_length}
 use Rattle.bl_digest.proofs.HashingLemmas.{part_ended_as, has_left, same_facts}
 use Rattle.bl_digest.proofs.parts_hasher.PartsHasher.take_some.Goals as goal
 
@@ -24,7 +24,7 @@ invariant_of-self g c =
     (c.end_and_begin.ensures.digest ∙ ap sha256 c.give.ensures)
     c.end_and_begin.ensures.empty
     (c.length_at-self-inside.ensures
-    ∙ ap (λ (l : List PartDigest). first_length (drop (i.index + 1) (map row_place l)))
+    ∙ ap (λ (l : List PartDigest). first_length (drop (i.index + 1) (map told_place l)))
     c.as_slice.ensures.value)
     (omega (arith, c.min-count.ensures, c.if-self-eq0.true)) c.with_part-self-inside.ensures
 
@@ -32,7 +32,7 @@ pub returns-then-self-eq0-clause-taken : goal.returns-then-self-eq0-clause-taken
 returns-then-self-eq0-clause-taken g c =
     let i = c.self.inside in
     same_facts _ _ _ _
-    (map-set_same row_place i.rows.items i.index _ c.index_mut.result.now
+    (map-set_same told_place i.rows.items i.index _ c.index_mut.result.now
     (ap (λ (r : PartDigest). r.place) c.index_mut.ensures.value)
     ∙ ap (λ (f : PartsFacts). f.places) c.self.view_is)
     (c.with_part-self-inside.ensures
