@@ -1,7 +1,7 @@
 -- The lines that tell digests: of an image, of its head with the records, and of each part. Own.
--- A word stands in a field as `printf` puts it there (POSIX.1-2017, Base Definitions, 5 "File Format
--- Notation": the field width): blanks fill the field up to its width, and a longer word stands
--- whole.
+-- A word stands in a field as `printf` puts it there (POSIX.1-2017, Base Definitions, 5 "File
+-- Format Notation": the field width): blanks fill the field up to its width, and a longer word
+-- stands whole.
 use Rattle.std.specs.Prelude.{ℕ, ◌-◌, List, ◌++◌, length, replicate, codes, decimal}
 use Rattle.std.specs.List.{flat_map}
 use Rattle.hex.specs.Hex.{encode_lower}

@@ -44,8 +44,8 @@ pub record ArePutBesideFiles {M F : Type 0} (lender_in : M → ℕ) (bytes_in : 
   pub texts : texts_in files (bytes_in new) ≡ texts_in files (bytes_in old)
   pub kept : KeepsSizeAndRoom lender_in bytes_in room_in old new
 
--- memory has so many bytes of a file, those from `offset` on, from `at` on, and is else the same, and
--- each file reads as before
+-- memory has so many bytes of a file, those from `offset` on, from `at` on, and is else the same,
+-- and each file reads as before
 abbrev pub IsCopiedBesideFiles : {M F : Type 0} → (lender_in : M → ℕ) → (bytes_in : M → List ℕ)
     → (room_in : M → ℕ → Type 0) → (texts_in : F → List ℕ → List (List ℕ)) → (files : F)
     → (old new : M) → (at number offset count : ℕ) → Type 0

@@ -9,7 +9,7 @@ use Rattle.bl_session.specs.declared.session.outcome.Outcome.{Outcome}
 use Rattle.bl_session.specs.declared.session.phase.Phase.{Phase}
 use Rattle.bl_session.specs.declared.session.phase.Phase.TheVariants.{Unstarted, Waits, HandedOver}
 use Rattle.bl_session.specs.declared.session.phase.Phase.TheVariants.{Failed}
-use Rattle.bl_session.specs.internal.session.SessionPhases.{IsPhaseKept, end_of, lent_end}
+use Rattle.bl_session.specs.internal.session.SessionPhases.{IsPhaseKept, end_in, lent_end}
 use Rattle.bl_session.specs.menu.Menu.{MenuFacts}
 use Rattle.bl_session.specs.runs.Run.{final_phase}
 use Rattle.bl_session.specs.session.Phases.{PhaseFacts, not_started, waits, hands_over, has_none}
@@ -42,7 +42,7 @@ ended_with phase told end started ended is some =
 -- ---- the end of a phase
 
 end_is : {A : Type 0} (attempts : List ℕ) (phase : Phase A)
-    → option_map final_phase (end_of phase) ≡ end_facts (phase_facts attempts phase)
+    → option_map final_phase (end_in phase) ≡ end_facts (phase_facts attempts phase)
 end_is attempts Unstarted = refl
 end_is attempts (Waits r) = refl
 end_is attempts (HandedOver outcome) = refl
@@ -50,7 +50,7 @@ end_is attempts (Failed (NoEntryLeft refused)) = refl
 end_is attempts (Failed NoMemory) = refl
 
 pub end_told : {A : Type 0} (attempts : List ℕ) (phase : Phase A)
-    (end : Option (Result (Outcome A) (BootFault A))) → end ≡ end_of phase
+    (end : Option (Result (Outcome A) (BootFault A))) → end ≡ end_in phase
     → option_map final_phase end ≡ end_facts (phase_facts attempts phase)
 end_told attempts phase end is = ap (option_map final_phase) is ∙ end_is attempts phase
 
@@ -61,7 +61,7 @@ lent_is (Some (Ok outcome)) = refl
 lent_is (Some (Err why)) = refl
 
 pub lent_told : {A : Type 0} (attempts : List ℕ) (phase : Phase A)
-    (lent : Option (Result (Bor (Outcome A)) (Bor (BootFault A)))) → lent_end lent ≡ end_of phase
+    (lent : Option (Result (Bor (Outcome A)) (Bor (BootFault A)))) → lent_end lent ≡ end_in phase
     → told_end lent ≡ end_facts (phase_facts attempts phase)
 lent_told attempts phase lent is = lent_is lent ∙ end_told attempts phase (lent_end lent) is
 
@@ -69,7 +69,7 @@ lent_told attempts phase lent is = lent_is lent ∙ end_told attempts phase (len
 
 end_within : {A : Type 0} (machine : MachineFacts) (menu : MenuFacts) (phase : Phase A)
     → IsPhaseKept machine menu phase
-    → IfSome (end_of phase) (λ end. IfOk end (λ outcome. LiesWithin machine.size outcome.handoff))
+    → IfSome (end_in phase) (λ end. IfOk end (λ outcome. LiesWithin machine.size outcome.handoff))
 end_within machine menu Unstarted kept = tt
 end_within machine menu (Waits r) kept = tt
 end_within machine menu (HandedOver outcome) kept = kept
@@ -77,7 +77,7 @@ end_within machine menu (Failed why) kept = tt
 
 pub told_within : {A : Type 0} (machine : MachineFacts) (menu : MenuFacts) (phase : Phase A)
     (end : Option (Result (Outcome A) (BootFault A))) → IsPhaseKept machine menu phase
-    → end ≡ end_of phase
+    → end ≡ end_in phase
     → IfSome end (λ end. IfOk end (λ outcome. LiesWithin machine.size outcome.handoff))
 told_within machine menu phase end kept is = rw is (end_within machine menu phase kept)
 
@@ -91,7 +91,7 @@ lent_also size (Some (Err why)) within = tt
 
 pub lent_within : {A : Type 0} (machine : MachineFacts) (menu : MenuFacts) (phase : Phase A)
     (lent : Option (Result (Bor (Outcome A)) (Bor (BootFault A))))
-    → IsPhaseKept machine menu phase → lent_end lent ≡ end_of phase
+    → IsPhaseKept machine menu phase → lent_end lent ≡ end_in phase
     → IfSome lent (λ end. IfOk end (λ outcome. LiesWithin machine.size outcome.now.handoff))
 lent_within machine menu phase lent kept is =
     lent_also machine.size lent (told_within machine menu phase (lent_end lent) kept is)

@@ -4,7 +4,7 @@ ghost use Rattle.bl_mem.specs.Memory.{KeepsSizeAndRoom};
 ghost use Rattle.bl_stage.specs.PieceStates.{piece_states};
 ghost use Rattle.bl_session.specs.attempt.AwaitedPieces.{are_whole};
 ghost use Rattle.bl_session.specs.internal.session.SessionPhases.{IsWaiting, phase_by};
-ghost use Rattle.bl_session.specs.internal.session.BootCalls.{HasPoolRoom, LeadsToPhase, BeginsAt};
+ghost use Rattle.bl_session.specs.internal.session.BootCalls.{HasPoolRoom, LeadsToPhase, GoesFrom};
 ghost use Rattle.bl_session.specs.internal.session.BootCalls.{FallsBack, GoesOnOrEnds};
 
 use crate::attempt::cursor::{Cursor, advanced};
@@ -27,7 +27,7 @@ pub fn begin<M: PhysMem, A: Allocator + Copy>(
 ) -> Result<Phase<A>, AllocError>
     requires number { length earlier.items ≤ next }
     requires memory { HasPoolRoom boot.now.machine.now (M.bytes memory.old) (M.room memory.old) }
-    ensures phase { LeadsToPhase boot.now (BeginsAt boot.now next earlier.items) (λ phase. phase)
+    ensures phase { LeadsToPhase boot.now (GoesFrom boot.now next earlier.items) (λ phase. phase)
         (M.bytes memory.old) (M.bytes memory.new) result }
     ensures kept { KeepsSizeAndRoom M.lender M.bytes M.room memory.old memory.new }
 {

@@ -2,7 +2,7 @@
 ghost use Rattle.std.specs.Prelude.{◌≡◌, [], OnOk, length};
 ghost use Rattle.bl_mem.specs.Memory.{KeepsSizeAndRoom};
 ghost use Rattle.bl_session.specs.internal.session.SessionPhases.{IsPhaseKept};
-ghost use Rattle.bl_session.specs.internal.session.BootCalls.{HasPoolRoom, BeginsAt, LeadsToPhase};
+ghost use Rattle.bl_session.specs.internal.session.BootCalls.{HasPoolRoom, GoesFrom, LeadsToPhase};
 ghost use Rattle.bl_session.specs.internal.session.BootCalls.{HasStarted};
 
 use crate::session::falling_back::begin;
@@ -36,7 +36,7 @@ fn reserve_and_begin<M: PhysMem, A: Allocator + Copy>(
     memory: &mut M,
 ) -> Result<Phase<A>, AllocError>
     requires { length (M.bytes memory.old) ≡ boot.now.machine.now.size }
-    ensures phase { LeadsToPhase boot.now (BeginsAt boot.now 0 []) (λ phase. phase)
+    ensures phase { LeadsToPhase boot.now (GoesFrom boot.now 0 []) (λ phase. phase)
         (M.bytes memory.old) (M.bytes memory.new) result }
     ensures room { OnOk result
         (HasPoolRoom boot.now.machine.now (M.bytes memory.new) (M.room memory.new)) }

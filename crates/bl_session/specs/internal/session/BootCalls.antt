@@ -57,14 +57,14 @@ pub record TakesEventOn {A E : Type 0} (boot : BootContext A) (event : EventFact
   pub err : OnErr result (IsSameOutside boot.machine.now.pool old new)
 
 -- where a boot goes that begins the attempt of this number, after these refusals
-abbrev pub BeginsAt : {A : Type 0} → BootContext A → ℕ → List RefusedEntry → State → Type 0
-BeginsAt boot number earlier =
+abbrev pub GoesFrom : {A : Type 0} → BootContext A → ℕ → List RefusedEntry → State → Type 0
+GoesFrom boot number earlier =
     Begins (facts_of_boot boot) (drop number boot.menu.now.attempts) earlier
 
 -- where it goes from an attempt that is refused for this: on with the next ones
 abbrev pub FallsBack : {A : Type 0} → BootContext A → Running A → Refusal → State → Type 0
 FallsBack boot r refusal =
-    BeginsAt boot r.next (r.earlier.items ++ record { entry = r.entry; refusal = refusal } ∷ [])
+    GoesFrom boot r.next (r.earlier.items ++ record { entry = r.entry; refusal = refusal } ∷ [])
 
 -- where it goes from an attempt with the pieces that memory of these bytes holds: it runs on while
 -- one is missing, and else ends

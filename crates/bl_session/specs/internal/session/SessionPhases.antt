@@ -107,11 +107,11 @@ IsPhaseKept machine menu (HandedOver outcome) = LiesWithin machine.size outcome.
 IsPhaseKept machine menu (Failed why) = Unit {0}
 
 -- the end, if a phase is one
-abbrev pub end_of : {A : Type 0} → Phase A → Option (Result (Outcome A) (BootFault A))
-end_of Unstarted = None
-end_of (Waits r) = None
-end_of (HandedOver outcome) = Some (Ok outcome)
-end_of (Failed why) = Some (Err why)
+abbrev pub end_in : {A : Type 0} → Phase A → Option (Result (Outcome A) (BootFault A))
+end_in Unstarted = None
+end_in (Waits r) = None
+end_in (HandedOver outcome) = Some (Ok outcome)
+end_in (Failed why) = Some (Err why)
 
 -- an end that is lent
 abbrev pub lent_end : {A : Type 0} → Option (Result (Bor (Outcome A)) (Bor (BootFault A)))
