@@ -2,7 +2,7 @@
 ghost use Rattle.std.specs.Prelude.{◌≡◌, ℕ, List, [], ◌++◌};
 ghost use Rattle.std.specs.Borrow.{ftrue};
 
-use std::marker::Model;
+use std::marker::{Model, Send};
 
 /// A message, as contracts see it: nothing of it is there as the program runs. What it says is tied
 /// to other fields by the struct that has it.
@@ -14,6 +14,9 @@ pub(crate) struct Message {
 impl Model for Message {
     ghost also_owns = { λ _. ftrue };
 }
+
+// It owns nothing.
+unsafe impl Send for Message {}
 
 impl Message {
     /// The empty message.

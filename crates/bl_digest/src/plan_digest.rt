@@ -59,8 +59,8 @@ fn feed_some<A: Allocator, V: ByteView>(
 
 /// The digests of the image that is written for a plan, and of its parts, out of these files: it
 /// loads nothing. What the plan reads of a file is lent by the file's view, or else copied through
-/// a buffer of 16384 bytes on the stack; beside it memory is taken for the steps and a row for each
-/// part. It fails only where that is refused.
+/// a buffer of 16384 bytes. Memory is taken for that, for the steps and for a row for each part. It
+/// fails only where that is refused.
 pub fn digest_plan<A: Allocator + Copy, B: Allocator, V: ByteView>(
     alloc: A,
     plan: &Plan<B>,
@@ -71,7 +71,7 @@ pub fn digest_plan<A: Allocator + Copy, B: Allocator, V: ByteView>(
         (λ d. d ≡ digests_of (handover_by (map V.bytes files.now) plan.now)) }
 {
     let mut digesting = Digesting::begin(alloc, plan)?;
-    let mut buffer = [0u8; MAX_COPIED];
+    let mut buffer = Vec::from_elem(alloc, 0u8, MAX_COPIED)?;
     while let Some(range) = digesting.wanted() {
         feed_some(&mut digesting, files, range, &mut buffer);
     }

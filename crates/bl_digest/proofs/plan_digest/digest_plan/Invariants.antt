@@ -11,7 +11,7 @@ invariant-loop-range g l = record {
   plan : l.digesting.plan ≡ plan_in_steps l.plan;
   first : AreFirstOf (map g.V.ByteView.bytes l.files) (ranges_of l.digesting.plan.steps)
       l.digesting.fed;
-  room : length l.buffer ≡ 16384;
+  room : length l.buffer.items ≡ 16384;
 }
 
 abbrev pub decreases-loop-range : goal.decreases-loop-range
