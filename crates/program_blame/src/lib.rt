@@ -5,8 +5,5 @@ mod formatted;
 mod lines;
 mod subjects;
 
-pub use lines::{
-    say_address, say_blame, say_line_end, say_machine_blame, say_name, say_number_in_brackets,
-    say_region_hints, say_unusable,
-};
+pub use lines::{say_address, say_blame, say_name, say_region_hints, say_unusable};
 pub use subjects::{Blame, TextPlace};

@@ -4,7 +4,6 @@ mod bad_key;
 mod blame;
 mod edit_distance;
 mod key_values;
-mod number_and_line_end;
 mod pool_lines;
 mod radix_hints;
 mod region_hints;
@@ -12,8 +11,7 @@ mod shown_names;
 mod unusable;
 mod word_hints;
 
-pub use blame::{say_blame, say_machine_blame};
-pub use number_and_line_end::{say_line_end, say_number_in_brackets};
+pub use blame::say_blame;
 pub use region_hints::say_region_hints;
 pub use shown_names::say_name;
 pub use unusable::{say_address, say_unusable};

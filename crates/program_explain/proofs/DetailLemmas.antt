@@ -32,7 +32,6 @@ use Rattle.program_say.specs.Sought.{SoughtFacts, bytes_found}
 use Rattle.program_say.specs.declared.subjects.refusal_detail.RefusalDetail.{RefusalDetail}
 use Rattle.program_say.specs.declared.subjects.refusal_detail.RefusalDetail.TheVariants.{Nothing}
 use Rattle.program_say.specs.declared.subjects.refusal_detail.ToldRefusal.{ToldRefusal}
-use Rattle.program_say.proofs.RowLemmas.{no_row, one_row}
 
 -- ---- an entry of a description
 
@@ -73,36 +72,6 @@ beside_plan facts value texts size plan count is loadable counted = (
   counted
       ∙ ap (open_frames facts.pool) (sym (ranges_are texts plan.parts.items loadable.backed)),
 )
-
--- ---- entries of a menu
-
-pub no_detail : {A : Type 0} (rows : List (EntryRow A)) (facts : MachineFacts)
-    (sought : SoughtFacts) (index : ℕ) (refusal : Refusal) → length rows ≤ index
-    → IsRefusalDetailOrNothing facts sought (slice_get (map entry_view rows) index) refusal Nothing
-no_detail rows facts sought index refusal past =
-    subst (λ (e : Option Entry). IsRefusalDetailOrNothing facts sought e refusal Nothing)
-    (sym (no_row rows index past)) refl
-
-pub one_detail : {A : Type 0} (rows : List (EntryRow A)) (facts : MachineFacts)
-    (sought : SoughtFacts) (index : ℕ) (row : EntryRow A) (refusal : Refusal)
-    (detail : RefusalDetail)
-    → index < length rows → row ≡ get_or rows index row
-    → IsRefusalDetail facts (value_sought sought (entry_view row)) refusal detail
-    → IsRefusalDetailOrNothing facts sought (slice_get (map entry_view rows) index) refusal detail
-one_detail rows facts sought index row refusal detail within at is =
-    subst (λ (e : Option Entry). IsRefusalDetailOrNothing facts sought e refusal detail)
-    (sym (one_row rows index row within at)) is
-
--- where one is found
-pub one_detail_if : {A : Type 0} (rows : List (EntryRow A)) (facts : MachineFacts)
-    (sought : SoughtFacts) (index : ℕ) (row : EntryRow A) (refusal : Refusal)
-    (found : Result RefusalDetail AllocError) → index < length rows → row ≡ get_or rows index row
-    → IfOk found (IsRefusalDetail facts (value_sought sought (entry_view row)) refusal)
-    → IfOk found
-    (IsRefusalDetailOrNothing facts sought (slice_get (map entry_view rows) index) refusal)
-one_detail_if rows facts sought index row refusal (Ok detail) within at is =
-    one_detail rows facts sought index row refusal detail within at is
-one_detail_if rows facts sought index row refusal (Err e) within at is = is
 
 -- ---- refusals, one after the other
 

@@ -54,30 +54,3 @@ no_text desc not =
       | inl text ↦ absurd (not (IsUtf8-from_is_utf8 desc text))
       | inr none ↦ none
     ]
-
--- what is said of rows is said of the rows that they are
-pub refusals_of : {A : Type 0} (rows items : List (EntryRow A)) (facts : MachineFacts)
-    (sought : SoughtFacts) (told : List ToldRefusal) (start new : List ℕ) → rows ≡ items
-    → new ≡ start ++ flat_map (refused_attempt_lines (map entry_view rows) facts sought) told
-    → new ≡ start ++ flat_map (refused_attempt_lines (map entry_view items) facts sought) told
-refusals_of {A = A} rows items facts sought told start new same said =
-    said
-    ∙ ap (λ (kept : List (EntryRow A)). start
-    ++ flat_map (refused_attempt_lines (map entry_view kept) facts sought) told) same
-
-pub attempt_of : {A : Type 0} (rows items : List (EntryRow A)) (sought : SoughtFacts) (entry : ℕ)
-    (start new : List ℕ) → rows ≡ items
-    → new ≡ start ++ attempt_lines (map entry_view rows) sought entry
-    → new ≡ start ++ attempt_lines (map entry_view items) sought entry
-attempt_of {A = A} rows items sought entry start new same said =
-    said
-    ∙ ap (λ (kept : List (EntryRow A)). start
-    ++ attempt_lines (map entry_view kept) sought entry) same
-
-pub details_of : {A : Type 0} (rows items : List (EntryRow A)) (facts : MachineFacts)
-    (sought : SoughtFacts) (refused : List RefusedEntry) (told : List ToldRefusal) → rows ≡ items
-    → AreToldRefusals facts (map entry_view rows) sought refused told
-    → AreToldRefusals facts (map entry_view items) sought refused told
-details_of {A = A} rows items facts sought refused told same are =
-    subst (λ (kept : List (EntryRow A)). AreToldRefusals facts (map entry_view kept) sought refused told)
-    same are

@@ -87,14 +87,3 @@ told_booted description facts sought steps entry told earlier bytes handoff old 
     (sym (held_told description.entries sought steps facts.pool entry bytes handoff (λ i place at.
     let within = inside i place at in
     omega (arith, whole, within))))
-
--- what is said of rows is said of the rows that they are
-pub handed_of : {A : Type 0} (rows items : List (EntryRow A)) (sought : SoughtFacts)
-    (steps : List Step) (pool : Range ℕ) (entry : ℕ) (handoff : HandoffFacts)
-    (start new : List ℕ) → rows ≡ items
-    → new ≡ start ++ entry_handoff_lines (map entry_view rows) sought steps pool entry handoff
-    → new ≡ start ++ entry_handoff_lines (map entry_view items) sought steps pool entry handoff
-handed_of {A = A} rows items sought steps pool entry handoff start new same said =
-    said
-    ∙ ap (λ (kept : List (EntryRow A)). start
-    ++ entry_handoff_lines (map entry_view kept) sought steps pool entry handoff) same

@@ -1,11 +1,10 @@
 //! A description is read, or blamed.
-ghost use Rattle.std.specs.Prelude.{◌≡◌, true, None, Some, IfOk, IfErr, OnOk};
+ghost use Rattle.std.specs.Prelude.{◌≡◌, true, None, Some, IfOk, IfErr, OnOk, option_map};
 ghost use Rattle.std.specs.Str.{is_utf8};
 ghost use Rattle.toml.specs.Errors.{IsMemory, IsWithin};
 ghost use Rattle.toml.specs.Parse.{parse_document};
 ghost use Rattle.program_desc.specs.Described.{described};
 ghost use Rattle.program_desc.specs.Views.{HasMenu, view};
-ghost use Rattle.program_blame.specs.declared.subjects.blame.Blame.TheVariants.{BadMachine};
 ghost use Rattle.program_blame.specs.BlameLines.{blame_lines};
 ghost use Rattle.program_menu.specs.DescribedMachine.{IsMachineOf};
 ghost use Rattle.program_explain.specs.internal.ExplanationEnds.{IsMachineBlame, IsReadBlame};
@@ -14,20 +13,22 @@ ghost use Rattle.program_explain.specs.internal.ExplanationEnds.{SaysLines};
 use crate::fault::ExplainFault;
 use crate::text_place::text_place;
 use bl_map::{Machine, MapFault};
-use program_blame::{Blame, say_blame, say_machine_blame};
+use program_blame::{Blame, say_blame};
 use program_desc::{DescFault, Description, first_bad_key, read_description};
 use std::alloc::{Allocator, Global};
 
-/// Says why nothing is described, in `alloc` first, so that an error leaves what was said as it
-/// was.
-fn blamed<A: Allocator + Copy, B: Allocator>(
+/// Says why a description is a bad one, where it describes this, if anything. An error leaves what
+/// was said as it was.
+fn blamed<'a, A: Allocator + Copy, B: Allocator>(
     alloc: A,
-    blame: &Blame<'_>,
+    blame: &'a Blame<'a>,
+    description: Option<&'a Description<A>>,
     say: &mut Vec<u8, B>,
 ) -> ExplainFault
-    ensures { SaysLines (blame_lines blame.now None) say.old.items say.new.items result }
+    ensures { SaysLines (blame_lines blame.now (option_map (λ d. view d.now) description.entry))
+        say.old.items say.new.items result }
 {
-    match say_blame(alloc, blame, say) {
+    match say_blame(alloc, blame, description, say) {
         Ok(()) => ExplainFault::Blamed,
         Err(_) => ExplainFault::NoMemory,
     }
@@ -49,7 +50,7 @@ fn toml_fault<A: Allocator + Copy, B: Allocator>(
     match error.span() {
         Some(range) => {
             let before = &text.as_bytes()[..range.start];
-            blamed(alloc, &Blame::NotToml(text_place(before)), say)
+            blamed(alloc, &Blame::NotToml(text_place(before)), None, say)
         }
         None => ExplainFault::NoMemory,
     }
@@ -71,7 +72,7 @@ fn blame_of_text<A: Allocator + Copy, B: Allocator>(
         Err(error) => return toml_fault(alloc, text, &error, say),
     };
     match first_bad_key(global, &table) {
-        Ok(Some(bad)) => blamed(alloc, &Blame::BadKey(bad), say),
+        Ok(Some(bad)) => blamed(alloc, &Blame::BadKey(bad), None, say),
         // A table that describes nothing has a bad key, so memory ran out.
         Ok(None) | Err(_) => ExplainFault::NoMemory,
     }
@@ -89,7 +90,7 @@ fn blame_of<A: Allocator + Copy, B: Allocator>(
 {
     match std::str::from_utf8(desc) {
         Ok(text) => blame_of_text(alloc, global, text, say),
-        Err(_) => blamed(alloc, &Blame::NotUtf8, say),
+        Err(_) => blamed(alloc, &Blame::NotUtf8, None, say),
     }
 }
 
@@ -112,22 +113,6 @@ pub fn read_or_blame<A: Allocator + Copy, B: Allocator>(
     }
 }
 
-/// Says why what is described is no machine, likewise.
-fn machine_fault<A: Allocator + Copy, B: Allocator>(
-    alloc: A,
-    fault: MapFault,
-    description: &Description<A>,
-    say: &mut Vec<u8, B>,
-) -> ExplainFault
-    ensures { SaysLines (blame_lines (BadMachine fault) (Some (view description.now)))
-        say.old.items say.new.items result }
-{
-    match say_machine_blame(alloc, fault, description, say) {
-        Ok(()) => ExplainFault::Blamed,
-        Err(_) => ExplainFault::NoMemory,
-    }
-}
-
 /// The machine that is described, or why there is none, which is said.
 pub fn machine_or_blame<A: Allocator + Copy, B: Allocator>(
     alloc: A,
@@ -144,6 +129,11 @@ pub fn machine_or_blame<A: Allocator + Copy, B: Allocator>(
     match Machine::new(alloc, description.size, regions, pool) {
         Ok(machine) => Ok(machine),
         Err(MapFault::NoMemory) => Err(ExplainFault::NoMemory),
-        Err(fault) => Err(machine_fault(alloc, fault, description, say)),
+        Err(fault) => Err(blamed(
+            alloc,
+            &Blame::BadMachine(fault),
+            Some(description),
+            say,
+        )),
     }
 }

@@ -1,44 +1,19 @@
 //! The steps by which an entry is handed over.
-ghost use Rattle.std.specs.Prelude.{◌≡◌, IfOk, length, map};
-ghost use Rattle.bl_load.specs.EntryValue.{value_of, file_count, IsWithinLimits};
+ghost use Rattle.std.specs.Prelude.{IfOk};
 ghost use Rattle.program_desc.specs.Views.{entry_view, view};
 ghost use Rattle.program_explain.specs.Details.{value_sought};
 ghost use Rattle.program_explain.specs.EntrySteps.{AreEntrySteps, AreStepsAt};
 ghost use Rattle.program_explain.specs.internal.ExplanationEnds.{HasHandover, HasHandoverAt};
 
-use crate::entry_texts::entry_texts;
-use bl_load::{Entry, PrepFault, Step, prepare};
+use crate::found_entry::entry_with_files;
+use bl_load::{PrepFault, Step, prepare};
 use bl_map::Machine;
-use bl_mem::SliceView;
 use program_desc::EntryRow;
-use program_menu::{DescribedBoot, entry_of};
+use program_menu::DescribedBoot;
 use program_say::{Sought, entry_at};
 use std::alloc::{AllocError, Allocator};
 
-/// The steps of an entry that these files make a handover of.
-fn prepared_steps<A: Allocator + Copy>(
-    alloc: A,
-    machine: &Machine<A>,
-    entry: &Entry<A>,
-    files: &[SliceView<'_>],
-) -> Result<Vec<Step, A>, AllocError>
-    requires files { length files.now ≡ file_count entry.now }
-    requires limits { IsWithinLimits entry.now }
-    requires handed { HasHandover machine.now
-        (value_of (map (λ f. f.bytes.now) files.now) entry.now) }
-    ensures { IfOk result (λ steps. AreEntrySteps A machine.now
-        (value_of (map (λ f. f.bytes.now) files.now) entry.now) steps.items) }
-{
-    match prepare(alloc, machine, entry, files) {
-        Ok(plan) => Ok(plan.steps(alloc)?.steps),
-        // What is handed over is refused by nothing.
-        Err(PrepFault::Refused(_)) => unreachable!(),
-        Err(PrepFault::NoMemory) => Err(AllocError),
-    }
-}
-
-/// The steps of an entry of a description. Its files are those that were found; the places of their
-/// names are of no account.
+/// The steps of an entry that is handed over.
 fn steps_of<A: Allocator + Copy>(
     alloc: A,
     machine: &Machine<A>,
@@ -49,9 +24,13 @@ fn steps_of<A: Allocator + Copy>(
     ensures { IfOk result (λ steps. AreEntrySteps A machine.now
         (value_sought sought.now (entry_view row.now)) steps.items) }
 {
-    let entry = entry_of(alloc, &[], row)?;
-    let files = entry_texts(alloc, sought, row)?;
-    prepared_steps(alloc, machine, &entry, &files)
+    let found = entry_with_files(alloc, sought, row)?;
+    match prepare(alloc, machine, &found.entry, &found.files) {
+        Ok(plan) => Ok(plan.steps(alloc)?.steps),
+        // What is handed over is refused by nothing.
+        Err(PrepFault::Refused(_)) => unreachable!(),
+        Err(PrepFault::NoMemory) => Err(AllocError),
+    }
 }
 
 /// The steps of the entry of this index, which is handed over.

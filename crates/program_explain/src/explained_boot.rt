@@ -1,75 +1,28 @@
 //! The boot of what was found for a description, explained.
-ghost use Rattle.std.specs.Prelude.{◌≡◌, [], ◌≤◌, ◌++◌, All, IfOk, OnOk, OnErr, length, map};
-ghost use Rattle.std.specs.List.{flat_map};
+ghost use Rattle.std.specs.Prelude.{◌≡◌, [], ◌≤◌, ◌++◌, OnOk, OnErr, length, map};
 ghost use Rattle.bl_stage.specs.Files.{size_of};
 ghost use Rattle.bl_session.specs.session.Phases.{boot_facts};
 ghost use Rattle.program_menu.specs.DescribedMenu.{menu_of, attempted_file_names};
-ghost use Rattle.program_explain.specs.Details.{AreToldRefusals};
+ghost use Rattle.program_menu.specs.DescribedMenu.{described_entry};
+ghost use Rattle.program_say.specs.BootAndMapLines.{booted_line};
+ghost use Rattle.program_say.specs.Hints.{hint_lines};
 ghost use Rattle.program_explain.specs.internal.ExplanationEnds.{ExplainFoundEnds};
-ghost use Rattle.program_explain.specs.internal.ExplanationEnds.{HasPlaceRefusal};
-ghost use Rattle.program_say.specs.AttemptLines.{attempt_lines, refused_attempt_lines};
 ghost use Rattle.program_explain.specs.ExplanationLines.{booted_lines, entry_handoff_lines};
 ghost use Rattle.program_explain.specs.ExplanationLines.{none_left_lines};
 ghost use Rattle.program_desc.specs.Views.{view};
 
-use crate::booted_entry::say_outcome;
 use crate::entry_steps::find_steps;
 use crate::fault::ExplainFault;
 use crate::refusal_details::find_details;
 use bl_load::Step;
 use bl_mem::PhysMem;
 use bl_session::{BootFault, FileStore, Outcome, RefusedEntry, run};
-use program_menu::{DescribedBoot, End};
+use program_menu::{DescribedBoot, End, title_of};
 use program_say::{
-    Sought, ToldRefusal, say_attempt, say_hints, say_no_entry_left, say_refused_attempts,
+    Sought, ToldRefusal, say_attempt, say_booted, say_handoff, say_handoff_frames, say_hints,
+    say_no_entry_left, say_refused_attempts,
 };
 use std::alloc::{AllocError, Allocator};
-
-/// What is told of the refusals of a boot beside their numbers and names.
-fn details_of<A: Allocator + Copy>(
-    alloc: A,
-    boot: &DescribedBoot<'_, A>,
-    sought: &Sought<'_, A>,
-    refused: &[RefusedEntry],
-) -> Result<Vec<ToldRefusal, A>, AllocError>
-    requires { All (HasPlaceRefusal boot.now.machine.now (view boot.now.description.now).entries
-        sought.now) refused.now }
-    ensures { IfOk result (λ told. AreToldRefusals boot.now.machine.now
-        (view boot.now.description.now).entries sought.now refused.now told.items) }
-{
-    let entries = &boot.description.entries;
-    find_details(alloc, boot.machine, entries, sought, refused)
-}
-
-/// Appends the lines of the attempts that were refused.
-fn say_refusals_of<A: Allocator + Copy>(
-    out: &mut Vec<u8, A>,
-    boot: &DescribedBoot<'_, A>,
-    sought: &Sought<'_, A>,
-    told: &[ToldRefusal],
-) -> Result<(), AllocError>
-    ensures { OnOk result (out.new.items ≡ out.old.items
-        ++ flat_map (refused_attempt_lines (view boot.now.description.now).entries
-        boot.now.machine.now sought.now) told.now) }
-{
-    let entries = &boot.description.entries;
-    say_refused_attempts(out, boot.machine, entries, sought, told)?;
-    Ok(())
-}
-
-/// Appends the lines of the attempt that was not refused.
-fn say_attempt_of<A: Allocator + Copy>(
-    out: &mut Vec<u8, A>,
-    boot: &DescribedBoot<'_, A>,
-    sought: &Sought<'_, A>,
-    entry: u32,
-) -> Result<(), AllocError>
-    ensures { OnOk result (out.new.items ≡ out.old.items
-        ++ attempt_lines (view boot.now.description.now).entries sought.now entry) }
-{
-    say_attempt(out, &boot.description.entries, sought, entry)?;
-    Ok(())
-}
 
 /// Appends the lines of a boot in which each entry that was attempted was refused. An error leaves
 /// the text as it was.
@@ -88,10 +41,33 @@ fn tell_none_left<A: Allocator + Copy, B: Allocator>(
     ensures err { OnErr result (say.new.items ≡ say.old.items) }
 {
     let mut lines = Vec::new(alloc);
-    say_refusals_of(&mut lines, boot, sought, told)?;
+    say_refused_attempts(&mut lines, boot.machine, boot.description, sought, told)?;
     say_no_entry_left(&mut lines)?;
     say_hints(&mut lines, boot.description, sought, refused)?;
     say.extend_from_slice(&lines)
+}
+
+/// Appends the lines of the entry that is handed over by these steps, and the hints.
+fn say_outcome<A: Allocator + Copy>(
+    out: &mut Vec<u8, A>,
+    boot: &DescribedBoot<'_, A>,
+    sought: &Sought<'_, A>,
+    steps: &[Step],
+    outcome: &Outcome<A>,
+) -> Result<(), AllocError>
+    requires { length boot.now.description.now.entries.items ≤ 32 }
+    ensures { OnOk result (out.new.items ≡ out.old.items
+        ++ booted_line outcome.now.entry
+        (described_entry (view boot.now.description.now) outcome.now.entry).title
+        ++ entry_handoff_lines (view boot.now.description.now).entries sought.now steps.now
+        boot.now.machine.now.pool outcome.now.entry outcome.now.handoff
+        ++ hint_lines (view boot.now.description.now) sought.now outcome.now.refused.items) }
+{
+    let entry = outcome.entry;
+    say_booted(out, entry as u64, title_of(boot.description, entry))?;
+    say_handoff(out, steps, &outcome.handoff)?;
+    say_handoff_frames(out, boot.description, sought, boot.machine, entry, &outcome.handoff)?;
+    say_hints(out, boot.description, sought, &outcome.refused)
 }
 
 /// Appends the lines of a boot in which an entry is handed over by these steps. An error leaves the
@@ -114,8 +90,8 @@ fn tell_booted<A: Allocator + Copy, B: Allocator>(
     ensures err { OnErr result (say.new.items ≡ say.old.items) }
 {
     let mut lines = Vec::new(alloc);
-    say_refusals_of(&mut lines, boot, sought, told)?;
-    say_attempt_of(&mut lines, boot, sought, outcome.entry)?;
+    say_refused_attempts(&mut lines, boot.machine, boot.description, sought, told)?;
+    say_attempt(&mut lines, boot.description, sought, outcome.entry)?;
     say_outcome(&mut lines, boot, sought, steps, outcome)?;
     say.extend_from_slice(&lines)
 }
@@ -147,13 +123,13 @@ pub fn explain_found<A: Allocator + Copy, M: PhysMem, B: Allocator>(
     let sought = Sought::new(names, store.fetched());
     match ended {
         Ok(outcome) => {
-            let told = details_of(alloc, boot, &sought, &outcome.refused)?;
+            let told = find_details(alloc, boot, &sought, &outcome.refused)?;
             let steps = find_steps(alloc, boot, &sought, outcome.entry)?;
             tell_booted(alloc, boot, &sought, &told, &steps, &outcome, say)?;
             Ok(End::Booted)
         }
         Err(BootFault::NoEntryLeft(refused)) => {
-            let told = details_of(alloc, boot, &sought, &refused)?;
+            let told = find_details(alloc, boot, &sought, &refused)?;
             tell_none_left(alloc, boot, &sought, &told, &refused, say)?;
             Ok(End::NoEntryLeft)
         }

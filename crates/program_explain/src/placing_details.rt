@@ -1,17 +1,19 @@
 //! What is told of an entry that finds no place or no room.
-ghost use Rattle.std.specs.Prelude.{◌≡◌, ◌+◌, ◌<◌, IfOk, MatchOption, length, map};
+ghost use Rattle.std.specs.Prelude.{◌+◌, ◌<◌, IfOk, MatchOption};
 ghost use Rattle.bl_mem.specs.Least.{IsLeast};
 ghost use Rattle.bl_map.specs.MachineFacts.{AllUsable};
 ghost use Rattle.bl_plan.specs.Unusable.{IsUnusableFrom};
-ghost use Rattle.bl_load.specs.EntryValue.{value_of, file_count, IsWithinLimits};
+ghost use Rattle.program_desc.specs.Views.{entry_view};
 ghost use Rattle.program_explain.specs.Details.{IsFirstUnusable, IsFramesDetail, IsPlaceDetail};
+ghost use Rattle.program_explain.specs.Details.{value_sought};
 ghost use Rattle.program_explain.specs.internal.ExplanationEnds.{HasNoPlace};
 
-use bl_load::{Choice, Entry, PrepFault, Row, prepare, unplaced};
+use crate::found_entry::entry_with_files;
+use bl_load::{Choice, PrepFault, Row, prepare, unplaced};
 use bl_map::{Machine, open_frames};
-use bl_mem::SliceView;
 use bl_plan::first_unusable;
-use program_say::RefusalDetail;
+use program_desc::EntryRow;
+use program_say::{RefusalDetail, Sought};
 use std::alloc::{AllocError, Allocator};
 
 /// The first of `count` bytes from `at` on that is not usable, if there is one. None from the
@@ -44,17 +46,15 @@ fn unusable_byte<A: Allocator>(machine: &Machine<A>, row: &Row) -> Option<u64>
 pub fn place_detail<A: Allocator + Copy>(
     alloc: A,
     machine: &Machine<A>,
-    entry: &Entry<A>,
-    files: &[SliceView<'_>],
+    sought: &Sought<'_, A>,
+    row: &EntryRow<A>,
 ) -> Result<RefusalDetail, AllocError>
-    requires files { length files.now ≡ file_count entry.now }
-    requires limits { IsWithinLimits entry.now }
-    requires refused { HasNoPlace machine.now
-        (value_of (map (λ f. f.bytes.now) files.now) entry.now) }
-    ensures { IfOk result (IsPlaceDetail machine.now
-        (value_of (map (λ f. f.bytes.now) files.now) entry.now)) }
+    requires { HasNoPlace machine.now (value_sought sought.now (entry_view row.now)) }
+    ensures { IfOk result
+        (IsPlaceDetail machine.now (value_sought sought.now (entry_view row.now))) }
 {
-    match unplaced(alloc, machine, entry, files) {
+    let found = entry_with_files(alloc, sought, row)?;
+    match unplaced(alloc, machine, &found.entry, &found.files) {
         Ok(Some(row)) => Ok(RefusalDetail::NoPlace {
             row,
             unusable: unusable_byte(machine, &row),
@@ -71,15 +71,14 @@ pub fn place_detail<A: Allocator + Copy>(
 pub fn frames_detail<A: Allocator + Copy>(
     alloc: A,
     machine: &Machine<A>,
-    entry: &Entry<A>,
-    files: &[SliceView<'_>],
+    sought: &Sought<'_, A>,
+    row: &EntryRow<A>,
 ) -> Result<RefusalDetail, AllocError>
-    requires files { length files.now ≡ file_count entry.now }
-    requires limits { IsWithinLimits entry.now }
-    ensures { IfOk result (IsFramesDetail machine.now
-        (value_of (map (λ f. f.bytes.now) files.now) entry.now)) }
+    ensures { IfOk result
+        (IsFramesDetail machine.now (value_sought sought.now (entry_view row.now))) }
 {
-    match prepare(alloc, machine, entry, files) {
+    let found = entry_with_files(alloc, sought, row)?;
+    match prepare(alloc, machine, &found.entry, &found.files) {
         Ok(plan) => Ok(RefusalDetail::Frames {
             beside: Some(open_frames(&machine.pool(), plan.ranges())),
         }),

@@ -32,8 +32,14 @@ no_entry_line = codes "no entry left\n"
 unfoldable pub hex16 : ℕ → List ℕ
 hex16 n = replicate (16 - length (digits 16 false n)) 48 ++ digits 16 false n
 
+-- such a number between two texts
+unfoldable pub hex16_between : (before : List ℕ) → ℕ → (behind : List ℕ) → List ℕ
+hex16_between before n behind = before ++ hex16 n ++ behind
+
 abbrev pub run_line : Region → List ℕ
-run_line run = hex16 run.base ++ codes " " ++ hex16 (run.base + run.length) ++ codes " "
+run_line run =
+    hex16_between (codes "") run.base (codes " ")
+    ++ hex16_between (codes "") (run.base + run.length) (codes " ")
     ++ kind_name run.kind ++ codes "\n"
 
 -- how many KiB are usable from 0 on, and from 1 MiB on
@@ -44,7 +50,9 @@ abbrev pub high_kib_line : ℕ → List ℕ
 high_kib_line high = codes "high " ++ decimal high ++ codes "\n"
 
 abbrev pub pool_line : Range ℕ → List ℕ
-pool_line pool = codes "pool " ++ hex16 pool.start ++ codes " " ++ hex16 pool.end ++ codes "\n"
+pool_line pool =
+    hex16_between (codes "pool ") pool.start (codes " ")
+    ++ hex16_between (codes "") pool.end (codes "\n")
 
 abbrev pub map_lines : List Region → ℕ → ℕ → Range ℕ → List ℕ
 map_lines runs low high pool =

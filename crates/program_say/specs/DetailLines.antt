@@ -8,7 +8,8 @@ use Rattle.bl_plan.specs.declared.part.Choice.{Choice}
 use Rattle.bl_plan.specs.declared.part.Choice.TheVariants.{Fixed, Lowest, Highest, Preferred}
 use Rattle.bl_plan.specs.declared.part.Row.{Row}
 use Rattle.program_desc.specs.Entries.{Entry}
-use Rattle.program_blame.specs.UnusableAddress.{address_words, unusable_line}
+use Rattle.program_blame.specs.Addresses.{hex8}
+use Rattle.program_blame.specs.UnusableAddress.{unusable_line}
 use Rattle.program_say.specs.Frames.{number_between, frames_line, frames_wanted, names_at}
 use Rattle.program_say.specs.HandoffLines.{role_name}
 use Rattle.program_say.specs.Sought.{SoughtFacts}
@@ -23,25 +24,21 @@ use Rattle.program_say.specs.declared.subjects.refusal_detail.RefusalDetail.TheV
 -- of the alignment
 abbrev pub window_words : (align low high : ℕ) → List ℕ
 window_words align low high =
-    address_words (codes "from ") low (codes " to ") ++ address_words (codes "") high (codes "")
-    ++ number_between (codes ", alignment ") align (codes "")
+    codes "from " ++ hex8 low ++ codes " to " ++ hex8 high ++ codes ", alignment " ++ decimal align
 
 -- how its address is chosen
 abbrev pub choice_words : Choice → List ℕ
-choice_words (Fixed at) = address_words (codes "at ") at (codes "")
+choice_words (Fixed at) = codes "at " ++ hex8 at
 choice_words (Lowest align low high) = codes "lowest " ++ window_words align low high
 choice_words (Highest align low high) = codes "highest " ++ window_words align low high
 choice_words (Preferred at align low high) =
-    address_words (codes "preferred ") at (codes ", lowest ") ++ window_words align low high
+    codes "preferred " ++ hex8 at ++ codes ", lowest " ++ window_words align low high
 
--- what it is, which one of its role, its length
-unfoldable pub no_place_front : Row → List ℕ
-no_place_front row =
-    codes "no place " ++ role_name row.role ++ codes " " ++ decimal row.index ++ codes " "
-    ++ decimal row.length ++ codes " "
-
+-- which one of its role it is, its length, and how its address is chosen
 abbrev pub no_place_line : Row → List ℕ
-no_place_line row = no_place_front row ++ choice_words row.choice ++ codes "\n"
+no_place_line row =
+    codes "no place " ++ role_name row.role ++ codes " " ++ decimal row.index ++ codes " "
+    ++ decimal row.length ++ codes " " ++ choice_words row.choice ++ codes "\n"
 
 -- ---- its first byte that is not usable
 

@@ -9,8 +9,8 @@ use Rattle.bl_load.specs.HandoffFacts.{HandoffFacts}
 use Rattle.bl_load.specs.Handover.{Part, Handover}
 use Rattle.bl_load.specs.NamedRegisters.{named_in}
 use Rattle.bl_load.specs.declared.registers.Registers.{Registers}
-use Rattle.program_blame.specs.Addresses.{hex8}
-use Rattle.program_say.specs.BootAndMapLines.{hex16}
+use Rattle.program_blame.specs.UnusableAddress.{address_words}
+use Rattle.program_say.specs.BootAndMapLines.{hex16_between}
 use Rattle.program_say.specs.WalkLines.{protocol_line}
 
 -- ---- the parts
@@ -28,8 +28,9 @@ role_name PageTables = codes "page-tables"
 -- what a part is, which one of its role, its address, its length
 unfoldable pub part_front : Place → List ℕ
 part_front place =
-    codes "part " ++ role_name place.role ++ codes " " ++ decimal place.index ++ codes " "
-    ++ hex8 place.address ++ codes " " ++ decimal place.length ++ codes " from "
+    codes "part " ++ role_name place.role ++ codes " " ++ decimal place.index
+    ++ address_words (codes " ") place.address (codes " ") ++ decimal place.length
+    ++ codes " from "
 
 -- where the bytes of the part at a place come from
 abbrev pub SourceWords : Type 0
@@ -49,7 +50,8 @@ part_line source part = place_line source record {
 -- ---- the registers, in the order of an image
 
 unfoldable pub register_line : List ℕ × ℕ → List ℕ
-register_line (name, value) = codes "register " ++ name ++ codes " " ++ hex16 value ++ codes "\n"
+register_line (name, value) =
+    codes "register " ++ name ++ hex16_between (codes " ") value (codes "\n")
 
 abbrev pub registers_lines : Registers → List ℕ
 registers_lines registers = flat_map register_line (named_in registers)

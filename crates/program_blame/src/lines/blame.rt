@@ -1,12 +1,10 @@
 //! Why a description is a bad one, line by line.
-ghost use Rattle.std.specs.Prelude.{◌≡◌, ◌++◌, None, OnErr, OnOk, Some};
+ghost use Rattle.std.specs.Prelude.{◌≡◌, ◌++◌, OnErr, OnOk, option_map};
 ghost use Rattle.program_desc.specs.Views.{view};
-ghost use Rattle.program_blame.specs.declared.subjects.blame.Blame.TheVariants.{BadMachine};
 ghost use Rattle.program_blame.specs.BlameLines as hints;
 ghost use Rattle.program_blame.specs.BlameLine as blames;
 
 use crate::lines::bad_key::say_bad_key;
-use crate::lines::number_and_line_end::say_number_in_brackets;
 use crate::lines::pool_lines::say_pool_lines;
 use crate::lines::radix_hints::{say_pool_hints, say_size_hint};
 use crate::lines::word_hints::say_key_hint;
@@ -47,7 +45,7 @@ fn say_told<A: Allocator + Copy>(out: &mut Vec<u8, A>, fault: MapFault) -> Resul
     ensures { OnOk result (out.new.items ≡ out.old.items ++ blames.map_fault_told fault) }
 {
     match fault {
-        MapFault::BadRegion(index) => say_number_in_brackets(out, index as u64),
+        MapFault::BadRegion(index) => say!(out, "({index})"),
         _ => Ok(()),
     }
 }
@@ -59,9 +57,7 @@ fn say_map_fault<A: Allocator + Copy>(
 ) -> Result<(), AllocError>
     ensures { OnOk result (out.new.items ≡ out.old.items ++ blames.map_fault_words fault) }
 {
-    let number = fault.number();
-    let name = map_fault_name(fault);
-    say!(out, "{number} {name}")?;
+    say!(out, "{} {}", fault.number(), map_fault_name(fault))?;
     say_told(out, fault)?;
     say!(out, ": {}", map_fault_meaning(fault))
 }
@@ -98,16 +94,6 @@ fn say_line<A: Allocator + Copy>(out: &mut Vec<u8, A>, blame: &Blame<'_>) -> Res
     out.extend_from_slice(b"\n")
 }
 
-/// Appends the hint behind it, where nothing is described.
-fn say_hint<A: Allocator + Copy>(out: &mut Vec<u8, A>, blame: &Blame<'_>) -> Result<(), AllocError>
-    ensures { OnOk result (out.new.items ≡ out.old.items ++ hints.lines_behind blame.now None) }
-{
-    match blame {
-        Blame::BadKey(bad) => say_key_hint(out, &bad.fault),
-        _ => Ok(()),
-    }
-}
-
 /// Appends what is told of a machine, behind its fault.
 fn say_machine<A: Allocator + Copy, B: Allocator>(
     out: &mut Vec<u8, A>,
@@ -127,35 +113,39 @@ fn say_machine<A: Allocator + Copy, B: Allocator>(
     }
 }
 
-/// Appends the lines that tell why nothing is described. They are formed in `alloc` first, so that
-/// an error leaves the text as it was.
+/// Appends what is told behind a blame, by what is described.
+fn say_behind<A: Allocator + Copy, B: Allocator>(
+    out: &mut Vec<u8, A>,
+    blame: &Blame<'_>,
+    description: Option<&Description<B>>,
+) -> Result<(), AllocError>
+    ensures { OnOk result (out.new.items ≡ out.old.items
+        ++ hints.lines_behind blame.now (option_map (λ d. view d.now) description.entry)) }
+{
+    match blame {
+        Blame::BadKey(bad) => say_key_hint(out, &bad.fault),
+        Blame::BadMachine(fault) => match description {
+            Some(description) => say_machine(out, *fault, description),
+            None => Ok(()),
+        },
+        _ => Ok(()),
+    }
+}
+
+/// Appends the lines that tell why a description is bad, where it describes this, if anything. They
+/// are formed in `alloc` first, so that an error leaves the text as it was.
 pub fn say_blame<A: Allocator + Copy, B: Allocator>(
     alloc: A,
     blame: &Blame<'_>,
+    description: Option<&Description<A>>,
     out: &mut Vec<u8, B>,
 ) -> Result<(), AllocError>
-    ensures ok { OnOk result (out.new.items ≡ out.old.items ++ hints.blame_lines blame.now None) }
+    ensures ok { OnOk result (out.new.items ≡ out.old.items
+        ++ hints.blame_lines blame.now (option_map (λ d. view d.now) description.entry)) }
     ensures err { OnErr result (out.new.items ≡ out.old.items) }
 {
     let mut lines = Vec::new(alloc);
     say_line(&mut lines, blame)?;
-    say_hint(&mut lines, blame)?;
-    out.extend_from_slice(&lines)
-}
-
-/// Appends the lines that tell why what is described is no machine, likewise.
-pub fn say_machine_blame<A: Allocator + Copy, B: Allocator>(
-    alloc: A,
-    fault: MapFault,
-    description: &Description<A>,
-    out: &mut Vec<u8, B>,
-) -> Result<(), AllocError>
-    ensures ok { OnOk result (out.new.items ≡ out.old.items
-        ++ hints.blame_lines (BadMachine fault) (Some (view description.now))) }
-    ensures err { OnErr result (out.new.items ≡ out.old.items) }
-{
-    let mut lines = Vec::new(alloc);
-    say_line(&mut lines, &Blame::BadMachine(fault))?;
-    say_machine(&mut lines, fault, description)?;
+    say_behind(&mut lines, blame, description)?;
     out.extend_from_slice(&lines)
 }

@@ -1,6 +1,5 @@
 //! What a key of a description holds, and what is allowed there, in words.
 ghost use Rattle.std.specs.Prelude.{◌≡◌, ◌++◌, OnOk};
-ghost use Rattle.std.specs.Fmt.{signed_decimal};
 ghost use Rattle.toml.specs.View.{view};
 ghost use Rattle.program_blame.specs.BadKeyWords as words;
 
@@ -24,12 +23,6 @@ fn say_text<A: Allocator + Copy>(out: &mut Vec<u8, A>, text: &str) -> Result<(),
     say!(out, "a text of {length} bytes")
 }
 
-fn say_integer<A: Allocator + Copy>(out: &mut Vec<u8, A>, n: i64) -> Result<(), AllocError>
-    ensures { OnOk result (out.new.items ≡ out.old.items ++ signed_decimal n) }
-{
-    say!(out, "{n}")
-}
-
 fn say_array<A: Allocator + Copy>(out: &mut Vec<u8, A>, count: usize) -> Result<(), AllocError>
     ensures { OnOk result (out.new.items ≡ out.old.items ++ words.array_words count) }
 {
@@ -43,7 +36,7 @@ fn say_held<A: Allocator + Copy>(out: &mut Vec<u8, A>, value: &Value) -> Result<
 {
     match value {
         Value::String(text) => say_text(out, text.as_str()),
-        Value::Integer(n) => say_integer(out, *n),
+        Value::Integer(n) => say!(out, "{}", *n),
         Value::Float(_) => out.extend_from_slice(b"a float"),
         Value::Boolean(true) => out.extend_from_slice(b"true"),
         Value::Boolean(false) => out.extend_from_slice(b"false"),
@@ -97,14 +90,6 @@ fn say_is<A: Allocator + Copy>(out: &mut Vec<u8, A>, value: &Value) -> Result<()
     say_held(out, value)
 }
 
-fn say_must<A: Allocator + Copy>(out: &mut Vec<u8, A>, allowed: &str) -> Result<(), AllocError>
-    ensures { OnOk result (out.new.items ≡ out.old.items ++ words.must_words allowed.now) }
-{
-    out.extend_from_slice(b"; it must be ")?;
-    out.extend_from_slice(allowed.as_bytes())?;
-    Ok(())
-}
-
 #[tactic(auto, unfolding(crate::specs::BadKeyWords::must_words))]
 fn say_must_be<A: Allocator + Copy>(
     out: &mut Vec<u8, A>,
@@ -129,6 +114,7 @@ pub fn say_missing<A: Allocator + Copy>(
 }
 
 /// Appends what a value is, and what must stand in its place.
+#[tactic(auto, unfolding(crate::specs::BadKeyWords::must_words))]
 pub fn say_instead<A: Allocator + Copy>(
     out: &mut Vec<u8, A>,
     value: &Value,
@@ -138,7 +124,7 @@ pub fn say_instead<A: Allocator + Copy>(
         ≡ out.old.items ++ words.instead_words (view value.now) allowed.now) }
 {
     say_is(out, value)?;
-    say_must(out, allowed)
+    say!(out, "; it must be {allowed}")
 }
 
 /// Appends what a key's value is, and what is allowed there.

@@ -17,12 +17,6 @@ fn digits_as_hex<A: Allocator>(alloc: A, n: u64) -> Result<Option<u64>, AllocErr
     Ok(u64::from_str_radix(digits.as_str(), 16).ok())
 }
 
-fn say_hex<A: Allocator + Copy>(out: &mut Vec<u8, A>, n: u64) -> Result<(), AllocError>
-    ensures { OnOk result (out.new.items ≡ out.old.items ++ hints.hex_line n) }
-{
-    say!(out, "hint: is 0x{n} meant?\n")
-}
-
 fn is_size(n: u64) -> bool
     ensures { result ≡ hints.is_size n }
 {
@@ -55,7 +49,7 @@ pub fn say_size_hint<A: Allocator + Copy>(out: &mut Vec<u8, A>, size: u64) -> Re
     ensures { OnOk result (out.new.items ≡ out.old.items ++ hints.size_hint size) }
 {
     match digits_as_hex(*out.allocator(), size)? {
-        Some(reading) if is_size(reading) => say_hex(out, size),
+        Some(reading) if is_size(reading) => say!(out, "hint: is 0x{size} meant?\n"),
         _ => Ok(()),
     }
 }
@@ -72,7 +66,7 @@ fn say_pool_bound_hint<A: Allocator + Copy>(
         return Ok(());
     }
     match digits_as_hex(*out.allocator(), n)? {
-        Some(reading) if is_pool_bound(size, reading) => say_hex(out, n),
+        Some(reading) if is_pool_bound(size, reading) => say!(out, "hint: is 0x{n} meant?\n"),
         _ => Ok(()),
     }
 }

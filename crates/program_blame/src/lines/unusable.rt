@@ -2,7 +2,6 @@
 ghost use Rattle.std.specs.Prelude.{◌≡◌, ◌++◌, OnOk};
 ghost use Rattle.program_blame.specs.UnusableAddress as words;
 
-use crate::lines::number_and_line_end::say_line_end;
 use crate::say;
 use bl_map::{FIRST_USABLE, Kind};
 use std::alloc::{AllocError, Allocator};
@@ -55,5 +54,5 @@ pub fn say_unusable<A: Allocator + Copy>(
 {
     say_address(out, "not usable ", address, " ")?;
     out.extend_from_slice(unusable_words(size, address, kind).as_bytes())?;
-    say_line_end(out)
+    out.extend_from_slice(b"\n")
 }

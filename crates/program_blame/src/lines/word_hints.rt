@@ -10,12 +10,6 @@ use program_desc::{Allowed, Key, KeyFault, keys_of};
 use std::alloc::{AllocError, Allocator};
 use toml::Value;
 
-fn say_meant<A: Allocator + Copy>(out: &mut Vec<u8, A>, word: &str) -> Result<(), AllocError>
-    ensures { OnOk result (out.new.items ≡ out.old.items ++ hints.meant_line word.now) }
-{
-    say!(out, "hint: is {word} meant?\n")
-}
-
 /// Appends the hint on the first of these words that is near to what is held, if one is.
 #[tactic(auto, unfolding(crate::specs::WordHints::near_hint))]
 fn say_near<A: Allocator + Copy>(
@@ -30,7 +24,7 @@ fn say_near<A: Allocator + Copy>(
         [] => Ok(()),
         [word, rest @ ..] => {
             if is_one_edit_away(held.as_bytes(), word.as_bytes()) {
-                return say_meant(out, word);
+                return say!(out, "hint: is {} meant?\n", *word);
             }
             say_near(out, rest, held)
         }
@@ -51,7 +45,7 @@ fn say_near_key<A: Allocator + Copy>(
         [] => Ok(()),
         [key, rest @ ..] => {
             if is_one_edit_away(held.as_bytes(), key.name.as_bytes()) {
-                return say_meant(out, key.name);
+                return say!(out, "hint: is {} meant?\n", key.name);
             }
             say_near_key(out, rest, held)
         }

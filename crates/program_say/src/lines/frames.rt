@@ -3,15 +3,15 @@ ghost use Rattle.std.specs.Prelude.{◌≡◌, ◌*◌, ◌≤◌, ◌^◌, ◌+
 ghost use Rattle.bl_map.specs.PoolFrames as room;
 ghost use Rattle.bl_plan.specs.Placed.{place_range};
 ghost use Rattle.program_desc.specs.EntryNames.{file_names, names_beside};
-ghost use Rattle.program_say.specs.Frames.{number_between, frames_line, frames_wanted};
-ghost use Rattle.program_say.specs.Frames.{length_found};
-ghost use Rattle.program_say.specs.Frames.{names_at, sought_frames_line};
-ghost use Rattle.program_desc.specs.Views.{entry_view, form_view, module_view};
+ghost use Rattle.program_say.specs.Frames.{frames_line, frames_wanted, length_found, names_at};
+ghost use Rattle.program_say.specs.Frames.{number_between, sought_frames_line};
+ghost use Rattle.program_desc.specs.Views.{entry_view, form_view, module_view, view};
 
-use crate::subjects::Sought;
+use crate::subjects::{Sought, entry_at};
 use bl_load::Handoff;
 use bl_map::{Machine, frames_in, frames_of, open_frames};
-use program_desc::{EntryForm, EntryRow, ModuleRow};
+use program_blame::say;
+use program_desc::{Description, EntryForm, EntryRow, ModuleRow};
 use std::alloc::{AllocError, Allocator};
 
 /// How many frames the file of this name takes.
@@ -70,14 +70,14 @@ fn frames_of_entry<A: Allocator, B: Allocator>(sought: &Sought<'_, A>, entry: &E
 
 /// How many frames the files of an entry of the menu take, by its index.
 pub fn frames_at<A: Allocator, B: Allocator>(
-    entries: &[EntryRow<B>],
+    description: &Description<B>,
     sought: &Sought<'_, A>,
     index: u32,
 ) -> u64
     ensures { result
-        ≡ frames_wanted sought.now (names_at (map entry_view entries.now) index) }
+        ≡ frames_wanted sought.now (names_at (view description.now).entries index) }
 {
-    match entries.get(index as usize) {
+    match entry_at(description, index) {
         Some(entry) => frames_of_entry(sought, entry),
         None => 0,
     }
@@ -94,9 +94,7 @@ pub fn say_counted<A: Allocator + Copy>(
     ensures { OnOk result
         (out.new.items ≡ out.old.items ++ number_between before.now count behind.now) }
 {
-    let alloc = *out.allocator();
-    let words = format!(in alloc; "{before}{count}{behind}")?;
-    out.extend_from_slice(words.as_bytes())
+    say!(out, "{before}{count}{behind}")
 }
 
 pub fn say_frames<A: Allocator + Copy>(
@@ -115,17 +113,17 @@ pub fn say_frames<A: Allocator + Copy>(
 /// Appends the line of the frames of an entry that is handed over.
 pub fn say_handoff_frames<A: Allocator + Copy, B: Allocator>(
     out: &mut Vec<u8, A>,
-    entries: &[EntryRow<B>],
+    description: &Description<B>,
     sought: &Sought<'_, A>,
     machine: &Machine<B>,
     entry: u32,
     handoff: &Handoff<B>,
 ) -> Result<(), AllocError>
     ensures { OnOk result (out.new.items ≡ out.old.items
-        ++ sought_frames_line sought.now (names_at (map entry_view entries.now) entry)
+        ++ sought_frames_line sought.now (names_at (view description.now).entries entry)
         machine.now.pool (map place_range handoff.now.places)) }
 {
-    let wanted = frames_at(entries, sought, entry);
+    let wanted = frames_at(description, sought, entry);
     let pool = machine.pool();
     // For the proof: places ascend.
     handoff.len();

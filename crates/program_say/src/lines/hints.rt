@@ -1,15 +1,98 @@
 //! Hints on a menu, line by line.
-ghost use Rattle.std.specs.Prelude.{◌≡◌, ◌≤◌, ◌++◌, OnOk, ◌==◌, length};
-ghost use Rattle.std.specs.List.{list_any};
+ghost use Rattle.std.specs.Prelude.{◌≡◌, ◌≤◌, ◌++◌, ◌==◌, OnOk, length};
+ghost use Rattle.std.specs.List.{flat_map, list_any};
 ghost use Rattle.program_say.specs.Hints as hints;
+ghost use Rattle.program_say.specs.Hints.{kernel_hint_of};
 ghost use Rattle.program_desc.specs.Views.{view};
 
-use crate::lines::kernel_hints::say_kernel_hints;
-use crate::subjects::Sought;
-use bl_load::RefusedEntry;
-use program_blame::say_region_hints;
+use crate::subjects::{Sought, entry_at};
+use bl_load::{Refusal, RefusedEntry};
+use bl_mem::{SliceView, u16_at, u32_at};
+use program_blame::{say, say_region_hints};
 use program_desc::Description;
 use std::alloc::{AllocError, Allocator};
+
+/// Whether a file has the magic numbers of a bzImage.
+fn has_bz_magic(bytes: &[u8]) -> bool
+    ensures { result ≡ hints.has_bz_magic bytes.now }
+{
+    if bytes.len() < 0x206 {
+        return false;
+    }
+    let view = SliceView::new(bytes);
+    if u16_at(&view, 0x1FE) != 0xAA55 {
+        return false;
+    }
+    u32_at(&view, 0x202) == 0x5372_6448
+}
+
+/// Whether a file begins as an ELF file.
+fn has_elf_magic(bytes: &[u8]) -> bool
+    ensures { result ≡ hints.has_elf_magic bytes.now }
+{
+    if bytes.len() < 4 {
+        return false;
+    }
+    u32_at(&SliceView::new(bytes), 0) == 0x464C_457F
+}
+
+/// Appends the hint on the bytes of an entry's kernel that was refused, if there is one.
+fn say_kernel_hint<A: Allocator + Copy>(
+    out: &mut Vec<u8, A>,
+    refused: &RefusedEntry,
+    bytes: &[u8],
+) -> Result<(), AllocError>
+    ensures { OnOk result (out.new.items ≡ out.old.items
+        ++ hints.kernel_hint refused.now.entry refused.now.refusal bytes.now) }
+{
+    let entry = refused.entry;
+    match refused.refusal {
+        Refusal::NoHeader if has_bz_magic(bytes) => {
+            say!(
+                out,
+                "hint: the kernel of entry {entry} is a bzImage: protocol linux\n"
+            )
+        }
+        Refusal::NotBzImage if has_elf_magic(bytes) => {
+            say!(
+                out,
+                "hint: the kernel of entry {entry} is an ELF file: protocol multiboot2\n"
+            )
+        }
+        _ => Ok(()),
+    }
+}
+
+fn say_hint_of<A: Allocator + Copy, B: Allocator>(
+    out: &mut Vec<u8, A>,
+    description: &Description<B>,
+    sought: &Sought<'_, A>,
+    refused: &RefusedEntry,
+) -> Result<(), AllocError>
+    ensures { OnOk result (out.new.items ≡ out.old.items
+        ++ kernel_hint_of (view description.now).entries sought.now refused.now) }
+{
+    match entry_at(description, refused.entry) {
+        Some(entry) => say_kernel_hint(out, refused, sought.bytes(entry.kernel.as_str())),
+        None => Ok(()),
+    }
+}
+
+/// Appends the hints on the kernels of entries that were refused, in order.
+fn say_kernel_hints<A: Allocator + Copy, B: Allocator>(
+    out: &mut Vec<u8, A>,
+    description: &Description<B>,
+    sought: &Sought<'_, A>,
+    refused: &[RefusedEntry],
+) -> Result<(), AllocError>
+    ensures { OnOk result (out.new.items ≡ out.old.items
+        ++ flat_map (kernel_hint_of (view description.now).entries sought.now) refused.now) }
+{
+    for attempt in refused {
+        say_hint_of(out, description, sought, attempt)?;
+    }
+    Ok(())
+}
 
 /// Whether an entry is one of these.
 fn is_among(index: u32, indices: &[u32]) -> bool
@@ -28,16 +111,6 @@ fn is_attempted<A: Allocator>(description: &Description<A>, index: u32) -> bool
     is_among(index, &description.fallbacks)
 }
 
-fn say_hint<A: Allocator + Copy>(out: &mut Vec<u8, A>, index: u64) -> Result<(), AllocError>
-    ensures { OnOk result (out.new.items ≡ out.old.items ++ hints.unattempted_line index) }
-{
-    let alloc = *out.allocator();
-    let line = format!(in alloc;
-        "hint: entry {index} is not attempted: neither default nor fallback names it\n"
-    )?;
-    out.extend_from_slice(line.as_bytes())
-}
-
 /// Appends the hint on an entry, if there is one.
 fn say_hint_at<A: Allocator + Copy, B: Allocator>(
     out: &mut Vec<u8, A>,
@@ -50,7 +123,10 @@ fn say_hint_at<A: Allocator + Copy, B: Allocator>(
     if is_attempted(description, index) {
         return Ok(());
     }
-    say_hint(out, index as u64)
+    say!(
+        out,
+        "hint: entry {index} is not attempted: neither default nor fallback names it\n"
+    )
 }
 
 /// Appends a line for each entry that is never attempted.
@@ -80,7 +156,7 @@ pub fn say_hints<A: Allocator + Copy, B: Allocator>(
     ensures { OnOk result (out.new.items ≡ out.old.items
         ++ hints.hint_lines (view description.now) sought.now refused.now) }
 {
-    say_kernel_hints(out, &description.entries, sought, refused)?;
+    say_kernel_hints(out, description, sought, refused)?;
     say_region_hints(out, &description.regions)?;
     say_unattempted(out, description)
 }

@@ -1,15 +1,16 @@
 //! What a kernel is handed, line by line.
-ghost use Rattle.std.specs.Prelude.{◌≡◌, ◌++◌, OnOk};
+ghost use Rattle.std.specs.Prelude.{◌≡◌, ◌++◌, OnOk, map};
 ghost use Rattle.std.specs.List.{flat_map};
+ghost use Rattle.bl_load.specs.NamedRegisters.{named};
 ghost use Rattle.program_say.specs.HandoffLines as handed;
 ghost use Rattle.program_say.specs.HandoffLines.{place_line};
 ghost use Rattle.program_say.specs.PartSources.{source_words};
 
-use crate::lines::part_sources::say_source;
-use crate::lines::registers::say_registers;
+use crate::lines::hex16::say_hex16;
+use crate::lines::part_sources::say_steps;
 use crate::lines::walk::say_protocol;
-use bl_load::{Handoff, Place, Role, Step};
-use program_blame::say_line_end;
+use bl_load::{Handoff, NamedRegister, Place, Registers, Role, Step};
+use program_blame::{say, say_address};
 use std::alloc::{AllocError, Allocator};
 
 /// The role's name in a line.
@@ -29,19 +30,16 @@ pub fn role_name(role: Role) -> &'static str
 }
 
 /// Appends what a part is, which one of its role, its address, its length.
+#[tactic(auto, unfolding(crate::specs::HandoffLines::part_front))]
 fn say_part_front<A: Allocator + Copy>(
     out: &mut Vec<u8, A>,
     place: &Place,
 ) -> Result<(), AllocError>
     ensures { OnOk result (out.new.items ≡ out.old.items ++ handed.part_front place.now) }
 {
-    let alloc = *out.allocator();
-    let role = role_name(place.role);
-    let index = place.index;
-    let address = place.address;
-    let length = place.length;
-    let line = format!(in alloc; "part {role} {index} {address:08x} {length} from ")?;
-    out.extend_from_slice(line.as_bytes())
+    say!(out, "part {} {}", role_name(place.role), place.index)?;
+    say_address(out, " ", place.address, " ")?;
+    say!(out, "{} from ", place.length)
 }
 
 fn say_part<A: Allocator + Copy>(
@@ -53,8 +51,8 @@ fn say_part<A: Allocator + Copy>(
         (out.new.items ≡ out.old.items ++ place_line (source_words steps.now) place.now) }
 {
     say_part_front(out, place)?;
-    say_source(out, steps, place)?;
-    say_line_end(out)
+    say_steps(out, true, steps, place)?;
+    out.extend_from_slice(b"\n")
 }
 
 fn say_parts<A: Allocator + Copy, B: Allocator>(
@@ -69,6 +67,37 @@ fn say_parts<A: Allocator + Copy, B: Allocator>(
         say_part(out, steps, &handoff.place(index))?;
     }
     Ok(())
+}
+
+#[tactic(auto, unfolding(crate::specs::HandoffLines::register_line))]
+fn say_named<A: Allocator + Copy>(
+    out: &mut Vec<u8, A>,
+    registers: &[NamedRegister],
+) -> Result<(), AllocError>
+    ensures { OnOk result (out.new.items
+        ≡ out.old.items ++ flat_map handed.register_line (map named registers.now)) }
+{
+    match registers {
+        [] => Ok(()),
+        [first, rest @ ..] => {
+            say!(out, "register {}", first.name)?;
+            say_hex16(out, " ", first.value, "\n")?;
+            say_named(out, rest)
+        }
+    }
+}
+
+/// Appends the lines of registers, in the order of an image.
+fn say_registers<A: Allocator + Copy>(
+    out: &mut Vec<u8, A>,
+    registers: &Registers,
+) -> Result<(), AllocError>
+    ensures { OnOk result (out.new.items ≡ out.old.items ++ handed.registers_lines registers.now) }
+{
+    match registers {
+        Registers::Bits32(r) => say_named(out, &r.named()),
+        Registers::Bits64(r) => say_named(out, &r.named()),
+    }
 }
 
 /// Appends the lines of what a kernel is handed by these steps: the protocol, the parts in address

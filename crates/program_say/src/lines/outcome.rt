@@ -3,24 +3,11 @@ ghost use Rattle.std.specs.Prelude.{◌≡◌, ◌++◌, OnOk, OnErr};
 ghost use Rattle.program_say.specs.BootAndMapLines as says;
 
 use bl_load::RefusedEntry;
+use program_blame::say;
 use std::alloc::{AllocError, Allocator};
 
-/// Appends the line of an entry that was refused: its index in the menu, and the refusal's number.
-/// An error leaves the text as it was.
-fn say_refused<A: Allocator + Copy>(
-    out: &mut Vec<u8, A>,
-    entry: u64,
-    number: u64,
-) -> Result<(), AllocError>
-    ensures ok { OnOk result (out.new.items ≡ out.old.items ++ says.refused_line entry number) }
-    ensures err { OnErr result (out.new.items ≡ out.old.items) }
-{
-    let alloc = *out.allocator();
-    let line = format!(in alloc; "refused {entry} {number}\n")?;
-    out.extend_from_slice(line.as_bytes())
-}
-
-/// Appends the lines of entries that were refused, in order.
+/// Appends the lines of entries that were refused, in order: each by its index in the menu, and the
+/// refusal's number.
 pub fn say_refusals<A: Allocator + Copy>(
     out: &mut Vec<u8, A>,
     refused: &[RefusedEntry],
@@ -28,7 +15,7 @@ pub fn say_refusals<A: Allocator + Copy>(
     ensures { OnOk result (out.new.items ≡ out.old.items ++ says.refused_lines refused.now) }
 {
     for entry in refused {
-        say_refused(out, entry.entry as u64, entry.refusal.number() as u64)?;
+        say!(out, "refused {} {}\n", entry.entry, entry.refusal.number())?;
     }
     Ok(())
 }
@@ -43,9 +30,7 @@ pub fn say_booted<A: Allocator + Copy>(
     ensures ok { OnOk result (out.new.items ≡ out.old.items ++ says.booted_line entry title.now) }
     ensures err { OnErr result (out.new.items ≡ out.old.items) }
 {
-    let alloc = *out.allocator();
-    let line = format!(in alloc; "booted {entry} {title}\n")?;
-    out.extend_from_slice(line.as_bytes())
+    say!(out, "booted {entry} {title}\n")
 }
 
 /// Appends the line of a menu in which each entry was refused. An error leaves the text as it was.
@@ -54,4 +39,18 @@ pub fn say_no_entry_left<A: Allocator>(out: &mut Vec<u8, A>) -> Result<(), Alloc
     ensures err { OnErr result (out.new.items ≡ out.old.items) }
 {
     out.extend_from_slice(b"no entry left\n")
+}
+
+/// Appends the line of an image that is refused with this number. An error leaves the text as it
+/// was.
+pub fn say_bad_image<A: Allocator + Copy, B: Allocator>(
+    alloc: A,
+    blame: &mut Vec<u8, B>,
+    number: u32,
+) -> Result<(), AllocError>
+    ensures ok { OnOk result (blame.new.items ≡ blame.old.items ++ says.bad_image_line number) }
+    ensures err { OnErr result (blame.new.items ≡ blame.old.items) }
+{
+    let line = format!(in alloc; "bad image {number}\n")?;
+    blame.extend_from_slice(line.as_bytes())
 }

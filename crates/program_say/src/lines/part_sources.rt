@@ -2,7 +2,7 @@
 ghost use Rattle.std.specs.Prelude.{◌≡◌, ◌++◌, OnOk};
 ghost use Rattle.std.specs.List.{filter};
 ghost use Rattle.program_say.specs.PartSources as sources;
-ghost use Rattle.program_say.specs.PartSources.{is_told, source_words, steps_words};
+ghost use Rattle.program_say.specs.PartSources.{is_told, steps_words};
 
 use bl_load::{Place, Step, StepSource};
 use program_blame::say;
@@ -55,8 +55,9 @@ fn say_step<A: Allocator + Copy>(
     }
 }
 
-/// Appends what those of these steps say that are told of the part at a place.
-fn say_steps<A: Allocator + Copy>(
+/// Appends what those of these steps say that are told of the part at a place: of all steps of a
+/// plan, where its bytes come from.
+pub fn say_steps<A: Allocator + Copy>(
     out: &mut Vec<u8, A>,
     is_first: bool,
     steps: &[Step],
@@ -80,15 +81,4 @@ fn say_steps<A: Allocator + Copy>(
             say_steps(out, false, rest, place)
         }
     }
-}
-
-/// Appends where the bytes of a part come from, where these are the steps of the whole plan.
-pub fn say_source<A: Allocator + Copy>(
-    out: &mut Vec<u8, A>,
-    steps: &[Step],
-    place: &Place,
-) -> Result<(), AllocError>
-    ensures { OnOk result (out.new.items ≡ out.old.items ++ source_words steps.now place.now) }
-{
-    say_steps(out, true, steps, place)
 }

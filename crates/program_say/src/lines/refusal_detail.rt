@@ -1,20 +1,21 @@
 //! What is told of a refusal beside its number and its name, line by line.
-ghost use Rattle.std.specs.Prelude.{◌≡◌, ◌++◌, OnOk, map};
+ghost use Rattle.std.specs.Prelude.{◌≡◌, ◌++◌, OnOk};
 ghost use Rattle.bl_map.specs.Kinds.{kind_of};
 ghost use Rattle.bl_map.specs.NormalMap.{kind_at};
 ghost use Rattle.program_say.specs.DetailLines as words;
-ghost use Rattle.program_desc.specs.Views.{entry_view};
+ghost use Rattle.program_desc.specs.Views.{view};
 
 use crate::lines::frames::{frames_at, say_counted, say_frames};
 use crate::lines::kernel_handoff::role_name;
 use crate::subjects::{RefusalDetail, Sought};
 use bl_load::{Choice, Row};
 use bl_map::{Kind, Machine, frames_in};
-use program_blame::{say_address, say_line_end, say_unusable};
-use program_desc::EntryRow;
+use program_blame::{say, say_address, say_unusable};
+use program_desc::Description;
 use std::alloc::{AllocError, Allocator};
 
 /// Appends where a part may lie.
+#[tactic(auto, unfolding(program_blame::specs::UnusableAddress::address_words))]
 fn say_window<A: Allocator + Copy>(
     out: &mut Vec<u8, A>,
     align: u64,
@@ -24,11 +25,12 @@ fn say_window<A: Allocator + Copy>(
     ensures { OnOk result (out.new.items ≡ out.old.items ++ words.window_words align low high) }
 {
     say_address(out, "from ", low, " to ")?;
-    say_address(out, "", high, "")?;
-    say_counted(out, ", alignment ", align, "")
+    say_address(out, "", high, ", alignment ")?;
+    say!(out, "{align}")
 }
 
 /// Appends how a part's address is chosen.
+#[tactic(auto, unfolding(program_blame::specs::UnusableAddress::address_words))]
 fn say_choice<A: Allocator + Copy>(out: &mut Vec<u8, A>, choice: Choice) -> Result<(), AllocError>
     ensures { OnOk result (out.new.items ≡ out.old.items ++ words.choice_words choice) }
 {
@@ -54,28 +56,20 @@ fn say_choice<A: Allocator + Copy>(out: &mut Vec<u8, A>, choice: Choice) -> Resu
     }
 }
 
-/// Appends what a part is that finds no place, which one of its role, its length.
-#[tactic(auto, unfolding(crate::specs::DetailLines::no_place_front))]
-fn say_no_place_front<A: Allocator + Copy>(
-    out: &mut Vec<u8, A>,
-    row: &Row,
-) -> Result<(), AllocError>
-    ensures { OnOk result (out.new.items ≡ out.old.items ++ words.no_place_front row.now) }
-{
-    let alloc = *out.allocator();
-    let role = role_name(row.role);
-    let index = row.index;
-    let length = row.length;
-    let line = format!(in alloc; "no place {role} {index} {length} ")?;
-    out.extend_from_slice(line.as_bytes())
-}
-
+/// Appends the line of a part that finds no place: which one of its role it is, its length, and
+/// how its address is chosen.
 fn say_no_place<A: Allocator + Copy>(out: &mut Vec<u8, A>, row: &Row) -> Result<(), AllocError>
     ensures { OnOk result (out.new.items ≡ out.old.items ++ words.no_place_line row.now) }
 {
-    say_no_place_front(out, row)?;
+    say!(
+        out,
+        "no place {} {} {} ",
+        role_name(row.role),
+        row.index,
+        row.length
+    )?;
     say_choice(out, row.choice)?;
-    say_line_end(out)
+    out.extend_from_slice(b"\n")
 }
 
 /// The kind of an address, if it has one.
@@ -126,13 +120,13 @@ fn say_pool_frames<A: Allocator + Copy>(
 pub fn say_detail<A: Allocator + Copy, B: Allocator>(
     out: &mut Vec<u8, A>,
     machine: &Machine<B>,
-    entries: &[EntryRow<B>],
+    description: &Description<B>,
     sought: &Sought<'_, A>,
     entry: u32,
     detail: RefusalDetail,
 ) -> Result<(), AllocError>
     ensures { OnOk result (out.new.items ≡ out.old.items
-        ++ words.detail_lines (map entry_view entries.now) machine.now sought.now entry detail) }
+        ++ words.detail_lines (view description.now).entries machine.now sought.now entry detail) }
 {
     match detail {
         RefusalDetail::Nothing => Ok(()),
@@ -141,7 +135,7 @@ pub fn say_detail<A: Allocator + Copy, B: Allocator>(
             say_unusable_if(out, machine, unusable)
         }
         RefusalDetail::Frames { beside } => {
-            let wanted = frames_at(entries, sought, entry);
+            let wanted = frames_at(description, sought, entry);
             say_pool_frames(out, wanted, frames_in(&machine.pool()), beside)
         }
     }

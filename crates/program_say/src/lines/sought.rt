@@ -7,7 +7,7 @@ ghost use Rattle.program_desc.specs.Views.{entry_view, module_view};
 
 use crate::subjects::Sought;
 use bl_map::frames_of;
-use program_blame::say_name;
+use program_blame::{say, say_name};
 use program_desc::{EntryForm, EntryRow, ModuleRow};
 use std::alloc::{AllocError, Allocator};
 
@@ -20,15 +20,10 @@ fn say_front<A: Allocator + Copy>(
 ) -> Result<(), AllocError>
     ensures { OnOk result (out.new.items ≡ out.old.items ++ sought_files.sought_front place size) }
 {
-    let alloc = *out.allocator();
-    let line = match size {
-        None => format!(in alloc; "no file {place} ")?,
-        Some(size) => {
-            let frames = frames_of(size);
-            format!(in alloc; "file {place} {size} {frames} ")?
-        }
-    };
-    out.extend_from_slice(line.as_bytes())
+    match size {
+        None => say!(out, "no file {place} "),
+        Some(size) => say!(out, "file {place} {size} {} ", frames_of(size)),
+    }
 }
 
 /// Appends the line of a file by its name, at this place of the entry.

@@ -1,32 +1,34 @@
 //! What a kernel sees in an image, line by line.
-ghost use Rattle.std.specs.Prelude.{◌≡◌, ◌++◌, OnOk, OnErr};
+#![tactic(auto, unfolding(program_blame::specs::UnusableAddress::address_words))]
+
+ghost use Rattle.std.specs.Prelude.{◌≡◌, ◌≤◌, ◌++◌, All, OnOk, OnErr, codes};
 ghost use Rattle.std.specs.List.{flat_map};
+ghost use Rattle.bl_map.specs.NormalMap.{region_end};
+ghost use Rattle.bl_map.specs.Limits.{max_region_end};
 ghost use Rattle.bl_walk.specs.EntryShown.{RunsEndLow};
 ghost use Rattle.program_say.specs.WalkLines as says;
-ghost use Rattle.program_say.specs.WalkLines.{kernel_line, module_line};
+ghost use Rattle.program_say.specs.WalkLines.{kernel_line, module_line, seen_run_line};
 
-use crate::lines::walk::runs::say_runs;
+use crate::lines::hex16::say_hex16;
 use bl_load::Protocol;
+use bl_map::Region;
 use bl_mem::Bytes;
 use bl_walk::{Seen, SeenFile, SeenModule, SeenPart};
+use program_blame::{say, say_address};
 use std::alloc::{AllocError, Allocator};
 
-mod runs;
-
-/// Appends a text as a line has it: its length, and its bytes in hexadecimal digits if there are
-/// any.
+/// Appends a text as a line ends with it: its length, and its bytes in hexadecimal digits if there
+/// are any.
 #[tactic(auto, unfolding(crate::specs::WalkLines::text_word))]
 fn say_text<A: Allocator + Copy>(out: &mut Vec<u8, A>, text: &[u8]) -> Result<(), AllocError>
-    ensures { OnOk result (out.new.items ≡ out.old.items ++ says.text_word text.now) }
+    ensures { OnOk result (out.new.items ≡ out.old.items ++ says.text_word text.now ++ codes "\n") }
 {
     let count = text.len();
     if count == 0 {
-        return out.extend_from_slice(b"0");
+        return out.extend_from_slice(b"0\n");
     }
-    let alloc = *out.allocator();
-    let digits = hex::encode(alloc, text)?;
-    let word = format!(in alloc; "{count} {digits}")?;
-    out.extend_from_slice(word.as_bytes())
+    let digits = hex::encode(*out.allocator(), text)?;
+    say!(out, "{count} {digits}\n")
 }
 
 pub(crate) fn say_protocol<A: Allocator + Copy>(
@@ -35,39 +37,21 @@ pub(crate) fn say_protocol<A: Allocator + Copy>(
 ) -> Result<(), AllocError>
     ensures { OnOk result (out.new.items ≡ out.old.items ++ says.protocol_line protocol) }
 {
-    let alloc = *out.allocator();
-    let word = protocol.name();
-    let line = format!(in alloc; "protocol {word}\n")?;
-    out.extend_from_slice(line.as_bytes())
-}
-
-fn say_entry_address<A: Allocator + Copy>(
-    out: &mut Vec<u8, A>,
-    entry: u64,
-) -> Result<(), AllocError>
-    ensures { OnOk result (out.new.items ≡ out.old.items ++ says.entry_address_line entry) }
-{
-    let alloc = *out.allocator();
-    let line = format!(in alloc; "entry {entry:08x}\n")?;
-    out.extend_from_slice(line.as_bytes())
+    say!(out, "protocol {}\n", protocol.name())
 }
 
 fn say_line<A: Allocator + Copy>(out: &mut Vec<u8, A>, text: &[u8]) -> Result<(), AllocError>
     ensures { OnOk result (out.new.items ≡ out.old.items ++ says.command_line_line text.now) }
 {
     out.extend_from_slice(b"line ")?;
-    say_text(out, text)?;
-    out.extend_from_slice(b"\n")
+    say_text(out, text)
 }
 
 fn say_kernel<A: Allocator + Copy>(out: &mut Vec<u8, A>, part: &SeenPart) -> Result<(), AllocError>
     ensures { OnOk result (out.new.items ≡ out.old.items ++ says.kernel_line part.now) }
 {
-    let alloc = *out.allocator();
-    let address = part.address;
-    let length = part.length;
-    let line = format!(in alloc; "kernel {address:08x} {length}\n")?;
-    out.extend_from_slice(line.as_bytes())
+    say_address(out, "kernel ", part.address, " ")?;
+    say!(out, "{}\n", part.length)
 }
 
 fn say_kernels<A: Allocator + Copy>(
@@ -82,29 +66,15 @@ fn say_kernels<A: Allocator + Copy>(
     Ok(())
 }
 
-/// Appends what stands before a module's line: its address and its length.
-fn say_module_front<A: Allocator + Copy, B: Allocator>(
-    out: &mut Vec<u8, A>,
-    file: &SeenModule<'_, B>,
-) -> Result<(), AllocError>
-    ensures { OnOk result (out.new.items ≡ out.old.items ++ says.module_front file.now) }
-{
-    let alloc = *out.allocator();
-    let address = file.mod_start;
-    let length = file.bytes.len();
-    let line = format!(in alloc; "module {address:08x} {length} ")?;
-    out.extend_from_slice(line.as_bytes())
-}
-
 fn say_module<A: Allocator + Copy, B: Allocator>(
     out: &mut Vec<u8, A>,
     file: &SeenModule<'_, B>,
 ) -> Result<(), AllocError>
     ensures { OnOk result (out.new.items ≡ out.old.items ++ says.module_line file.now) }
 {
-    say_module_front(out, file)?;
-    say_text(out, file.line.as_slice())?;
-    out.extend_from_slice(b"\n")
+    say_address(out, "module ", file.mod_start as u64, " ")?;
+    say!(out, "{} ", file.bytes.len())?;
+    say_text(out, file.line.as_slice())
 }
 
 fn say_modules<A: Allocator + Copy, B: Allocator>(
@@ -119,19 +89,6 @@ fn say_modules<A: Allocator + Copy, B: Allocator>(
     Ok(())
 }
 
-fn say_ramdisk<A: Allocator + Copy>(
-    out: &mut Vec<u8, A>,
-    file: &SeenFile<'_>,
-) -> Result<(), AllocError>
-    ensures { OnOk result (out.new.items ≡ out.old.items ++ says.ramdisk_line file.now) }
-{
-    let alloc = *out.allocator();
-    let address = file.address;
-    let length = file.bytes.len();
-    let line = format!(in alloc; "initrd {address:08x} {length}\n")?;
-    out.extend_from_slice(line.as_bytes())
-}
-
 fn say_initrd<A: Allocator + Copy>(
     out: &mut Vec<u8, A>,
     initrd: &Option<SeenFile<'_>>,
@@ -140,8 +97,31 @@ fn say_initrd<A: Allocator + Copy>(
 {
     match initrd {
         None => Ok(()),
-        Some(file) => say_ramdisk(out, file),
+        Some(file) => {
+            say_address(out, "initrd ", file.address as u64, " ")?;
+            say!(out, "{}\n", file.bytes.len())
+        }
     }
+}
+
+#[tactic(auto, unfolding(crate::specs::BootAndMapLines::hex16_between))]
+fn say_run<A: Allocator + Copy>(out: &mut Vec<u8, A>, run: &Region) -> Result<(), AllocError>
+    requires { region_end run.now ≤ max_region_end }
+    ensures { OnOk result (out.new.items ≡ out.old.items ++ says.seen_run_line run.now) }
+{
+    say_hex16(out, "map ", run.base, " ")?;
+    say_hex16(out, "", run.base + run.length, " ")?;
+    say!(out, "{}\n", run.kind.number())
+}
+
+fn say_runs<A: Allocator + Copy>(out: &mut Vec<u8, A>, runs: &[Region]) -> Result<(), AllocError>
+    requires { All (λ run. region_end run ≤ max_region_end) runs.now }
+    ensures { OnOk result (out.new.items ≡ out.old.items ++ flat_map seen_run_line runs.now) }
+{
+    for run in runs {
+        say_run(out, run)?;
+    }
+    Ok(())
 }
 
 fn say_copy<A: Allocator + Copy, B: Allocator>(
@@ -151,12 +131,13 @@ fn say_copy<A: Allocator + Copy, B: Allocator>(
 ) -> Result<(), AllocError>
     ensures { OnOk result (out.new.items ≡ out.old.items ++ says.rsdp_copy_line word.now copy.now) }
 {
-    if let Some(bytes) = copy {
-        out.extend_from_slice(word)?;
-        say_text(out, bytes.as_slice())?;
-        out.extend_from_slice(b"\n")?;
+    match copy {
+        None => Ok(()),
+        Some(bytes) => {
+            out.extend_from_slice(word)?;
+            say_text(out, bytes.as_slice())
+        }
     }
-    Ok(())
 }
 
 /// Appends the lines of what a kernel sees: its protocol, where it is entered, its line, its parts,
@@ -173,7 +154,7 @@ pub fn say_walk<A: Allocator + Copy, B: Allocator, C: Allocator>(
 {
     let mut lines = Vec::new(alloc);
     say_protocol(&mut lines, seen.protocol)?;
-    say_entry_address(&mut lines, seen.entry)?;
+    say_address(&mut lines, "entry ", seen.entry, "\n")?;
     say_line(&mut lines, seen.line.as_slice())?;
     say_kernels(&mut lines, seen.kernel.as_slice())?;
     say_modules(&mut lines, seen.modules.as_slice())?;

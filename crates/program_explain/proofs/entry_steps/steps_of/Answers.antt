@@ -1,34 +1,24 @@
-use Rattle.std.proofs.Common.{IfOk, [], map, subst, sym, ◌∙◌}
-use Rattle.std.proofs.lemmas.List.{length-map}
-use Rattle.bl_load.specs.EntryValue.{EntryValue}
+use Rattle.std.proofs.Common.{◌≡◌, map}
+use Rattle.bl_load.specs.EntryValue.{value_of}
+use Rattle.bl_load.proofs.HandoverLaws.{not_both}
 use Rattle.program_desc.specs.Views.{entry_view}
-use Rattle.program_explain.specs.EntrySteps.{AreEntrySteps}
-use Rattle.program_explain.specs.internal.ExplanationEnds.{HasHandover}
-use Rattle.program_explain.proofs.DetailLemmas.{counted_files, value_found}
+use Rattle.program_explain.specs.Details.{value_sought}
 use Rattle.program_explain.proofs.entry_steps.steps_of.Goals as goal
 
-pub prepared_steps-requires-clause-files : goal.prepared_steps-requires-clause-files
-prepared_steps-requires-clause-files g c =
-    let texts = map (λ f. f.bytes.now) c.deref.result.now in
-    sym (length-map c.deref.result.now (λ f. f.bytes.now))
-    ∙ counted_files c.in_ok-entry.entry [] texts (entry_view c.args.row.now) c.args.sought.now
-    c.in_ok-entry.ensures.entry (rw c.deref.ensures.value c.in_ok-files.ensures)
+pub unreachable-requires : goal.unreachable-requires
+unreachable-requires g c =
+    let value = value_sought c.args.sought.now (entry_view c.args.row.now) in
+    let same : value_of (map (λ f. f.bytes.now) c.deref.result.now) c.in_ok-found.found.entry ≡ value =
+    rw c.deref.ensures.value c.in_ok-found.ensures.value in
+    not_both c.args.machine.now value c.requires.0 _ c.requires.1
+    (rw same at (rw c.in-Err-Refused.field-0-is at c.in-Err-Refused.ensures.fault))
 
-pub prepared_steps-requires-clause-handed : goal.prepared_steps-requires-clause-handed
-prepared_steps-requires-clause-handed g c =
-    let texts = map (λ f. f.bytes.now) c.deref.result.now in
-    let value =
-    value_found c.in_ok-entry.entry [] texts (entry_view c.args.row.now) c.args.sought.now
-    c.in_ok-entry.ensures.entry (rw c.deref.ensures.value c.in_ok-files.ensures) in
-    subst (λ (v : EntryValue). HasHandover c.args.machine.now v) (sym value) c.requires
-
-pub returns : goal.returns
-returns g c =
-    let texts = map (λ f. f.bytes.now) c.deref.result.now in
-    let value =
-    value_found c.in_ok-entry.entry [] texts (entry_view c.args.row.now) c.args.sought.now
-    c.in_ok-entry.ensures.entry (rw c.deref.ensures.value c.in_ok-files.ensures) in
-    subst
-    (λ (v : EntryValue). IfOk c.prepared_steps.result
-    (λ steps. AreEntrySteps g.row.A.Denot c.args.machine.now v steps.items))
-    value c.prepared_steps.ensures
+pub returns-in-Ok : goal.returns-in-Ok
+returns-in-Ok g c =
+    let value = value_sought c.args.sought.now (entry_view c.args.row.now) in
+    let same : value_of (map (λ f. f.bytes.now) c.deref.result.now) c.in_ok-found.found.entry ≡ value =
+    rw c.deref.ensures.value c.in_ok-found.ensures.value in record {
+      parts = c.in-Ok.plan.parts.items;
+      origins = rw same at c.in-Ok.ensures.origins;
+      are = c.in_ok-steps.ensures.steps;
+    }

@@ -9,8 +9,8 @@ use Rattle.program_explain.proofs.RefusedLemmas.{place_refusals_for}
 use Rattle.program_explain.proofs.StepLemmas.{handed_entry_for}
 use Rattle.program_explain.proofs.explained_boot.explain_found.Goals as goal
 
-pub details_of-requires : goal.details_of-requires
-details_of-requires g c =
+pub find_details-requires : goal.find_details-requires
+find_details-requires g c =
     let d = view c.args.boot.now.description.now in
     let outcome = c.in-Ok.outcome in
     let bytes = g.M.PhysMem.bytes c.run-ended.new.memory in
@@ -24,8 +24,8 @@ details_of-requires g c =
     (handed_over outcome.entry outcome.refused.items (handover_held bytes outcome.handoff))
     c.new-sought.result c.deref.result.now found c.deref.ensures.value c.requires.menu came
 
-pub details_of-requires-in-Err-NoEntryLeft : goal.details_of-requires-in-Err-NoEntryLeft
-details_of-requires-in-Err-NoEntryLeft g c =
+pub find_details-requires-in-Err-NoEntryLeft : goal.find_details-requires-in-Err-NoEntryLeft
+find_details-requires-in-Err-NoEntryLeft g c =
     let d = view c.args.boot.now.description.now in
     let came =
     rw c.in-Err-NoEntryLeft.field-0-is at
