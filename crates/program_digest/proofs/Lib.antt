@@ -1,0 +1,4 @@
+pub mod EntryLemmas
+pub mod MenuPlanLemmas
+pub mod DigestEndLemmas
+pub mod DigestLaws

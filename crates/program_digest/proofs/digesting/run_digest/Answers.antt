@@ -1,0 +1,74 @@
+use Rattle.std.proofs.Common.{All, length, refl, subst}
+use Rattle.std.proofs.lemmas.Result.{err_from_is_err_and}
+use Rattle.bl_load.specs.WellFormedEntry.{IsWellFormedValue}
+use Rattle.bl_session.specs.menu.Menu.{MenuFacts}
+use Rattle.bl_session.proofs.menu_lemmas.MenuLemmas.{offered_values}
+use Rattle.program_desc.specs.Described.{described}
+use Rattle.program_desc.specs.Views.{view}
+use Rattle.program_menu.specs.DescribedMenu.{boot_of, max_names}
+use Rattle.program_menu.specs.BootCases.{names_fetched, names_sought}
+use Rattle.program_menu.proofs.AskedLemmas.{fetched, inline_in, none_asked, none_missing, sought}
+use Rattle.program_digest.proofs.DigestEndLemmas.{booted_by, digest_asked, undescribed}
+use Rattle.program_digest.proofs.DigestEndLemmas.{without_machine}
+use Rattle.program_digest.proofs.digesting.run_digest.Goals as goal
+
+pub ready_boot-requires-clause-menu : goal.ready_boot-requires-clause-menu
+ready_boot-requires-clause-menu g c = c.in_ok-description.ensures.menu
+
+pub ready_boot-requires-clause-faults : goal.ready_boot-requires-clause-faults
+ready_boot-requires-clause-faults g c = c.requires
+
+pub returns-in_err-description : goal.returns-in_err-description
+returns-in_err-description g c =
+    let p =
+    err_from_is_err_and c.from_residual.result
+    c.from_residual.ensures.1 in
+    rw (p.1, p.2)
+    (record {
+      ends = undescribed g.F.Files.answers g.F.Files.faults c.args.desc.now c.args.files.now
+          c.args.say.now.items _ c.in_err-description.ensures.given;
+      asked = none_asked (names_fetched (described c.args.desc.now))
+          (g.F.Files.asked c.args.files.now);
+      inline = λ _. refl;
+      same_files = λ file answer told. told;
+      missing = none_missing (g.F.Files.faults c.args.files.now)
+          (length (names_sought (described c.args.desc.now)));
+      few = (none_missing (g.F.Files.faults c.args.files.now) max_names).1;
+    })
+
+pub returns-in_err-machine : goal.returns-in_err-machine
+returns-in_err-machine g c =
+    let p =
+    err_from_is_err_and c.from_residual-in_err-machine.result
+    c.from_residual-in_err-machine.ensures.1 in
+    rw (p.1, p.2)
+    (record {
+      ends = without_machine g.F.Files.answers g.F.Files.faults c.args.desc.now
+          c.in_ok-description.description c.in_ok-description.ensures.given c.args.files.now
+          c.args.say.now.items _ c.in_err-machine.ensures.fault;
+      asked = none_asked (names_fetched (described c.args.desc.now))
+          (g.F.Files.asked c.args.files.now);
+      inline = λ _. refl;
+      same_files = λ file answer told. told;
+      missing = none_missing (g.F.Files.faults c.args.files.now)
+          (length (names_sought (described c.args.desc.now)));
+      few = (none_missing (g.F.Files.faults c.args.files.now) max_names).1;
+    })
+
+pub returns-in_err-ready : goal.returns-in_err-ready
+returns-in_err-ready g c =
+    let p =
+    err_from_is_err_and c.from_residual-in_err-ready.result c.from_residual-in_err-ready.ensures.1
+    in
+    let d = c.in_ok-description.description in
+    let is = c.in_ok-description.ensures.given in
+    rw (p.1, p.2)
+    (record {
+      ends = refl;
+      asked = rw (fetched c.args.desc.now d is) c.in_err-ready.ensures.asked_first;
+      inline =
+          λ has. c.in_err-ready.ensures.inline (inline_in c.args.desc.now d is has);
+      same_files = c.in_err-ready.ensures.same;
+      missing = rw (sought c.args.desc.now d is) c.in_err-ready.ensures.missing;
+      few = c.in_err-ready.ensures.few;
+    })

@@ -1,0 +1,4 @@
+pub mod PlannedMenu
+pub mod Digested
+pub mod ImageDigested
+pub mod internal

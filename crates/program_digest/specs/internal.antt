@@ -1,0 +1,2 @@
+pub mod EntryPlans
+pub mod DigestEnds
