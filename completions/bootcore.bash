@@ -6,7 +6,7 @@ _bootcore() {
     local word=${COMP_WORDS[COMP_CWORD]} options='' left='' present=' ' has_file='' at option
     COMPREPLY=()
     if [ "$COMP_CWORD" = 1 ]; then
-        mapfile -t COMPREPLY < <(compgen -W 'boot map walk convert explain --help' -- "$word")
+        mapfile -t COMPREPLY < <(compgen -W 'boot map walk convert explain digest --help' -- "$word")
         return
     fi
     case ${COMP_WORDS[1]} in
@@ -15,6 +15,7 @@ _bootcore() {
         walk) options='--help' ;;
         convert) options='--out --help' ;;
         explain) options='--order --help' ;;
+        digest) options='--image --help' ;;
         *) return ;;
     esac
     # what stands before the word: options, those with a value with it, and the one file
@@ -22,7 +23,7 @@ _bootcore() {
         case " $options " in
             *" ${COMP_WORDS[at]} "*)
                 present+="${COMP_WORDS[at]} "
-                if [ "${COMP_WORDS[at]}" != --help ]; then at=$((at + 1)); fi
+                case ${COMP_WORDS[at]} in --help | --image) ;; *) at=$((at + 1)) ;; esac
                 ;;
             *) has_file=yes ;;
         esac

@@ -18,6 +18,8 @@ function __bootcore_wants --argument-names subcommand wanted
             set option ''
         else if contains -- $word --out --order
             set option $word
+        else if contains -- $word --image
+            test "$word" != "$wanted"; or return 1
         else if test "$wanted" = FILE
             return 1
         end
@@ -31,6 +33,7 @@ complete -c bootcore -n 'test (count (commandline -opc)) -eq 1' -a map -d 'print
 complete -c bootcore -n 'test (count (commandline -opc)) -eq 1' -a walk -d 'print what a kernel sees in an image'
 complete -c bootcore -n 'test (count (commandline -opc)) -eq 1' -a convert -d 'write an image of either version in version 2'
 complete -c bootcore -n 'test (count (commandline -opc)) -eq 1' -a explain -d 'print where each part of a boot is placed, or why an entry is refused'
+complete -c bootcore -n 'test (count (commandline -opc)) -eq 1' -a digest -d 'print the SHA-256 of what a boot hands over, or of an image, and of each part'
 complete -c bootcore -n 'test (count (commandline -opc)) -eq 1' -l help -d 'print name, version and usage'
 
 complete -c bootcore -n '__bootcore_wants boot FILE' -F
@@ -51,3 +54,7 @@ complete -c bootcore -n '__bootcore_wants convert --help' -l help -d 'print name
 complete -c bootcore -n '__bootcore_wants explain FILE' -F
 complete -c bootcore -n '__bootcore_wants explain --order' -l order -x -a 'forward reverse' -d 'the order in which pieces of files come'
 complete -c bootcore -n '__bootcore_wants explain --help' -l help -d 'print name, version and usage'
+
+complete -c bootcore -n '__bootcore_wants digest FILE' -F
+complete -c bootcore -n '__bootcore_wants digest --image' -l image -d 'the file is an image, and not a description'
+complete -c bootcore -n '__bootcore_wants digest --help' -l help -d 'print name, version and usage'

@@ -49,6 +49,17 @@ class Case(NamedTuple):
     said: str
     image: str
 
+    @property
+    def lines(self) -> str:
+        """What is said, on both streams, as it is printed."""
+        return "".join(f"{line}\n" for line in self.said.split("; ")) if self.said else ""
+
+
+def read_cases(folder: Path) -> List[Case]:
+    """The cases that cases/expand wrote into a folder."""
+    rows = (folder / "wanted").read_text(encoding="utf-8").splitlines()
+    return [Case(name, int(status), said, image) for name, status, said, image in (row.split("|") for row in rows)]
+
 
 class Boot(NamedTuple):
     """A boot that ended, what it wrote to both streams as one, and the SHA-256 of its image."""
@@ -80,8 +91,7 @@ class Cases(ProgramChecks):
         names = sorted(file.stem for file in self.folder.glob("*.toml"))
         with self.check("there are 475 cases"):
             self.assertEqual(len(names), 475, f"the files *.toml that {EXPAND} writes")
-        rows = (self.folder / "wanted").read_text(encoding="utf-8").splitlines()
-        cases = [Case(name, int(status), said, image) for name, status, said, image in (row.split("|") for row in rows)]
+        cases = read_cases(self.folder)
         with self.check("the file wanted has each case once, and nothing else"):
             self.assertEqual(sorted(case.name for case in cases), names, "the names in the file wanted, and of *.toml")
         with ThreadPoolExecutor(os.cpu_count() or 1) as pool:
@@ -95,8 +105,7 @@ class Cases(ProgramChecks):
 
     def ends_as_wanted(self, case: Case, booted: Boot) -> None:
         with self.check(f"case {case.name} ends as its table says"):
-            said = "".join(f"{line}\n" for line in case.said.split("; ")) if case.said else ""
-            self.assert_boot(case, booted, "wanted", case.status, said.encode(), case.image)
+            self.assert_boot(case, booted, "wanted", case.status, case.lines.encode(), case.image)
 
     def ends_the_same(self, case: Case, forward: Boot, reverse: Boot) -> None:
         with self.check(f"case {case.name} in reverse order ends the same"):

@@ -52,6 +52,13 @@ COMPLETIONS = [
     ("offers --order after the description of explain", "explain x --", "--order"),
     ("completes the order forward of explain", "explain x --order f", "forward"),
     ("offers nothing after the description and the order of explain", "explain x --order forward --", ""),
+    ("completes the subcommand digest", "d", "digest"),
+    ("offers the options of digest before its file", "digest --", "--help --image"),
+    ("completes the file of digest", "digest examples/first.t", "examples/first.toml"),
+    ("completes the image of digest behind its flag", "digest --image examples/first.i", "examples/first.image.hex"),
+    ("offers --image after the file of digest", "digest x --", "--image"),
+    ("offers nothing after the flag of digest and its file", "digest --image x e", ""),
+    ("offers the flag of digest once", "digest x --image --", ""),
     ("offers --help where a subcommand may stand", "--", "--help"),
     ("offers nothing after a word that is no subcommand", "foo e", ""),
 ]

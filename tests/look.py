@@ -219,6 +219,8 @@ usage: bootcore boot DESC --out IMAGE [--order forward|reverse]
        bootcore walk IMAGE
        bootcore convert IMAGE --out NEW
        bootcore explain DESC [--order forward|reverse]
+       bootcore digest DESC
+       bootcore digest --image IMAGE
 options of the script bootcore, before these words, as in `bootcore --look map DESC`:
        --look     where no proved program stands: run the words without a proof, in one or two minutes, and prove nothing
        --no-look  where no proved program stands: run the words only after the proof

@@ -55,6 +55,7 @@ WORDS_REFUSED: List[Tuple[str, List[str], str]] = [
         "--out stands before the subcommand",
     ),
     ("an option stands there twice", ["boot", "files.toml", "--out", "a", "--out", "b"], f"--out {TWICE}"),
+    ("a flag stands there twice", ["digest", "--image", "new.image", "--image"], f"--image {TWICE}"),
     ("an option stands in the place of a value", ["boot", "files.toml", "--out", "--order"], f"--out {TWICE}"),
     ("the description is /dev/stdin", ["map", "/dev/stdin"], f"/dev/stdin {DEVICE}"),
     ("the image that is read is a link to a file of each process", ["walk", "self"], f"self {DEVICE}"),
@@ -133,6 +134,21 @@ JOBS: List[Tuple[str, List[str], List[str]]] = [
         "leaves the path of a missing description as explain prints it",
         ["explain", "none.toml"],
         ["", "job", "--", "explain", "none.toml"],
+    ),
+    (
+        "copies the files of the description whose boot is digested",
+        ["digest", "files.toml"],
+        ["", "job", *COPY, "--", "digest", "{room}/files.toml"],
+    ),
+    (
+        "copies no files where an image is digested, and has the flag first",
+        ["digest", "files.toml", "--image"],
+        ["", "job", "--", "digest", "--image", "{room}/files.toml"],
+    ),
+    (
+        "leaves a flag of another subcommand as it is",
+        ["walk", "files.toml", "--image"],
+        ["", "refused", "--", "walk", "files.toml", "--image"],
     ),
     (
         "leaves words that the program refuses as they are",

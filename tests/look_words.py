@@ -46,10 +46,22 @@ WORDS: List[Case] = [
     Case("explain bad.toml", 2),
     Case("explain none.toml", 3),
     Case("explain menu.toml", 0),
+    Case("digest first.toml", 0),
+    Case("digest relative.toml", 0),
+    Case("digest menu.toml", 0),
+    Case("digest missing.toml", 1),
+    Case("digest bad.toml", 2),
+    Case("digest none.toml", 3),
+    Case("digest --image old.image", 0),
+    Case("digest old.image --image", 0),
+    Case("digest first.toml --image", 2),
+    Case("digest --image none.image", 3),
     Case("", 64),
     Case("translate first.toml", 64),
     Case("explain first.toml --order up", 64),
     Case("boot first.toml", 64),
+    Case("digest --image", 64),
+    Case("walk old.image --image", 64),
 ]
 
 

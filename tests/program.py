@@ -278,6 +278,10 @@ class CommandLines(ImageChecks):
             ("a conversion of no image is refused", ["convert", "--out", none]),
             ("an order of a conversion is refused", ["convert", self.first, "--out", none, "--order", "forward"]),
             ("a walk of no image is refused", ["walk"]),
+            ("digests of no file are refused", ["digest"]),
+            ("digests of two images are refused", ["digest", "--image", self.first, self.first]),
+            ("the flag of digests twice is refused", ["digest", "--image", self.first, "--image"]),
+            ("a walk with the flag of digests is refused", ["walk", "--image", self.first]),
             ("a command line of no words is refused", []),
             ("words that are no text are refused", ["boot", FIRST, "--out", b"\xff"]),
         ):
@@ -292,5 +296,7 @@ usage: bootcore boot DESC --out IMAGE [--order forward|reverse]
        bootcore walk IMAGE
        bootcore convert IMAGE --out NEW
        bootcore explain DESC [--order forward|reverse]
+       bootcore digest DESC
+       bootcore digest --image IMAGE
 """
         self.ends("help is name, version and a usage text", self.program("--help"), 0, wanted)

@@ -20,7 +20,7 @@ def run() -> int:
     support.may_lack_programs = True
     began = time.monotonic()
     if are_built():
-        parts = ["docs", "scripts", "rows", "cases", "program", "images", "model"]
+        parts = ["docs", "scripts", "rows", "cases", "program", "images", "digest", "model"]
         of_what = "quick: rows, cases, images and the program's runs are those of the proved programs in crates/*/out"
     else:
         quick_look.begin()

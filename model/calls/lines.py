@@ -9,10 +9,12 @@ HELP = ("--help", "-h")
 ORDERS = ("forward", "reverse")
 # The options of each subcommand; --out must be given where it may be.
 OPTIONS = {"boot": ("--out", "--order"), "map": (), "walk": (), "convert": ("--out",),
-           "explain": ("--order",)}
+           "explain": ("--order",), "digest": ()}
+# The options of each that have no value, and may be given once.
+FLAGS = {"digest": ("--image",)}
 # What the path of each is called.
 FIELDS = {"boot": "description", "map": "description", "walk": "image", "convert": "image",
-          "explain": "description"}
+          "explain": "description", "digest": "description"}
 
 
 class Refused(Exception):
@@ -34,7 +36,7 @@ def value_of(words: List[str], name: str) -> str:
 
 
 def job(words: List[str]) -> str:
-    """The program's name, a subcommand, its one path, and its options in any order."""
+    """The program's name, a subcommand, its one path, and its options and flags in any order."""
     rest = list(words[1:])
     if not rest:
         raise Refused
@@ -43,7 +45,7 @@ def job(words: List[str]) -> str:
         raise Help
     if command not in OPTIONS:
         raise Refused
-    paths, options = [], {}
+    paths, options, flags = [], {}, set()
     while rest:
         name = rest[0].partition("=")[0]
         if rest[0] == "--":
@@ -55,6 +57,10 @@ def job(words: List[str]) -> str:
             if name in options:
                 raise Refused
             options[name] = value_of(rest, name)
+        elif rest[0] in FLAGS.get(command, ()):
+            if rest[0] in flags:
+                raise Refused
+            flags.add(rest.pop(0))
         elif rest[0].startswith("-"):
             raise Refused
         else:
@@ -64,6 +70,8 @@ def job(words: List[str]) -> str:
         raise Refused
     if "--out" in OPTIONS[command] and "--out" not in options:
         raise Refused
+    if "--image" in flags:
+        return 'DigestImage { image: "%s" }' % paths[0]
     told = [(FIELDS[command], '"%s"' % paths[0])]
     if "--out" in OPTIONS[command]:
         told.append(("new" if command == "convert" else "image", '"%s"' % options["--out"]))

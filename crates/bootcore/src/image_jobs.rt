@@ -5,6 +5,7 @@ use crate::image_file::ImageFile;
 use crate::program::{tell, tell_status};
 use bl_image::IoSource;
 use program_boot::{convert, walk_to};
+use program_digest::digest_image_to;
 use std::io::Write;
 use std::{fs, io, rt};
 
@@ -49,6 +50,22 @@ pub fn walk_path(rt: &HostRuntime, path: &str) -> u8
     let mut say = Vec::new(rt.alloc());
     let mut blame = Vec::new(rt.alloc());
     let status = walk_to(rt.alloc(), &mut source, &mut say, &mut blame);
+    tell(rt, &say);
+    tell_blame(rt, status, &blame)
+}
+
+/// Says the digests of the image at a path, or what is wrong with it.
+pub fn digest_image_path(rt: &HostRuntime, path: &str) -> u8
+    ensures { result ≤ 4 }
+{
+    let file = match open_image(rt, path) {
+        Ok(file) => file,
+        Err(status) => return tell_status(rt, status),
+    };
+    let mut source = IoSource::new(file);
+    let mut say = Vec::new(rt.alloc());
+    let mut blame = Vec::new(rt.alloc());
+    let status = digest_image_to(rt.alloc(), &mut source, &mut say, &mut blame);
     tell(rt, &say);
     tell_blame(rt, status, &blame)
 }

@@ -1,5 +1,5 @@
-//! The program: from a boot description to the image of a handover, or to the map of a machine;
-//! from an image to what a kernel sees in it.
+//! The program: from a boot description to the image of a handover or to its digests, or to the map
+//! of a machine; from an image to what a kernel sees in it, or to its digests.
 #![tactic(auto)]
 
 ghost use Rattle.std.specs.Prelude.{◌≡◌, ◌⊎◌, ◌≤◌};
@@ -13,6 +13,7 @@ pub use image_file::ImageFile;
 pub use path_files::{PathFiles, read_file};
 use program::{run_line, tell_status};
 pub use program_boot::{AskedNames, FILE_LIMIT, Fetched, Files, MemFiles, boot, map_to, walk_to};
+pub use program_digest::{digest_image_to, digest_to};
 pub use program_explain::explain_to;
 pub use program_line::{Job, LineFault, Order, read_line};
 use std::process::ExitCode;

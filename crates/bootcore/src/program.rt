@@ -3,10 +3,11 @@ ghost use Rattle.std.specs.Prelude.{◌≡◌, ◌⊎◌, ◌≤◌, option_map,
 ghost use Rattle.bootcore.specs.StatusMessages as statuses;
 
 use crate::image_file::ImageFile;
-use crate::image_jobs::{convert_path, walk_path};
+use crate::image_jobs::{convert_path, digest_image_path, walk_path};
 use crate::path_files::{PathFiles, read_file, tell_fault};
 use bl_mem::Bytes;
 use program_boot::{Fetched, boot, map_to};
+use program_digest::digest_to;
 use program_explain::explain_to;
 use program_line::{Job, LineFault, Order, read_line};
 use std::alloc::Global;
@@ -20,6 +21,8 @@ usage: bootcore boot DESC --out IMAGE [--order forward|reverse]
        bootcore walk IMAGE
        bootcore convert IMAGE --out NEW
        bootcore explain DESC [--order forward|reverse]
+       bootcore digest DESC
+       bootcore digest --image IMAGE
 ";
 
 /// Writes to standard output, whose faults are not told.
@@ -86,6 +89,21 @@ fn boot_path(rt: &HostRuntime, path: &str, image: &str, order: Order) -> u8
     // The image is closed before anything is told. In a process that began without standard output
     // the image's file has its number, and the lines would be written behind the image.
     drop(out);
+    tell(rt, &say);
+    status
+}
+
+/// Says what the boot of the description at a path comes to, and the digests of its image.
+fn digest_path(rt: &HostRuntime, path: &str) -> u8
+    ensures { result ≤ 4 }
+{
+    let desc = match read_desc(rt, path) {
+        Ok(desc) => desc,
+        Err(status) => return status,
+    };
+    let mut files = PathFiles::new(rt);
+    let mut say = Vec::new(rt.alloc());
+    let status = digest_to(rt.alloc(), rt.alloc(), desc.as_slice(), &mut files, &mut say);
     tell(rt, &say);
     status
 }
@@ -157,6 +175,8 @@ pub fn run_line(rt: &HostRuntime, words: &[&str]) -> u8
         Ok(Job::Walk { image }) => walk_path(rt, image),
         Ok(Job::Convert { image, new }) => convert_path(rt, image, new),
         Ok(Job::Explain { description, order }) => explain_path(rt, description, order),
+        Ok(Job::Digest { description }) => tell_status(rt, digest_path(rt, description)),
+        Ok(Job::DigestImage { image }) => digest_image_path(rt, image),
         Err(LineFault::Help) => {
             tell(rt, USAGE.as_bytes());
             0

@@ -98,39 +98,43 @@ entered_name : (a : App) (stop : Option (Text × List Text)) (chosen : Text × L
 entered_name a None chosen is = absurd cc
 entered_name a (Some p) chosen is = found_name _ p.1 a.subs chosen is
 
-one_of_five : (a : App) (stop : Option (Text × List Text)) (chosen : Text × List Row)
-    → map (λ s. s.name) a.subs
-    ≡ codes "boot" ∷ codes "map" ∷ codes "walk" ∷ codes "convert" ∷ codes "explain" ∷ []
+-- the names of the program's subcommands
+abbrev six_names : List Text
+six_names =
+    codes "boot" ∷ codes "map" ∷ codes "walk" ∷ codes "convert" ∷ codes "explain"
+    ∷ codes "digest" ∷ []
+
+one_of_six : (a : App) (stop : Option (Text × List Text)) (chosen : Text × List Row)
+    → map (λ s. s.name) a.subs ≡ six_names
     → entered a stop ≡ Some chosen
     → (bytes_eq chosen.0 (codes "boot") ≡ false) × (bytes_eq chosen.0 (codes "map") ≡ false)
     × (bytes_eq chosen.0 (codes "walk") ≡ false)
     × (bytes_eq chosen.0 (codes "convert") ≡ false)
-    × (bytes_eq chosen.0 (codes "explain") ≡ false) → ⊥
-one_of_five a stop chosen names is others =
+    × (bytes_eq chosen.0 (codes "explain") ≡ false)
+    × (bytes_eq chosen.0 (codes "digest") ≡ false) → ⊥
+one_of_six a stop chosen names is others =
     let found = entered_name a stop chosen is in
-    let five =
-    codes "boot" ∷ codes "map" ∷ codes "walk" ∷ codes "convert" ∷ codes "explain" ∷ [] in
-    let among : list_any (bytes_eq chosen.0) five ≡ true = rw names at found in
-    let no : list_any (bytes_eq chosen.0) five ≡ false =
-    rw (others.0, others.1, others.2, others.3, others.4) refl in
+    let among : list_any (bytes_eq chosen.0) six_names ≡ true = rw names at found in
+    let no : list_any (bytes_eq chosen.0) six_names ≡ false =
+    rw (others.0, others.1, others.2, others.3, others.4, others.5) refl in
     true≢false (sym among ∙ no)
 
 names_are : (parser : ValueParser)
-    → map (λ s. s.name) (built (line_app parser)).subs
-    ≡ codes "boot" ∷ codes "map" ∷ codes "walk" ∷ codes "convert" ∷ codes "explain" ∷ []
+    → map (λ s. s.name) (built (line_app parser)).subs ≡ six_names
 unfolding clap_on_literals
 names_are parser = refl
 
--- a subcommand that the words name is one of the program's five
+-- a subcommand that the words name is one of the program's six
 pub no_other_name : (words : List Text) (parser : ValueParser) (chosen : Text × List Row)
     → subcommand_of (line_app parser) words ≡ Some chosen
     → (bytes_eq chosen.0 (codes "boot") ≡ false) × (bytes_eq chosen.0 (codes "map") ≡ false)
     × (bytes_eq chosen.0 (codes "walk") ≡ false)
     × (bytes_eq chosen.0 (codes "convert") ≡ false)
-    × (bytes_eq chosen.0 (codes "explain") ≡ false) → ⊥
+    × (bytes_eq chosen.0 (codes "explain") ≡ false)
+    × (bytes_eq chosen.0 (codes "digest") ≡ false) → ⊥
 no_other_name words parser chosen is others =
     let a = built (line_app parser) in
-    one_of_five a (stop_after a.top.rules (names_of a) (argument_words (line_app parser) words))
+    one_of_six a (stop_after a.top.rules (names_of a) (argument_words (line_app parser) words))
     chosen (names_are parser) is others
 
 -- the fault of an error is one that clap's definition has for the words, unless memory ran out

@@ -1,11 +1,12 @@
 -- The command line: the command that clap is given, and the job that its matches tell. Own.
-use Rattle.std.specs.Prelude.{◌≡◌, ◌⊎◌, true, if◌then◌else◌, List, [], ◌∷◌, map, Some, codes}
-use Rattle.std.specs.Prelude.{unwrap_or}
+use Rattle.std.specs.Prelude.{◌≡◌, ◌⊎◌, Bool, true, false, if◌then◌else◌, List, [], ◌∷◌, map}
+use Rattle.std.specs.Prelude.{Some, codes, unwrap_or}
 use Rattle.std.specs.Str.{bytes_eq}
 use Rattle.std.specs.Borrow.{Bor}
 use Rattle.clap.specs.Words.{App, IsAmong, Kinds, Row, Rule, Text, fault_of, first_of, new_app}
 use Rattle.clap.specs.Words.{new_rule, subcommand_of, takes, with_rule, with_subcommand}
 use Rattle.clap.specs.Simple.{new_shape}
+use Rattle.clap.specs.declared.builder.action.ArgAction.TheVariants.{SetTrue}
 use Rattle.clap.specs.declared.builder.value_parser.ValueParser.{ValueParser}
 use Rattle.clap.specs.declared.builder.value_parser.ValueParser.TheVariants.{Names}
 use Rattle.clap.specs.declared.error.kind.ErrorKind.{ErrorKind}
@@ -16,9 +17,11 @@ use Rattle.program_line.specs.declared.job.Order.{Order}
 use Rattle.program_line.specs.declared.job.Order.TheVariants.{Forward, Reverse}
 use Rattle.program_line.specs.declared.job.Job.{Job}
 use Rattle.program_line.specs.declared.job.Job.TheVariants.{Boot, Map, Walk, Convert, Explain}
+use Rattle.program_line.specs.declared.job.Job.TheVariants.{Digest, DigestImage}
 
 -- ---- the command: boot DESC --out IMAGE [--order forward|reverse], map DESC, walk IMAGE,
--- convert IMAGE --out NEW, or explain DESC [--order forward|reverse]
+-- convert IMAGE --out NEW, explain DESC [--order forward|reverse], or digest DESC,
+-- digest --image IMAGE
 
 -- the parser takes the two orders by name
 abbrev pub IsOrderParser : ValueParser → Type 0
@@ -61,6 +64,18 @@ convert_app = with_rule (with_rule (new_app (codes "convert")) image_rule) out_r
 abbrev pub explain_app : ValueParser → App
 explain_app parser = with_rule (with_rule (new_app (codes "explain")) desc_rule) (order_rule parser)
 
+-- the description or the image, which must be given
+abbrev pub desc_or_image_rule : Rule
+desc_or_image_rule = record (new_rule (codes "file")) { required = true }
+
+-- that it is an image: a flag, without a value
+abbrev pub image_flag_rule : Rule
+image_flag_rule =
+    record (new_rule (codes "image")) { long = Some (codes "image"); action = Some SetTrue }
+
+abbrev pub digest_app : App
+digest_app = with_rule (with_rule (new_app (codes "digest")) desc_or_image_rule) image_flag_rule
+
 -- a subcommand must be given, and `help` is none
 abbrev pub top_app : App
 top_app = record {
@@ -75,10 +90,12 @@ abbrev pub line_app : ValueParser → App
 line_app parser =
     with_subcommand
     (with_subcommand
+    (with_subcommand
     (with_subcommand (with_subcommand (with_subcommand top_app (boot_app parser).top) map_app.top)
     walk_app.top)
     convert_app.top)
-    (explain_app parser).top
+    (explain_app parser).top)
+    digest_app.top
 
 -- ---- the job
 
@@ -88,6 +105,10 @@ argument_text id rows = unwrap_or (first_of id rows) []
 
 abbrev pub order_named : Text → Order
 order_named text = if bytes_eq text (codes "reverse") then Reverse else Forward
+
+-- the flag is given: clap then has the text `true` for it, and else `false`
+abbrev pub has_flag : Text → List Row → Bool
+has_flag id rows = bytes_eq (argument_text id rows) (codes "true")
 
 -- the job is that of the subcommand with this name and these matches
 abbrev pub IsJobOf : Text × List Row → Job → Type 0
@@ -105,6 +126,12 @@ IsJobOf chosen (Convert image new) = (bytes_eq chosen.0 (codes "convert") ≡ tr
 IsJobOf chosen (Explain description order) = (bytes_eq chosen.0 (codes "explain") ≡ true)
     × (description.now ≡ argument_text (codes "desc") chosen.1)
     × (order ≡ order_named (argument_text (codes "order") chosen.1))
+IsJobOf chosen (Digest description) = (bytes_eq chosen.0 (codes "digest") ≡ true)
+    × (has_flag (codes "image") chosen.1 ≡ false)
+    × (description.now ≡ argument_text (codes "file") chosen.1)
+IsJobOf chosen (DigestImage image) = (bytes_eq chosen.0 (codes "digest") ≡ true)
+    × (has_flag (codes "image") chosen.1 ≡ true)
+    × (image.now ≡ argument_text (codes "file") chosen.1)
 
 -- clap's own definition has no fault for the words, and its matches tell the job
 abbrev pub IsJobOfWords : List Text → Job → Type 0

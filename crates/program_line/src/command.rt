@@ -4,12 +4,13 @@ ghost use Rattle.std.specs.Prelude.{◌≡◌, true, false, IfOk};
 ghost use Rattle.clap.specs.Words.{app_of, new_app, new_rule, rule_of, with_rule, with_subcommand};
 ghost use Rattle.clap.specs.declared.builder.command.Command.TheViews.{out-Command as fields_of};
 ghost use Rattle.program_line.specs.CommandLineJobs.{HasOrderParser, boot_app, convert_app};
-ghost use Rattle.program_line.specs.CommandLineJobs.{explain_app};
+ghost use Rattle.program_line.specs.CommandLineJobs.{digest_app, explain_app};
 ghost use Rattle.program_line.specs.CommandLineJobs.{top_app};
 ghost use Rattle.program_line.specs.CommandLineJobs.{line_app, out_rule, order_rule};
+ghost use Rattle.program_line.specs.CommandLineJobs.{image_flag_rule};
 ghost use Rattle.clap.specs.declared.builder.value_parser.ValueParser.TheVariants.{Names};
 
-use clap::{Arg, Command};
+use clap::{Arg, ArgAction, Command};
 use std::alloc::{AllocError, Global};
 
 static ORDERS: [&str; 2] = ["forward", "reverse"];
@@ -36,6 +37,16 @@ fn order_arg<'a>(global: Global, orders: &'a [&'a str]) -> Arg<'a>
     ensures rule { rule_of result ≡ order_rule (Names orders.entry) }
 {
     Arg::new(global, "order").long("order").value_parser(orders)
+}
+
+/// That the file is an image, which need not be given.
+fn image_flag<'a>(global: Global) -> Arg<'a>
+    ensures local { result.global ≡ false }
+    ensures rule { rule_of result ≡ image_flag_rule }
+{
+    Arg::new(global, "image")
+        .long("image")
+        .action(ArgAction::SetTrue)
 }
 
 /// A command of this name with one argument, which must be given.
@@ -70,6 +81,13 @@ fn convert_command<'a>(global: Global) -> Result<Command<'a>, AllocError>
     command_of(global, "convert", "image")?.arg(out_arg(global))
 }
 
+fn digest_command<'a>(global: Global) -> Result<Command<'a>, AllocError>
+    ensures local { IfOk result (λ c. (fields_of c).has_globals ≡ false) }
+    ensures app { IfOk result (λ c. app_of c ≡ digest_app) }
+{
+    command_of(global, "digest", "file")?.arg(image_flag(global))
+}
+
 /// The program's command, before it has subcommands.
 fn top_command<'a>(global: Global) -> Command<'a>
     ensures { app_of result ≡ top_app }
@@ -101,6 +119,14 @@ fn with_explain<'a>(
     top.subcommand(explain)
 }
 
+/// A command, with the subcommand that says digests.
+fn with_digest<'a>(global: Global, top: Command<'a>) -> Result<Command<'a>, AllocError>
+    ensures { IfOk result (λ c. app_of c ≡ with_subcommand (app_of top.entry) digest_app.top) }
+{
+    let digest = digest_command(global)?;
+    top.subcommand(digest)
+}
+
 /// A command, with a subcommand of this name that has one argument, which must be given.
 fn with_single_arg_subcommand<'a>(
     global: Global,
@@ -123,7 +149,8 @@ fn command_with<'a>(global: Global, orders: &'a [&'a str]) -> Result<Command<'a>
     let top = with_single_arg_subcommand(global, top, "walk", "image")?;
     let convert = convert_command(global)?;
     let top = top.subcommand(convert)?;
-    with_explain(global, top, orders)
+    let top = with_explain(global, top, orders)?;
+    with_digest(global, top)
 }
 
 /// The program's command, with its subcommands.

@@ -34,4 +34,12 @@ pub enum Job<'a> {
         description: &'a str,
         order: Order,
     },
+    /// Say the digests of the image that the boot of a description would write, and write none.
+    Digest {
+        description: &'a str,
+    },
+    /// Say the digests of an image that is there.
+    DigestImage {
+        image: &'a str,
+    },
 }

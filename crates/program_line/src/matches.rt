@@ -23,6 +23,13 @@ fn argument_text<'a>(matches: &ArgMatches<'a>, id: &str) -> &'a str
     }
 }
 
+/// Whether a flag is given, for which clap has the text `true` then.
+fn has_flag(matches: &ArgMatches<'_>, id: &str) -> bool
+    ensures { result ≡ lines.has_flag id.now (rows_of (found_of matches.now)) }
+{
+    argument_text(matches, id) == "true"
+}
+
 /// The order of this name, forward where there is none.
 fn order_named(text: &str) -> Order
     ensures { result ≡ lines.order_named text.now }
@@ -40,7 +47,8 @@ fn job_of<'a>(name: &str, matches: &ArgMatches<'a>) -> Option<Job<'a>>
         ((bytes_eq name.now (codes "boot") ≡ false) × (bytes_eq name.now (codes "map") ≡ false)
         × (bytes_eq name.now (codes "walk") ≡ false)
         × (bytes_eq name.now (codes "convert") ≡ false)
-        × (bytes_eq name.now (codes "explain") ≡ false))
+        × (bytes_eq name.now (codes "explain") ≡ false)
+        × (bytes_eq name.now (codes "digest") ≡ false))
         (IsJobOf (name.now, rows_of (found_of matches.now))) }
 {
     match name {
@@ -62,6 +70,12 @@ fn job_of<'a>(name: &str, matches: &ArgMatches<'a>) -> Option<Job<'a>>
         "explain" => Some(Job::Explain {
             description: argument_text(matches, "desc"),
             order: order_named(argument_text(matches, "order")),
+        }),
+        "digest" if has_flag(matches, "image") => Some(Job::DigestImage {
+            image: argument_text(matches, "file"),
+        }),
+        "digest" => Some(Job::Digest {
+            description: argument_text(matches, "file"),
         }),
         _ => None,
     }
