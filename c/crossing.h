@@ -82,6 +82,10 @@ BOOTCORE_HAS_SIZE(bootcore_session, 8);
 BOOTCORE_HAS_SIZE(bootcore_seen, 104);
 BOOTCORE_HAS_SIZE(bootcore_seen_part, 16);
 BOOTCORE_HAS_SIZE(bootcore_seen_module, 32);
+BOOTCORE_HAS_SIZE(bootcore_digest, 8);
+BOOTCORE_HAS_SIZE(bootcore_file_range, 24);
+BOOTCORE_HAS_SIZE(bootcore_part_digest, 56);
+BOOTCORE_HAS_SIZE(bootcore_digests, 88);
 
 BOOTCORE_CALL
 uint32_t bootcore_load_arrays(uint8_t *memory, size_t memory_length, uint32_t base,
@@ -153,6 +157,28 @@ uint32_t bootcore_walk_all_arrays(const uint8_t *image, size_t image_length, boo
                                   bootcore_seen_module *modules, size_t module_room,
                                   bootcore_region *runs, size_t run_room, uint8_t *text,
                                   size_t text_room, bootcore_refusal *fault);
+
+BOOTCORE_CALL
+uint32_t bootcore_digest_make_arrays(bootcore_digest *digest,
+                                     const bootcore_crossing_machine *machine,
+                                     const bootcore_region *regions, size_t region_count,
+                                     const bootcore_crossing_entry *entry,
+                                     bootcore_refusal *refusal);
+BOOTCORE_CALL
+bool bootcore_digest_wanted_record(bootcore_digest *digest, bootcore_file_range *range);
+BOOTCORE_CALL
+uint32_t bootcore_digest_feed_array(bootcore_digest *digest, const uint8_t *bytes, size_t length);
+BOOTCORE_CALL
+uint32_t bootcore_digest_told_arrays(bootcore_digest *digest, bootcore_digests *digests,
+                                     bootcore_part_digest *parts, size_t room);
+BOOTCORE_CALL
+void bootcore_digest_free_kept(bootcore_digest *digest);
+BOOTCORE_CALL
+uint32_t bootcore_digest_entry_arrays(const bootcore_crossing_machine *machine,
+                                      const bootcore_region *regions, size_t region_count,
+                                      const bootcore_crossing_entry *entry,
+                                      bootcore_digests *digests, bootcore_part_digest *parts,
+                                      size_t room, bootcore_refusal *refusal);
 
 /* What the core calls for memory, and c/ too: of the toolchain over malloc, realloc and free, or of
  * c/freestanding over an arena. */

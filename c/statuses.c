@@ -9,7 +9,7 @@ const char *bootcore_status_text(uint32_t status) {
     case BOOTCORE_REFUSED:
         return "the entry is refused; of a menu: no entry is left; of a walk: the image is refused";
     case BOOTCORE_WAITING:
-        return "the session awaits pieces of files, or was not started";
+        return "a session awaits pieces of files, or was not started; a digest awaits bytes";
     case BOOTCORE_NEXT:
         return "an entry was refused, and the session awaits pieces of another";
     case BOOTCORE_NO_MEMORY:
@@ -45,9 +45,11 @@ const char *bootcore_status_text(uint32_t status) {
     case BOOTCORE_BAD_INDEX:
         return "a menu's first entry or a fallback is no entry";
     case BOOTCORE_NO_SESSION:
-        return "no session is kept: it was not made, or it was freed";
+        return "no session or digest is kept: it was not made, or it was freed";
     case BOOTCORE_LOW_POOL:
         return "the pool begins below the memory that is given";
+    case BOOTCORE_UNWANTED:
+        return "a digest is fed more bytes than it wants";
     default:
         return "no status has this number";
     }

@@ -5,7 +5,8 @@
  * virtual machine monitor does: bootcore_plan; it wants the kernel's file in memory, the others can
  * be read straight to their places. To boot a menu with fallbacks: bootcore_boot, or
  * bootcore_session_make and what follows it if a disk still reads; if memory is mapped in several
- * pieces, plan each entry instead. To check an image: bootcore_walk. docs/EMBED.md shows each.
+ * pieces, plan each entry instead. To measure what is handed over: bootcore_digest_make. To check
+ * an image: bootcore_walk. docs/EMBED.md shows each.
  *
  * Archive. Link libbootcore.a, which ./install puts into a prefix, with bootcore.pc for pkg-config,
  * and examples/c/build makes in a checkout. It wants memmove, memset and memcpy, and malloc,
@@ -22,9 +23,9 @@
  * A frame is 4096 bytes at a multiple of 4096. An index counts from 0.
  *
  * Memory. All of it is the caller's before, during and after a call. What a call takes from malloc
- * it frees before it returns, but for what a session keeps. No pointer is kept, and none is handed
- * out but to constant text. A call reads nothing but what it is given, and writes nothing but
- * parts, the pool and what is said here that it tells.
+ * it frees before it returns, but for what a session or a digest keeps. No pointer is kept, and
+ * none handed out but to constant text. A call reads nothing but what it is given, and writes
+ * nothing but parts, the pool and what is said here that it tells.
  *
  * Threads. None is started, and two calls at once know nothing of each other, if they share nothing
  * that either may change; but all that use an arena share it. Call from no signal handler.
@@ -76,12 +77,11 @@ enum {
 };
 
 /* What a call answers. A misuse, from 101 on, has changed nothing; only BOOTCORE_SMALL_ROOM of a
- * plan or a walk may tell how much is wanted. Of several the first in the order of these lines is
- * told. */
+ * plan or a walk may tell how much is wanted. Of several the first in this order is told. */
 enum {
     BOOTCORE_DONE = 0,
     BOOTCORE_REFUSED = 1,   /* the entry is refused; a boot: no entry is left; a walk: the image */
-    BOOTCORE_WAITING = 2,   /* a session: pieces are awaited, or it was not started */
+    BOOTCORE_WAITING = 2,   /* a session awaits pieces, or was not started; a digest wants bytes */
     BOOTCORE_NEXT = 3,      /* a session: entries were refused, pieces of another are awaited */
     BOOTCORE_NO_MEMORY = 4, /* malloc or realloc gave none. BOOTCORE_NULL, BAD_RESERVED, BAD_FILE
                              * and too few places are told before it; it may replace the others */
@@ -105,9 +105,10 @@ enum {
     BOOTCORE_BAD_PROTOCOL = 111, /* an entry's protocol is none of BOOTCORE_MULTIBOOT2 and so on */
     BOOTCORE_TOO_MANY = 112,     /* too many entries or modules, or too long a copy of an RSDP */
     BOOTCORE_BAD_INDEX = 113,    /* a menu's first entry or a fallback is no entry */
-    BOOTCORE_NO_SESSION = 114,   /* none is kept: it was not made, or it was freed */
-    BOOTCORE_LOW_POOL = 115      /* a boot or a session: the pool begins below the memory that is
+    BOOTCORE_NO_SESSION = 114,   /* no session, no digest is kept: it was not made, or was freed */
+    BOOTCORE_LOW_POOL = 115,     /* a boot or a session: the pool begins below the memory that is
                                   * given; a boot tells it also in place of BOOTCORE_NO_MEMORY */
+    BOOTCORE_UNWANTED = 116      /* a digest: more bytes than are wanted */
 };
 
 /* What a status means, in a sentence; of any other number that there is none. Constant text. */
@@ -222,8 +223,7 @@ enum {
     BOOTCORE_INITRD = 7,        BOOTCORE_PAGE_TABLES = 8
 };
 
-/* A part in memory. The length of all but a kernel's part is a multiple of 4096; what a part has no
- * bytes for is zero. */
+/* A part in memory: its bytes, then zeros. But for a kernel's its length is a multiple of 4096. */
 typedef struct bootcore_place {
     uint32_t role;
     uint32_t index; /* among the parts of its role */
@@ -434,9 +434,8 @@ BOOTCORE_CALL bool bootcore_session_missing(const bootcore_session *session, siz
 BOOTCORE_CALL bool bootcore_session_missing_after(const bootcore_session *session, size_t most,
     bootcore_request *request);
 
-/* Tells how a session ended; it stays as it is. BOOTCORE_DONE and BOOTCORE_REFUSED as by
- * bootcore_boot, BOOTCORE_WAITING: it has not ended, BOOTCORE_NO_MEMORY: memory ran out on the way,
- * or a misuse. */
+/* Tells how a session ended; it stays as it is. BOOTCORE_DONE and BOOTCORE_REFUSED are as by
+ * bootcore_boot; BOOTCORE_WAITING: not ended; BOOTCORE_NO_MEMORY: memory ran out; or a misuse. */
 BOOTCORE_CALL uint32_t bootcore_session_outcome(const bootcore_session *session,
     bootcore_outcome *outcome);
 
@@ -496,5 +495,6 @@ BOOTCORE_CALL size_t bootcore_describe(const bootcore_refusal *refusal, char *bu
 #endif
 
 #include "bootcore_image.h"
+#include "bootcore_digest.h"
 
 #endif

@@ -36,6 +36,19 @@ part 1 0 at 100000, 80 bytes
 part 2 0 at 101000, 4096 bytes
 """
 
+# the guest of examples/c/digest.c
+DIGESTED = """\
+size = 0x400000
+pool = [0x200000, 0x400000]
+region = [{{ base = 0, length = 0x9F000, kind = "usable" }}, {{ base = 0x100000, length = 0x300000, kind = "usable" }}]
+[[entry]]
+title = "a guest"
+protocol = "{}"
+kernel = "{}"
+line = "quiet"
+{}
+"""
+
 SEEN = "a kernel sees: entry 100010, line of 1 bytes, 1 modules, 3 runs\n"
 
 CASES_COUNT = re.compile(r"(\d+) boots and (\d+) loads of \d+ cases, (\d+) differ")
@@ -132,7 +145,7 @@ class Texts(CoreChecks):
 class Statuses(CoreChecks):
     def test_statuses(self) -> None:
         for sentence, ran, tried in [
-            ("each answer of a load, a preparation and a plan from C has its status, and each status its words", self.example("statuses"), 289),
+            ("each answer of a load, a preparation and a plan from C has its status, and each status its words", self.example("statuses"), 290),
             ("each end of a boot from C has its status", self.example("menu", self.kernel), 27),
             ("each answer of a session's calls from C has its status", self.example("sessions"), 132),
             ("each end of a walk from C has its status", self.example("walks", self.images["first.2"]), 21),
@@ -210,6 +223,28 @@ class Examples(CoreChecks):
         examples.write_linux(folder, examples.linux_kernel())
         entered = self.example("first", "vmlinuz", "initrd.img", cwd=folder)
         self.ends("the first program of docs/EMBED.md loads its guest", entered, 0, "entered at 100000, boot parameters at 1000\n")
+
+    def test_digest(self) -> None:
+        folder = self.room / "digested"
+        folder.mkdir()
+        examples.write_modules(folder)
+        examples.write_linux(folder, examples.linux_kernel())
+        (folder / "vmlinuz64").write_bytes(examples.linux64_kernel())
+        module = 'module = [{ file = "ramdisk.img", line = "ramdisk.img" }, { file = "settings.cfg", line = "settings.cfg" }]'
+        for protocol, kernel, said, files in [
+            ("multiboot2", "kernel.elf", module, ["ramdisk.img", "settings.cfg"]),
+            ("linux", "vmlinuz", 'initrd = "initrd.img"', ["initrd.img"]),
+            ("linux64", "vmlinuz64", "", []),
+        ]:
+            description, image = folder / f"{protocol}.toml", folder / f"{protocol}.image"
+            description.write_text(DIGESTED.format(protocol, kernel, said), encoding="utf-8")
+            self.assert_ended(run(PROGRAM, "boot", description, "--out", image, cwd=folder), 0, None)
+            wanted = run(TOP / "examples/digests.sh", image).out.decode()
+            self.assertGreater(wanted.count("\n"), 4, "lines of examples/digests.sh")
+            ran = self.example("digest", "0x400000", protocol, kernel, "quiet", *files, cwd=folder)
+            self.ends(f"digests from a guest's files, by {protocol}, are those of its image", ran, 0, wanted)
+        refused = self.example("digest", "0x400000", "multiboot2", "settings.cfg", "quiet", cwd=folder)
+        self.ends("digests of a bad kernel are its refusal", refused, 1, "refused 4 NoHeader: no Multiboot2 header in the first 32768 bytes, at a multiple of 8, with a right sum\n")
 
     def test_guest(self) -> None:
         entered = self.example("guest", "multiboot2", "kernel.elf", "k", "settings.cfg", cwd=self.modules)

@@ -44,11 +44,11 @@ class Installed(ProgramChecks):
         cls.ran = run(*words, timeout=HALF_AN_HOUR)
 
     def test_files(self) -> None:
-        with self.check("install puts fourteen files into a prefix and reports each"):
+        with self.check("install puts fifteen files into a prefix and reports each"):
             self.assert_ended(self.ran, 0, None, None)
             reported = re.findall(rb"^installed (.+)$", self.ran.out, re.M)
             self.assertEqual(sorted(map(os.fsdecode, reported)), installed(self.prefix), f"ran: {self.ran}")
-            self.assertEqual(len(reported), 14, f"ran: {self.ran}\nfiles that it reports")
+            self.assertEqual(len(reported), 15, f"ran: {self.ran}\nfiles that it reports")
         with self.check("install --list names exactly the files that install puts there"):
             ran = run(INSTALL, "--list", "--prefix", self.prefix)
             self.assert_ended(ran, 0, None)
@@ -78,7 +78,7 @@ class Installed(ProgramChecks):
         ran = run(self.room / "guest", *words, cwd=self.room)
         self.ends("a guest loader that is built on what is installed loads its guest", ran, 0, GUEST)
         ran = run(self.room / "statuses")
-        self.ends("each misuse has its status, by way of the installed library", ran, 0, "289 tried, 0 wrong\n")
+        self.ends("each misuse has its status, by way of the installed library", ran, 0, "290 tried, 0 wrong\n")
         moved = self.room / "moved"
         shutil.copytree(self.prefix, moved)
         self.ends("a prefix that was moved is found by its bootcore.pc", self.compiled("guest", moved))

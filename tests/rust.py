@@ -85,7 +85,8 @@ class Declared(CrateChecks):
             else:
                 asserted.append((f"offsetof({struct}, {field})", offset))
                 asserted.append((f"sizeof((({struct} *)0)->{field})", size))
-        structs = set(re.findall(r"^typedef struct (bootcore_\w+) ", HEADER.read_text(encoding="utf-8"), re.M))
+        headers = "".join(path.read_text(encoding="utf-8") for path in sorted(HEADER.parent.glob("*.h")))
+        structs = set(re.findall(r"^typedef struct (bootcore_\w+) ", headers, re.M))
         missing = [struct for struct in structs if not any(f"sizeof({struct})" == one for one, _ in asserted)]
         self.assertEqual(missing, [], "structs of the header that the crate lacks")
         self.compiles(asserted)

@@ -291,10 +291,10 @@ static void try_carrying(void) {
 /* Each status has a sentence of its own, and no other number has one. */
 static void try_texts(void) {
     const char *none = bootcore_status_text(UINT32_MAX);
-    for (uint32_t status = 0; status <= BOOTCORE_LOW_POOL + 1; status++) {
+    for (uint32_t status = 0; status <= BOOTCORE_UNWANTED + 1; status++) {
         const char *text = bootcore_status_text(status);
         bool is_one = status <= BOOTCORE_OUTSIDE ||
-                      (status >= BOOTCORE_NULL && status <= BOOTCORE_LOW_POOL);
+                      (status >= BOOTCORE_NULL && status <= BOOTCORE_UNWANTED);
         bool holds = text[0] && !strcmp(text, none) != is_one;
         for (uint32_t other = 0; is_one && other < status; other++) {
             holds = holds && strcmp(text, bootcore_status_text(other));

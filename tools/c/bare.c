@@ -23,6 +23,10 @@ static bootcore_session session;
 static bootcore_request request;
 static bootcore_seen seen;
 static bootcore_segment segments[6];
+static bootcore_digest digest;
+static bootcore_file_range range;
+static bootcore_digests fed, digests;
+static bootcore_part_digest part_digests[4];
 static bootcore_memory whole;
 
 static void set(void) {
@@ -80,7 +84,15 @@ int run(void) {
     if (bootcore_walk_all(head, 9, &seen, &none, refusals) != BOOTCORE_REFUSED) return 17;
     if (bootcore_describe(refusals, line, sizeof line) == 0 || bootcore_text(4)[0] == 0) return 18;
     bootcore_segments(&outcome.handoff.registers, segments);
-    return bootcore_version() == BOOTCORE_VERSION && segments[0].type == 11 ? 0 : 19;
+    if (bootcore_version() != BOOTCORE_VERSION || segments[0].type != 11) return 19;
+    if (bootcore_digest_entry(&machine, &entry, &digests, part_digests, 4, refusals) != BOOTCORE_DONE) return 20;
+    if (bootcore_digest_make(&digest, &machine, &entry, refusals) != BOOTCORE_DONE) return 21;
+    while (bootcore_digest_wanted(&digest, &range)) {
+        if (bootcore_digest_feed(&digest, (const uint8_t *)kernel + range.offset, range.length) != BOOTCORE_DONE) return 22;
+    }
+    if (bootcore_digest_told(&digest, &fed, part_digests, 4) != BOOTCORE_DONE) return 23;
+    bootcore_digest_free(&digest);
+    return fed.image_sha256[0] == digests.image_sha256[0] && fed.image_sha256[31] == digests.image_sha256[31] ? 0 : 24;
 }
 
 /* A process begins here, with the stack as no function has it; 231 is exit_group. */

@@ -11,15 +11,17 @@
  * - segment registers that are not the descriptors that their selectors pick, but for the accessed bit;
  * - of a load: a preparation or a plan that tells anything else; a plan that is carried out over one mapping, over frames in reversed
  *   order, or by pread from files, and does not leave all of memory as the load does;
- * - of a boot: a session that is told its pieces backwards, and leaves other memory or tells another outcome.
+ * - of a boot: a session that is told its pieces backwards, and leaves other memory or tells another outcome;
+ * - digests of what is handed over, told at once or fed in pieces of odd lengths, that are not those of the image; or another refusal.
  *
  * Before that, if memory is small, the same call is made with each of its requests to malloc and realloc refused in turn, and all
  * after it; of a boot the first MOST. The answer must be BOOTCORE_NO_MEMORY, and memory as before, of a boot outside the pool. So
- * it is with the walk of an image, and with a plan. The linker is told to wrap the two. With -DARENA, for
+ * it is with the walk of an image, with a plan and with digests. The linker is told to wrap the two. With -DARENA, for
  * libbootcore_freestanding.a, no request is refused.
  */
 #define _XOPEN_SOURCE 700
 #include "case.h"
+#include "sha256.h"
 #ifdef ARENA
 #include "bootcore_arena.h"
 #endif
@@ -442,12 +444,11 @@ static void compare_plan(const bootcore_entry *entry, uint32_t status) {
 
 /* ---- a session of what is booted */
 
-static bootcore_bytes file_of(uint32_t entry, uint32_t index) {
-    const bootcore_entry *of = &menu.entries[entry];
+static bootcore_bytes file_of(const bootcore_entry *entry, uint64_t index) {
     if (index == 0) {
-        return of->kernel;
+        return entry->kernel;
     }
-    return of->protocol == BOOTCORE_MULTIBOOT2 ? of->modules[index - 1].file : of->initrd;
+    return entry->protocol == BOOTCORE_MULTIBOOT2 ? entry->modules[index - 1].file : entry->initrd;
 }
 
 /* Tells a session its pieces, the last run of what is missing first; each run is one of at most so many bytes. */
@@ -469,7 +470,7 @@ static uint32_t tell_pieces(bootcore_session *session, const bootcore_memory *wh
         if (session->kept != kept) {
             puts("a session is another after it was asked");
         }
-        of = file_of(request.entry, request.file);
+        of = file_of(&menu.entries[request.entry], request.file);
         status = bootcore_session_pieces(session, whole, &request,
                                          (const uint8_t *)of.bytes + (size_t)request.piece * BOOTCORE_PIECE, request.length);
     }
@@ -510,6 +511,171 @@ static void compare_session(uint32_t status) {
     }
     bootcore_session_free(&session);
     memcpy(places, booted_places, sizeof places);
+}
+
+/* ---- digests of what is handed over */
+
+static bootcore_part_digest wanted_parts[BOOTCORE_MAX_PLACES + 1], told_parts[BOOTCORE_MAX_PLACES + 1];
+
+/* Those of memory as the call left it. */
+static bootcore_digests reckon(void) {
+    static uint8_t head[BOOTCORE_MAX_IMAGE_HEAD];
+    bootcore_digests wanted;
+    sha256_state image, part;
+    uint32_t i;
+    memset(&wanted, 0, sizeof wanted);
+    memset(wanted_parts, 0xA5, sizeof wanted_parts);
+    wanted.head_length = wanted.image_length = bootcore_image_head(&outcome.handoff, places, head, sizeof head);
+    sha256_begin(&part);
+    sha256_add(&part, head, wanted.head_length);
+    image = part;
+    sha256_end(&part, wanted.head_sha256);
+    for (i = 0; i < outcome.handoff.place_count; i++) {
+        wanted.image_length += places[i].length;
+        sha256_add(&image, memory + places[i].address, places[i].length);
+        wanted_parts[i].place = places[i];
+        sha256_begin(&part);
+        sha256_add(&part, memory + places[i].address, places[i].length);
+        sha256_end(&part, wanted_parts[i].sha256);
+    }
+    sha256_end(&image, wanted.image_sha256);
+    wanted.part_count = outcome.handoff.place_count;
+    return wanted;
+}
+
+/* What a call of digests tells. */
+static bootcore_digests digests, untold;
+static bootcore_refusal digest_refusal, no_refusal;
+
+static void tell_nothing(void) {
+    memset(&digests, 0xA5, sizeof digests);
+    memset(&untold, 0xA5, sizeof untold);
+    memset(told_parts, 0xA5, sizeof told_parts);
+    memset(&digest_refusal, 0xA5, sizeof digest_refusal);
+    memset(&no_refusal, 0xA5, sizeof no_refusal);
+}
+
+static int are_told(const bootcore_digests *wanted) {
+    return !memcmp(&digests, wanted, sizeof digests) && !memcmp(told_parts, wanted_parts, sizeof told_parts);
+}
+
+static int is_nothing_told(void) {
+    size_t i;
+    for (i = 0; i < sizeof told_parts; i++) {
+        if (((const uint8_t *)told_parts)[i] != 0xA5) {
+            return 0;
+        }
+    }
+    return !memcmp(&digests, &untold, sizeof digests);
+}
+
+static uint32_t digest_at_once(const bootcore_entry *entry, bootcore_digest *digest) {
+    (void)digest;
+    return bootcore_digest_entry(&machine, entry, &digests, told_parts, BOOTCORE_MAX_PLACES, &digest_refusal);
+}
+
+static uint32_t make_digest(const bootcore_entry *entry, bootcore_digest *digest) {
+    return bootcore_digest_make(digest, &machine, entry, &digest_refusal);
+}
+
+/* Makes a call with each of its requests refused in turn, and then with none. */
+static uint32_t with_refused(const bootcore_entry *entry, bootcore_digest *digest,
+                             uint32_t (*of)(const bootcore_entry *, bootcore_digest *)) {
+    const void *kept = digest->kept;
+    size_t grants;
+    uint32_t status = BOOTCORE_NO_MEMORY;
+    tell_nothing();
+    for (grants = numbers[SIZE] <= SMALL ? 0 : SIZE_MAX; status == BOOTCORE_NO_MEMORY; grants++) {
+        granted = grants;
+        status = of(entry, digest);
+        granted = SIZE_MAX;
+        if (status == BOOTCORE_NO_MEMORY &&
+            (!is_nothing_told() || memcmp(&digest_refusal, &no_refusal, sizeof no_refusal) || digest->kept != kept)) {
+            puts("digests are told, though memory ran out");
+        }
+    }
+    return status;
+}
+
+/* Feeds a digest an entry's files, each time a piece of another odd length; what is too much before. */
+static void feed(bootcore_digest *digest, const bootcore_entry *entry) {
+    static const uint8_t other_bytes[0x10000];
+    bootcore_file_range range;
+    size_t most = 1;
+    while (bootcore_digest_wanted(digest, &range)) {
+        const void *kept = digest->kept;
+        bootcore_bytes of = file_of(entry, range.file);
+        uint64_t length = range.length < most ? range.length : most;
+        if (range.length == 0 || range.offset > of.length || range.length > of.length - range.offset) {
+            puts("a digest wants bytes that a file does not have");
+            return;
+        }
+        if (range.length < sizeof other_bytes &&
+            bootcore_digest_feed(digest, other_bytes, range.length + 1) != BOOTCORE_UNWANTED) {
+            puts("a digest takes more than it wants");
+        }
+        if (bootcore_digest_told(digest, &digests, told_parts, BOOTCORE_MAX_PLACES) != BOOTCORE_WAITING || !is_nothing_told()) {
+            puts("a digest tells something while bytes are wanted");
+        }
+        if (bootcore_digest_feed(digest, (const uint8_t *)of.bytes + range.offset, length) != BOOTCORE_DONE ||
+            bootcore_digest_feed(digest, NULL, 0) != BOOTCORE_DONE || digest->kept != kept) {
+            puts("a digest takes no bytes");
+            return;
+        }
+        most = most * 5 % 0xFFFF + 2;
+    }
+    if (bootcore_digest_feed(digest, other_bytes, 1) != BOOTCORE_UNWANTED) {
+        puts("a digest takes bytes when none are wanted");
+    }
+}
+
+/* Compares digests of an entry with what was handed over, or with its refusal. */
+static void compare_digests(const bootcore_entry *entry, uint32_t status, const bootcore_refusal *refusal) {
+    bootcore_entry bare = without_bytes(entry);
+    bootcore_digest digest = {NULL};
+    bootcore_digests wanted;
+    uint32_t at_once, made;
+    size_t room;
+    at_once = with_refused(entry, &digest, digest_at_once);
+    if (status == BOOTCORE_REFUSED) {
+        if (at_once != status || memcmp(&digest_refusal, refusal, sizeof *refusal) || !is_nothing_told()) {
+            puts("digests at once have another refusal");
+        }
+        made = with_refused(&bare, &digest, make_digest);
+        if (made != status || memcmp(&digest_refusal, refusal, sizeof *refusal) || !is_nothing_told() || digest.kept) {
+            puts("a digest has another refusal");
+        }
+        return;
+    }
+    wanted = reckon();
+    if (at_once != BOOTCORE_DONE || !are_told(&wanted) || memcmp(&digest_refusal, &no_refusal, sizeof no_refusal)) {
+        printf("digests at once, with status %" PRIu32 ", are not those of the image\n", at_once);
+    }
+    made = with_refused(&bare, &digest, make_digest);
+    if (made != BOOTCORE_DONE || memcmp(&digest_refusal, &no_refusal, sizeof no_refusal)) {
+        printf("a digest is made with status %" PRIu32 "\n", made);
+        return;
+    }
+    feed(&digest, entry);
+    for (room = BOOTCORE_MAX_PLACES;; room = room == BOOTCORE_MAX_PLACES) {
+        const void *kept = digest.kept;
+        tell_nothing();
+        granted = 0;
+        made = bootcore_digest_told(&digest, &digests, room ? told_parts : NULL, room);
+        granted = SIZE_MAX;
+        memcpy(wanted_parts + room, told_parts + BOOTCORE_MAX_PLACES, sizeof *told_parts); /* behind the room nothing is told */
+        if (made != BOOTCORE_DONE || digest.kept != kept || memcmp(&digests, &wanted, sizeof wanted) ||
+            memcmp(told_parts, wanted_parts, (room + 1) * sizeof *told_parts)) {
+            printf("digests that are fed, with room for %zu parts, are not those of the image\n", room);
+        }
+        if (room == 0) {
+            break;
+        }
+    }
+    bootcore_digest_free(&digest);
+    if (digest.kept || bootcore_digest_wanted(&digest, &(bootcore_file_range){0, 0, 0})) {
+        puts("a digest is kept that was freed");
+    }
 }
 
 /* ---- what came of the call */
@@ -585,8 +751,12 @@ int main(int argc, char **argv) {
         outcome.handoff.entry -= is_load && status == BOOTCORE_DONE ? (uint32_t)number : 0;
         if (is_load) {
             compare_plan(entry, status);
+            compare_digests(entry, status, &refusals[0]);
         } else {
             compare_session(status);
+            if (status == BOOTCORE_DONE) {
+                compare_digests(&menu.entries[outcome.handoff.entry], status, NULL);
+            }
         }
     }
     return 0;

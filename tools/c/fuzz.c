@@ -5,7 +5,8 @@
  * - a preparation and a plan answer the same, and tell the same;
  * - the plan's steps, carried out over memory with other bytes, and over two pieces that meet anywhere, leave what the load leaves
  *   in the parts, and each other byte as before;
- * - the image of what is handed over is walked.
+ * - the image of what is handed over is walked;
+ * - digests, at once and fed in two pieces a range, are those of this image and its parts, or end as the load does.
  *
  *     fuzz SECONDS SEED FILE..       changes the files, which are kernels, at random from this seed on
  *
@@ -14,6 +15,7 @@
  */
 #define _XOPEN_SOURCE 700
 #include "bootcore.h"
+#include "sha256.h"
 
 #include <inttypes.h>
 #include <stdio.h>
@@ -239,15 +241,84 @@ static void compare_plan(uint32_t status, const bootcore_outcome *outcome, const
     compare_carried_out(&layout, pieces, 2, 0xC3);
 }
 
-static void check_walk(const bootcore_outcome *outcome) {
-    static uint8_t image[MOST + BOOTCORE_MAX_IMAGE_HEAD];
+static uint8_t image[MOST + BOOTCORE_MAX_IMAGE_HEAD];
+
+static size_t make_image(const bootcore_outcome *outcome) {
     size_t length = bootcore_image_head(&outcome->handoff, places, image, sizeof image), i;
-    bootcore_seen seen;
-    bootcore_refusal fault;
     for (i = 0; i < outcome->handoff.place_count; i++) {
         memcpy(image + length, memory + places[i].address, places[i].length);
         length += places[i].length;
     }
+    return length;
+}
+
+static void digest_of(const uint8_t *of, size_t length, uint8_t sha256[32]) {
+    sha256_state state;
+    sha256_begin(&state);
+    sha256_add(&state, of, length);
+    sha256_end(&state, sha256);
+}
+
+/* What digests are told is right for this image. */
+static void check_told(const bootcore_digests *digests, const bootcore_part_digest *parts, size_t length,
+                       const bootcore_outcome *outcome) {
+    uint8_t wanted[32];
+    size_t at_part = digests->head_length, i;
+    digest_of(image, length, wanted);
+    if (digests->image_length != length || memcmp(digests->image_sha256, wanted, 32) ||
+        at_part != bootcore_image_head(&outcome->handoff, places, NULL, 0) || digests->part_count != outcome->handoff.place_count) {
+        found("digests are of another image");
+    }
+    digest_of(image, at_part, wanted);
+    if (memcmp(digests->head_sha256, wanted, 32)) {
+        found("the head has another digest");
+    }
+    for (i = 0; i < digests->part_count; i++) {
+        digest_of(image + at_part, places[i].length, wanted);
+        if (memcmp(&parts[i].place, &places[i], sizeof *places) || memcmp(parts[i].sha256, wanted, 32)) {
+            found("a part has another digest");
+        }
+        at_part += places[i].length;
+    }
+}
+
+static void check_digests(uint32_t status, const bootcore_outcome *outcome, const bootcore_refusal *refusal) {
+    static bootcore_part_digest parts[BOOTCORE_MAX_PLACES];
+    bootcore_digests digests;
+    bootcore_digest digest = {NULL};
+    bootcore_file_range range;
+    bootcore_refusal at_once = {0, 0, 0, 0}, made = {0, 0, 0, 0};
+    size_t length, cut = (size_t)take(2);
+    if (bootcore_digest_entry(&machine, &entry, &digests, parts, BOOTCORE_MAX_PLACES, &at_once) != status ||
+        bootcore_digest_make(&digest, &machine, &entry, &made) != status || memcmp(&at_once, refusal, sizeof at_once) ||
+        memcmp(&made, refusal, sizeof made)) {
+        found("digests end otherwise than a load");
+    }
+    if (status != BOOTCORE_DONE) {
+        return;
+    }
+    length = make_image(outcome);
+    check_told(&digests, parts, length, outcome);
+    while (bootcore_digest_wanted(&digest, &range)) {
+        const uint8_t *of = (const uint8_t *)files[range.file].bytes + range.offset;
+        size_t first = cut % (range.length + 1);
+        if (range.offset + range.length > files[range.file].length || bootcore_digest_feed(&digest, of, first) != BOOTCORE_DONE ||
+            bootcore_digest_feed(&digest, of + first, range.length - first) != BOOTCORE_DONE) {
+            found("a digest is not fed");
+        }
+    }
+    memset(parts, 0, sizeof parts);
+    if (bootcore_digest_told(&digest, &digests, parts, BOOTCORE_MAX_PLACES) != BOOTCORE_DONE) {
+        found("a digest tells nothing");
+    }
+    check_told(&digests, parts, length, outcome);
+    bootcore_digest_free(&digest);
+}
+
+static void check_walk(const bootcore_outcome *outcome) {
+    size_t length = make_image(outcome);
+    bootcore_seen seen;
+    bootcore_refusal fault;
     if (bootcore_walk(image, length, &seen, &fault) != BOOTCORE_DONE || seen.entry_address != outcome->handoff.registers.rip) {
         found("a walk does not see what is handed over");
     }
@@ -293,6 +364,7 @@ static void try_input(const uint8_t *bytes, size_t length) {
         found("a preparation tells otherwise");
     }
     compare_plan(status, &outcome, &refusal);
+    check_digests(status, &outcome, &refusal);
     if (status == BOOTCORE_DONE) {
         check_walk(&outcome);
     }

@@ -4,8 +4,8 @@
  *     needs <CASE
  *
  * CASE is as case.h says. Prints `stack CALL BYTES` for each call, and with -DARENA `arena CALL BYTES` too, of the whole of a session
- * as of one call. Each call runs on a stack of its own, which is painted before; a byte that is not as it was painted was needed, and
- * all above it. An arena of just the length that a call needed must be enough for the same answer, and none is not.
+ * or a digest as of one call. Each call runs on a stack of its own, which is painted before; a byte that is not as it was painted was
+ * needed, and all above it. An arena of just the length that a call needed must be enough for the same answer, and none is not.
  */
 #define _XOPEN_SOURCE 700
 #define _DEFAULT_SOURCE
@@ -30,6 +30,10 @@ static bootcore_step steps[MOST_STEPS];
 static bootcore_layout layout;
 static bootcore_session session;
 static bootcore_request request;
+static bootcore_digest digest;
+static bootcore_file_range range;
+static bootcore_digests digests;
+static bootcore_part_digest part_digests[BOOTCORE_MAX_PLACES];
 static const bootcore_entry *entry;
 static bootcore_bytes files[BOOTCORE_MAX_MODULES + 1];
 static size_t file_count;
@@ -176,10 +180,37 @@ static uint32_t session_all(void) {
     return status;
 }
 
+static uint32_t digest_make(void) { return bootcore_digest_make(&digest, &machine, entry, &refusals[0]); }
+static uint32_t digest_wanted(void) { return bootcore_digest_wanted(&digest, &range); }
+static uint32_t digest_feed(void) {
+    return bootcore_digest_feed(&digest, (const uint8_t *)files[range.file].bytes + range.offset, range.length);
+}
+static uint32_t digest_told(void) { return bootcore_digest_told(&digest, &digests, part_digests, BOOTCORE_MAX_PLACES); }
+static uint32_t digest_free(void) {
+    bootcore_digest_free(&digest);
+    return 0;
+}
+static uint32_t digest_entry(void) {
+    return bootcore_digest_entry(&machine, entry, &digests, part_digests, BOOTCORE_MAX_PLACES, &refusals[0]);
+}
+
+/* A whole digest of the entry. */
+static uint32_t digest_all(void) {
+    uint32_t status = on_stack("digest_make", digest_make);
+    if (status == BOOTCORE_DONE) {
+        while (on_stack("digest_wanted", digest_wanted)) {
+            (void)on_stack("digest_feed", digest_feed);
+        }
+        status = on_stack("digest_told", digest_told);
+    }
+    (void)on_stack("digest_free", digest_free);
+    return status;
+}
+
 /* ---- and their arena */
 
 static uint32_t ask(const char *name, uint32_t (*call)(void)) {
-    return call == session_all ? call() : on_stack(name, call);
+    return call == session_all || call == digest_all ? call() : on_stack(name, call);
 }
 
 static uint32_t measure(const char *name, uint32_t (*call)(void)) {
@@ -244,6 +275,9 @@ static void measure_entry(void) {
     status = measure("plan", plan);
     if (status == BOOTCORE_DONE && measure("carry_out", carry_out) != BOOTCORE_DONE) {
         puts("a plan is not carried out");
+    }
+    if (measure("digest_entry", digest_entry) != status || measure("digest", digest_all) != status) {
+        puts("digests end otherwise than a plan");
     }
     set_outcome();
     if (measure("load", load) != status) {

@@ -37,6 +37,11 @@ static bootcore_request request;
 static bootcore_bytes files[2];
 static size_t file_count;
 static const uint8_t *piece;
+static size_t piece_length;
+static bootcore_digest kept_digest, kept_before, *digest;
+static bootcore_digests digests, digests_before, *told_digests;
+static bootcore_part_digest part_digests[4], part_digests_before[4], *told_parts;
+static bootcore_refusal *told_refusal;
 
 static void right(void) {
     size_t i;
@@ -84,7 +89,14 @@ static void right(void) {
     outcome.refusal_room = BOOTCORE_MAX_REFUSALS;
     session = &kept;
     piece = (const uint8_t *)kernel;
+    piece_length = 4;
     request.length = sizeof kernel;
+    memset(&digests, 0xA5, sizeof digests);
+    memset(part_digests, 0xA5, sizeof part_digests);
+    digest = &kept_digest;
+    told_digests = &digests;
+    told_parts = part_digests;
+    told_refusal = refusals;
     files[0].bytes = kernel;
     files[0].length = sizeof kernel;
     files[1].bytes = "";
@@ -115,6 +127,11 @@ static void null_session(void) { session = NULL; }
 static void null_piece(void) { piece = NULL; }
 static void null_files(void) { files[0].bytes = NULL; }
 static void null_own(void) { layout.own = NULL; }
+static void null_digest(void) { digest = NULL; }
+static void null_digests(void) { told_digests = NULL; }
+static void null_parts(void) { told_parts = NULL; }
+static void null_refusal(void) { told_refusal = NULL; }
+static void long_piece(void) { piece_length = sizeof kernel; }
 static void set_machine(void) { machine.reserved = 1; }
 static void set_region(void) { regions[2].reserved = 1; }
 static void set_entry(void) { entries[0].reserved = 1; }
@@ -231,6 +248,35 @@ static const change of_carrying[] = {CHANGE(null_memory, BOOTCORE_NULL), CHANGE(
                                      CHANGE(file_too_short, BOOTCORE_BAD_FILE), CHANGE(file_too_few, BOOTCORE_BAD_FILE),
                                      CHANGE(no_source, BOOTCORE_BAD_FILE), CHANGE(high_memory, BOOTCORE_OUTSIDE),
                                      CHANGE(wrapped, BOOTCORE_OUTSIDE), CHANGE(nothing, BOOTCORE_DONE)};
+/* a digest is made as a plan is, and tells no steps; at once it reads all files, as a load does */
+static const change of_digest_make[] = {
+    CHANGE(null_digest, BOOTCORE_NULL), CHANGE(null_regions, BOOTCORE_NULL), CHANGE(null_line, BOOTCORE_NULL),
+    CHANGE(null_kernel, BOOTCORE_NULL), CHANGE(null_refusal, BOOTCORE_NULL), CHANGE(set_machine, BOOTCORE_BAD_RESERVED),
+    CHANGE(set_region, BOOTCORE_BAD_RESERVED), CHANGE(set_entry, BOOTCORE_BAD_RESERVED),
+    CHANGE(unreadable_kernel, BOOTCORE_BAD_FILE), CHANGE(unreadable_module, BOOTCORE_BAD_FILE),
+    CHANGE(bad_kind, BOOTCORE_BAD_KIND), CHANGE(bad_size, BOOTCORE_BAD_SIZE),
+    CHANGE(many_regions, BOOTCORE_TOO_MANY_REGIONS), CHANGE(bad_region, BOOTCORE_BAD_REGION), CHANGE(bad_pool, BOOTCORE_BAD_POOL),
+    CHANGE(bad_protocol, BOOTCORE_BAD_PROTOCOL), CHANGE(many_modules, BOOTCORE_TOO_MANY), CHANGE(more_modules, BOOTCORE_TOO_MANY),
+    CHANGE(long_rsdp, BOOTCORE_TOO_MANY), CHANGE(no_kernel, BOOTCORE_REFUSED), CHANGE(null_module, BOOTCORE_DONE),
+    CHANGE(nothing, BOOTCORE_DONE)};
+static const change of_digest_entry[] = {
+    CHANGE(null_regions, BOOTCORE_NULL), CHANGE(null_line, BOOTCORE_NULL), CHANGE(null_kernel, BOOTCORE_NULL),
+    CHANGE(null_module, BOOTCORE_NULL), CHANGE(null_digests, BOOTCORE_NULL), CHANGE(null_parts, BOOTCORE_NULL),
+    CHANGE(null_refusal, BOOTCORE_NULL), CHANGE(set_machine, BOOTCORE_BAD_RESERVED), CHANGE(set_region, BOOTCORE_BAD_RESERVED),
+    CHANGE(set_entry, BOOTCORE_BAD_RESERVED), CHANGE(unreadable_kernel, BOOTCORE_BAD_FILE),
+    CHANGE(unreadable_module, BOOTCORE_BAD_FILE), CHANGE(bad_kind, BOOTCORE_BAD_KIND), CHANGE(bad_size, BOOTCORE_BAD_SIZE),
+    CHANGE(many_regions, BOOTCORE_TOO_MANY_REGIONS), CHANGE(bad_region, BOOTCORE_BAD_REGION), CHANGE(bad_pool, BOOTCORE_BAD_POOL),
+    CHANGE(bad_protocol, BOOTCORE_BAD_PROTOCOL), CHANGE(many_modules, BOOTCORE_TOO_MANY), CHANGE(more_modules, BOOTCORE_TOO_MANY),
+    CHANGE(long_rsdp, BOOTCORE_TOO_MANY), CHANGE(no_kernel, BOOTCORE_REFUSED), CHANGE(nothing, BOOTCORE_DONE)};
+/* a struct that keeps no digest, and one that does */
+static const change of_no_feed[] = {CHANGE(null_digest, BOOTCORE_NULL), CHANGE(null_piece, BOOTCORE_NULL),
+                                    CHANGE(long_piece, BOOTCORE_NO_SESSION), CHANGE(nothing, BOOTCORE_NO_SESSION)};
+static const change of_no_digest[] = {CHANGE(null_digest, BOOTCORE_NULL), CHANGE(null_digests, BOOTCORE_NULL),
+                                      CHANGE(null_parts, BOOTCORE_NULL), CHANGE(nothing, BOOTCORE_NO_SESSION)};
+static const change of_feed[] = {CHANGE(null_digest, BOOTCORE_NULL), CHANGE(null_piece, BOOTCORE_NULL),
+                                 CHANGE(long_piece, BOOTCORE_UNWANTED)};
+static const change of_told[] = {CHANGE(null_digest, BOOTCORE_NULL), CHANGE(null_digests, BOOTCORE_NULL),
+                                 CHANGE(null_parts, BOOTCORE_NULL), CHANGE(nothing, BOOTCORE_WAITING)};
 
 /* ---- the calls */
 
@@ -248,6 +294,11 @@ static uint32_t fault(void) {
 static uint32_t end(void) { return bootcore_session_outcome(session, &outcome); }
 static uint32_t carry_out(void) { return bootcore_carry_out(&layout, files, file_count, &memory, 1); }
 
+static uint32_t digest_make(void) { return bootcore_digest_make(digest, &machine, entries, told_refusal); }
+static uint32_t digest_entry(void) { return bootcore_digest_entry(&machine, entries, told_digests, told_parts, 4, told_refusal); }
+static uint32_t digest_feed(void) { return bootcore_digest_feed(digest, piece, piece_length); }
+static uint32_t digest_told(void) { return bootcore_digest_told(digest, told_digests, told_parts, 4); }
+
 static int tried, wrong;
 
 /* Whether a misuse has changed nothing; a plan without enough room for steps tells how much it wants. */
@@ -256,7 +307,8 @@ static bool is_kept(void) {
     layout_before.own_length = layout.own_length;
     return !memcmp(bytes, bytes_before, MEMORY) && !memcmp(places, places_before, sizeof places) &&
            !memcmp(refusals, refusals_before, sizeof refusals) && !memcmp(&outcome, &outcome_before, sizeof outcome) &&
-           !memcmp(&layout, &layout_before, sizeof layout);
+           !memcmp(&layout, &layout_before, sizeof layout) && !memcmp(&digests, &digests_before, sizeof digests) &&
+           !memcmp(part_digests, part_digests_before, sizeof part_digests) && kept_digest.kept == kept_before.kept;
 }
 
 typedef void changing(void);
@@ -287,6 +339,7 @@ static void try_two(const char *call_name, uint32_t (*call)(void), const change 
     one->make();
     outcome_before = outcome;
     layout_before = layout;
+    kept_before = kept_digest;
     status = call();
     holds = one->status < BOOTCORE_NULL || is_kept();
     if (status != one->status || !holds) {
@@ -333,6 +386,8 @@ int main(void) {
     memset(bytes_before, 0xA5, sizeof bytes_before);
     memset(places_before, 0xA5, sizeof places_before);
     memset(refusals_before, 0xA5, sizeof refusals_before);
+    memset(&digests_before, 0xA5, sizeof digests_before);
+    memset(part_digests_before, 0xA5, sizeof part_digests_before);
     TRY(load, of_load);
     TRY(plan, of_plan);
     try_preparations();
@@ -351,6 +406,17 @@ int main(void) {
     TRY(pieces, of_pieces);
     TRY(fault, of_start);
     bootcore_session_free(&kept);
+    TRY(digest_feed, of_no_feed);
+    TRY(digest_told, of_no_digest);
+    TRY(digest_make, of_digest_make);
+    TRY(digest_entry, of_digest_entry);
+    right();
+    if (digest_make() != BOOTCORE_DONE) {
+        puts("no digest is made");
+    }
+    TRY(digest_feed, of_feed);
+    TRY(digest_told, of_told);
+    bootcore_digest_free(&kept_digest);
     printf("%d tried, %d wrong\n", tried, wrong);
     return wrong != 0;
 }

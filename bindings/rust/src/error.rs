@@ -31,6 +31,8 @@ numbered! {
         BadIndex = 113,
         /// Of a boot or a session: the pool begins below the memory that is given.
         LowPool = 115,
+        /// A digest is fed more bytes than it wants.
+        Unwanted = 116,
     }
 }
 

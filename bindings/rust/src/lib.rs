@@ -7,6 +7,7 @@
 //! | the same, and a menu with fallbacks | [`boot()`] |
 //! | a menu, and a disk that is still reading | [`Session`] |
 //! | an image of what was handed over | [`walk`] |
+//! | what a machine is to be handed, to measure it | [`digest()`], or [`Digest`] as files come |
 //!
 //! From equal files, lines and machines the first four hand a kernel equal bytes, places and registers, unless a pool is too
 //! small. Addresses and lengths are in bytes, and addresses are those of the machine that is booted.
@@ -47,6 +48,7 @@
 compile_error!("libbootcore.a is for x86-64");
 
 mod boot;
+mod digest;
 mod entry;
 mod error;
 mod handoff;
@@ -61,6 +63,7 @@ mod records;
 mod refusal;
 
 pub use boot::{boot, Booted, Progress, Request, Session};
+pub use digest::{digest, Digest, Digests, FileRange, PartDigest};
 pub use entry::{Entry, File, Linux, LinuxEntry, Menu, Module, Multiboot2, Protocol};
 pub use error::{Error, Misuse, RefusedEntry};
 pub use handoff::{Handoff, Place, Registers, Role, Segment, Segments};

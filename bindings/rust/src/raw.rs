@@ -1,11 +1,12 @@
-//! The calls and the records of `bootcore.h` and `bootcore_image.h`, and functions over them that are safe to call: the one
-//! module with `unsafe`.
+//! The calls and the records of `bootcore.h` and of its parts, `bootcore_image.h` and `bootcore_digest.h`, and functions over
+//! them that are safe to call: the one module with `unsafe`.
 //!
 //! What the header asks of a caller, and by what it holds here:
 //! - a pointer points to as many elements as are told: each is made from a slice or a vector, with its length, in the function
 //!   that calls; a file without bytes here has a null pointer, which the call tests;
 //! - what a call may change overlaps nothing else: it is borrowed by `&mut`, or made by the function that calls;
-//! - a session's struct and pool are left alone between its calls: the session has both, and lends no more than `&[u8]`.
+//! - a session's struct and pool are left alone between its calls: the session has both, and lends no more than `&[u8]`; so
+//!   is a digest's struct.
 #![allow(unsafe_code)]
 
 use std::ffi::{c_void, CStr};
@@ -162,6 +163,19 @@ records! {
         text: *mut u8,
         text_room: usize,
     }
+    Digest { kept: *mut c_void, }
+    #[derive(Default)]
+    FileRange { file: u64, offset: u64, length: u64, }
+    #[derive(Default)]
+    PartDigest { place: Place, sha256: [u8; 32], }
+    #[derive(Default)]
+    Digests {
+        image_length: u64,
+        head_length: u64,
+        image_sha256: [u8; 32],
+        head_sha256: [u8; 32],
+        part_count: u64,
+    }
 }
 
 extern "sysv64" {
@@ -202,6 +216,19 @@ extern "sysv64" {
         seen: *mut Seen,
         arrays: *const SeenArrays,
         fault: *mut Refusal,
+    ) -> u32;
+    fn bootcore_digest_make(digest: *mut Digest, machine: *const Machine, entry: *const Entry, refusal: *mut Refusal) -> u32;
+    fn bootcore_digest_wanted(digest: *const Digest, range: *mut FileRange) -> bool;
+    fn bootcore_digest_feed(digest: *mut Digest, bytes: *const c_void, length: usize) -> u32;
+    fn bootcore_digest_told(digest: *const Digest, digests: *mut Digests, parts: *mut PartDigest, room: usize) -> u32;
+    fn bootcore_digest_free(digest: *mut Digest);
+    fn bootcore_digest_entry(
+        machine: *const Machine,
+        entry: *const Entry,
+        digests: *mut Digests,
+        parts: *mut PartDigest,
+        room: usize,
+        refusal: *mut Refusal,
     ) -> u32;
 }
 
@@ -353,18 +380,16 @@ impl Told {
     }
 }
 
+fn place_told(place: &Place) -> crate::Place {
+    crate::Place { role: Role::from_number(place.role), index: place.index, address: place.address, length: place.length }
+}
+
 fn handoff_told(handoff: &Handoff, places: &[Place]) -> crate::Handoff {
-    let place = |place: &Place| crate::Place {
-        role: Role::from_number(place.role),
-        index: place.index,
-        address: place.address,
-        length: place.length,
-    };
     crate::Handoff {
         entry: handoff.entry,
         protocol: Protocol::from_number(handoff.protocol),
         registers: handoff.registers,
-        places: places.iter().map(place).collect(),
+        places: places.iter().map(place_told).collect(),
     }
 }
 
@@ -580,6 +605,103 @@ impl Drop for KeptSession<'_> {
     fn drop(&mut self) {
         // SAFETY: the struct is as the calls before left it, and this is the last one
         unsafe { bootcore_session_free(&mut self.session) }
+    }
+}
+
+/// Digests, and what room for those of the parts there was.
+struct DigestsTold {
+    digests: Digests,
+    parts: Vec<PartDigest>,
+}
+
+impl DigestsTold {
+    /// Calls with room for all.
+    fn by(call: impl FnOnce(&mut Digests, &mut [PartDigest]) -> u32) -> (u32, DigestsTold) {
+        let mut told = DigestsTold { digests: Digests::default(), parts: vec![PartDigest::default(); MAX_PLACES] };
+        let status = call(&mut told.digests, &mut told.parts);
+        (status, told)
+    }
+
+    fn all(self) -> crate::Digests {
+        let part = |part: &PartDigest| crate::PartDigest { place: place_told(&part.place), sha256: part.sha256 };
+        crate::Digests {
+            image_length: self.digests.image_length,
+            image: self.digests.image_sha256,
+            head_length: self.digests.head_length,
+            head: self.digests.head_sha256,
+            parts: self.parts.iter().take(self.digests.part_count as usize).map(part).collect(),
+        }
+    }
+}
+
+/// A digest that is kept.
+#[derive(Debug)]
+pub(crate) struct KeptDigest {
+    digest: Digest,
+}
+
+// SAFETY: calls on a digest may be made on whichever thread, one at a time. `Sync` it is not: of two calls that only read the
+// header does not say that they may come at once.
+unsafe impl Send for KeptDigest {}
+
+impl KeptDigest {
+    pub(crate) fn make(machine: &crate::Machine, entry: &crate::Entry<'_>) -> Result<KeptDigest, Error> {
+        let (regions, modules) = (regions_of(machine), modules_of(entry));
+        let (machine, entry) = (machine_of(machine, &regions), entry_of(entry, &modules));
+        let mut kept = KeptDigest { digest: Digest { kept: ptr::null_mut() } };
+        let mut refusal = Refusal::default();
+        // SAFETY: each pointer is that of a slice or a vector that stands during the call, with its length, or null; no byte
+        // of a file whose pointer is null is read; the struct keeps nothing yet
+        match unsafe { bootcore_digest_make(&mut kept.digest, &machine, &entry, &mut refusal) } {
+            DONE => Ok(kept),
+            REFUSED => Err(Error::Refused(refusal_told(&refusal))),
+            other => Err(Error::of_status(other)),
+        }
+    }
+
+    pub(crate) fn wanted(&self) -> Option<crate::FileRange> {
+        let mut range = FileRange::default();
+        // SAFETY: the struct is only read, on one thread, and the range is this call's own
+        let is_told = unsafe { bootcore_digest_wanted(&self.digest, &mut range) };
+        is_told.then_some(crate::FileRange { file: range.file as usize, offset: range.offset, length: range.length })
+    }
+
+    pub(crate) fn feed(&mut self, bytes: &[u8]) -> u32 {
+        // SAFETY: the struct is written by these calls alone, and never copied; the bytes are borrowed, with their length
+        unsafe { bootcore_digest_feed(&mut self.digest, bytes.as_ptr().cast(), bytes.len()) }
+    }
+
+    /// The digests, unless bytes are wanted; nothing else can be amiss.
+    pub(crate) fn told(&self) -> Option<crate::Digests> {
+        // SAFETY: the struct is only read, on one thread; there is room for as many parts as are told
+        let call = |digests: &mut Digests, parts: &mut [PartDigest]| unsafe {
+            bootcore_digest_told(&self.digest, digests, parts.as_mut_ptr(), parts.len())
+        };
+        let (status, told) = DigestsTold::by(call);
+        (status == DONE).then(|| told.all())
+    }
+}
+
+impl Drop for KeptDigest {
+    fn drop(&mut self) {
+        // SAFETY: the struct is as the calls before left it, and this is the last one
+        unsafe { bootcore_digest_free(&mut self.digest) }
+    }
+}
+
+pub(crate) fn digest(machine: &crate::Machine, entry: &crate::Entry<'_>) -> Result<crate::Digests, Error> {
+    let (regions, modules) = (regions_of(machine), modules_of(entry));
+    let (machine, entry) = (machine_of(machine, &regions), entry_of(entry, &modules));
+    let mut refusal = Refusal::default();
+    // SAFETY: each pointer is that of a slice or a vector that stands during the call, with its length, or null, which the
+    // call tests; there is room for as many parts as are told
+    let call = |digests: &mut Digests, parts: &mut [PartDigest]| unsafe {
+        bootcore_digest_entry(&machine, &entry, digests, parts.as_mut_ptr(), parts.len(), &mut refusal)
+    };
+    match DigestsTold::by(call) {
+        (DONE, told) => Ok(told.all()),
+        (REFUSED, _) => Err(Error::Refused(refusal_told(&refusal))),
+        (other, _) => Err(Error::of_status(other)),
     }
 }
 

@@ -146,12 +146,12 @@ fn of_a_session() {
 
 #[test]
 fn numbers_and_words() {
-    let mut words: Vec<_> = (101..=116).map(|number| Misuse::from_number(number).to_string()).collect();
+    let mut words: Vec<_> = (101..=117).map(|number| Misuse::from_number(number).to_string()).collect();
     assert!((0..200).all(|number| Misuse::from_number(number).number() == number));
     assert!(words.iter().all(|word| !word.is_empty()));
     words.sort();
     words.dedup();
-    assert_eq!(words.len(), 16);
+    assert_eq!(words.len(), 17);
     assert_eq!(Misuse::from_number(102), Misuse::Other(102)); // a reserved word: no program in Rust sets one
     assert_eq!(Error::Misuse(Misuse::BadSize).to_string(), Misuse::BadSize.to_string());
 }

@@ -8,6 +8,7 @@ ghost use Rattle.c_abi.specs.Boot.{IsGivenBootEnd};
 ghost use Rattle.c_abi.specs.BootTold.{TellsBoot};
 ghost use Rattle.c_abi.specs.declared.given_fault.GivenFault.{GivenFault};
 
+mod digests;
 mod one_entry;
 mod sessions;
 mod walks;

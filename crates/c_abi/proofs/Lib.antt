@@ -7,6 +7,7 @@ mod LoadLemmas
 mod MenuLemmas
 mod PrepareLemmas
 mod PlanLemmas
+mod DigestLemmas
 mod MachineLaws
 mod FaultLaws
 mod PrepareLaws

@@ -93,7 +93,7 @@ module _ {A B : Type 0} (facts : MachineFacts) (r : EntryRecord) (entry : Entry 
   pub can_be : CanBeLoaded plan
   can_be = (lengths_of (some_files r), facts.size, loadable (some_files r) (have_some r))
 
-  by_lengths : IsLoadable (file_lengths r) facts.size plan
+  pub by_lengths : IsLoadable (file_lengths r) facts.size plan
   by_lengths =
       subst (λ (ns : List ℕ). IsLoadable ns facts.size plan) (some_lengths r)
       (loadable (some_files r) (have_some r))

@@ -12,6 +12,8 @@ pub mod PlanTold
 pub mod Boot
 pub mod BootTold
 pub mod Sessions
+pub mod Digest
+pub mod DigestTold
 pub mod TextRanges
 pub mod SeenTold
 pub mod Walk

@@ -1,4 +1,5 @@
 pub mod Checks
+pub mod Digests
 pub mod LoadEnds
 pub mod Menus
 pub mod Plans

@@ -21,9 +21,10 @@ pub struct MachineRecord {
     pub pool_length: u64,
 }
 
-/// A file. A call that loads reads its bytes and does not look at `length`; a call that is told of
-/// files by their lengths reads `length` and does not look at the bytes. A menu's file of length
-/// `UNREADABLE` can't be read.
+/// A file. A call that loads, or digests at once, reads its bytes and does not look at `length`; a
+/// session reads `length` and does not look at the bytes. A preparation, a plan and a digest that
+/// is fed later read of the kernel its bytes alone, and of the other files `length` alone. A menu's
+/// file of length `UNREADABLE` can't be read.
 #[repr(C)]
 #[derive(Clone, Copy)]
 pub struct FileRecord<'a> {

@@ -12,7 +12,7 @@ use crate::register_telling::registers_told;
 use bl_load::{Handoff, Place, Plan, PlannedPart};
 use std::alloc::Allocator;
 
-fn place_told(place: Place) -> PlaceRecord
+pub(crate) fn place_told(place: Place) -> PlaceRecord
     ensures { result ≡ spec.place_told place }
 {
     PlaceRecord {
@@ -76,7 +76,7 @@ pub(crate) fn tell_plan<A: Allocator>(
 }
 
 /// Tells a fault, with its status.
-pub(crate) fn tell_fault(fault: LoadFault, refusal: &mut RefusalRecord) -> u32
+pub fn tell_load_fault(fault: LoadFault, refusal: &mut RefusalRecord) -> u32
     ensures status { result ≡ fault_status fault }
     ensures refusal { refusal.new ≡ spec.after_fault fault refusal.old }
 {
@@ -108,6 +108,6 @@ pub(crate) fn tell_end<A: Allocator>(
             *told = handoff_told(0, &handoff);
             0
         }
-        Err(fault) => tell_fault(fault, refusal),
+        Err(fault) => tell_load_fault(fault, refusal),
     }
 }

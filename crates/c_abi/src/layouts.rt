@@ -1,4 +1,5 @@
 //! The sizes of the records: those that `include/bootcore.h` asserts.
+use crate::digest_records::{DigestsRecord, FileRangeRecord, PartDigestRecord};
 use crate::end_records::{HandoffRecord, PlaceRecord, RefusalRecord, RegistersRecord};
 use crate::given_records::{EntryRecord, FileRecord, MachineRecord, ModuleRecord, RegionRecord};
 use crate::plan_records::{PlanCountsRecord, StepRecord};
@@ -33,3 +34,9 @@ const _: () = prove!(size_of::<SeenRecord>() == 104);
 const _: () = prove!(size_of::<SeenPartRecord>() == 16);
 
 const _: () = prove!(size_of::<SeenModuleRecord>() == 32);
+
+const _: () = prove!(size_of::<FileRangeRecord>() == 24);
+
+const _: () = prove!(size_of::<PartDigestRecord>() == 56);
+
+const _: () = prove!(size_of::<DigestsRecord>() == 88);

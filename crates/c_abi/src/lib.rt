@@ -4,6 +4,12 @@
 mod array_fronts;
 mod boot_telling;
 mod booting;
+mod digest_at_once;
+mod digest_calls;
+mod digest_laws;
+mod digest_making;
+mod digest_records;
+mod digest_telling;
 mod end_records;
 mod entries;
 mod file_views;
@@ -38,11 +44,18 @@ mod walking;
 
 pub use boot_telling::given_status;
 pub use booting::boot_told;
+pub use digest_at_once::digests_told;
+pub use digest_calls::{feed_told, wanted_told};
+pub use digest_laws::digests_are_those_of_loads;
+pub use digest_making::digest_given;
+pub use digest_records::{DigestsRecord, FileRangeRecord, PartDigestRecord};
+pub use digest_telling::fed_told;
 pub use end_records::{HandoffRecord, PlaceRecord, RefusalRecord, RegistersRecord};
 pub use given_fault::GivenFault;
 pub use given_records::{
     EntryRecord, FileRecord, MachineRecord, ModuleRecord, RegionRecord, UNREADABLE,
 };
+pub use handoff_telling::tell_load_fault;
 pub use load_fault::LoadFault;
 pub use load_laws::loads_end_as_prepared;
 pub use loading::load_told;

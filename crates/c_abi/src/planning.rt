@@ -10,7 +10,7 @@ ghost use Rattle.c_abi.specs.declared.load_fault.LoadFault.{LoadFault};
 use crate::end_records::{HandoffRecord, PlaceRecord, RefusalRecord};
 use crate::entries::take_entry;
 use crate::given_records::{EntryRecord, MachineRecord, RegionRecord};
-use crate::handoff_telling::tell_fault;
+use crate::handoff_telling::tell_load_fault;
 use crate::load_fault::{LoadFault, given_fault, load_fault};
 use crate::machines::machine_of;
 use crate::misuse::Misuse;
@@ -111,6 +111,6 @@ pub fn plan_told<A: Allocator + Copy>(
 {
     match plan_entry(alloc, machine, regions, entry, places.len()) {
         Ok(made) => tell_stepped(&made, told, counts, places, steps, own),
-        Err(fault) => tell_fault(fault, refusal),
+        Err(fault) => tell_load_fault(fault, refusal),
     }
 }

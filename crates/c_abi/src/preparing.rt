@@ -17,7 +17,7 @@ use crate::end_records::{HandoffRecord, PlaceRecord, RefusalRecord};
 use crate::entries::take_entry;
 use crate::file_views::lengths_beside;
 use crate::given_records::{EntryRecord, MachineRecord, RegionRecord};
-use crate::handoff_telling::{tell_fault, tell_plan};
+use crate::handoff_telling::{tell_load_fault, tell_plan};
 use crate::load_fault::{LoadFault, given_fault, load_fault};
 use crate::machines::machine_of;
 use crate::misuse::Misuse;
@@ -118,6 +118,6 @@ pub fn prepare_told<A: Allocator + Copy>(
             tell_plan(&plan, told, places);
             0
         }
-        Err(fault) => tell_fault(fault, refusal),
+        Err(fault) => tell_load_fault(fault, refusal),
     }
 }

@@ -1,4 +1,4 @@
--- What is owned of a handle, at its machine value.
+-- What is owned behind a handle of either kind.
 use Rattle.std.proofs.Common.{◌≡◌, ◌&&◌, true, ℕ, List, [], ◌∷◌, ◌++◌, refl, subst, lit<}
 use lib.Dec.{T}
 use seplogic.Ra.Ura.{Ura}
@@ -30,21 +30,14 @@ use Rattle.std.specs.contracts.impls.GlobalAllocator.TheImpl.{ghosts}
 use Rattle.std.proofs.GlobalToken.{dealloc_token-Testable}
 use Rattle.std.specs.Box.Ownership.{box_owns}
 use Rattle.std.proofs.ResultValues.{and_tt}
-use Rattle.c_handle.specs.Handles.{session_type, handle_owns}
-use Rattle.c_handle.specs.contracts.handle.Handle as handle
+use Rattle.c_handle.specs.Handles.{handle_owns}
 use Rattle.c_handle.proofs.RawBoxSteps.{two, al}
-
-abbrev pub R : RattleType
-R = session_type
 
 abbrev pub Z : RattleType
 Z = heap.the_row
 
 abbrev pub L : Laws Z
 L = heap_laws.the_row_laws
-
-abbrev pub Handle : RattleType
-Handle = handle.the_row
 
 abbrev pub token : Global → mir.Syntax.Ty → Ptr → base.Fml.Fml
 token a = ghosts.dealloc_token a
@@ -56,33 +49,7 @@ handle_good (block_ptr b o) h fits = (and_tt (has_ty (layout Z) h) fits.0, (tt, 
 handle_good null_ptr h fits =
     (and_tt (has_ty (layout Z) h) fits.0, (record { fits = lit< tt }, (fits.1, tt)))
 
-module _ {M : Type 1} {𝓤 : Ura M} {𝓛 : Logic 𝓤} {K : Type 0} {Γ : List (Item 𝓤)}
-    {G : Goal 𝓤 𝓛.H} where
-  pub handle_out : K → (d : Handle.Denot) (vs : List Val)
-      → ((h : Val) → vs ≡ two (ptr_val d.at) h ∷ [] → Good (layout Z) h
-      → Seq K 𝓛 (‵ (handle_owns d.alloc d.at d.kept) ∷ ‵ (Z.own_val d.alloc (h ∷ [])) ∷ Γ) G)
-      → Seq K 𝓛 (‵ (Handle.own_val d vs) ∷ Γ) G
-  handle_out t d vs k =
-      fsplit t $ fpick t (λ vss. fsplit t $ feq_l t (λ ev. fsplit t $ feq_l t (λ ep. fsplit t $
-      handle_tells (al R Z L ghosts) t d.alloc vss.1.0 (λ h ea fits.
-      move t (1 ∷ []) $ drop t $ move t (1 ∷ []) $ k h
-      (subst (λ (ws : List Val). vs ≡ vstruct (of_list (ptr_val d.at ∷ (ws ++ []))) ∷ []) ea
-      (subst (λ (ps : List Val). vs ≡ vstruct (of_list (ps ++ (vss.1.0 ++ []))) ∷ []) ep ev))
-      fits))))
-
-  pub handle_in : K → (p : Ptr) (h : Val) (a : Global) (x : Option R.Denot)
-      → Step K 𝓛
-      (‵ (Handle.own_val (record { at = p; alloc = a; kept = x }) (two (ptr_val p) h ∷ [])) ∷ Γ) G
-      (‵ (handle_owns a p x) ∷ ‵ (Z.own_val a (h ∷ [])) ∷ Γ) G
-  handle_in t p h a x = step (λ s. let v : Val = two (ptr_val p) h in
-      nothing t $ move t (2 ∷ 0 ∷ []) $ fjoin t $
-      feq_i t (List Val) (ptr_val p ∷ []) (ptr_val p ∷ []) refl $ fjoin t $
-      feq_i t (List Val) (v ∷ []) (v ∷ []) refl $ fjoin t $
-      fpack t (Valss (RawPtr ∷ Z ∷ []))
-      (within (shape handle.the_type) (p, ((heap.the_field).into a, tt)) (v ∷ []))
-      (ptr_val p ∷ [], (h ∷ [], tt)) $ fjoin t $ s)
-
-module _ {M : Type 1} {𝓤 : Ura M} (𝓛 : Logic 𝓤) where
+module _ {M : Type 1} {𝓤 : Ura M} (𝓛 : Logic 𝓤) (R : RattleType) where
   tested : (a : Global) (p : Ptr) (x : R.Denot)
       → ent 𝓤 (sem 𝓛 (box_owns (token a) R p x))
       (guard 𝓤 (Testable p) (sem 𝓛 (box_owns (token a) R p x)))
@@ -95,17 +62,17 @@ module _ {M : Type 1} {𝓤 : Ura M} (𝓛 : Logic 𝓤) where
       (guard_i 𝓤 (Testable p) B)
 
 module _ {M : Type 1} {𝓤 : Ura M} {𝓛 : Logic 𝓤} {K : Type 0} {Γ : List (Item 𝓤)}
-    {G : Goal 𝓤 𝓛.H} where
+    {G : Goal 𝓤 𝓛.H} (R : RattleType) where
   pub either_held : K → (a : Global) (p : Ptr) (v : Option R.Denot)
       → (p ≡ null_ptr → v ≡ None → Seq K 𝓛 Γ G)
       → ((b o : ℕ) (x : R.Denot) → p ≡ block_ptr b o → v ≡ Some x → Testable (block_ptr b o)
       → Seq K 𝓛 (‵ (box_owns (token a) R (block_ptr b o) x) ∷ Γ) G)
-      → Seq K 𝓛 (‵ (handle_owns a p v) ∷ Γ) G
+      → Seq K 𝓛 (‵ (handle_owns R a p v) ∷ Γ) G
   either_held t a p None none one = feq_l t (λ e. none e refl)
   either_held t a p (Some x) none one =
       in_a_block t p (λ q. box_owns (token a) R q x)
       (fst∗ 𝓤 (never 𝓤) (sem 𝓛 (token a (bare (lone R.mir)) null_ptr)))
       (λ b o e.
       use1 𝓛 (given (Testable (block_ptr b o)) (‵ (box_owns (token a) R (block_ptr b o) x)))
-      (tested 𝓛 a (block_ptr b o) x) $
+      (tested 𝓛 R a (block_ptr b o) x) $
       learn t (λ test. one b o x e refl test))

@@ -1,2 +1,5 @@
 pub mod HandleSteps
+pub mod SessionHandleSteps
+pub mod DigestHandleSteps
 pub mod RawBoxSteps
+pub mod SendSteps

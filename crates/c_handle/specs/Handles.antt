@@ -8,29 +8,35 @@ use Rattle.std.specs.declared.alloc.Global.{Global}
 use base.Fml.{Fml, feq}
 use denote.RattleType.{RattleType}
 use denote.RawPtr.{Ptr, null_ptr}
+use Rattle.bl_digest.specs.contracts.digesting.Digesting as digesting
+use Rattle.bl_digest.specs.PlanInSteps.{DigestingFacts}
 use Rattle.bl_session.specs.contracts.OwnedSession as owned
 use Rattle.bl_session.specs.session.Phases.{SessionFacts}
 
--- a session on the heap, as the logic sees its type
+-- a session on the heap, and a digest, as the logic sees their types
 abbrev pub session_type : RattleType
 session_type = owned.the_row heap.the_row ghosts
+
+abbrev pub digest_type : RattleType
+digest_type = digesting.the_row heap.the_row ghosts
 
 abbrev pub coded_kept_session : Coded (Option SessionFacts)
 coded_kept_session = coded_option session_type.coded
 
--- behind null there is nothing; behind another pointer the session that is kept, and the right to
--- free its block
-abbrev pub handle_owns : Global → Ptr → Option SessionFacts → Fml
-handle_owns alloc at None = feq Ptr at null_ptr
-handle_owns alloc at (Some session) =
-    box_owns (ghosts.dealloc_token alloc) session_type at session
+abbrev pub coded_kept_digest : Coded (Option DigestingFacts)
+coded_kept_digest = coded_option digest_type.coded
 
--- a session is kept before and after, and the two stand so to each other; or none before and after,
+-- behind null there is nothing; behind another pointer the value that is kept, of the type `R`, and
+-- the right to free its block
+abbrev pub handle_owns : (R : RattleType) → Global → Ptr → Option R.Denot → Fml
+handle_owns R alloc at None = feq Ptr at null_ptr
+handle_owns R alloc at (Some value) = box_owns (ghosts.dealloc_token alloc) R at value
+
+-- a value is kept before and after, and the two stand so to each other; or none before and after,
 -- and the other holds
-abbrev pub RelatesKeptSessions :
-    Option SessionFacts → Option SessionFacts → (none : Type 0)
-    → (SessionFacts → SessionFacts → Type 0) → Type 0
-RelatesKeptSessions None None none some = none
-RelatesKeptSessions None (Some new) none some = ⊥
-RelatesKeptSessions (Some old) None none some = ⊥
-RelatesKeptSessions (Some old) (Some new) none some = some old new
+abbrev pub RelatesKept : {X : Type 0} → Option X → Option X → (none : Type 0)
+    → (X → X → Type 0) → Type 0
+RelatesKept None None none some = none
+RelatesKept None (Some new) none some = ⊥
+RelatesKept (Some old) None none some = ⊥
+RelatesKept (Some old) (Some new) none some = some old new

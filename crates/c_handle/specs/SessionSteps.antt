@@ -10,24 +10,24 @@ use Rattle.bl_session.specs.session.BootMemory.{IsMemoryAt}
 use Rattle.bl_session.specs.session.Phases.{SessionFacts, state_at, not_started}
 use Rattle.c_handle.specs.declared.handle_fault.HandleFault.{HandleFault}
 use Rattle.c_handle.specs.Faults.{IsHandleFault}
-use Rattle.c_handle.specs.Handles.{RelatesKeptSessions}
+use Rattle.c_handle.specs.Handles.{RelatesKept}
 
 -- the start of what a handle keeps, over memory from `base` on that held `before` and holds `after`
 pub record IsStarted (old new : Option SessionFacts) (base : ℕ) (before after : List ℕ)
     (told : Result Progress HandleFault) : Type 0 where
   pub err : IfErr told (IsHandleFault old base (length before))
   pub unchanged : OnErr told ((new ≡ old) × (after ≡ before))
-  pub boot : OnOk told (RelatesKeptSessions old new ⊥ (λ one other. other.boot ≡ one.boot))
-  pub step : OnOk told (RelatesKeptSessions old new ⊥ (λ one other. StartsOrFails one.boot
+  pub boot : OnOk told (RelatesKept old new ⊥ (λ one other. other.boot ≡ one.boot))
+  pub step : OnOk told (RelatesKept old new ⊥ (λ one other. StartsOrFails one.boot
       (state_at (memory_from base before) one.phase)
       (state_at (memory_from base after) other.phase)))
-  pub progress : IfOk told (λ progress. RelatesKeptSessions old new ⊥ (λ one other. progress
+  pub progress : IfOk told (λ progress. RelatesKept old new ⊥ (λ one other. progress
       ≡ steps.progress (attempt_number (state_at (memory_from base before) one.phase))
       (state_at (memory_from base after) other.phase)))
-  pub memory : OnOk told (RelatesKeptSessions old new ⊥ (λ one other. one.phase ≡ not_started
+  pub memory : OnOk told (RelatesKept old new ⊥ (λ one other. one.phase ≡ not_started
       → IsMemoryAt one.boot.machine.pool (state_at (memory_from base after) other.phase)
       (memory_from base before) (memory_from base after)))
-  pub same : OnOk told (RelatesKeptSessions old new ⊥ (λ one other. one.phase ≢ not_started
+  pub same : OnOk told (RelatesKept old new ⊥ (λ one other. one.phase ≢ not_started
       → memory_from base after ≡ memory_from base before))
 
 -- an event of what a handle keeps
@@ -35,14 +35,14 @@ pub record IsStepped (old new : Option SessionFacts) (base : ℕ) (before after 
     (event : EventFacts) (told : Result Progress HandleFault) : Type 0 where
   pub err : IfErr told (IsHandleFault old base (length before))
   pub unchanged : OnErr told ((new ≡ old) × (after ≡ before))
-  pub boot : OnOk told (RelatesKeptSessions old new ⊥ (λ one other. other.boot ≡ one.boot))
-  pub step : OnOk told (RelatesKeptSessions old new ⊥ (λ one other. StepsToOrFails one.boot
+  pub boot : OnOk told (RelatesKept old new ⊥ (λ one other. other.boot ≡ one.boot))
+  pub step : OnOk told (RelatesKept old new ⊥ (λ one other. StepsToOrFails one.boot
       (state_at (memory_from base before) one.phase) event
       (state_at (memory_from base after) other.phase)))
-  pub progress : IfOk told (λ progress. RelatesKeptSessions old new ⊥ (λ one other. progress
+  pub progress : IfOk told (λ progress. RelatesKept old new ⊥ (λ one other. progress
       ≡ steps.progress (attempt_number (state_at (memory_from base before) one.phase))
       (state_at (memory_from base after) other.phase)))
-  pub memory : OnOk told (RelatesKeptSessions old new ⊥ (λ one other. MatchBool
+  pub memory : OnOk told (RelatesKept old new ⊥ (λ one other. MatchBool
       (is_taken (state_at (memory_from base before) one.phase) event)
       (IsMemoryAt one.boot.machine.pool (state_at (memory_from base after) other.phase)
       (memory_from base before) (memory_from base after))

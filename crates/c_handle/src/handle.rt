@@ -1,7 +1,7 @@
 //! A handle to a session.
 ghost use Rattle.std.specs.Prelude.{◌≡◌, Option, None, Some, option_map};
 ghost use Rattle.bl_session.specs.session.Phases.{SessionFacts};
-ghost use Rattle.c_handle.specs.Handles.{handle_owns, coded_kept_session};
+ghost use Rattle.c_handle.specs.Handles.{handle_owns, coded_kept_session, session_type};
 
 use crate::raw_box::RawBox;
 use bl_session::OwnedSession;
@@ -23,7 +23,7 @@ pub struct Handle {
 }
 
 impl Model for Handle {
-    ghost also_owns = { λ h. handle_owns h.alloc h.at h.kept };
+    ghost also_owns = { λ h. handle_owns session_type h.alloc h.at h.kept };
 }
 
 // What it keeps is plain data, and its block may be freed by any thread.

@@ -7,7 +7,7 @@ ghost use Rattle.bl_session.specs.session.BootSteps as boot;
 ghost use Rattle.bl_session.specs.session.BootMemory.{IsMemoryAt};
 ghost use Rattle.bl_session.specs.session.Phases.{event_facts, state_at, not_started};
 ghost use Rattle.c_handle.specs.Faults.{IsHandleFault};
-ghost use Rattle.c_handle.specs.Handles.{RelatesKeptSessions};
+ghost use Rattle.c_handle.specs.Handles.{RelatesKept};
 
 use crate::handle::Handle;
 use crate::handle_fault::HandleFault;
@@ -26,22 +26,22 @@ impl Handle {
         ensures err { IfErr result (IsHandleFault self.old.kept base (length bytes.old)) }
         ensures unchanged { OnErr result
             ((self.new.kept ≡ self.old.kept) × (bytes.new ≡ bytes.old)) }
-        ensures boot { OnOk result (RelatesKeptSessions self.old.kept self.new.kept ⊥
+        ensures boot { OnOk result (RelatesKept self.old.kept self.new.kept ⊥
             (λ old new. new.boot ≡ old.boot)) }
-        ensures step { OnOk result (RelatesKeptSessions self.old.kept self.new.kept ⊥
+        ensures step { OnOk result (RelatesKept self.old.kept self.new.kept ⊥
             (λ old new. StartsOrFails old.boot
             (state_at (memory_from base bytes.old) old.phase)
             (state_at (memory_from base bytes.new) new.phase))) }
         ensures progress { IfOk result
-            (λ progress. RelatesKeptSessions self.old.kept self.new.kept ⊥
+            (λ progress. RelatesKept self.old.kept self.new.kept ⊥
             (λ old new. progress ≡ boot.progress
             (attempt_number (state_at (memory_from base bytes.old) old.phase))
             (state_at (memory_from base bytes.new) new.phase))) }
-        ensures memory { OnOk result (RelatesKeptSessions self.old.kept self.new.kept ⊥
+        ensures memory { OnOk result (RelatesKept self.old.kept self.new.kept ⊥
             (λ old new. old.phase ≡ not_started → IsMemoryAt old.boot.machine.pool
             (state_at (memory_from base bytes.new) new.phase)
             (memory_from base bytes.old) (memory_from base bytes.new))) }
-        ensures same { OnOk result (RelatesKeptSessions self.old.kept self.new.kept ⊥
+        ensures same { OnOk result (RelatesKept self.old.kept self.new.kept ⊥
             (λ old new. old.phase ≢ not_started
             → memory_from base bytes.new ≡ memory_from base bytes.old)) }
     {
@@ -66,18 +66,18 @@ impl Handle {
         ensures err { IfErr result (IsHandleFault self.old.kept base (length bytes.old)) }
         ensures unchanged { OnErr result
             ((self.new.kept ≡ self.old.kept) × (bytes.new ≡ bytes.old)) }
-        ensures boot { OnOk result (RelatesKeptSessions self.old.kept self.new.kept ⊥
+        ensures boot { OnOk result (RelatesKept self.old.kept self.new.kept ⊥
             (λ old new. new.boot ≡ old.boot)) }
-        ensures step { OnOk result (RelatesKeptSessions self.old.kept self.new.kept ⊥
+        ensures step { OnOk result (RelatesKept self.old.kept self.new.kept ⊥
             (λ old new. StepsToOrFails old.boot
             (state_at (memory_from base bytes.old) old.phase) (event_facts event.entry)
             (state_at (memory_from base bytes.new) new.phase))) }
         ensures progress { IfOk result
-            (λ progress. RelatesKeptSessions self.old.kept self.new.kept ⊥
+            (λ progress. RelatesKept self.old.kept self.new.kept ⊥
             (λ old new. progress ≡ boot.progress
             (attempt_number (state_at (memory_from base bytes.old) old.phase))
             (state_at (memory_from base bytes.new) new.phase))) }
-        ensures memory { OnOk result (RelatesKeptSessions self.old.kept self.new.kept ⊥
+        ensures memory { OnOk result (RelatesKept self.old.kept self.new.kept ⊥
             (λ old new. MatchBool
             (is_taken (state_at (memory_from base bytes.old) old.phase) (event_facts event.entry))
             (IsMemoryAt old.boot.machine.pool (state_at (memory_from base bytes.new) new.phase)

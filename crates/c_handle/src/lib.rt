@@ -1,7 +1,9 @@
-//! A session that a caller keeps through a handle, as one in C must.
+//! A session and a digest that a caller keeps through handles, as one in C must.
 #![tactic(auto)]
 
 mod c_calls;
+mod digest_handle;
+mod digest_handle_calls;
 mod handle;
 mod handle_calls;
 mod handle_fault;
@@ -12,6 +14,7 @@ mod records;
 mod request_telling;
 mod session_over_slice;
 
+pub use digest_handle::DigestHandle;
 pub use handle::Handle;
 pub use handle_fault::HandleFault;
 pub use records::RequestRecord;

@@ -1,8 +1,14 @@
 -- What stands in the records that C is told by. Own.
 use Rattle.std.specs.Prelude.{ℕ, List}
+use Rattle.bl_digest.specs.DigestsFacts.{DigestsFacts}
+use Rattle.bl_digest.specs.declared.image_digest.ImageDigest.{ImageDigest}
+use Rattle.bl_digest.specs.declared.part_digest.PartDigest.{PartDigest}
 use Rattle.c_abi.specs.BootTold.{Telling}
+use Rattle.c_abi.specs.DigestTold.{DigestsTelling}
 use Rattle.c_abi.specs.PlanTold.{PlanTelling}
 use Rattle.c_abi.specs.SeenTold.{WalkRecordsFacts}
+use Rattle.c_abi.specs.declared.digest_records.DigestsRecord.{DigestsRecord}
+use Rattle.c_abi.specs.declared.digest_records.PartDigestRecord.{PartDigestRecord}
 use Rattle.c_abi.specs.declared.end_records.HandoffRecord.{HandoffRecord}
 use Rattle.c_abi.specs.declared.end_records.PlaceRecord.{PlaceRecord}
 use Rattle.c_abi.specs.declared.end_records.RefusalRecord.{RefusalRecord}
@@ -23,6 +29,14 @@ abbrev pub plan_telling : HandoffRecord → PlanCountsRecord → List PlaceRecor
     → List ℕ → PlanTelling
 plan_telling handoff counts places steps own =
     record { handoff = handoff; counts = counts; places = places; steps = steps; own = own }
+
+-- digests, by their two pieces
+abbrev pub digests_facts : ImageDigest → List PartDigest → DigestsFacts
+digests_facts image parts = record { image = image; parts = parts }
+
+-- of digests
+abbrev pub digests_telling : DigestsRecord → List PartDigestRecord → DigestsTelling
+digests_telling digests parts = record { digests = digests; parts = parts }
 
 -- of a walk
 abbrev pub walk_telling : SeenRecord → List SeenPartRecord → List SeenModuleRecord

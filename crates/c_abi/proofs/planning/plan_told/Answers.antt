@@ -10,5 +10,5 @@ pub returns-in-Err : goal.returns-in-Err
 returns-in-Err g c = (
   Err c.in-Err.fault,
   c.in-Err.ensures.fault,
-  (c.tell_fault.ensures.status, refl, c.tell_fault.ensures.refusal),
+  (c.tell_load_fault.ensures.status, refl, c.tell_load_fault.ensures.refusal),
 )

@@ -19,9 +19,9 @@ returns-in-Err g c = (
   Err c.in-Err.fault,
   c.in-Err.ensures.fault,
   record {
-    status_is = c.tell_fault.ensures.status;
+    status_is = c.tell_load_fault.ensures.status;
     handoff_is = refl;
     places_are = refl;
-    refusal_is = c.tell_fault.ensures.refusal;
+    refusal_is = c.tell_load_fault.ensures.refusal;
   },
 )

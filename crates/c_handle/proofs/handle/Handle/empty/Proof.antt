@@ -22,7 +22,8 @@ use Rattle.std.specs.declared.option.Option.TheVariants.{None}
 use Rattle.std.specs.contracts.impls.GlobalAllocator.TheImpl.{ghosts}
 use Rattle.std.proofs.raw_atomic.Walks.{proved_at, leaves}
 use Rattle.c_handle.proofs.RawBoxSteps.{two, al}
-use Rattle.c_handle.proofs.HandleSteps.{R, Z, L, handle_good, handle_in}
+use Rattle.c_handle.proofs.HandleSteps.{Z, L, handle_good}
+use Rattle.c_handle.proofs.SessionHandleSteps.{R, handle_in}
 use Rattle.c_handle.specs.contracts.handle.Handle.empty.{ended, clauses}
 use Rattle.c_handle.specs.contracts.handle.Handle.empty.Key.{name as #self}
 use Rattle.c_handle.proofs.handle.Handle.empty.Statement.{statement}

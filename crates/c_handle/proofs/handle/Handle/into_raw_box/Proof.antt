@@ -30,7 +30,8 @@ use Rattle.std.specs.declared.option.Option.TheVariants.{None, Some}
 use Rattle.std.specs.contracts.impls.GlobalAllocator.TheImpl.{ghosts}
 use Rattle.std.proofs.raw_atomic.Walks.{proved_at, leaves}
 use Rattle.c_handle.proofs.RawBoxSteps.{two, two_good, RawBox, raw_box_in}
-use Rattle.c_handle.proofs.HandleSteps.{R, Z, L, Handle, handle_good, handle_out, either_held}
+use Rattle.c_handle.proofs.HandleSteps.{Z, L, handle_good, either_held}
+use Rattle.c_handle.proofs.SessionHandleSteps.{R, Handle, handle_out}
 use Rattle.c_handle.specs.contracts.handle.Handle.into_raw_box.{ended, clauses}
 use Rattle.c_handle.specs.contracts.handle.Handle.into_raw_box.Key.{name as #self}
 use Rattle.c_handle.proofs.handle.Handle.into_raw_box.Statement.{statement}
@@ -60,7 +61,7 @@ into_raw_box_spec 𝓤 𝓛 𝓜 𝓡 wired =
     suffices ! (At d.at)
     (subst (λ (us : List Val). ent 𝓤 (At d.at) (Run us)) (sym (λ i. ws i ++ []))
     (id⊢ 𝓤 (At d.at))) $
-    either_held ! d.alloc d.at d.kept
+    either_held R ! d.alloc d.at d.kept
     (λ is none.
     suffices ! (At null_ptr)
     (subst (λ (p : Ptr). ent 𝓤 (At null_ptr) (At p)) (sym is) (id⊢ 𝓤 (At null_ptr))) $

@@ -1,0 +1,139 @@
+//! Digests for C: of an entry whose files come later, or are all at hand.
+ghost use Rattle.std.specs.Prelude.{◌≡◌, Err, Result, None};
+ghost use Rattle.std.specs.Option.{MatchOption};
+ghost use Rattle.bl_digest.specs.DigestsFacts.{DigestsFacts};
+ghost use Rattle.bl_digest.specs.PlanInSteps.{DigestingFacts};
+ghost use Rattle.c_abi.specs.Digest.{IsGivenDigestEnd, IsGivenDigestsEnd};
+ghost use Rattle.c_abi.specs.DigestTold.{DigestsTelling, FeedsDigest, TellsFed};
+ghost use Rattle.c_abi.specs.DigestTold.{TellsDigestMade, TellsDigests, TellsWanted, wanted_of};
+ghost use Rattle.c_abi.specs.declared.load_fault.LoadFault.{LoadFault};
+ghost use Rattle.c_handle.specs.Handles.{RelatesKept};
+ghost use Rattle.c_handle.specs.HandleTold.{progress_status};
+ghost use Rattle.c_handle.specs.declared.handle_fault.HandleFault.TheVariants.{NoSession};
+
+use c_abi::{
+    DigestsRecord, EntryRecord, FileRangeRecord, LoadFault, MachineRecord, PartDigestRecord,
+    RefusalRecord, RegionRecord, digest_given, digests_told, fed_told, feed_told, tell_load_fault,
+    wanted_told,
+};
+use c_handle::{DigestHandle, HandleFault, status_of};
+use std::alloc::Global;
+
+/// A digest is made, and kept; one that was kept before is freed then.
+#[unsafe(no_mangle)]
+pub extern "C" fn bootcore_digest_make_arrays(
+    alloc: Global,
+    digest: &mut DigestHandle,
+    machine: &MachineRecord,
+    regions: &[RegionRecord],
+    entry: &EntryRecord<'_>,
+    refusal: &mut RefusalRecord,
+) -> u32
+    ensures { (made : Result DigestingFacts LoadFault)
+        × IsGivenDigestEnd machine.now regions.now entry.now made
+        × TellsDigestMade made result digest.old.kept digest.new.kept refusal.old refusal.new }
+{
+    match digest_given(alloc, machine, regions, entry) {
+        Ok(made) => match digest.make(alloc, made) {
+            Ok(()) => 0,
+            Err(_) => tell_load_fault(LoadFault::NoMemory, refusal),
+        },
+        Err(fault) => tell_load_fault(fault, refusal),
+    }
+}
+
+/// What the digest that is kept wants next, and whether it wants something.
+#[unsafe(no_mangle)]
+pub extern "C" fn bootcore_digest_wanted_record(
+    alloc: Global,
+    digest: &mut DigestHandle,
+    range: &mut FileRangeRecord,
+) -> bool
+    ensures kept { digest.new.kept ≡ digest.old.kept }
+    ensures told { MatchOption digest.old.kept
+        (TellsWanted None result range.old range.new)
+        (λ kept. TellsWanted (wanted_of kept) result range.old range.new) }
+{
+    match digest.take(alloc) {
+        Some(kept) => {
+            let is_told = wanted_told(&*kept, range);
+            digest.keep(kept);
+            is_told
+        }
+        None => false,
+    }
+}
+
+/// The digest that is kept is fed.
+#[unsafe(no_mangle)]
+pub extern "C" fn bootcore_digest_feed_array(
+    alloc: Global,
+    digest: &mut DigestHandle,
+    bytes: &[u8],
+) -> u32
+    ensures { RelatesKept digest.old.kept digest.new.kept
+        (result ≡ progress_status (Err NoSession))
+        (λ old new. FeedsDigest old new bytes.now result) }
+{
+    match digest.take(alloc) {
+        Some(mut kept) => {
+            let status = feed_told(&mut *kept, bytes);
+            digest.keep(kept);
+            status
+        }
+        None => status_of(Err(HandleFault::NoSession)),
+    }
+}
+
+/// The digests that the digest that is kept was fed for, unless it wants bytes.
+#[unsafe(no_mangle)]
+pub extern "C" fn bootcore_digest_told_arrays(
+    alloc: Global,
+    digest: &mut DigestHandle,
+    told: &mut DigestsRecord,
+    parts: &mut [PartDigestRecord],
+) -> u32
+    ensures kept { digest.new.kept ≡ digest.old.kept }
+    ensures told { let before : DigestsTelling = record { digests = told.old; parts = parts.old } in
+        let after : DigestsTelling = record { digests = told.new; parts = parts.new } in
+        MatchOption digest.old.kept
+        ((result ≡ progress_status (Err NoSession)) × (after ≡ before))
+        (λ kept. TellsFed kept result before after) }
+{
+    match digest.take(alloc) {
+        Some(kept) => {
+            let status = fed_told(&*kept, told, parts);
+            digest.keep(kept);
+            status
+        }
+        None => status_of(Err(HandleFault::NoSession)),
+    }
+}
+
+/// The digest that is kept is freed.
+#[unsafe(no_mangle)]
+pub extern "C" fn bootcore_digest_free_kept(alloc: Global, digest: &mut DigestHandle)
+    ensures { digest.new.kept ≡ None }
+{
+    digest.free(alloc)
+}
+
+/// The digests of an entry whose files are all at hand.
+#[unsafe(no_mangle)]
+pub extern "C" fn bootcore_digest_entry_arrays(
+    alloc: Global,
+    machine: &MachineRecord,
+    regions: &[RegionRecord],
+    entry: &EntryRecord<'_>,
+    told: &mut DigestsRecord,
+    parts: &mut [PartDigestRecord],
+    refusal: &mut RefusalRecord,
+) -> u32
+    ensures { (end : Result DigestsFacts LoadFault)
+        × IsGivenDigestsEnd machine.now regions.now entry.now end
+        × TellsDigests end result
+        (record { digests = told.old; parts = parts.old })
+        (record { digests = told.new; parts = parts.new }) refusal.old refusal.new }
+{
+    digests_told(alloc, machine, regions, entry, told, parts, refusal)
+}

@@ -1,0 +1,18 @@
+use Rattle.std.proofs.Common.{◌≡◌, ◌∙◌, ℕ, List, ap, refl, sym}
+use Rattle.bl_digest.specs.declared.image_digest.ImageDigest.{ImageDigest}
+use Rattle.bl_digest.specs.declared.part_digest.PartDigest.{PartDigest}
+use Rattle.bl_digest.specs.Digests.{digests_of, image_digest}
+use Rattle.bl_digest.specs.PlanInSteps.{handover_in_steps}
+use Rattle.c_abi.specs.DigestTold.{tells_digests}
+use Rattle.c_abi.specs.internal.Tellings.{digests_facts}
+use Rattle.c_abi.proofs.digest_telling.fed_told.Goals as goal
+
+pub returns-in-None : goal.returns-in-None
+returns-in-None g c =
+    let image = c.image.result in
+    let parts = c.parts.result.now in
+    tells_digests (sym c.wanted.ensures ∙ c.in-None.is) (digests_facts image parts) (λ texts fed.
+    let h = handover_in_steps texts c.args.digest.now.plan in
+    ap (λ (i : ImageDigest). digests_facts i parts) (c.image.ensures texts fed)
+    ∙ ap (λ (ps : List PartDigest). digests_facts (image_digest h) ps) (c.parts.ensures texts fed))
+    refl c.tell_digests.ensures

@@ -1,0 +1,57 @@
+//! The digest of an entry begins, whose files are fed later.
+ghost use Rattle.std.specs.Prelude.{ℕ, List, IfOk, IfErr, OnOk};
+ghost use Rattle.c_abi.specs.Digest.{IsGivenDigestEnd};
+ghost use Rattle.c_abi.specs.Load.{IsEntryFault, IsEntrySound};
+ghost use Rattle.c_abi.specs.Prepare.{AreFilesOf};
+ghost use Rattle.c_abi.specs.internal.Digests.{IsDigestOn};
+
+use crate::entries::take_entry;
+use crate::given_records::{EntryRecord, MachineRecord, RegionRecord};
+use crate::load_fault::{LoadFault, given_fault, load_fault};
+use crate::machines::machine_of;
+use crate::preparing::prepare_row;
+use bl_digest::Digesting;
+use bl_map::Machine;
+use std::alloc::Allocator;
+
+/// Begins the digest of an entry on a machine.
+fn digest_on<A: Allocator + Copy>(
+    alloc: A,
+    machine: &Machine<A>,
+    row: &EntryRecord,
+) -> Result<Digesting<A>, LoadFault>
+    ensures begun { IfOk result (IsDigestOn machine.now row.now) }
+    ensures sound { OnOk result (IsEntrySound row.now) }
+    ensures fault { IfErr result (λ fault. (texts : List (List ℕ)) → AreFilesOf row.now texts
+        → IsEntryFault machine.now row.now texts 0 fault) }
+{
+    let entry = match take_entry(alloc, row) {
+        Ok(entry) => entry,
+        Err(fault) => return Err(given_fault(fault)),
+    };
+    let plan = match prepare_row(alloc, machine, &entry, row) {
+        Ok(plan) => plan,
+        Err(fault) => return Err(load_fault(fault)),
+    };
+    match Digesting::begin(alloc, &plan) {
+        Ok(digest) => Ok(digest),
+        Err(_) => Err(LoadFault::NoMemory),
+    }
+}
+
+/// Begins the digest of an entry, before the files beside its kernel have come, or answers why it
+/// would not be loaded. The checks are those of `prepare_told`, in its order.
+pub fn digest_given<A: Allocator + Copy>(
+    alloc: A,
+    machine: &MachineRecord,
+    regions: &[RegionRecord],
+    entry: &EntryRecord,
+) -> Result<Digesting<A>, LoadFault>
+    ensures { IsGivenDigestEnd machine.now regions.now entry.now result }
+{
+    let made = match machine_of(alloc, machine, regions) {
+        Ok(made) => made,
+        Err(fault) => return Err(given_fault(fault)),
+    };
+    digest_on(alloc, &made, entry)
+}
