@@ -43,8 +43,9 @@ extern struct menu_file {
     int lists_entries;
     int keeps;        /* the choice is kept for the next boot */
     int falls_back;   /* also after a choice by hand */
-    int writes;       /* for tests: the handover is written to the disk as well */
-    int changes;      /* for tests: the memory map changes as the firmware is to end */
+    int boots_unmeasured; /* also what the TPM fails to measure */
+    int writes;           /* for tests: the handover is written to the disk as well */
+    const char *change;   /* for tests: when the memory map changes, NULL for never */
     uint8_t text[max_text];
     size_t text_length;
 } menu;
@@ -77,8 +78,10 @@ uint32_t take_number(const char *text);
 const uint8_t *find_rsdp(int is_new);
 /* These are kept in menu.text, one behind the other. */
 bootcore_bytes take_bytes(const void *bytes, size_t length);
-/* A line for a kernel. `@rsdp@` in it stands for the address of the firmware's RSDP. */
 bootcore_bytes take_line(const char *text);
+/* In an entry's lines the address of the firmware's RSDP stands for `@rsdp@` then, until menu.text
+   is cut. NULL, or what is wrong. */
+const char *expand_lines(menu_entry *entry);
 const char *take_path(char *path);
 void take_kernel(char *path, menu_entry *entry);
 void take_ramdisk(char *path, menu_entry *entry);
@@ -97,8 +100,9 @@ CHAR16 *file_name(const char *path);
 int has_file(const char *path);
 /* Calls this for each file of a folder whose name is ASCII. */
 void each_file(const char *folder, void (*take)(const char *name));
-/* A whole file, which has no zero byte, with one behind it; or NULL. */
-char *read_text(const char *path);
+/* A whole file, which has no zero byte, with one behind it; or NULL, and what is wrong with it. All
+   that is read is measured first. */
+char *read_text(const char *path, const char **wrong);
 /* Reads an entry's files, each into pages of its own. NULL, or what is wrong. */
 const char *read_files(menu_entry *entry);
 /* For tests: a new file, and bytes at its end. */
@@ -149,6 +153,8 @@ extern struct boot_state {
 /* Room for a plan, and for the core's tables while it makes one. */
 int take_plan_room(void);
 const char *refusal_words(const bootcore_refusal *refusal);
+/* The digests of what plan_entry has planned: a status. */
+uint32_t digest_entry(const menu_entry *entry, bootcore_digests *digests);
 /* Plans an entry, whose files were read, on the firmware's map as it is now. NULL, or why it can't
    be booted. The firmware is asked for nothing but the map. */
 const char *plan_entry(const menu_entry *entry);
@@ -171,6 +177,35 @@ void run_alone(void (*function)(void), void *stack_end, uint64_t tables);
 void mark_kept(void);
 /* 0 if the choice can't be kept. */
 int keep_choice(void);
+
+/* ---- measure.c: the TPM. NULL, or why what is to be measured must not be used */
+
+void find_tpm(void);
+/* `measured`, or `not measured` and why. */
+const char *measured_words(void);
+/* A file as it was read. */
+const char *measure_file(const char *path, const void *bytes, uint64_t length);
+/* An entry's title and lines. */
+const char *measure_choice(const menu_entry *entry);
+/* What plan_entry has planned. The firmware's map may change by it. */
+const char *measure_handover(const menu_entry *entry);
+int is_handover_measured(void);
+
+/* ---- log.c: the TPM's event log, for who checks what was booted */
+
+/* Finds room for it, where no part of a kernel comes. 0 if there is none. */
+int take_log_room(void);
+uint64_t log_address(void);
+/* After the last event that is measured. 0 if the log can't be kept. */
+int find_log(void);
+/* Copies the log to its room, if it was found, once the firmware has ended. */
+void keep_log(void);
+
+/* ---- describe.c */
+
+/* Writes the description of what is handed over for an entry, whose files were read, on a machine.
+   How long it is; 0: a line or a path is no UTF-8, or there is too little room. */
+size_t describe(const bootcore_machine *machine, const menu_entry *entry, char *text, size_t room);
 
 /* ---- program.c: another EFI program */
 

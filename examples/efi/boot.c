@@ -47,24 +47,68 @@ const char *plan_entry(const menu_entry *entry) {
     return status_words(bootcore_plan(&boot.map.machine, &entry->core, &boot.layout));
 }
 
+/* The plan's memory is free again, so the arena is as new. */
+uint32_t digest_entry(const menu_entry *entry, bootcore_digests *digests) {
+    bootcore_refusal refusal;
+    return bootcore_digest_entry(&boot.map.machine, &entry->core, digests, NULL, 0, &refusal);
+}
+
 /* ---- the end of the firmware */
+
+enum { most_tries = 8 };
+
+/* For tests: once, another map, or the same with another key. */
+static void change(const char *when) {
+    if (menu.change == NULL || !is_word(menu.change, when)) return;
+    menu.change = NULL;
+    take_low_pages(1);
+    if (is_word(when, "key")) give_back(taken_count - 1);
+}
+
+/* Whether the firmware's map is still that of the plan: then its new key is known. */
+static int is_same_map(void) {
+    static machine_map now;
+    size_t count = boot.map.machine.region_count;
+    if (read_map(&now) != NULL || now.machine.region_count != count ||
+        memcmp(now.regions, boot.map.regions, count * sizeof now.regions[0]) != 0)
+        return 0;
+    boot.map.key = now.key;
+    return 1;
+}
+
+/* Plans an entry and measures the plan, until the map is the same afterwards. Each print may change
+   it, and so may a measurement. */
+static const char *plan_measured(const menu_entry *entry) {
+    for (int tries = 0; tries < most_tries; tries++) {
+        const char *wrong = plan_entry(entry);
+        if (wrong == NULL) wrong = measure_handover(entry);
+        if (wrong != NULL) return wrong;
+        change("measured");
+        if (is_same_map()) return NULL;
+    }
+    return "The firmware's memory map does not stay as it is.";
+}
 
 __attribute__((noreturn)) static void restart(void) {
     ST->RuntimeServices->ResetSystem(EfiResetCold, EFI_SUCCESS, 0, NULL);
     for (;;) __asm__ volatile("hlt");
 }
 
-/* What is carried out is planned on the map with which the firmware ends. Each print may change the
-   map: so it is read once more here. If it changes even then, ExitBootServices fails, and the plan
-   is made again; but the firmware may have ended in part, and need serve memory alone: nothing is
-   printed any more. */
+/* What is carried out is planned on the map with which the firmware ends. If it changes even between
+   its last reading and ExitBootServices, that call fails, and the firmware may have ended in part,
+   and need serve memory alone: nothing is printed any more, and nothing measured. So the plan is
+   made again only if none was measured; else another map was measured than would be booted. */
 const char *leave_firmware(EFI_HANDLE image, const menu_entry *entry) {
-    const char *wrong = plan_entry(entry);
+    const char *wrong = plan_measured(entry);
     if (wrong != NULL) return wrong;
-    for (int tries = 0; tries < 8 && wrong == NULL; tries++) {
-        if (menu.changes && tries == 0) take_low_pages(1);
-        if (!EFI_ERROR(BS->ExitBootServices(image, boot.map.key))) enter_alone();
-        wrong = plan_entry(entry);
+    for (int tries = 0; tries < most_tries; tries++) {
+        change("");
+        change("key");
+        if (!EFI_ERROR(BS->ExitBootServices(image, boot.map.key))) {
+            keep_log();
+            enter_alone();
+        }
+        if (!is_same_map() && (is_handover_measured() || plan_entry(entry) != NULL)) break;
     }
     restart();
 }

@@ -34,11 +34,14 @@ static EFI_FILE *open(const char *path, uint64_t mode) {
     return name == NULL || EFI_ERROR(root->Open(root, &file, name, mode, 0)) ? NULL : file;
 }
 
-/* ---- reading: each answers 0, or the number of a refusal, or that there is no room for a file */
+/* ---- reading: each answers 0, or the number of a refusal, or that there is no room for a file, or
+   that it must not be used */
 
-enum { no_room = 255 };
+enum { no_room = 254, unmeasured };
 
-static uint32_t measure(const char *path, uint64_t *length) {
+static const char *why_unmeasured;
+
+static uint32_t find_length(const char *path, uint64_t *length) {
     static EFI_GUID id = EFI_FILE_INFO_ID;
     static uint64_t room[256];
     EFI_FILE_INFO *info = (EFI_FILE_INFO *)room;
@@ -75,7 +78,7 @@ static uint32_t read_joined(const char *const *paths, uint32_t count, uint32_t *
     uint64_t end = 0;
     uint32_t fault = 0;
     for (*at = 0; *at < count; ++*at) {
-        fault = measure(paths[*at], &lengths[*at]);
+        fault = find_length(paths[*at], &lengths[*at]);
         if (fault) return fault;
         end = (end + 3) / 4 * 4 + lengths[*at];
         if (end > most_bytes) return BOOTCORE_REFUSAL_FILE_TOO_LONG;
@@ -86,15 +89,18 @@ static uint32_t read_joined(const char *const *paths, uint32_t count, uint32_t *
     for (*at = 0, end = 0; *at < count && !fault; *at += !fault) {
         for (; end % 4; end++) bytes[end] = 0;
         fault = fill(paths[*at], bytes + end, lengths[*at]);
+        if (!fault) why_unmeasured = measure_file(paths[*at], bytes + end, lengths[*at]);
+        if (!fault && why_unmeasured != NULL) fault = unmeasured;
         end += lengths[*at];
     }
     return fault;
 }
 
-char *read_text(const char *path) {
+char *read_text(const char *path, const char **wrong) {
     bootcore_bytes read;
-    uint32_t at;
-    if (read_joined(&path, 1, &at, &read)) return NULL;
+    uint32_t at, fault = read_joined(&path, 1, &at, &read);
+    *wrong = fault == unmeasured ? why_unmeasured : "it can't be read, or is no text";
+    if (fault) return NULL;
     char *text = (char *)(UINTN)read.bytes;
     text[read.length] = 0;
     return strlen(text) == read.length ? text : NULL;
@@ -102,7 +108,7 @@ char *read_text(const char *path) {
 
 int has_file(const char *path) {
     uint64_t length;
-    return measure(path, &length) != BOOTCORE_REFUSAL_NO_FILE;
+    return find_length(path, &length) != BOOTCORE_REFUSAL_NO_FILE;
 }
 
 /* The bytes of a folder are the records of its files. */
@@ -137,6 +143,7 @@ const char *read_files(menu_entry *entry) {
         bootcore_bytes *read = &files.read[files.count];
         uint32_t fault = read_joined(entry->paths + first, count, &at, read);
         if (fault == no_room) return "There is too little memory for the files.";
+        if (fault == unmeasured) return why_unmeasured;
         if (fault)
             return refusal_words(&(bootcore_refusal){.number = fault, .first = first + at});
         if (first == 0) entry->core.kernel = *read;

@@ -25,33 +25,38 @@ static int has_instructions(void) {
 static int begin(EFI_HANDLE image) {
     static EFI_GUID loaded = LOADED_IMAGE_PROTOCOL;
     static char no_menu[] = "timeout 5\nentries\n";
+    const char *wrong = NULL;
     uint32_t line = 0;
     if (!has_instructions()) return say("This processor is older than x86-64-v2.");
     if (EFI_ERROR(BS->HandleProtocol(image, &loaded, (void **)&self)) ||
         !open_disk(self->DeviceHandle))
         return say("The disk that this was started from can't be read.");
+    find_tpm();
     int has_menu = has_file("bootcore/menu.txt");
-    char *text = has_menu ? read_text("bootcore/menu.txt") : no_menu;
-    if (text == NULL) return say("bootcore/menu.txt can't be read, or is no text.");
-    const char *wrong = read_menu(text, &line);
+    char *text = has_menu ? read_text("bootcore/menu.txt", &wrong) : no_menu;
+    if (text != NULL) wrong = read_menu(text, &line);
     if (wrong != NULL) {
         print("\n    %s", has_menu ? "bootcore/menu.txt" : "No bootcore/menu.txt; loader/entries");
         if (line) print(", line %u", (uint64_t)line);
         return print(": %s\n", wrong), 0;
     }
     mark_kept();
-    return (open_screen() && take_plan_room() && take_entry_room()) ||
+    return (open_screen() && take_plan_room() && take_entry_room() && take_log_room()) ||
            say("There is too little memory.");
 }
 
-/* Returns only if the entry can't be booted, with the reason; or NULL after a program. */
+/* Returns only if the entry can't be booted, with the reason; or NULL after a program. The entry is
+   a copy for this attempt: lines are expanded in it, files come to it. */
 static const char *attempt(EFI_HANDLE image, menu_entry *entry) {
     if (entry->wrong != NULL)
         return compose(entry->wrong_line ? "loader/entries/%s.conf: %s in line %u."
                                          : "loader/entries/%s.conf: %s.",
                        entry->name, entry->wrong, (uint64_t)entry->wrong_line);
+    const char *wrong = measure_choice(entry);
+    if (wrong == NULL) wrong = expand_lines(entry);
+    if (wrong != NULL) return wrong;
     if (entry->core.protocol == efi_program) return start_program(image, self->DeviceHandle, entry);
-    const char *wrong = read_files(entry);
+    wrong = read_files(entry);
     if (wrong != NULL) return wrong;
     if (!make_tables(self->ImageBase, self->ImageSize)) return "There is too little memory.";
     wrong = plan_entry(entry);
@@ -59,27 +64,30 @@ static const char *attempt(EFI_HANDLE image, menu_entry *entry) {
     if (menu.writes) say(write_handover(entry));
     print("    Booting %s. %u KiB are the loader's, the core took %u bytes.\n", entry->title,
           boot.map.own / 1024, (uint64_t)bootcore_arena_peak());
+    print(log_address() == 0 ? "    It is %s.\n" : "    It is %s. The log is at 0x%x.\n",
+          measured_words(), log_address());
     return leave_firmware(image, entry);
 }
 
 /* Fallbacks are for the machine that starts alone: who chose an entry wants no other, if the menu
    does not say so. NULL, or what was wrong with the last attempt, which was shown. */
 static const char *boot_choice(EFI_HANDLE image, enum choice how) {
-    menu_entry *chosen = &menu.entries[menu.chosen];
-    bootcore_bytes line = chosen->core.line;
-    if (how == chosen_with_line) chosen->core.line = (bootcore_bytes){edited, strlen(edited)};
     if (how != chosen_by_time && !keep_choice()) say("The choice can't be kept.");
     list_attempts(how == chosen_by_time || menu.falls_back);
     const char *wrong = ""; /* not NULL, so that there is a first attempt */
     for (uint32_t i = 0; i < menu.attempt_count && wrong != NULL; i++) {
-        menu_entry *entry = &menu.entries[menu.attempts[i]];
+        menu_entry entry = menu.entries[menu.attempts[i]];
         uint32_t kept_count = taken_count;
+        size_t text_length = menu.text_length;
+        entry.core.modules = entry.modules;
+        if (how == chosen_with_line && i == 0)
+            entry.core.line = (bootcore_bytes){edited, strlen(edited)};
         print("\n");
-        wrong = attempt(image, entry);
-        if (wrong != NULL) print_sentence(entry->title, wrong);
+        wrong = attempt(image, &entry);
+        if (wrong != NULL) print_sentence(entry.title, wrong);
         give_back(kept_count);
+        menu.text_length = text_length;
     }
-    chosen->core.line = line;
     return wrong;
 }
 

@@ -43,7 +43,8 @@ void each_file(const char *folder, void (*take)(const char *name)) {
     for (int i = 1; i < path_count; i++) take(name_of(paths[i]));
 }
 
-char *read_text(const char *path) {
+char *read_text(const char *path, const char **wrong) {
+    *wrong = "it is no text";
     for (int i = 1; i < path_count; i++)
         if (strcmp(name_of(paths[i]), name_of(path)) == 0)
             return texts[text_count++] = read_path(paths[i]);
@@ -71,6 +72,8 @@ static void read_all(int shows) {
     memset(&menu, 0, sizeof menu);
     const char *wrong = text ? read_menu(text, &line) : "no text";
     if (wrong == NULL) list_attempts(1);
+    for (uint32_t i = 0; i < menu.entry_count && wrong == NULL; i++)
+        wrong = expand_lines(&menu.entries[i]);
     if (shows) show(wrong, line);
     while (text_count > 0) free(texts[--text_count]);
     free(text);

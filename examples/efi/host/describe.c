@@ -1,0 +1,67 @@
+/* On the host: the description that the boot manager's own code writes. The words are the machine's
+   size, then `BASE LENGTH KIND` for each region, by their numbers; or, behind --cut, with each room that
+   is too small for it, of which none must be enough. The entry comes from standard input, as a menu;
+   each of its files has a byte, but for those whose names end in 0. */
+#include "app.h"
+
+#include <stdio.h>
+#include <stdlib.h>
+#include <string.h>
+
+static EFI_CONFIGURATION_TABLE tables[2] = {{ACPI_TABLE_GUID, NULL}, {ACPI_20_TABLE_GUID, NULL}};
+static EFI_SYSTEM_TABLE firmware = {.ConfigurationTable = tables, .NumberOfTableEntries = 2};
+EFI_SYSTEM_TABLE *ST = &firmware;
+EFI_BOOT_SERVICES *BS;
+
+void each_file(const char *folder, void (*take)(const char *name)) { (void)folder, (void)take; }
+char *read_text(const char *path, const char **wrong) { return (void)path, (void)wrong, NULL; }
+
+static void show(const bootcore_machine *machine, const menu_entry *entry) {
+    char *text = malloc(1 << 20);
+    size_t length = describe(machine, entry, text, 1 << 20);
+    if (length == 0) puts("not described");
+    fwrite(text, 1, length, stdout);
+    free(text);
+}
+
+/* Each room is a block of its own, so that a byte beyond its end is found. */
+static int cut(const bootcore_machine *machine, const menu_entry *entry) {
+    size_t room = 0, length = 0;
+    while (length == 0) {
+        char *text = malloc(++room);
+        length = describe(machine, entry, text, room);
+        free(text);
+    }
+    return length + 1 == room ? 0 : 1;
+}
+
+int main(int count, char **words) {
+    static char menu_text[1 << 20];
+    static bootcore_region regions[BOOTCORE_MAX_REGIONS];
+    static uint8_t old[20], new[36] = {[20] = 36};
+    uint32_t line;
+    int cuts = count > 1 && strcmp(words[1], "--cut") == 0;
+    size_t region_count = (size_t)(count - 2 - cuts) / 3;
+    for (size_t i = 0; i < sizeof old; i++) old[i] = (uint8_t)i;
+    for (size_t i = 0; i < sizeof new; i++)
+        if (i / 4 != 5) new[i] = (uint8_t)(i * 17); /* what stands there is its length */
+    tables[0].VendorTable = old;
+    tables[1].VendorTable = new;
+    if (count < 2 + cuts || region_count > BOOTCORE_MAX_REGIONS) return 2;
+    words += 1 + cuts;
+    bootcore_machine machine = {.size = strtoull(*words++, NULL, 0), .regions = regions};
+    for (; machine.region_count < region_count; words += 3)
+        regions[machine.region_count++] =
+            (bootcore_region){strtoull(words[0], NULL, 0), strtoull(words[1], NULL, 0),
+                              (uint32_t)strtoul(words[2], NULL, 0), 0};
+    menu_text[fread(menu_text, 1, sizeof menu_text - 1, stdin)] = 0;
+    const char *wrong = read_menu(menu_text, &line);
+    if (wrong == NULL) wrong = expand_lines(&menu.entries[0]);
+    if (wrong != NULL) return puts(wrong), 2;
+    menu_entry *entry = &menu.entries[0];
+    for (uint32_t i = 1; i < entry->file_count; i++)
+        if (entry->paths[i][strlen(entry->paths[i]) - 1] != '0') entry->core.initrd.length = 1;
+    if (cuts) return cut(&machine, entry);
+    show(&machine, entry);
+    return 0;
+}

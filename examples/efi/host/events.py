@@ -1,0 +1,83 @@
+"""For the test: replays an event log, compares with the PCRs that tpm2_pcrread printed, and prints what the boot manager
+measured. A line is the PCR and the event's data; behind a file's path comes the digest that the event has for it, and of
+the handover the digest alone: its data, the description, is written to a file.
+
+    python3 events.py LOG PCRS DESCRIPTION
+
+The status is 1 if a PCR is not that of the log. A checker for others than this test stands in examples/measured."""
+
+import hashlib
+import re
+import struct
+import sys
+from pathlib import Path
+from typing import Dict, Iterator, List, NamedTuple
+
+BANKS = {0x04: "sha1", 0x0B: "sha256", 0x0C: "sha384", 0x0D: "sha512"}
+NO_ACTION, BOOT_EVENT = 0x03, 0x0D
+
+
+class Event(NamedTuple):
+    pcr: int
+    kind: int
+    digests: Dict[str, bytes]
+    data: bytes
+
+
+def events_of(log: bytes) -> Iterator[Event]:
+    """All behind the first one, which has an older form and tells of the banks; zeros fill up the log's room."""
+    (length,) = struct.unpack_from("<I", log, 28)
+    at = 32 + length
+    while at < len(log) and any(log[at : at + 12]):
+        pcr, kind, count = struct.unpack_from("<III", log, at)
+        at += 12
+        digests = {}
+        for _ in range(count):
+            bank = BANKS[struct.unpack_from("<H", log, at)[0]]
+            size = hashlib.new(bank).digest_size
+            digests[bank] = log[at + 2 : at + 2 + size]
+            at += 2 + size
+        (length,) = struct.unpack_from("<I", log, at)
+        yield Event(pcr, kind, digests, log[at + 4 : at + 4 + length])
+        at += 4 + length
+
+
+def replayed(events: List[Event], bank: str) -> List[bytes]:
+    size = hashlib.new(bank).digest_size
+    pcrs = [(b"\xff" if 17 <= pcr <= 22 else b"\0") * size for pcr in range(24)]
+    for event in events:
+        if event.kind != NO_ACTION:
+            pcrs[event.pcr] = hashlib.new(bank, pcrs[event.pcr] + event.digests[bank]).digest()
+        elif event.data.startswith(b"StartupLocality\0"):
+            pcrs[0] = bytes(size - 1) + event.data[16:17]
+    return pcrs
+
+
+def main(log: str, pcrs: str, description: str) -> int:
+    events = list(events_of(Path(log).read_bytes()))
+    faults, compared, bank = [], 0, ""
+    wanted: Dict[str, List[bytes]] = {}
+    for line in Path(pcrs).read_text().splitlines():
+        if named := re.fullmatch(r" *(sha\d+):", line):
+            bank = named[1]
+        elif value := re.fullmatch(r" *(\d+) *: 0x([0-9A-Fa-f]+)", line):
+            wanted[bank] = wanted.get(bank) or replayed(events, bank)
+            compared += 1
+            if wanted[bank][int(value[1])] != bytes.fromhex(value[2]):
+                faults.append(f"{bank}: PCR {value[1]} is not that of the log")
+    for event in (event for event in events if event.pcr in (8, 9, 12) and event.kind == BOOT_EVENT):
+        text, sha256 = event.data.rstrip(b"\0").decode(errors="backslashreplace"), event.digests["sha256"].hex()
+        if event.pcr == 8:
+            print(8, text)
+            faults += [f"{text}: another {bank}" for bank, it in event.digests.items() if hashlib.new(bank, event.data).digest() != it]
+        elif event.pcr == 9:
+            print(9, text, sha256)
+        else:
+            print(12, sha256)
+            Path(description).write_bytes(event.data)
+    print("\n".join(faults or [f"replayed {compared} PCRs of {' '.join(wanted)}" if compared else "no PCRs"]))
+    return 1 if faults or not compared else 0
+
+
+if __name__ == "__main__":
+    sys.exit(main(*sys.argv[1:4]))
