@@ -3,22 +3,27 @@
 import importlib
 import os
 import random
+import re
+import subprocess
 import sys
+import time
 import unittest
 from concurrent.futures import ThreadPoolExecutor
 from pathlib import Path
-from typing import Dict, Optional, Union
+from typing import Dict, Optional
 from unittest import mock
 
 from tests import measured_boots as boots
 from tests import measured_cases as cases
 from tests.measured_boots import FILES, LINUX, MULTIBOOT2, POLICY
 from tests.measured_cases import BAD_WORDS, GOOD, UNREADABLE, WRONG, Case
-from tests.support import PROGRAM, TOP, Checks, Ran, has_tomllib, is_at_hand, run
+from tests.examples import SECOND
+from tests.support import PROGRAM, TOP, Checks, Ran, has_tomllib, is_at_hand, need_built, run
 
 CHECKER = TOP / "examples/measured"
 QUOTED: boots.Selected = [("sha256", [0, 1, 2, 3, 4, 5, 6, 7, 8, 9, 12])]
 NONCE = "c0ffee"
+REFUSED_ENTRY = '[[entry]]\ntitle = "no kernel"\nprotocol = "linux"\nkernel = "none"\n'
 
 
 class CheckerChecks(Checks):
@@ -54,11 +59,11 @@ class CheckerChecks(Checks):
         (folder / "policy").write_text(case.policy, encoding="utf-8")
         return folder
 
-    def checker(self, folder: Path, *words: Union[str, Path], **named: Optional[str]) -> Ran:
+    def checker(self, folder: Path, *words: str, env: Optional[Dict[str, str]] = None, **named: Optional[str]) -> Ran:
         """The checker over a folder's files, some of them named otherwise; None leaves an option out."""
         paths = {"log": "log", "pcrs": "pcrs", "known": "known", "policy": "policy", **named}
         options = [word for option, path in paths.items() if path is not None for word in (f"--{option}", path)]
-        return run(CHECKER / "check", *options, *words, cwd=folder, env=self.env)
+        return run(CHECKER / "check", *options, *words, cwd=folder, env={**self.env, **(env or {})})
 
     def says(self, sentence: str, ran: Ran, status: int, said: str) -> None:
         """A check of the status and of words on the stream where they belong; the other one is empty."""
@@ -210,8 +215,8 @@ class Quotes(CheckerChecks):
         (folder / "quote").write_bytes(boots.quote_of(self.pcrs, selected, bytes.fromhex(nonce)))
         return folder
 
-    def checked(self, folder: Path, **named: Optional[str]) -> Ran:
-        return self.checker(folder, **{"quote": "quote", "nonce": NONCE, **named})
+    def checked(self, folder: Path, env: Optional[Dict[str, str]] = None, **named: Optional[str]) -> Ran:
+        return self.checker(folder, env=env, **{"quote": "quote", "nonce": NONCE, **named})
 
     def test_quotes(self) -> None:
         all_banks = [(bank, QUOTED[0][1]) for bank in cases.ALL_BANKS]
@@ -280,15 +285,25 @@ class Quotes(CheckerChecks):
             self.check_signature(f"a signature by {scheme} is checked", folder, signed, "rsa", GOOD)
         (folder / "quote").write_bytes(cases.one_byte(message, message.index(bytes.fromhex(NONCE)) + 12))
         self.check_signature("a quote that was changed", folder, signature, "ec", WRONG)
-        self.check_signature("a signature of another scheme", folder, b"\0\5" + signature[2:], "ec", UNREADABLE)
-        self.check_signature("a signature by SHA-1", folder, b"\0\x14\0\4" + signature[4:], "ec", UNREADABLE)
-        self.check_signature("a signature that is cut", folder, signature[:-1], "ec", UNREADABLE)
-
-    def check_signature(self, sentence: str, folder: Path, signature: bytes, key: str, status: int) -> None:
         (folder / "signature").write_bytes(signature)
-        said = {GOOD: f"; the signature is by {key}.pem", WRONG: "signature is not this key's", UNREADABLE: "the signature"}
-        ran = self.checked(folder, signature="signature", key=f"{key}.pem")
-        self.says(sentence, ran, status, said[status])
+        ran = self.checked(folder, signature="signature", key="none")
+        self.says("a key that there is not", ran, UNREADABLE, "none: No such file")
+        (folder / "tools").mkdir()
+        (folder / "tools/python3").symlink_to(sys.executable)
+        ran = self.checked(folder, {"PATH": str(folder / "tools")}, signature="signature", key="ec.pem")
+        self.says("a signature where openssl is not at hand", ran, UNREADABLE, "openssl is not at hand")
+        for sentence, held, said in (
+            ("a signature of another scheme", b"\0\5" + signature[2:], "'s scheme is none of"),
+            ("a signature by SHA-1", b"\0\x14\0\4\0\1s", "'s scheme is none of"),
+            ("a signature that is cut", signature[:-1], " ends too early"),
+            ("a signature that goes on", signature + b"\0", " goes on behind its end"),
+        ):
+            self.check_signature(sentence, folder, held, "ec", UNREADABLE, f"the signature{said}")
+
+    def check_signature(self, sentence: str, folder: Path, signature: bytes, key: str, status: int, said: str = "") -> None:
+        (folder / "signature").write_bytes(signature)
+        told = {GOOD: f"; the signature is by {key}.pem", WRONG: "signature is not this key's", UNREADABLE: said}
+        self.says(sentence, self.checked(folder, signature="signature", key=f"{key}.pem"), status, told[status])
 
     def make_key(self, folder: Path, name: str, kind: str, option: str) -> None:
         secret = ["openssl", "genpkey", "-algorithm", kind, "-pkeyopt", option, "-out", f"{name}.secret"]
@@ -302,6 +317,105 @@ class Quotes(CheckerChecks):
         return ran.out
 
 
+class Tpm(CheckerChecks):
+    """A TPM that is told what the test's boot measures, and quotes it."""
+
+    TOOLS = ("swtpm", "tpm2_pcrread", "openssl")
+
+    def test_tpm(self) -> None:
+        missing = [tool for tool in self.TOOLS if not is_at_hand(tool)]
+        if missing:
+            self.leave_out("quotes of a TPM are checked", f"{missing[0]} is not at hand")
+            return
+        state = self.room / "tpm"
+        state.mkdir()
+        channel = f"type=unixio,path={state}/control"
+        words = ["--tpm2", "--tpmstate", f"dir={state}", "--ctrl", channel, "--flags", "not-need-init,startup-clear"]
+        with subprocess.Popen(["swtpm", "socket", *words], stdin=subprocess.DEVNULL, stderr=subprocess.DEVNULL) as swtpm:
+            try:
+                self.wait_for(state / "control")
+                self.check_quotes(state)
+            finally:
+                swtpm.terminate()
+
+    def wait_for(self, path: Path) -> None:
+        for _ in range(100):
+            if path.exists():
+                return
+            time.sleep(0.1)
+        self.fail(f"swtpm has not made {path}")
+
+    def tool(self, state: Path, folder: Path, *words: str) -> Ran:
+        """A command that leaves no object in the TPM, which has room for three."""
+        ran = run(TOP / "examples/efi/tpm", state, *words, cwd=folder)
+        self.assertEqual(ran.status, 0, f"ran: {ran}\n{ran.err.decode(errors='replace')}")
+        if "-c" in words:
+            run(TOP / "examples/efi/tpm", state, "tpm2_flushcontext", "-t", cwd=folder)
+        return ran
+
+    def check_quotes(self, state: Path) -> None:
+        folder = self.folder("quotes", Case("", "", banks=cases.ALL_BANKS))
+        events = [event for event in boots.linux_boot(FILES) if event.kind != boots.NO_ACTION]
+        digests = [",".join(f"{bank}={event.digest(bank).hex()}" for bank in cases.ALL_BANKS) for event in events]
+        self.tool(state, folder, "tpm2_pcrextend", *(f"{event.pcr}:{each}" for event, each in zip(events, digests)))
+        (folder / "printed").write_bytes(self.tool(state, folder, "tpm2_pcrread").out)
+        self.says("a TPM's PCRs are those of the log", self.checker(folder, pcrs="printed"), GOOD, cases.LINUX_SAID)
+        self.tool(state, folder, "tpm2_createek", "-c", "ek", "-G", "ecc", "-u", "ek.pub")
+        key = ["-G", "ecc", "-g", "sha256", "-s", "ecdsa", "-u", "key.pem", "-f", "pem", "-n", "name"]
+        self.tool(state, folder, "tpm2_createak", "-C", "ek", "-c", "key", *key)
+        for selected in ("sha256:0,1,2,3,4,5,6,7,8,9,12", "sha256:all+sha1:all", "sha512:1,2+sha256:4,8,9,12"):
+            self.check_quote(state, folder, selected)
+
+    def check_quote(self, state: Path, folder: Path, selected: str) -> None:
+        files = ["-m", "quote", "-s", "signature", "-o", "values"]
+        self.tool(state, folder, "tpm2_quote", "-c", "key", "-l", selected, "-q", NONCE, "-g", "sha256", *files)
+        named = {"pcrs": "values", "quote": "quote", "signature": "signature", "key": "key.pem"}
+        self.says(f"a TPM's quote of {selected} is checked", self.checker(folder, nonce=NONCE, **named), GOOD, "by key.pem")
+        for nonce, status in ((NONCE, 0), ("00", 1)):
+            with self.check(f"of a quote of {selected} tpm2_checkquote says the same, with the nonce {nonce}"):
+                theirs = ["-m", "quote", "-s", "signature", "-f", "values", "-u", "key.pem", "-q", nonce, "-g", "sha256"]
+                ran = run("tpm2_checkquote", *theirs, cwd=folder)
+                self.assertEqual(ran.status, status, f"ran: {ran}\n{ran.err.decode(errors='replace')}")
+                self.assertEqual(self.checker(folder, nonce=nonce, **named).status, status)
+
+
+class Machine(CheckerChecks):
+    """A machine in QEMU with a TPM, from the boot manager's disk to the verdict, by the commands of docs/MEASURED.md."""
+
+    def test_machine(self) -> None:
+        sentence = "a machine with a TPM boots, and the verdict is as it should be"
+        if not (TOP / "examples/efi/out/BOOTX64.EFI").exists():
+            self.leave_out(sentence, "examples/efi/build has not made the boot manager")
+            return
+        (self.room / "vmlinuz").write_bytes(FILES["vmlinuz"])
+        (self.room / "initrd.img").write_bytes(b"hello")
+        made = run(TOP / "examples/efi/make_esp", "esp", "vmlinuz", "initrd.img", cwd=self.room)
+        self.assertEqual(made.status, 0, f"ran: {made}\n{made.err.decode(errors='replace')}")
+        ran = run(CHECKER / "trial", "esp", "seen", cwd=self.room, env={"NONCE": NONCE}, timeout=900)
+        if ran.status == 127:
+            self.leave_out(sentence, ran.err.decode(errors="replace").strip())
+            return
+        told = "made seen, with the log and a quote of the machine's TPM\n"
+        self.ends("a machine with a TPM boots, and its log and a quote are kept", ran, 0, told)
+        self.says(sentence, self.checked(), GOOD, 'booted    "Linux" by the protocol linux64\n')
+        self.says("a machine's quote with another nonce", self.checked(nonce="00"), WRONG, "the quote's nonce is c0ffee, not 00")
+        policy = (CHECKER / "policy.toml").read_text(encoding="utf-8")
+        (self.room / "policy").write_text(policy.replace("console=tty0", "console=tty1"), encoding="utf-8")
+        self.says("a machine's line that the policy has not", self.checked(policy="policy"), WRONG, "has other lines than those")
+        log = (self.room / "seen/log").read_bytes()
+        place = log.rindex(b"length = 0x") + 11
+        (self.room / "changed").write_bytes(log[:place] + (b"2" if log[place] == 0x31 else b"1") + log[place + 1 :])
+        self.says("a machine's log with another number in its map", self.checked(log="changed"), WRONG, "PCR 12, event")
+        (self.room / "esp/bootcore/initrd.img").write_bytes(b"hellp")
+        self.says("a machine's ramdisk that is not known", self.checked(), WRONG, 'the event\'s text is "bootcore/initrd.img"')
+
+    def checked(self, **named: Optional[str]) -> Ran:
+        kept = {"log": "seen/log", "pcrs": "seen/pcrs", "quote": "seen/quote", "nonce": NONCE}
+        kept.update({"signature": "seen/signature", "key": "seen/key.pem"})
+        policy = str(CHECKER / "policy.toml")
+        return self.checker(self.room, **{**kept, "known": "esp", "policy": policy, **named})
+
+
 class Inputs(CheckerChecks):
     def test_logs(self) -> None:
         folder = self.folder("logs", Case("", ""))
@@ -312,9 +426,9 @@ class Inputs(CheckerChecks):
             ("a log of the older form", bytes(4) + b"\x08\0\0\0" + held[8:], "the log is none of the crypto-agile form"),
             ("a log with something behind it", held + b"\1\0", "the log ends too early"),
             ("a log with a bank of another size", held.replace(b"\x0b\0\x20\0", b"\x0b\0\x21\0", 1), "or with another size"),
-            ("an event of a PCR that there is not", boots.log_of([boots.told(24, 1, b"")], ["sha256"]), "or no PCR"),
+            ("an event of a PCR that there is not", boots.log_of([boots.told(24, 1, b"")], ["sha256"]), "or is of no PCR"),
             ("an event of another bank", first + boots.spelled(boots.told(1, 1, b""), ["sha1"]), "has the bank sha1"),
-            ("an event without a digest", first + boots.spelled(boots.told(1, 1, b""), []), "has not a digest for each bank"),
+            ("an event without a digest", first + boots.spelled(boots.told(1, 1, b""), []), "lacks a bank's digest"),
         ):
             (folder / "log").write_bytes(changed)
             self.says(sentence, self.checker(folder), UNREADABLE, said)
@@ -367,8 +481,7 @@ class Inputs(CheckerChecks):
 
     def test_program(self) -> None:
         folder = self.folder("program", Case("", ""))
-        options = ["--log", "log", "--pcrs", "pcrs", "--known", "known", "--policy", "policy"]
-        ran = run(CHECKER / "check", *options, cwd=folder, env={**self.env, "BOOTCORE": str(folder / "none")})
+        ran = self.checker(folder, env={"BOOTCORE": str(folder / "none")})
         self.says("a program that there is not", ran, UNREADABLE, "none: No such file")
 
     def test_words(self) -> None:
@@ -383,3 +496,66 @@ class Inputs(CheckerChecks):
             ("a word more", ["more"], {}),
         ):
             self.says(f"refused: {sentence}", self.checker(folder, *words, **named), BAD_WORDS, "usage: ")
+
+
+class Page(CheckerChecks):
+    """The commands of docs/MEASURED.md that need no machine print what the page says."""
+
+    BLOCK = re.compile(r"^```\n(\$ .*?)^```$", re.M | re.S)
+    NOT_HERE = ("qemu.sh", "<part")  # ./test qemu has the script
+
+    def test_commands(self) -> None:
+        (self.room / "examples").symlink_to(TOP / "examples")
+        (self.room / "bootcore").symlink_to(self.env["BOOTCORE"])
+        page = (TOP / "docs/MEASURED.md").read_text(encoding="utf-8")
+        asked = [each.partition("\n") for block in self.BLOCK.findall(page) for each in re.split(r"^\$ ", block, flags=re.M)[1:]]
+        before = ""  # a command may set a variable for the next one
+        for command, _, wanted in asked:
+            if any(word in command for word in self.NOT_HERE):
+                continue
+            ran = run("bash", "-c", f"{before}\n{command}", cwd=self.room)
+            before = command if "=" in command and not wanted else ""
+            self.ends(f"the page's command prints what the page says: {command[:60]}", ran, 0, wanted)
+
+    def test_words(self) -> None:
+        """what the page says that the checker says, it says"""
+        page = (TOP / "docs/MEASURED.md").read_text(encoding="utf-8")
+        sources = "".join(path.read_text(encoding="utf-8") for path in CHECKER.glob("*.py"))
+        (table,) = re.findall(r"^\| What was changed \| It says \|\n((?:\|.*\n)+)", page, re.M)
+        told = [words for row in table.splitlines() for words in re.findall("`([^`]+)`", row.split("|")[2])]
+        self.assertGreater(len(told), 5)
+        self.assertEqual([words for words in told if words not in sources], [], "words that the checker has not")
+
+    # the rows of the page's table of changes, by their first words: what is changed of the second example
+    CHANGES = {
+        "`line =": [("ttyS0", "ttyS1")],
+        "the ramdisk's": [("68656c6c6f", "68656c6c70")],
+        "8 MiB": [("size = 0x400000", "size = 0x800000"), ("length = 0x300000", "length = 0x700000")],
+        "`fill = 0`": [("fill = 0xA5", "fill = 0\nfallback = [1]"), ("[[entry]]", REFUSED_ENTRY + "[[entry]]")],
+    }
+
+    def digests(self, text: str, *words: str) -> Dict[str, str]:
+        """The lines of an image by their first words, but for the image's length."""
+        (self.room / "second.toml").write_text(text, encoding="utf-8")
+        booted = run(PROGRAM, "boot", "second.toml", "--out", "second.image", *words, cwd=self.room)
+        ran = run(TOP / "examples/digests.sh", "second.image", cwd=self.room)
+        self.assertEqual((booted.status, ran.status), (0, 0), f"ran: {booted}, {ran}")
+        return {line.split()[0]: line for line in ran.out.decode().splitlines()}
+
+    def test_changes(self) -> None:
+        need_built(PROGRAM, "tools/build")
+        second = SECOND.read_text(encoding="utf-8")
+        plain = self.digests(second)
+        page = (TOP / "docs/MEASURED.md").read_text(encoding="utf-8")
+        for begin, changes in self.CHANGES.items():
+            (row,) = re.findall(rf"^\| ({re.escape(begin)}.*) \| (.*) \| (.*) \|$", page, re.M)
+            with self.check(f"the second example changes as the page says: {row[0]}"):
+                text = second
+                for old, new in changes:
+                    self.assertIn(old, text)
+                    text = text.replace(old, new, 1)
+                came = self.digests(text, "--order", "reverse")
+                differ = [word for word in plain if came[word] != plain[word] and word != "image"]
+                self.assertEqual(sorted(differ), sorted(re.findall("`([a-z]+)`", row[1])), "the lines that differ")
+                found = re.fullmatch(r"`([0-9a-f]{12})\.\.`", row[2])
+                self.assertTrue(came["image"].split()[4].startswith(found[1] if found else plain["image"].split()[4]))

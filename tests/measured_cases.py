@@ -177,7 +177,7 @@ AS_IT_SHOULD_BE = [
     Case(
         "of two handovers the last one counts, and it is told",
         "remark    the handover was measured 2 times; the last one counts",
-        happened=at(12, 0, before(boots.handover(OTHER_MAP, FILES))),
+        happened=at(12, 0, lambda it: [boots.handover(OTHER_MAP, FILES), it]),
     ),
     Case(
         "an entry that was given up is a remark",
@@ -323,7 +323,7 @@ MACHINE = [
     ),
     Case(
         "a protocol that the policy does not have",
-        "has not the protocol linux,",
+        "has another protocol than linux,",
         text=LINUX.replace("linux64", "linux"),
     ),
     Case(
@@ -334,12 +334,12 @@ MACHINE = [
     ),
     Case(
         "a ramdisk more than the policy has",
-        "or not as many files",
+        "or another number of files",
         logged=at(12, 0, saying("more.img", "more.img\\u000a")),
     ),
     Case(
         "another boot manager",
-        "PCR 4, event 13: something was started that the policy has not",
+        "PCR 4, event 13: something was started that the policy does not name",
         booted={"BOOTX64.EFI": OTHER_MANAGER},
     ),
     Case(
@@ -407,7 +407,7 @@ MACHINE = [
     Case("no handover", "PCR 12: nothing was handed over", happened=at(12, 0, gone)),
     Case(
         "a PCR with a value that the policy does not have",
-        "PCR 17 of sha256 has not a value of",
+        "PCR 17 of sha256 has a value that the policy does not name",
         policy=PCR_POLICY.replace("ff", "fe"),
     ),
 ]

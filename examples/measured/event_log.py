@@ -90,7 +90,7 @@ def read_event(fields: Fields, sizes: Dict[int, int], number: int) -> Event:
             raise BadInput(f"event {number} of the log has the bank {bank_name(bank)}, which its first event lacks, or twice")
         digests[bank_name(bank)] = fields.take(sizes[bank])
     if len(digests) != len(sizes) or (pcr >= PCR_COUNT and kind != NO_ACTION):
-        raise BadInput(f"event {number} of the log has not a digest for each bank, or no PCR")
+        raise BadInput(f"event {number} of the log lacks a bank's digest, or is of no PCR")
     return Event(number, pcr, kind, digests, fields.take(fields.number(4)))
 
 

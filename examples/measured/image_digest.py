@@ -3,6 +3,7 @@
 import hashlib
 import os
 import re
+import shutil
 import subprocess
 import tempfile
 from pathlib import Path
@@ -11,7 +12,7 @@ from typing import List
 from description import Described, Module, written
 from reading import BadInput, fault
 
-TOP = Path(__file__).resolve().parent.parent.parent
+BUILT = Path(__file__).resolve().parent.parent.parent / "crates/bootcore/out/bootcore"
 
 
 def joined(ramdisks: List[bytes]) -> bytes:
@@ -39,7 +40,9 @@ def image_digest(described: Described, files: List[bytes]) -> bytes:
 
 
 def program_digest(folder: str) -> bytes:
-    program = os.environ.get("BOOTCORE") or str(TOP / "bootcore")
+    program = os.environ.get("BOOTCORE") or (str(BUILT) if BUILT.exists() else shutil.which("bootcore"))
+    if program is None:
+        raise BadInput("the program bootcore is not at hand: tools/build makes it, BOOTCORE names it")
     try:
         ran = subprocess.run([program, "boot", "description", "--out", "image"], cwd=folder, capture_output=True, check=False)
     except OSError as error:

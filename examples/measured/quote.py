@@ -79,7 +79,7 @@ def check_quote(quote: Quote, nonce: bytes, values: Values, signature: Optional[
         fault(f"the quote's nonce is {quote.nonce.hex() or 'empty'}, not {nonce.hex() or 'empty'}: it answers another question")
     missing = [f"PCR {pcr} of {bank}" for bank, pcrs in quote.selection for pcr in pcrs if pcr not in values.get(bank, {})]
     if missing:
-        fault(f"the quote is over {missing[0]}, and the PCR values have it not")
+        fault(f"the quote is over {missing[0]}, which the PCR values lack")
     whole = b"".join(values[bank][pcr] for bank, pcrs in quote.selection for pcr in pcrs)
     # the hash is the signature's; where that is not given, it is told by the digest's length
     by_length = {hashlib.new(bank).digest_size: bank for bank in reversed(STRONG)}

@@ -67,4 +67,4 @@ def remarks(found: Verdict, log: Log, values: Values, bank: str) -> Iterator[str
     if differ:
         yield line("remark", f"PCR {', '.join(map(str, differ))}: not what the log gives; what ran later may have measured there")
     for other in (it for it in values if it not in log.banks):
-        yield line("remark", f"the log has not the bank {other}, so these values say nothing")
+        yield line("remark", f"the log lacks the bank {other}, so its values say nothing")

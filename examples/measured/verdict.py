@@ -80,7 +80,7 @@ def started(log: Log, policy: Policy) -> List[str]:
         came = event.digests[policy.bank]
         is_back = event.data in SEPARATORS + STARTING and came == digest(policy.bank, event.data)
         if not is_back and came not in policy.managers:
-            fault(f"{event.name}: something was started that the policy has not, with the digest {came.hex()}")
+            fault(f"{event.name}: something was started that the policy does not name, with the digest {came.hex()}")
         if not is_back:
             names.append(policy.managers[came])
     if is_back:
@@ -165,7 +165,7 @@ def entry_of(described: Described, policy: Policy, chosen: Attempt, read: List[b
         fault(f"its lines are not those that were measured: {shown(described.line.encode())}")
     of_form = [it for it in with_lines if it.protocol == described.protocol and has_files(it, described, policy)]
     if not of_form:
-        fault(f"the policy's entry has not the protocol {described.protocol}, or not as many files")
+        fault(f"the policy's entry has another protocol than {described.protocol}, or another number of files")
     for entry in of_form:
         wanted = [policy.digests[name] for name in entry.files]
         if read[-len(wanted) :] == wanted:
@@ -177,7 +177,7 @@ def verdict(log: Log, values: Values, policy: Policy) -> Verdict:
     check_replay(log, values, policy.bank, [STARTED, TEXTS, FILES, HANDOVERS, *policy.pcrs])
     for pcr, allowed in policy.pcrs.items():
         if values[policy.bank][pcr] not in allowed:
-            fault(f"PCR {pcr} of {policy.bank} has not a value of the policy: {values[policy.bank][pcr].hex()}")
+            fault(f"PCR {pcr} of {policy.bank} has a value that the policy does not name, {values[policy.bank][pcr].hex()}")
     managers = started(log, policy)
     made = attempts(log, policy)
     return Verdict(handovers(log, policy, made[-1], files_read(log, policy)), made, managers)
