@@ -80,8 +80,8 @@ static const struct refusal_text texts[] = {
     {77, NOTHING, "NoMemory",
      "out of memory while the image was read: no memory, status 4"},
     {81, NOTHING, "OutsideImage",
-     "the entry lies in no part of the kernel, or an address that the kernel follows, also "
-     "that of its descriptors or page tables, leads out of the parts"},
+     "the entry lies in no part of the kernel, or an address that the kernel follows leads "
+     "out of the parts"},
     {82, NOTHING, "BadInfo",
      "the information, the boot parameters or a line break their form"},
     {83, NOTHING, "BadState",

@@ -4,7 +4,7 @@ import os
 import re
 from functools import lru_cache
 from pathlib import Path
-from typing import Iterable, List, Set
+from typing import Dict, Iterable, List, Set
 
 from tests import repository, tables
 from tests.examples import FIRST, SECOND
@@ -21,7 +21,7 @@ TOOLS = [
     ("each quoted line stands in its source", "tools/quotes"),
     ("each file of definitions or proofs that a crate's page lists is there", "tools/listed"),
     ("each name that a page uses exists", "tools/mentioned"),
-    ("no table cell of a page has more than 160 characters, and no line more than 200", "tools/widths"),
+    ("no table cell of a page has more than 160 characters, no row and no line more than 200 beside links", "tools/widths"),
     ("no definition that a reader must believe, and no exported clause, uses one of specs/internal", "tools/believed", "--check"),
     ("a reader's hour in docs/THEOREMS.md has the lines that it counts", "tools/hour", "--check"),
     ("explain has the name and the meaning of each refusal that docs/REFUSALS.md has", "tools/refusals"),
@@ -141,6 +141,38 @@ class Pages(Checks):
         self.finds_none("no source and no file of definitions has more than 200 lines", longer_files(sources, 200))
         self.finds_none("README.md has at most 130 lines", longer_files(["README.md"], 130))
         self.finds_none("no line of README.md has more than 140 characters", longer_lines(["README.md"], 140))
+        self.finds_none("docs/DECISIONS.md has at most 60 short paragraphs", what_is_too_much("docs/DECISIONS.md", 60, 1000))
+
+    def test_index(self) -> None:
+        """docs/README.md leads to each page, and says how many minutes it takes to read, at 180 words a minute"""
+        told = told_minutes()
+        pages = [it for it in repository.pages() if not it.startswith("crates/") and it != "docs/README.md"]
+        self.assertEqual([it for it in pages if it not in told], [], "pages that docs/README.md should lead to")
+        wrong = [
+            f"docs/README.md says that {page} takes {minutes} minutes: it has {words_of(page)} words"
+            for page, minutes in told.items()
+            if minutes and abs(minutes * 180 - words_of(page)) > max(360, words_of(page) / 6)
+        ]
+        self.assertEqual(wrong, [])
+
+    def test_statuses(self) -> None:
+        """The program's statuses in the manual page are those of docs/FORMATS.md, with the words that the program has for them."""
+        source = "crates/bootcore/src/program.rt"
+        said = re.findall(r"^        (\d+) => Some\(\"(.*)\"\),$", (TOP / source).read_text(encoding="utf-8"), re.M)
+        manual = MANUAL_PAGE.read_text(encoding="utf-8").split(".SH EXIT STATUS")[1].split("\n.SH")[0]
+        statuses = dict(re.findall(r"^\.TP\n\.B (\d+)\n(.*?)(?=^\.(?:TP|PP)$)", manual, re.M | re.S))
+        page = (TOP / "docs/FORMATS.md").read_text(encoding="utf-8")
+        table = page.split("| Status | When |")[1].split("\n\n")[0]
+        found = {number for cell in re.findall(r"^\| ([\d, ]+) \|", table, re.M) for number in cell.split(", ")}
+        with self.check("the manual page has the statuses that docs/FORMATS.md has"):
+            self.assertEqual(sorted(statuses), sorted(found))
+        with self.check(f"the manual page and docs/FORMATS.md have the words of each status in {source}"):
+            self.assertTrue(said)
+            missing = [f"{place}: {number}, {words}" for number, words in said for place, text in (
+                ("docs/bootcore.1", statuses.get(number, "")),
+                ("docs/FORMATS.md", "".join(re.findall(rf"^\| {number} \|.*$", table, re.M))),
+            ) if words not in text]
+            self.assertEqual(missing, [])
 
     def test_copies(self) -> None:
         with self.check("HANDLES is its one line"):
@@ -300,6 +332,34 @@ def longer_lines(names: Iterable[str], most: int) -> List[str]:
 def longer_files(names: Iterable[str], most: int) -> List[str]:
     lengths = ((name, (TOP / name).read_bytes().count(b"\n")) for name in names)
     return [f"{name}: {length} lines" for name, length in lengths if length > most]
+
+
+def what_is_too_much(name: str, most: int, longest: int) -> List[str]:
+    """The entries of a page that begin with a bold sentence: too many of them, or those that are too long."""
+    entries = [it for it in (TOP / name).read_text(encoding="utf-8").split("\n\n") if it.startswith("**")]
+    found = [f"{name}: {len(entries)} entries"] if len(entries) > most else []
+    return found + [f"{name}: {len(it)} characters: {it[:60]}.." for it in entries if len(it) > longest]
+
+
+def told_minutes() -> Dict[str, int]:
+    """The minutes that docs/README.md says of each page; 0 where it says none, or one number of many pages."""
+    told = {}
+    for row in repository.lines("docs/README.md"):
+        cells = row.strip("|").split(" | ")
+        minutes = re.fullmatch(r"(?:all )?(\d+)(?: each)?", cells[-1].strip()) if len(cells) == 5 else None
+        for path in LINK.findall(cells[1]) if len(cells) == 5 else ():
+            page = os.path.relpath(TOP / "docs" / path, TOP)
+            if not (TOP / page).is_file():
+                page += "/README.md"
+            told[page] = int(minutes[1]) if minutes and (TOP / page).exists() else 0
+    return told
+
+
+def words_of(page: str) -> int:
+    """The words that a reader reads: without comments and without what links lead to."""
+    text = (TOP / page).read_text(encoding="utf-8")
+    text = re.sub(r"\]\([^)]*\)", "]", re.sub(r"<!--.*?-->", "", text, flags=re.S))
+    return len(re.findall(r"[A-Za-z0-9][\w'./:-]*", text))
 
 
 def lines_of_table(table: Path) -> int:
