@@ -28,6 +28,7 @@ TOOLS = [
     ("the core for C has the numbers and the words of docs/REFUSALS.md", "tools/c_texts", "--check"),
     ("each must-fail edit changes a line that stands once, those of docs/EDITS.md in the function named there", "tools/edits"),
     ("the completions are those of the table of tools/completions, which has the calls of USAGE", "tools/completions", "--check"),
+    ("docs/PLANTS.md has a row of each crate but those of tests, and a reason in each", "tools/plants", "--check"),
     ("CONTRIBUTING.md lists each place where a refusal and a key stand", "tools/refusal_places", "--check"),
 ]
 
