@@ -156,6 +156,18 @@ class Pages(Checks):
         ]
         self.assertEqual(wrong, [])
 
+    def test_measurements(self) -> None:
+        """docs/MEASUREMENTS.md has a row of each bench in its one table, and names each in the text below"""
+        page = (TOP / "docs/MEASUREMENTS.md").read_text(encoding="utf-8")
+        rows = [line for line in page.splitlines() if line.startswith("| ")]
+        self.assertEqual([line for line in rows if line.startswith("| What ")], rows[:1], "the heads of tables")
+        scripts = [it for it in repository.files() if re.fullmatch(r"bench/\w+\.sh", it)]
+        benches = [it for it in scripts if re.search(f"^#   .*{it}", "\n".join(repository.lines(it)[:20]), re.M)]
+        self.assertIn("bench/run.sh", benches)
+        in_rows = "\n".join(rows)
+        missing = [it for it in benches if f"`{it}`" not in in_rows or page.count(it) == in_rows.count(it)]
+        self.assertEqual(missing, [], "benches without a row or without a text")
+
     def test_statuses(self) -> None:
         """The program's statuses in the manual page are those of docs/FORMATS.md, with the words that the program has for them."""
         source = "crates/bootcore/src/program.rt"

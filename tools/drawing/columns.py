@@ -1,4 +1,4 @@
-"""The columns of the picture: the axis of addresses, memory before, memory after with its registers and sources."""
+"""The columns of the picture: the axis of addresses, memory before, while files are read, and after, with registers and sources."""
 
 from __future__ import annotations
 
@@ -11,8 +11,9 @@ from .rows import Cell, Row, cells_after, cells_before
 
 TOP = 108  # of the first row
 PLAIN, TALL = 32, 46  # heights of a row: of one line, and of two
-BEFORE, AFTER = 120, 186  # widths of the columns
-GAP = 46  # between them: the ways of the files
+BEFORE, READING, AFTER = 120, 150, 186  # widths of the columns
+NARROW_GAP = 14  # between memory before and while files are read
+GAP = 46  # before memory after: the ways of the files
 POINTERS = 92  # behind them: the arrows of the registers
 BROKEN_FROM = 0x10000  # a row of more bytes has a broken axis
 
@@ -24,37 +25,48 @@ class Drawn(NamedTuple):
     handover: Optional[Handover]
     boot: Optional[Boot]
     refusals: Tuple[str, ...]
+    is_reading_drawn: bool = False
 
 
 class Layout(NamedTuple):
-    """Where the columns stand, and how far down each boundary of the rows is."""
+    """Where the columns stand, and how far down each boundary of the rows is. With a column for the time in which files are read
+    there is none for registers."""
 
     axis: int
     before: int
+    reading: Optional[int]
     after: int
     labels: int
     heights: List[int]
+
+    @property
+    def pool_edge(self) -> int:
+        """From where files go to their parts."""
+        return self.before + BEFORE if self.reading is None else self.reading + READING
 
     def middle(self, cell: Cell) -> int:
         return (self.heights[cell.first] + self.heights[cell.last]) // 2
 
 
-def layout_of(rows: Sequence[Row], has_after: bool) -> Layout:
+def layout_of(rows: Sequence[Row], has_after: bool, has_reading: bool = False) -> Layout:
     digits = max((len(words.address(row.end)) for row in rows), default=10)
     axis = 24 + 8 * digits
     before = axis + 12
-    after = before + BEFORE + GAP
-    labels = after + AFTER + POINTERS if has_after else before + BEFORE + 16
+    reading = before + BEFORE + NARROW_GAP if has_reading else None
+    after = (before + BEFORE if reading is None else reading + READING) + GAP
+    labels = before + BEFORE + 16
+    if has_after:
+        labels = after + AFTER + (POINTERS if reading is None else 16)
     heights = [TOP]
     for row in rows:
         heights.append(heights[-1] + (TALL if row.part or row.in_pool else PLAIN))
-    return Layout(axis, before, after, labels, heights)
+    return Layout(axis, before, reading, after, labels, heights)
 
 
 def axis(rows: Sequence[Row], layout: Layout) -> List[str]:
     x, heights = layout.axis, layout.heights
     boundaries = [row.start for row in rows] + [row.end for row in rows[-1:]]
-    right = layout.labels - (POINTERS if layout.labels > layout.after else 16)
+    right = layout.labels - (POINTERS if layout.reading is None and layout.labels > layout.after else 16)
     elements = []
     for boundary, y in zip(boundaries, heights):
         elements.append(svg.path("guide", f"M{x + 4} {y}H{right}"))
@@ -78,6 +90,14 @@ def before(rows: Sequence[Row], layout: Layout, drawn: Drawn) -> List[str]:
     return elements
 
 
+def reading(rows: Sequence[Row], layout: Layout, boot: Boot) -> List[str]:
+    elements = []
+    for cell in cells_before(rows):
+        lines = words.staged(boot) if cell.row.in_pool else ["unchanged" if cell.row.kind else "in no region"]
+        elements += _cell(layout, cell, (layout.reading or 0, READING), _kind_of(cell.row), lines)
+    return elements
+
+
 def after(rows: Sequence[Row], layout: Layout, handover: Handover, boot: Optional[Boot]) -> List[str]:
     names = words.part_names(handover.parts)
     pointers = {pointer.part: pointer for pointer in pointers_of(handover)}
@@ -94,10 +114,10 @@ def after(rows: Sequence[Row], layout: Layout, handover: Handover, boot: Optiona
         elements += _label(layout, cell, words.origin(part, boot))
         if part.source and part.source.taken and pool:
             elements.append(_way(layout, pool[0], cell))
-        if part in pointers:
+        if part in pointers and layout.reading is None:
             elements += _pointer(layout, cell, pointers[part])
     cleared = [cell for cell in cells if cell.row.in_pool and cell.row.part is None]
-    if boot and cleared:
+    if boot and cleared and layout.reading is None:
         elements += _label(layout, cleared[0], words.frames(boot))
     return elements
 
@@ -133,7 +153,7 @@ def _label(layout: Layout, cell: Cell, lines: Sequence[str]) -> List[str]:
 
 def _way(layout: Layout, pool: Cell, cell: Cell) -> str:
     """From the pool, where the file was read, to the part that takes bytes of it."""
-    left, right = layout.before + BEFORE, layout.after - 1
+    left, right = layout.pool_edge, layout.after - 1
     y, to = layout.middle(pool), layout.middle(cell)
     return svg.path("way", f"M{left} {y}C{right} {y} {left} {to} {right} {to}", tip=True)
 

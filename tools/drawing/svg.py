@@ -87,6 +87,7 @@ class Sheet(NamedTuple):
 
 
 MEMORY = Sheet(WIDTH, STYLE, (DEFINITIONS,))
+WIDE_MEMORY = Sheet(910, STYLE, (DEFINITIONS,))
 
 
 def document(height: int, title: str, description: str, elements: List[str], sheet: Sheet = MEMORY) -> str:

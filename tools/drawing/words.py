@@ -87,6 +87,12 @@ def frames(boot: Boot) -> List[str]:
     return [f"{wanted} of its {in_all} frames held the files", "while they were read"]
 
 
+def staged(boot: Boot) -> List[str]:
+    """What the pool has while files are read."""
+    (wanted, in_all), files = boot.frames, len(boot.files)
+    return [f"{files} {'file' if files == 1 else 'files'} in {wanted} {'frame' if wanted == 1 else 'frames'}", f"{in_all - wanted} frames free"]
+
+
 def _taken(part: Part, source: Source, boot: Boot) -> str:
     taken = source.taken
     if taken == 0:
