@@ -8,7 +8,7 @@ import sys
 import threading
 from typing import List, Optional, Tuple
 
-from tests.support import TOP, Checks, is_at_hand
+from tests.support import TOP, Checks, is_at_hand, run
 
 BETWEEN_MEASURES = 25 * 60
 
@@ -56,6 +56,9 @@ class Gate(Checks):
             self.assertEqual(status == 0, counts[2] == "0", f"rt ci: status {status}, last line {last!r}")
         if counts:
             self.tally("rt ci: proofs, edits, tests and runs", int(counts[1]), int(counts[2]), "its own lines above name them")
+        with self.check("README names the toolchain with which all of this was proved"):
+            version = run("rt", "version").out.decode().strip()
+            self.assertIn(f"`{version}`", (TOP / "README.md").read_text(encoding="utf-8"), "README")
         self.tell_cost(before, beside.took, seconds)
 
     def gate(self) -> Tuple[int, float, str]:
