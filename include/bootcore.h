@@ -34,13 +34,13 @@
  * - a pointer that is not null points to as many elements as are told, of its type, aligned as it
  *   is there, that nobody else changes during the call;
  * - what a call may change overlaps nothing else that it is given, and nothing of the program;
- * - a session's struct and pool, between two calls: see bootcore_session.
+ * - a session's struct and pool, a digest's struct, between two calls: see there.
  * An array without elements may be null. Whatever else the values are, a call ends, and each
  * mistake in them has a status.
  *
- * Versions. BOOTCORE_VERSION is that of this file, bootcore_version() that of the archive. Within
- * 1.x a struct keeps its size and its fields, and a number its meaning. A reserved word must be 0;
- * a later version may give other values a meaning. New functions, statuses, refusals may come. */
+ * Versions. BOOTCORE_VERSION is this file's, bootcore_version() the archive's. Within 1.x a
+ * function keeps its name and arguments, a struct its size and fields, a number its meaning. A
+ * reserved word must be 0; others may get a meaning. New functions, statuses, refusals may come. */
 #ifndef BOOTCORE_H
 #define BOOTCORE_H
 

@@ -257,7 +257,7 @@ class Cases(CoreChecks):
     def test_cases(self) -> None:
         self.run_cases(
             "each case ends as wanted by way of C, by a boot and a session, a load and a plan carried out in three ways,"
-            " also with each growth of memory refused in turn",
+            " with its digests, at once and fed, also with each growth of memory refused in turn",
             self.driver("cases", *self.sanitizers(), "-Wl,--wrap=malloc,--wrap=realloc"),
         )
 

@@ -100,7 +100,7 @@ class Freestanding(CoreChecks):
         built = run(*words, "-nostdlib", "-static", "-I", HEADER.parent, TOP / "tools/c/bare.c", FREESTANDING, "-o", made)
         self.ends("a program that calls all of the archive for firmware is linked with nothing else", built)
         if built.status == 0:
-            self.ends("it loads, plans, boots and walks with an arena, and has no memory without one", run(made))
+            self.ends("it loads, plans, boots, digests and walks with an arena, and has no memory without one", run(made))
 
     def test_red_zone(self) -> None:
         """no instruction of the archive for firmware reads or writes below the stack pointer"""
@@ -125,7 +125,7 @@ class Fuzzed(CoreChecks):
         kernels = [self.room / name for name in ("kernel.linux", "kernel.linux64")]
         kernels[0].write_bytes(examples.linux_kernel())
         kernels[1].write_bytes(examples.linux64_kernel())
-        sentence = "a minute of random machines, entries and files ends as it should: loads, plans that are carried out, walks"
+        sentence = "a minute of random machines, entries and files ends as it should: loads, plans that are carried out, digests, walks"
         if has_tomllib():
             of_cases = self.room / "kernels"
             self.ends("the kernels of the cases are written", run(TOP / "tools/c/kernels", of_cases, env=QUIET))

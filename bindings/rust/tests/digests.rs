@@ -11,12 +11,12 @@ fn hex(digest: &[u8]) -> String {
     digest.iter().map(|byte| format!("{:02x}", byte)).collect()
 }
 
-/// Length and SHA-256 of a line of the table that docs/MEASURED.md has of the second example.
+/// Length and SHA-256 of a line of the table that docs/MEASURED.md has of the second example: name, index, address, length, SHA-256.
 fn measured(name: &str) -> (u64, String) {
-    let table = MEASURED.split("$ examples/digests.sh second.image\n").nth(1).unwrap();
-    let line = table.lines().find(|line| line.starts_with(name)).unwrap();
-    let words: Vec<&str> = line.split_whitespace().collect();
-    (words[words.len() - 2].parse().unwrap(), words[words.len() - 1].into())
+    let lines = MEASURED.lines().map(|line| line.split_whitespace().collect::<Vec<_>>());
+    let mut found = lines.filter(|words| words.len() == 5 && words[0] == name && words[4].len() == 64);
+    let words = found.next().unwrap();
+    (words[3].parse().unwrap(), words[4].into())
 }
 
 fn second<'a>(kernel: &'a [u8], initrd: File<'a>) -> Entry<'a> {
