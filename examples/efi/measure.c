@@ -100,7 +100,7 @@ const char *measure_handover(const menu_entry *entry) {
         return fail("not measured: the core's arena is too small");
     size_t length = describe(&boot.map.machine, entry, event.data, sizeof event.data);
     if (length == 0) return fail("not measured: a line or path is no UTF-8, or all is too long");
-    const char *wrong = extend(handover_pcr, digests.image, sizeof digests.image, length);
+    const char *wrong = extend(handover_pcr, digests.image_sha256, sizeof digests.image_sha256, length);
     if (wrong == NULL && !find_log()) wrong = fail("not measured: the TPM's log can't be kept");
     return wrong;
 }
