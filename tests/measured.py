@@ -10,7 +10,7 @@ import time
 import unittest
 from concurrent.futures import ThreadPoolExecutor
 from pathlib import Path
-from typing import Dict, Optional
+from typing import Dict, List, Optional, Tuple
 from unittest import mock
 
 from tests import measured_boots as boots
@@ -402,12 +402,30 @@ class Machine(CheckerChecks):
         policy = (CHECKER / "policy.toml").read_text(encoding="utf-8")
         (self.room / "policy").write_text(policy.replace("console=tty0", "console=tty1"), encoding="utf-8")
         self.says("a machine's line that the policy has not", self.checked(policy="policy"), WRONG, "has other lines than those")
-        log = (self.room / "seen/log").read_bytes()
-        place = log.rindex(b"length = 0x") + 11
-        (self.room / "changed").write_bytes(log[:place] + (b"2" if log[place] == 0x31 else b"1") + log[place + 1 :])
-        self.says("a machine's log with another number in its map", self.checked(log="changed"), WRONG, "PCR 12, event")
+        self.check_logs((self.room / "seen/log").read_bytes())
         (self.room / "esp/bootcore/initrd.img").write_bytes(b"hellp")
         self.says("a machine's ramdisk that is not known", self.checked(), WRONG, 'the event\'s text is "bootcore/initrd.img"')
+
+    def check_logs(self, log: bytes) -> None:
+        place = log.rindex(b"length = 0x") + 11
+        digit = b"2" if log[place] == 0x31 else b"1"
+        first, events = boots.parted(log)
+
+        def spelled(listed: List[Tuple[int, bytes]]) -> bytes:
+            return first + b"".join(event for _, event in listed)
+
+        last = max(i for i, (pcr, _) in enumerate(events) if pcr == 12)
+        files = [i for i, (pcr, _) in enumerate(events) if pcr == 9]
+        swapped = list(events)
+        swapped[files[-1]], swapped[files[-2]] = events[files[-2]], events[files[-1]]
+        for sentence, changed, said in (
+            ("with another number in its map", log[:place] + digit + log[place + 1 :], "is not the image of its description"),
+            ("without one of its files", spelled(events[: files[0]] + events[files[0] + 1 :]), "PCR 9 of sha256 is not"),
+            ("with two files in another order", spelled(swapped), "PCR 9 of sha256 is not what the log gives"),
+            ("that is cut before its handover", spelled(events[:last]), "PCR 12 of sha256 is not what the log gives"),
+        ):
+            (self.room / "changed").write_bytes(changed)
+            self.says(f"a machine's log {sentence}", self.checked(log="changed"), WRONG, said)
 
     def checked(self, **named: Optional[str]) -> Ran:
         kept = {"log": "seen/log", "pcrs": "seen/pcrs", "quote": "seen/quote", "nonce": NONCE}

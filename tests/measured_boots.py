@@ -58,6 +58,22 @@ def final_of(events: List[Event], banks: Iterable[str]) -> bytes:
     return struct.pack("<QQ", 1, len(events)) + b"".join(spelled(event, list(banks)) for event in events)
 
 
+def parted(log: bytes) -> Tuple[bytes, List[Tuple[int, bytes]]]:
+    """A log's first event, and each one behind it with its PCR; without what fills up the log's room."""
+    at = 32 + struct.unpack_from("<I", log, 28)[0]
+    first, events = log[:at], []
+    sizes = {ALGORITHMS[bank]: hashlib.new(bank).digest_size for bank in ALGORITHMS}
+    while any(log[at : at + 12]):
+        pcr, _, count = struct.unpack_from("<III", log, at)
+        end = at + 12
+        for _ in range(count):
+            end += 2 + sizes[struct.unpack_from("<H", log, end)[0]]
+        end += 4 + struct.unpack_from("<I", log, end)[0]
+        events.append((pcr, log[at:end]))
+        at = end
+    return first, events
+
+
 def untold(events: Iterable[Event], banks: Iterable[str], text: str) -> Tuple[Set[int], Set[int]]:
     """The places of a log's bytes that no PCR has: those that never matter, and those of paths in a description."""
     names = list(banks)

@@ -4,7 +4,7 @@
 
 /* ---- texts */
 
-/* How many bytes the character has that begins here; 0: it is none of UTF-8 (RFC 3629, section 4). */
+/* How many bytes the character has that begins here; 0: it is none of UTF-8 (RFC 3629, 4). */
 static size_t character_length(const uint8_t *bytes, size_t left) {
     uint8_t first = bytes[0], lowest = 0x80, highest = 0xbf; /* of the second byte */
     size_t length = first < 0x80 ? 1 : first < 0xe0 ? 2 : first < 0xf0 ? 3 : 4;
@@ -95,8 +95,8 @@ static bootcore_region next_run(const bootcore_machine *machine, uint64_t from) 
     return run;
 }
 
-/* A boot of a description reads its files into a pool, of which no image depends: the longest run of
-   usable frames, the lowest of several. */
+/* A boot of a description reads its files into a pool, of which no image depends: the longest run
+   of usable frames, the lowest of several. */
 static bootcore_region find_pool(const bootcore_machine *machine) {
     const uint64_t lowest = page, highest = 0xfffff000; /* of usable addresses */
     bootcore_region pool = {0, 0, 0, 0}, run = next_run(machine, 0);

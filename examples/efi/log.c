@@ -21,9 +21,11 @@ static uint64_t known_count;       /* how many of them are in the log too */
 
 /* ---- numbers, which may stand at any address */
 
-static uint16_t number16(const uint8_t *at) { return (uint16_t)(at[0] | at[1] << 8); }
-static uint32_t number32(const uint8_t *at) { return number16(at) | (uint32_t)number16(at + 2) << 16; }
-static uint64_t number64(const uint8_t *at) { return number32(at) | (uint64_t)number32(at + 4) << 32; }
+static uint32_t number16(const uint8_t *at) { return (uint32_t)at[0] | (uint32_t)at[1] << 8; }
+static uint32_t number32(const uint8_t *at) { return number16(at) | number16(at + 2) << 16; }
+static uint64_t number64(const uint8_t *at) {
+    return number32(at) | (uint64_t)number32(at + 4) << 32;
+}
 
 /* ---- the room */
 

@@ -47,7 +47,7 @@ static const char *fail(const char *why) {
 /* Measures bytes as an event, whose data stand there already. If the log is full, only the event is
    lost, and a checker can't know what the PCR has. */
 static const char *extend(uint32_t pcr, const void *bytes, uint64_t length, size_t data_length) {
-    const uint32_t size = sizeof event.head + data_length;
+    const uint32_t size = (uint32_t)(sizeof event.head + data_length);
     event.head = (tcg2_event){size, sizeof event.head - 4, 1, pcr, boot_event};
     if (tpm == NULL) return NULL;
     if (fault != NULL && !menu.boots_unmeasured) return fault;
@@ -56,7 +56,7 @@ static const char *extend(uint32_t pcr, const void *bytes, uint64_t length, size
     return EFI_ERROR(status) ? fail(fault_words(status)) : NULL;
 }
 
-/* Puts a text into an event's data, with a zero byte: its length, or 0 if there is too little room. */
+/* Puts a text into an event's data, with a zero byte: its length, or 0 if there is no room. */
 static size_t take_data(const char *what, const void *text, size_t length) {
     size_t start = strlen(what);
     if (length >= sizeof event.data - start) return 0;
@@ -100,7 +100,8 @@ const char *measure_handover(const menu_entry *entry) {
         return fail("not measured: the core's arena is too small");
     size_t length = describe(&boot.map.machine, entry, event.data, sizeof event.data);
     if (length == 0) return fail("not measured: a line or path is no UTF-8, or all is too long");
-    const char *wrong = extend(handover_pcr, digests.image, sizeof digests.image, length);
+    const char *wrong =
+        extend(handover_pcr, digests.image_sha256, sizeof digests.image_sha256, length);
     if (wrong == NULL && !find_log()) wrong = fail("not measured: the TPM's log can't be kept");
     return wrong;
 }

@@ -51,8 +51,9 @@ const char *compose(const char *form, ...) {
 
 /* No screen of a firmware's is smaller than 80 by 25. */
 static void measure_screen(UINTN *columns, UINTN *rows) {
-    if (EFI_ERROR(ST->ConOut->QueryMode(ST->ConOut, ST->ConOut->Mode->Mode, columns, rows)) ||
-        *columns < 80 || *rows < 25)
+    UINTN mode = (UINTN)ST->ConOut->Mode->Mode;
+    if (EFI_ERROR(ST->ConOut->QueryMode(ST->ConOut, mode, columns, rows)) || *columns < 80 ||
+        *rows < 25)
         *columns = 80, *rows = 25;
 }
 

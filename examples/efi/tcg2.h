@@ -1,6 +1,6 @@
-/* The firmware's measuring: EFI_TCG2_PROTOCOL and its event log, as the TCG EFI Protocol Specification
-   for TPM 2.0 has them (sections 6 and 7). The names are our own, and what is not called is no more
-   than its place. */
+/* The firmware's measuring: EFI_TCG2_PROTOCOL and its event log, as the TCG EFI Protocol
+   Specification for TPM 2.0 has them (sections 6 and 7). The names are our own, and what is not
+   called is no more than its place. */
 #ifndef TCG2_H
 #define TCG2_H
 
@@ -36,7 +36,8 @@ typedef struct __attribute__((packed)) {
 typedef struct tcg2 tcg2;
 struct tcg2 {
     EFI_STATUS(EFIAPI *GetCapability)(tcg2 *, tcg2_capability *);
-    EFI_STATUS(EFIAPI *GetEventLog)(tcg2 *, UINT32 form, UINT64 *first, UINT64 *last, BOOLEAN *is_cut);
+    EFI_STATUS(EFIAPI *GetEventLog)(tcg2 *, UINT32 form, UINT64 *first, UINT64 *last,
+                                    BOOLEAN *is_cut);
     EFI_STATUS(EFIAPI *HashLogExtendEvent)(tcg2 *, UINT64 flags, UINT64 address, UINT64 length,
                                            tcg2_event *);
     void *SubmitCommand, *GetActivePcrBanks, *SetActivePcrBanks, *GetResultOfSetActivePcrBanks;

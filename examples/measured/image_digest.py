@@ -1,6 +1,5 @@
 """The digest that the image of a description must have: the proved program says it."""
 
-import hashlib
 import os
 import re
 import shutil
@@ -44,7 +43,7 @@ def program_digest(folder: str) -> bytes:
     if program is None:
         raise BadInput("the program bootcore is not at hand: tools/build makes it, BOOTCORE names it")
     try:
-        ran = subprocess.run([program, "boot", "description", "--out", "image"], cwd=folder, capture_output=True, check=False)
+        ran = subprocess.run([program, "digest", "description"], cwd=folder, capture_output=True, check=False)
     except OSError as error:
         raise BadInput(f"{program}: {error.strerror}") from None
     refused = re.search(rb"^refused 0 (\d+)$", ran.stdout, re.M)
@@ -52,7 +51,8 @@ def program_digest(folder: str) -> bytes:
         fault(f"bootcore refuses this entry on this machine, by the number {refused[1].decode()} of docs/REFUSALS.md")
     if ran.returncode == 2:
         fault("bootcore refuses the machine or the entry of its description")
-    if ran.returncode != 0:
-        told = ran.stderr.decode(errors="replace").strip()
-        raise BadInput(f"{program} ends with the status {ran.returncode}: {told}")
-    return hashlib.sha256(Path(folder, "image").read_bytes()).digest()
+    told = re.search(rb"^image +- +- +\d+ ([0-9a-f]{64})$", ran.stdout, re.M)
+    if ran.returncode != 0 or not told:
+        said = ran.stderr.decode(errors="replace").strip()
+        raise BadInput(f"{program} ends with the status {ran.returncode}, and tells no digest: {said}")
+    return bytes.fromhex(told[1].decode())

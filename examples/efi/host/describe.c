@@ -1,7 +1,7 @@
 /* On the host: the description that the boot manager's own code writes. The words are the machine's
-   size, then `BASE LENGTH KIND` for each region, by their numbers; or, behind --cut, with each room that
-   is too small for it, of which none must be enough. The entry comes from standard input, as a menu;
-   each of its files has a byte, but for those whose names end in 0. */
+   size, then `BASE LENGTH KIND` for each region, by their numbers; or, behind --cut, with each room
+   that is too small for it, of which none must be enough. The entry comes from standard input, as a
+   menu; each of its files has a byte, but for those whose names end in 0. */
 #include "app.h"
 
 #include <stdio.h>
