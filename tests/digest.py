@@ -202,3 +202,37 @@ class Descriptions(DigestChecks):
                 self.assert_ended(changed, 0, None)
                 tables = [printed.split(b"\n", 1)[1] for printed in (ran.out, changed.out)]
                 self.assert_text(changed, tables[0], tables[1], "table")
+
+
+class Memory(DigestChecks):
+    """The program with 64 MiB of addresses: room for itself, a small kernel and the table, and for no machine."""
+
+    def within(self, *words: Union[str, Path]) -> Ran:
+        return run("bash", "-c", 'ulimit -v 65536 && exec "$@"', "bash", PROGRAM, "digest", *words)
+
+    def test_machines(self) -> None:
+        wanted = self.digest(FIRST)
+        for mebibytes in (64, 1024, 4096):
+            ran = self.within(self.described("size", str(mebibytes << 20)))
+            sentence = f"digest takes no memory of the machine's size, {mebibytes} MiB"
+            self.ends(sentence, ran, 0, wanted.out)
+
+    def test_no_memory(self) -> None:
+        kernel = self.room / "kernel"
+        kernel.write_bytes(b"")
+        os.truncate(kernel, 256 << 20)
+        ran = self.within(self.described("kernel", f'"{kernel}"'))
+        self.ends("digest of a boot has no memory for a kernel", ran, 4, "", "no memory\n")
+        image = self.room / "large.image"
+        image.write_bytes(self.with_last_part(256 << 20))
+        os.truncate(image, 257 << 20)
+        self.ends("digest of an image has no memory for a part", self.within("--image", image), 4, "", "no memory\n")
+
+    def with_last_part(self, length: int) -> bytes:
+        """The first example's image, whose last record says another length."""
+        image = bytearray(self.first.read_bytes())
+        (count,) = struct.unpack_from("<I", image, COUNT_AT)
+        record = LENGTH_OF_HEAD[2] + RECORD.size * (count - 1)
+        role, index, address, _ = RECORD.unpack_from(image, record)
+        RECORD.pack_into(image, record, role, index, address, length)
+        return bytes(image)
