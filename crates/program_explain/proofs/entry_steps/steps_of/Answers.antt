@@ -20,5 +20,5 @@ returns-in-Ok g c =
     rw c.deref.ensures.value c.in_ok-found.ensures.value in record {
       parts = c.in-Ok.plan.parts.items;
       origins = rw same at c.in-Ok.ensures.origins;
-      are = c.in_ok-steps.ensures.steps;
+      are = c.in_ok-steps-in-Ok.ensures.steps;
     }
