@@ -30,8 +30,8 @@ use Rattle.bl_session.proofs.attempt_lemmas.AttemptLemmas.{value_is}
 use Rattle.bl_session.proofs.attempt_lemmas.EntryEndLemmas.{AreRead, are_read, ends_by_size}
 use Rattle.bl_session.proofs.attempt_lemmas.EntryEndLemmas.{ends_whole}
 use Rattle.bl_session.proofs.attempt_lemmas.FinishLemmas.{has_room, lacks_room}
-use Rattle.program_digest.specs.internal.EntryPlans.{sizes_in, texts_in, EntryEnds, IsEntryPlan}
-use Rattle.program_digest.specs.internal.EntryPlans.{IsEntryFault, IsFileRefusal}
+use Rattle.program_digest.specs.internal.EntryPlans.{file_sizes, file_texts, EntryEnds, IsEntryPlan}
+use Rattle.program_digest.specs.internal.EntryPlans.{IsPlanFault, IsSizesFault}
 
 -- ---- by the sizes
 
@@ -45,12 +45,12 @@ fits_pool machine sizes first fits =
 
 -- files that were checked so are not refused by their sizes
 pub fits_sizes : (machine : MachineFacts) (files : List File) (wanted indices lengths : List ℕ)
-    (frames : ℕ) → indices ≡ wanted → file_refusal 0 (sizes_in files indices) ≡ None
-    → lengths ≡ known_lengths (sizes_in files indices) → frames_for lengths ≤ frames
-    → frames ≡ frames_in machine.pool → size_refusal machine (sizes_in files wanted) ≡ None
+    (frames : ℕ) → indices ≡ wanted → file_refusal 0 (file_sizes files indices) ≡ None
+    → lengths ≡ known_lengths (file_sizes files indices) → frames_for lengths ≤ frames
+    → frames ≡ frames_in machine.pool → size_refusal machine (file_sizes files wanted) ≡ None
 fits_sizes machine files wanted indices lengths frames are first known fits all =
     rw (← are)
-    (fits_pool machine (sizes_in files indices) first (rw (known, all) at fits))
+    (fits_pool machine (file_sizes files indices) first (rw (known, all) at fits))
 
 -- the lengths that are known are those of the files' bytes
 lengths_read : (sizes : List (Option ℕ)) (texts : List (List ℕ)) → AreRead sizes texts
@@ -70,10 +70,10 @@ as_many (Linux kernel line (Some file) wide) = refl
 -- an entry with these files, for its indices
 module _ {A : Type 0} (machine : MachineFacts) (entry : Entry A) (files : List File) where
   abbrev sizes : List (Option ℕ)
-  sizes = sizes_in files (files_of entry)
+  sizes = file_sizes files (files_of entry)
 
   abbrev texts : List (List ℕ)
-  texts = texts_in files (files_of entry)
+  texts = file_texts files (files_of entry)
 
   -- an entry has as many files as are read
   pub counted_texts : length texts ≡ file_count entry
@@ -92,7 +92,7 @@ module _ {A : Type 0} (machine : MachineFacts) (entry : Entry A) (files : List F
         (sym (value_is entry texts)) is)
 
     pub value_fault : (fault : PrepFault) → IsPrepFault machine (value_of texts entry) fault
-        → IsEntryFault machine (facts_of entry) files fault
+        → IsPlanFault machine (facts_of entry) files fault
     value_fault (prep_fault.Refused refusal) is = ends_by_value (refused refusal) (inl is)
     value_fault prep_fault.NoMemory is = tt
 

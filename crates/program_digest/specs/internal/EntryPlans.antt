@@ -12,33 +12,33 @@ use Rattle.bl_session.specs.attempt.AttemptResult.{AttemptHasResult, file_refusa
 use Rattle.bl_session.specs.menu.Menu.{EntryFacts, value_with}
 
 -- the sizes of the files of these indices
-abbrev pub sizes_in : List File → List ℕ → List (Option ℕ)
-sizes_in files indices = map (λ file. slice_index_or (map size_of files) file None) indices
+abbrev pub file_sizes : List File → List ℕ → List (Option ℕ)
+file_sizes files indices = map (λ file. slice_index_or (map size_of files) file None) indices
 
 -- what they hold
-abbrev pub texts_in : List File → List ℕ → List (List ℕ)
-texts_in files indices = map (λ file. file_bytes (slice_index_or files file missing)) indices
+abbrev pub file_texts : List File → List ℕ → List (List ℕ)
+file_texts files indices = map (λ file. file_bytes (slice_index_or files file missing)) indices
 
 -- the attempt of an entry with these files has this result
 abbrev pub EntryEnds : MachineFacts → EntryFacts → List File → AttemptResult → Type 0
 EntryEnds facts entry files =
-    AttemptHasResult facts (sizes_in files entry.files) None
-    (value_with entry (texts_in files entry.files))
+    AttemptHasResult facts (file_sizes files entry.files) None
+    (value_with entry (file_texts files entry.files))
 
 -- what is loaded for an entry that is not refused
 pub record IsEntryPlan {A : Type 0} (facts : MachineFacts) (entry : EntryFacts)
     (files : List File) (plan : Plan A) : Type 0 where
   pub ends : EntryEnds facts entry files
-      (handed (handover_by (texts_in files entry.files) plan))
-  pub loadable : IsLoadable (lengths_of (texts_in files entry.files)) facts.size plan
+      (handed (handover_by (file_texts files entry.files) plan))
+  pub loadable : IsLoadable (lengths_of (file_texts files entry.files)) facts.size plan
 
 -- why there is no such plan: the entry is refused, or memory ran out
-abbrev pub IsEntryFault : MachineFacts → EntryFacts → List File → PrepFault → Type 0
-IsEntryFault facts entry files (prep_fault.Refused refusal) =
+abbrev pub IsPlanFault : MachineFacts → EntryFacts → List File → PrepFault → Type 0
+IsPlanFault facts entry files (prep_fault.Refused refusal) =
     EntryEnds facts entry files (refused refusal)
-IsEntryFault facts entry files prep_fault.NoMemory = Unit {0}
+IsPlanFault facts entry files prep_fault.NoMemory = Unit {0}
 
 -- why files of these sizes are not taken, unless memory ran out
-abbrev pub IsFileRefusal : List (Option ℕ) → PrepFault → Type 0
-IsFileRefusal sizes (prep_fault.Refused refusal) = file_refusal 0 sizes ≡ Some refusal
-IsFileRefusal sizes prep_fault.NoMemory = Unit {0}
+abbrev pub IsSizesFault : List (Option ℕ) → PrepFault → Type 0
+IsSizesFault sizes (prep_fault.Refused refusal) = file_refusal 0 sizes ≡ Some refusal
+IsSizesFault sizes prep_fault.NoMemory = Unit {0}

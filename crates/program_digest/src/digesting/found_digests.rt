@@ -9,10 +9,10 @@ ghost use Rattle.bl_session.specs.menu.Menu.{files_of};
 ghost use Rattle.bl_session.specs.session.Phases.{boot_facts};
 ghost use Rattle.program_desc.specs.Views.{view};
 ghost use Rattle.program_digest.specs.internal.DigestEnds.{FoundDigestEnds};
-ghost use Rattle.program_digest.specs.internal.EntryPlans.{texts_in};
+ghost use Rattle.program_digest.specs.internal.EntryPlans.{file_texts};
 
-use crate::digesting::said_digests::{say_digested, say_none_left};
-use crate::planned_menu::{MenuPlan, indices_of, plan_menu, texts_in};
+use crate::digesting::said_digests::{say_all_refused, say_digested};
+use crate::planned_menu::{MenuPlan, file_texts, indices_of, plan_menu};
 use bl_digest::{Digests, digest_plan};
 use bl_load::{Entry, Plan};
 use bl_session::Fetched;
@@ -27,12 +27,12 @@ fn digest_entry<A: Allocator + Copy>(
     plan: &Plan<A>,
 ) -> Result<Digests<A>, AllocError>
     requires { CanBeLoadedFrom
-        (lengths_of (texts_in (stored_files files.now) (files_of entry.now))) plan.now }
+        (lengths_of (file_texts (stored_files files.now) (files_of entry.now))) plan.now }
     ensures { IfOk result (λ digests. digests ≡ digests_of
-        (handover_by (texts_in (stored_files files.now) (files_of entry.now)) plan.now)) }
+        (handover_by (file_texts (stored_files files.now) (files_of entry.now)) plan.now)) }
 {
     let indices = indices_of(alloc, entry)?;
-    let texts = texts_in(alloc, files, &indices)?;
+    let texts = file_texts(alloc, files, &indices)?;
     digest_plan(alloc, plan, &texts)
 }
 
@@ -56,7 +56,7 @@ pub fn digest_found<A: Allocator + Copy, B: Allocator>(
             Ok(End::Booted)
         }
         MenuPlan::NoneLeft(refused) => {
-            say_none_left(alloc, &refused, say)?;
+            say_all_refused(alloc, &refused, say)?;
             Ok(End::NoEntryLeft)
         }
     }

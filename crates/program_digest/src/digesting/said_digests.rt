@@ -46,7 +46,7 @@ pub fn say_digested<A: Allocator + Copy, B: Allocator>(
 
 /// Appends the lines of a boot in which each entry that is attempted is refused. An error leaves
 /// the text as it was.
-pub fn say_none_left<A: Allocator + Copy, B: Allocator>(
+pub fn say_all_refused<A: Allocator + Copy, B: Allocator>(
     alloc: A,
     refused: &[RefusedEntry],
     say: &mut Vec<u8, B>,

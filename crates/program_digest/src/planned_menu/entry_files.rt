@@ -2,7 +2,7 @@
 ghost use Rattle.std.specs.Prelude.{◌≡◌, ◌++◌, IfOk, None, map, slice_index_or};
 ghost use Rattle.bl_stage.specs.Files.{missing, size_of, file_bytes, stored_files};
 ghost use Rattle.bl_session.specs.menu.Menu.{files_of};
-ghost use Rattle.program_digest.specs.internal.EntryPlans.{texts_in};
+ghost use Rattle.program_digest.specs.internal.EntryPlans.{file_texts};
 
 use bl_load::{Entry, Module};
 use bl_mem::SliceView;
@@ -71,13 +71,13 @@ fn bytes_in<A: Allocator>(files: &[Fetched<A>], file: u32) -> &[u8]
 }
 
 /// The bytes of the files of these indices, in order.
-pub fn texts_in<'f, A: Allocator + Copy>(
+pub fn file_texts<'f, A: Allocator + Copy>(
     alloc: A,
     files: &'f [Fetched<A>],
     indices: &[u32],
 ) -> Result<Vec<SliceView<'f>, A>, AllocError>
     ensures { IfOk result (λ texts. map (λ t. t.bytes.now) texts.items
-        ≡ texts_in (stored_files files.now) indices.now) }
+        ≡ file_texts (stored_files files.now) indices.now) }
 {
     let mut texts = Vec::new(alloc);
     for file in indices {

@@ -3,9 +3,9 @@ ghost use Rattle.std.specs.Prelude.{IfOk, IfErr};
 ghost use Rattle.bl_load.specs.EntryValue.{IsWithinLimits};
 ghost use Rattle.bl_stage.specs.Files.{stored_files};
 ghost use Rattle.bl_session.specs.menu.Menu.{facts_of};
-ghost use Rattle.program_digest.specs.internal.EntryPlans.{IsEntryPlan, IsEntryFault};
+ghost use Rattle.program_digest.specs.internal.EntryPlans.{IsEntryPlan, IsPlanFault};
 
-use crate::planned_menu::entry_files::{indices_of, texts_in};
+use crate::planned_menu::entry_files::{file_texts, indices_of};
 use crate::planned_menu::size_checks::{check_frames, checked_lengths};
 use bl_load::{Entry, Plan, PrepFault, prepare};
 use bl_map::{Machine, frames_in, open_frames};
@@ -24,13 +24,13 @@ pub fn plan_entry<A: Allocator + Copy>(
     ensures planned { IfOk result
         (IsEntryPlan machine.now (facts_of entry.now) (stored_files files.now)) }
     ensures fault { IfErr result
-        (IsEntryFault machine.now (facts_of entry.now) (stored_files files.now)) }
+        (IsPlanFault machine.now (facts_of entry.now) (stored_files files.now)) }
 {
     let pool = machine.pool();
     let indices = indices_of(alloc, entry)?;
     let lengths = checked_lengths(alloc, files, &indices)?;
     check_frames(&lengths, frames_in(&pool))?;
-    let texts = texts_in(alloc, files, &indices)?;
+    let texts = file_texts(alloc, files, &indices)?;
     let plan = prepare(alloc, machine, entry, &texts)?;
     check_frames(&lengths, open_frames(&pool, plan.ranges()))?;
     Ok(plan)

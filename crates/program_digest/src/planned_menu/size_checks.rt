@@ -5,7 +5,7 @@ ghost use Rattle.bl_map.specs.PoolFrames as pool;
 ghost use Rattle.bl_load.specs.declared.refusal.Refusal.TheVariants.{NoPool};
 ghost use Rattle.bl_stage.specs.Files.{stored_files};
 ghost use Rattle.bl_session.specs.attempt.AttemptResult.{file_refusal, known_lengths};
-ghost use Rattle.program_digest.specs.internal.EntryPlans.{sizes_in, IsFileRefusal};
+ghost use Rattle.program_digest.specs.internal.EntryPlans.{file_sizes, IsSizesFault};
 
 use crate::planned_menu::entry_files::size_in;
 use bl_load::{PrepFault, Refusal};
@@ -34,11 +34,11 @@ pub fn checked_lengths<A: Allocator + Copy>(
 ) -> Result<Vec<u64, A>, PrepFault>
     requires { length indices.now ≤ 65 }
     ensures fits { IfOk result (λ _.
-        file_refusal 0 (sizes_in (stored_files files.now) indices.now) ≡ None) }
+        file_refusal 0 (file_sizes (stored_files files.now) indices.now) ≡ None) }
     ensures lengths { IfOk result (λ lengths. lengths.items
-        ≡ known_lengths (sizes_in (stored_files files.now) indices.now)) }
+        ≡ known_lengths (file_sizes (stored_files files.now) indices.now)) }
     ensures fault { IfErr result
-        (IsFileRefusal (sizes_in (stored_files files.now) indices.now)) }
+        (IsSizesFault (file_sizes (stored_files files.now) indices.now)) }
 {
     let mut lengths = Vec::new(alloc);
     for (place, file) in indices.iter().enumerate() {

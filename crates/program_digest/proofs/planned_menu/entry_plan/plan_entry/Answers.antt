@@ -8,7 +8,7 @@ use Rattle.bl_session.specs.attempt.AttemptResult.{known_lengths, size_refusal}
 use Rattle.bl_session.specs.menu.Menu.{files_of}
 use Rattle.bl_session.proofs.menu_lemmas.MenuLemmas.{few_files}
 use Rattle.program_say.proofs.FrameLemmas.{ascending_parts}
-use Rattle.program_digest.specs.internal.EntryPlans.{sizes_in, texts_in}
+use Rattle.program_digest.specs.internal.EntryPlans.{file_sizes, file_texts}
 use Rattle.program_digest.proofs.EntryLemmas.{counted_texts, fits_sizes, has_plan, room_fault}
 use Rattle.program_digest.proofs.EntryLemmas.{value_fault}
 use Rattle.program_digest.proofs.planned_menu.entry_plan.plan_entry.Goals as goal
@@ -21,7 +21,7 @@ pub prepare-requires-clause-files : goal.prepare-requires-clause-files
 prepare-requires-clause-files g c =
     let files = stored_files c.args.files.now in
     let texts : map (λ t. t.bytes.now) c.deref-4.result.now
-    ≡ texts_in files (files_of c.args.entry.now) =
+    ≡ file_texts files (files_of c.args.entry.now) =
     rw (c.deref-4.ensures.value, ← c.in_ok-indices.ensures, ← c.deref-3.ensures.value)
     c.in_ok-texts.ensures in
     let counted = counted_texts c.args.machine.now c.args.entry.now files in
@@ -32,12 +32,12 @@ returns-in_err-plan-clause-fault g c =
     let machine = c.args.machine.now in
     let entry = c.args.entry.now in
     let files = stored_files c.args.files.now in
-    let texts : map (λ t. t.bytes.now) c.deref-4.result.now ≡ texts_in files (files_of entry) =
+    let texts : map (λ t. t.bytes.now) c.deref-4.result.now ≡ file_texts files (files_of entry) =
     rw (c.deref-4.ensures.value, ← c.in_ok-indices.ensures, ← c.deref-3.ensures.value)
     c.in_ok-texts.ensures in
     let indices : c.deref.result.now ≡ files_of entry =
     c.deref.ensures.value ∙ c.in_ok-indices.ensures in
-    let fits : size_refusal machine (sizes_in files (files_of entry)) ≡ None =
+    let fits : size_refusal machine (file_sizes files (files_of entry)) ≡ None =
     fits_sizes machine files (files_of entry) c.deref.result.now c.deref-2.result.now
     c.frames_in.result indices c.in_ok-lengths.ensures.fits
     (c.deref-2.ensures.value ∙ c.in_ok-lengths.ensures.lengths)
@@ -58,14 +58,14 @@ returns-in_err-check_frames-2-clause-fault g c =
     let machine = c.args.machine.now in
     let entry = c.args.entry.now in
     let files = stored_files c.args.files.now in
-    let texts : map (λ t. t.bytes.now) c.deref-4.result.now ≡ texts_in files (files_of entry) =
+    let texts : map (λ t. t.bytes.now) c.deref-4.result.now ≡ file_texts files (files_of entry) =
     rw (c.deref-4.ensures.value, ← c.in_ok-indices.ensures, ← c.deref-3.ensures.value)
     c.in_ok-texts.ensures in
     let indices : c.deref.result.now ≡ files_of entry =
     c.deref.ensures.value ∙ c.in_ok-indices.ensures in
-    let known : c.in_ok-lengths.lengths.items ≡ known_lengths (sizes_in files (files_of entry)) =
+    let known : c.in_ok-lengths.lengths.items ≡ known_lengths (file_sizes files (files_of entry)) =
     rw indices at c.in_ok-lengths.ensures.lengths in
-    let fits : size_refusal machine (sizes_in files (files_of entry)) ≡ None =
+    let fits : size_refusal machine (file_sizes files (files_of entry)) ≡ None =
     fits_sizes machine files (files_of entry) c.deref.result.now c.deref-2.result.now
     c.frames_in.result indices c.in_ok-lengths.ensures.fits
     (c.deref-2.ensures.value ∙ c.in_ok-lengths.ensures.lengths)
@@ -85,14 +85,14 @@ returns-clause-planned g c =
     let machine = c.args.machine.now in
     let entry = c.args.entry.now in
     let files = stored_files c.args.files.now in
-    let texts : map (λ t. t.bytes.now) c.deref-4.result.now ≡ texts_in files (files_of entry) =
+    let texts : map (λ t. t.bytes.now) c.deref-4.result.now ≡ file_texts files (files_of entry) =
     rw (c.deref-4.ensures.value, ← c.in_ok-indices.ensures, ← c.deref-3.ensures.value)
     c.in_ok-texts.ensures in
     let indices : c.deref.result.now ≡ files_of entry =
     c.deref.ensures.value ∙ c.in_ok-indices.ensures in
-    let known : c.in_ok-lengths.lengths.items ≡ known_lengths (sizes_in files (files_of entry)) =
+    let known : c.in_ok-lengths.lengths.items ≡ known_lengths (file_sizes files (files_of entry)) =
     rw indices at c.in_ok-lengths.ensures.lengths in
-    let fits : size_refusal machine (sizes_in files (files_of entry)) ≡ None =
+    let fits : size_refusal machine (file_sizes files (files_of entry)) ≡ None =
     fits_sizes machine files (files_of entry) c.deref.result.now c.deref-2.result.now
     c.frames_in.result indices c.in_ok-lengths.ensures.fits
     (c.deref-2.ensures.value ∙ c.in_ok-lengths.ensures.lengths)
