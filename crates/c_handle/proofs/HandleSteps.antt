@@ -1,25 +1,20 @@
 -- What is owned behind a handle of either kind.
-use Rattle.std.proofs.Common.{◌≡◌, ◌&&◌, true, ℕ, List, [], ◌∷◌, ◌++◌, refl, subst, lit<}
+use Rattle.std.proofs.Common.{◌≡◌, ◌&&◌, true, ℕ, List, ◌∷◌, refl, lit<}
 use lib.Dec.{T}
 use seplogic.Ra.Ura.{Ura}
 use mir.Raw.{raw as bare}
-use mir.Val.{Val, vstruct, of_list, has_ty, WT}
+use mir.Val.{Val, has_ty, WT}
 use base.Logic.{ent, guard, via, snd∗, fst∗, never, guard_i}
 use types.Logic.{Logic, sem}
-use types.Kit.{Item, Goal, Seq, Step, step, ‵, given, ◌$◌, move, drop, fsplit, fjoin, fpick, fpack}
-use types.Kit.{feq_i, feq_l, use1, learn}
+use types.Kit.{Item, Goal, Seq, ‵, given, ◌$◌}
+use types.Kit.{feq_l, use1, learn}
 use contract.Monad.{fact_use}
-use denote.RattleType.{RattleType, Valss}
-use denote.Builtin.{RawPtr}
+use denote.RattleType.{RattleType}
 use denote.Memory.{lone}
 use denote.RawPtr.{Ptr, block_ptr, null_ptr, ptr_val, in_a_block, lies_at, Testable}
-use denote.Steps.{nothing}
 use denote.Param.{layout}
 use denote.Param.Laws.{Laws}
-use denote.Struct.Struct.{within}
-use denote.Struct.Owning.{shape}
 use base.Fraction.{full_share}
-use Rattle.std.proofs.alloc.Calls.{handle_tells}
 use Rattle.std.proofs.cell.Inside.{Good}
 use Rattle.std.specs.declared.option.Option.{Option}
 use Rattle.std.specs.declared.option.Option.TheVariants.{None, Some}
@@ -31,7 +26,7 @@ use Rattle.std.proofs.GlobalToken.{dealloc_token-Testable}
 use Rattle.std.specs.Box.Ownership.{box_owns}
 use Rattle.std.proofs.ResultValues.{and_tt}
 use Rattle.c_handle.specs.Handles.{handle_owns}
-use Rattle.c_handle.proofs.RawBoxSteps.{two, al}
+use Rattle.c_handle.proofs.RawBoxSteps.{two}
 
 abbrev pub Z : RattleType
 Z = heap.the_row

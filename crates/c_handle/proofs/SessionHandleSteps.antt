@@ -1,5 +1,5 @@
 -- What is owned of a handle to a session, at its machine value.
-use Rattle.std.proofs.Common.{◌≡◌, ℕ, List, [], ◌∷◌, ◌++◌, refl, subst}
+use Rattle.std.proofs.Common.{◌≡◌, List, [], ◌∷◌, ◌++◌, refl, subst}
 use seplogic.Ra.Ura.{Ura}
 use mir.Val.{Val, vstruct, of_list}
 use types.Logic.{Logic}
