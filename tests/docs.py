@@ -2,9 +2,11 @@
 
 import os
 import re
+import shutil
+import textwrap
 from functools import lru_cache
 from pathlib import Path
-from typing import Dict, Iterable, List, Set
+from typing import Dict, Iterable, List, Pattern, Set
 
 from tests import repository, tables
 from tests.examples import FIRST, SECOND
@@ -229,6 +231,23 @@ class Pages(Checks):
                     self.assert_text(ran, offered, " ".join(sorted(without_descriptions.split())), "offered")
 
 
+class ChangedRule(Checks):
+    def test_rows(self) -> None:
+        """a model in which a machine has 64 regions at most prints for rows/machine.rows what CONTRIBUTING.md says"""
+        shutil.copytree(TOP / "model", self.room / "model", ignore=shutil.ignore_patterns("__pycache__"))
+        (self.room / "rows").mkdir()
+        shutil.copy(TOP / "rows/machine.rows", self.room / "rows")
+        rule = self.room / "model/rules/machine.py"
+        text = rule.read_text(encoding="utf-8")
+        self.assertEqual(text.count("MAX_REGIONS = 128\n"), 1, f"the rule that CONTRIBUTING.md changes, in {rule}")
+        rule.write_text(text.replace("MAX_REGIONS = 128\n", "MAX_REGIONS = 64\n"), encoding="utf-8")
+        page = textwrap.dedent((TOP / "CONTRIBUTING.md").read_text(encoding="utf-8").replace("\n   ", "\n"))
+        command, wanted = re.findall(r"^\$ (model/rows .*)\n((?:.*\n)*?)```$", page, re.M)[0]
+        ran = run(*command.split(), cwd=self.room)
+        self.assert_ended(ran, 1, None)
+        self.assertRegex(ran.out.decode(), lines_like(wanted), f"ran: {ran}\nstandard output")
+
+
 class ManualPage(Checks):
     def test_mandoc(self) -> None:
         """mandoc warns of nothing in the manual page"""
@@ -303,8 +322,13 @@ class Guide(ProgramChecks):
                 continue
             with self.check(sentence):
                 ran = run("bash", "-c", command, cwd=folder, env=env)
-                lines = "".join(r"(?:.*\n)*" if line == ".." else re.escape(line) + r"\n" for line in wanted.splitlines())
-                self.assertRegex(ran.out.decode(), re.compile(rf"\A{lines}\Z"), f"ran: {ran}\nstandard output")
+                self.assertRegex(ran.out.decode(), lines_like(wanted), f"ran: {ran}\nstandard output")
+
+
+def lines_like(wanted: str) -> Pattern[str]:
+    """These lines; `..` stands for any number of them."""
+    lines = "".join(r"(?:.*\n)*" if line == ".." else re.escape(line) + r"\n" for line in wanted.splitlines())
+    return re.compile(rf"\A{lines}\Z")
 
 
 def missing_links(page: str) -> List[str]:

@@ -51,14 +51,12 @@ def _heads(layout: Layout, drawn: Drawn) -> List[str]:
     ]
     if not drawn.handover:
         return heads + [svg.text("head", layout.labels, y, "what it is for")]
+    if layout.reading is not None:
+        heads.append(svg.text("head middle", layout.reading + READING // 2, y, "while files are read"))
+    heads.append(svg.text("head middle", layout.after + AFTER // 2, y, "after"))
     if layout.reading is None:
         heads.append(svg.text("head middle", layout.after + AFTER + POINTERS // 2, y, "registers"))
-    else:
-        heads.append(svg.text("head middle", layout.reading + READING // 2, y, "while files are read"))
-    return heads + [
-        svg.text("head middle", layout.after + AFTER // 2, y, "after"),
-        svg.text("head", layout.labels, y, "where the bytes come from" if drawn.boot else "what it holds"),
-    ]
+    return heads + [svg.text("head", layout.labels, y, "where the bytes come from" if drawn.boot else "what it holds")]
 
 
 def _notes(drawn: Drawn) -> List[Tuple[str, str]]:
