@@ -1,8 +1,6 @@
 -- What is told of a refusal beside its number and its name.
-use Rattle.std.proofs.Common.{◌≡◌, ◌∙◌, ◌+◌, ◌<◌, ◌≤◌, ◌++◌, ℕ, List, [], ◌∷◌, length, map, take}
-use Rattle.std.proofs.Common.{get_or, Option, Some, None, refl, sym, ap, arith, subst}
-use Rattle.std.specs.Prelude.{IfOk, Result, Ok, Err, slice_get}
-use Rattle.std.specs.declared.alloc.AllocError.{AllocError}
+use Rattle.std.proofs.Common.{◌≡◌, ◌∙◌, ◌+◌, ◌<◌, ◌++◌, ℕ, List, [], ◌∷◌, length, map, take}
+use Rattle.std.proofs.Common.{get_or, Some, None, refl, sym, ap, arith}
 use Rattle.std.proofs.lemmas.List.{length-map, map-append, take_more}
 use Rattle.bl_map.specs.MachineFacts.{MachineFacts}
 use Rattle.bl_map.specs.PoolFrames.{open_frames}
@@ -15,22 +13,16 @@ use Rattle.bl_load.specs.declared.entry.Entry as loaded
 use Rattle.bl_load.specs.declared.entry.Module.{Module}
 use Rattle.bl_load.specs.declared.entry.Entry.TheVariants.{Multiboot2, Linux}
 use Rattle.bl_load.specs.declared.plan.Plan.{Plan}
-use Rattle.bl_load.specs.declared.refusal.Refusal.{Refusal}
 use Rattle.bl_load.specs.declared.refused_entry.RefusedEntry.{RefusedEntry}
 use Rattle.bl_session.specs.menu.Menu.{EntryFacts, facts_of, files_of, value_with}
 use Rattle.bl_session.proofs.attempt_lemmas.AfterLemmas.{ranges_are}
 use Rattle.bl_session.proofs.attempt_lemmas.AttemptLemmas.{value_is}
-use Rattle.program_desc.specs.declared.entry_row.EntryRow.{EntryRow}
 use Rattle.program_desc.specs.Entries.{Entry}
-use Rattle.program_desc.specs.Views.{entry_view}
 use Rattle.program_menu.specs.DescribedMenu.{entry_facts}
 use Rattle.program_desc.specs.EntryNames.{file_names, file_index}
-use Rattle.program_explain.specs.Details.{AreFramesBeside, IsRefusalDetail}
-use Rattle.program_explain.specs.Details.{IsRefusalDetailOrNothing}
+use Rattle.program_explain.specs.Details.{AreFramesBeside}
 use Rattle.program_explain.specs.Details.{value_sought}
 use Rattle.program_say.specs.Sought.{SoughtFacts, bytes_found}
-use Rattle.program_say.specs.declared.subjects.refusal_detail.RefusalDetail.{RefusalDetail}
-use Rattle.program_say.specs.declared.subjects.refusal_detail.RefusalDetail.TheVariants.{Nothing}
 use Rattle.program_say.specs.declared.subjects.refusal_detail.ToldRefusal.{ToldRefusal}
 
 -- ---- an entry of a description

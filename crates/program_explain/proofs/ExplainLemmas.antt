@@ -1,25 +1,16 @@
 -- How explanations end.
-use Rattle.std.proofs.Common.{◌≡◌, ◌∙◌, ◌+◌, ◌≤◌, ◌++◌, ◌==◌, ◌&&◌, ℕ, nat_le, nat_lt, true}
-use Rattle.std.proofs.Common.{false, List, [], ◌∷◌, Some, None, map, refl, ap}
-use Rattle.std.proofs.Common.{arith, inl, inr, subst}
+use Rattle.std.proofs.Common.{◌≡◌, ◌+◌, ◌≤◌, ◌++◌, ◌==◌, ◌&&◌, ℕ, nat_le, nat_lt, true}
+use Rattle.std.proofs.Common.{false, List, [], ◌∷◌, Some, None, refl}
+use Rattle.std.proofs.Common.{arith, inl, inr}
 use Rattle.std.specs.Prelude.{IsUtf8}
 use Rattle.std.specs.Str.{is_utf8}
-use Rattle.std.specs.List.{flat_map}
 use Rattle.std.proofs.lemmas.Bool.{cases_Bool}
 use Rattle.std.proofs.lemmas.Str.{IsUtf8-from_is_utf8}
-use Rattle.bl_load.specs.declared.refused_entry.RefusedEntry.{RefusedEntry}
 use Rattle.toml.specs.Data.{Members}
 use Rattle.toml.specs.Parse.{parse_document}
-use Rattle.program_desc.specs.declared.entry_row.EntryRow.{EntryRow}
 use Rattle.program_desc.specs.Described.{described, described_in}
-use Rattle.program_desc.specs.Views.{entry_view}
-use Rattle.bl_map.specs.MachineFacts.{MachineFacts}
 use Rattle.program_explain.specs.BlameConditions.{after_byte, after_bytes}
-use Rattle.program_explain.specs.Details.{AreToldRefusals}
-use Rattle.program_say.specs.Sought.{SoughtFacts}
-use Rattle.program_say.specs.AttemptLines.{attempt_lines, refused_attempt_lines}
 use Rattle.program_blame.specs.declared.subjects.blame.TextPlace.{TextPlace}
-use Rattle.program_say.specs.declared.subjects.refusal_detail.ToldRefusal.{ToldRefusal}
 
 -- ---- places in a text
 

@@ -16,10 +16,8 @@ use Rattle.bl_image.proofs.Spelled.{EndsIn, length-place_bytes}
 use Rattle.bl_session.specs.attempt.AttemptResult.{part_range}
 use Rattle.bl_session.specs.session.BootSteps.{handed_over}
 use Rattle.bl_session.specs.session.Phases.{handover_held}
-use Rattle.program_desc.specs.declared.entry_row.EntryRow.{EntryRow}
 use Rattle.program_desc.specs.Described.{DescriptionFacts}
 use Rattle.program_desc.specs.Entries.{Entry}
-use Rattle.program_desc.specs.Views.{entry_view}
 use Rattle.program_say.specs.HandoffLines.{SourceWords, handoff_lines, part_line, place_line}
 use Rattle.program_say.specs.Sought.{SoughtFacts}
 use Rattle.program_say.specs.PartSources.{source_words}

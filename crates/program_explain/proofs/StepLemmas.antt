@@ -13,7 +13,6 @@ use Rattle.bl_session.specs.session.Outcome.{IsOutcome}
 use Rattle.bl_session.specs.session.Phases.{boot_facts}
 use Rattle.bl_session.proofs.session_lemmas.OutcomeLaws.{is_handover}
 use Rattle.program_desc.specs.Described.{DescriptionFacts}
-use Rattle.program_desc.specs.Entries.{Entry}
 use Rattle.program_menu.specs.DescribedMenu.{boot_of, menu_of}
 use Rattle.program_explain.specs.internal.ExplanationEnds.{HasHandoverAt}
 use Rattle.program_say.specs.Sought.{SoughtFacts}

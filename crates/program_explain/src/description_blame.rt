@@ -129,11 +129,6 @@ pub fn machine_or_blame<A: Allocator + Copy, B: Allocator>(
     match Machine::new(alloc, description.size, regions, pool) {
         Ok(machine) => Ok(machine),
         Err(MapFault::NoMemory) => Err(ExplainFault::NoMemory),
-        Err(fault) => Err(blamed(
-            alloc,
-            &Blame::BadMachine(fault),
-            Some(description),
-            say,
-        )),
+        Err(fault) => Err(blamed(alloc, &Blame::BadMachine(fault), Some(description), say)),
     }
 }

@@ -66,7 +66,14 @@ fn say_outcome<A: Allocator + Copy>(
     let entry = outcome.entry;
     say_booted(out, entry as u64, title_of(boot.description, entry))?;
     say_handoff(out, steps, &outcome.handoff)?;
-    say_handoff_frames(out, boot.description, sought, boot.machine, entry, &outcome.handoff)?;
+    say_handoff_frames(
+        out,
+        boot.description,
+        sought,
+        boot.machine,
+        entry,
+        &outcome.handoff,
+    )?;
     say_hints(out, boot.description, sought, &outcome.refused)
 }
 
