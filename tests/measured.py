@@ -523,8 +523,9 @@ class Page(CheckerChecks):
     NOT_HERE = ("qemu.sh", "<part")  # ./test qemu has the script
 
     def test_commands(self) -> None:
+        need_built(PROGRAM, "tools/build")
         (self.room / "examples").symlink_to(TOP / "examples")
-        (self.room / "bootcore").symlink_to(self.env["BOOTCORE"])
+        (self.room / "bootcore").symlink_to(PROGRAM)
         page = (TOP / "docs/MEASURED.md").read_text(encoding="utf-8")
         asked = [each.partition("\n") for block in self.BLOCK.findall(page) for each in re.split(r"^\$ ", block, flags=re.M)[1:]]
         before = ""  # a command may set a variable for the next one
