@@ -32,19 +32,24 @@ with_word() {
 }
 
 make_files
+# Two programs that load the same.
+compare() {
+    need_same_lines "$@"
+    compare_loads "$@"
+}
 with_word plain_read plain_guest read
 with_word plain_copy plain_guest copy
 goal=1.02
-compare_loads ./plain_read ./core_plan
+compare ./plain_read ./core_plan
 goal=1.1
-compare_loads ./plain_copy ./core_guest
+compare ./plain_copy ./core_guest
 if has_rustc; then
     build plain_boot
     with_word plain_own plain_boot own
     with_word plain_memory plain_boot memory
     goal=1.2
-    compare_loads ./plain_own ./core_boot
-    compare_loads ./plain_memory ./core_boot
+    compare ./plain_own ./core_boot
+    compare ./plain_memory ./core_boot
 else
     echo "bootcore_boot: left out, since rustc is not at hand"
 fi

@@ -18,4 +18,7 @@ has_rustc || fail "rustc is not at hand"
 build plain_guest
 cd "$work"
 make_files
+# it says what a load comes to, and ends well also where there was none
+call "$examples" vmlinuz initrd.img 1
+grep -q '^guest: [0-9]* parts, ' said || fail "nothing is loaded: $(cat said)"
 compare_loads ./plain_guest "$examples"

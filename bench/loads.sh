@@ -35,3 +35,14 @@ compare_loads() {
     done
     echo "ratio $(ratio "$ten" "$plain"), the goal is $goal"
 }
+
+# Ends the run unless the programs print the same of two loads: a byte of the ramdisk at its place in memory, after each.
+need_same_lines() {
+    local program
+    for program; do
+        call "$program" vmlinuz initrd.img 2
+        [ -s said ] || fail "$program prints nothing of its loads"
+        [ "$program" != "$1" ] || cp said wanted
+        cmp -s said wanted || fail "$program loads another ramdisk than $1: $(cat said)"
+    done
+}

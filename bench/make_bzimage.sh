@@ -14,8 +14,8 @@ fi
 file=$1
 bytes=$(($2))
 
-# shellcheck source-path=SCRIPTDIR source=numbers.sh
-source "$(dirname "${BASH_SOURCE[0]}")/numbers.sh"
+# shellcheck source-path=SCRIPTDIR source=little_endian.sh
+source "$(dirname "${BASH_SOURCE[0]}")/little_endian.sh"
 
 # From 0x1f1 on: setup_sects, .. vid_mode, root_dev, boot_flag, jump, HdrS, version, .. loadflags, .. initrd_addr_max,
 # kernel_alignment, relocatable_kernel and min_alignment, xloadflags, cmdline_size, .. pref_address, init_size.

@@ -19,8 +19,8 @@ bytes=$(($3))
 base=0x200000
 bss=0x100000
 
-# shellcheck source-path=SCRIPTDIR source=numbers.sh
-source "$(dirname "${BASH_SOURCE[0]}")/numbers.sh"
+# shellcheck source-path=SCRIPTDIR source=little_endian.sh
+source "$(dirname "${BASH_SOURCE[0]}")/little_endian.sh"
 
 elf_header() {
     printf '\x7fELF\x01\x01\x01'

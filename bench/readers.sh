@@ -16,8 +16,8 @@
 # them is built already; without rt its column is left out. Needs bash 5, coreutils, awk and rustc.
 # shellcheck source-path=SCRIPTDIR source=measure.sh
 source "$(dirname "${BASH_SOURCE[0]}")/measure.sh"
-# shellcheck source-path=SCRIPTDIR source=numbers.sh
-source "$here/numbers.sh"
+# shellcheck source-path=SCRIPTDIR source=little_endian.sh
+source "$here/little_endian.sh"
 
 segments=5
 segment_bytes=0xC96000

@@ -5,16 +5,16 @@
 #
 #   bench/walk.sh [BOOTCORE]
 #
-# The program under test is the argument, else crates/bootcore/out/bootcore. What is said and what is written is
-# compared. Needs what run.sh needs, and rustc.
+# The program under test is the argument, else the variable BOOTCORE, else crates/bootcore/out/bootcore. What is said and what is
+# written is compared. Needs what run.sh needs, and rustc.
 # shellcheck source-path=SCRIPTDIR source=measure.sh
 source "$(dirname "${BASH_SOURCE[0]}")/measure.sh"
 
 goal=1.2
 
-bootcore=$(realpath -m "${1:-$here/../crates/bootcore/out/bootcore}")
+bootcore=$(realpath -m "${1:-${BOOTCORE:-$here/../crates/bootcore/out/bootcore}}")
 [ -x "$bootcore" ] || fail "no bootcore at $bootcore"
-has_rustc || fail 'no rustc'
+has_rustc || fail 'rustc is not at hand'
 cd "$work"
 build plain_walker
 build plain_converter

@@ -1,12 +1,12 @@
 """What `bootcore explain` may answer: the rules' lines, and what no rule fixes."""
 
 import re
-from typing import Callable, List, Optional, Tuple
+from typing import Callable, List, Optional
 
+from program import Ended, lines
 from rules import booting, description, explaining
 from rules.booting import File
 
-Ended = Tuple[int, bytes, bytes]  # status, what it says and what it blames
 NOT_TOML = re.compile(rb"bad description: it is not TOML, at line (\d+), column (\d+)\n")
 
 
@@ -24,10 +24,6 @@ def difference(ended: Ended, text: bytes, path_named: Callable[[str], File]) -> 
         return None
     wanted = "\n          ".join(f"{run.status} {lines(run.said)}" for run in ends)
     return f"  rules   {wanted}\n  program {status} {said} {blamed}"
-
-
-def lines(texts: List[str]) -> bytes:
-    return "".join(text + "\n" for text in texts).encode("utf-8")
 
 
 def unread(text: bytes, path_named: Callable[[str], File]) -> List[str]:

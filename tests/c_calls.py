@@ -1,6 +1,7 @@
 """the calls of the core for C: which misuse is told, what they need of stack and memory, random inputs, clients"""
 
 import re
+import sys
 import unittest
 from pathlib import Path
 from typing import Dict, Optional, Tuple
@@ -136,6 +137,16 @@ class Fuzzed(CoreChecks):
             self.assert_ended(ran, 0, None)
             counts = re.match(r"\d+ inputs from seed 1: (\d+) loaded, (\d+) refused", told)
             self.assertTrue(counts and int(counts[1]) > 100 and int(counts[2]) > 100, told)
+
+
+    def test_plans(self) -> None:
+        sentence = "entries drawn at random have the plans and the digests that the model computes"
+        if not has_tomllib():
+            self.leave_out(sentence, NO_TOMLLIB)
+            return
+        driver = self.driver("plans", *self.sanitizers())
+        if driver is not None:
+            self.reports(sentence, sys.executable, TOP / "model/fuzz", "300", "1", "--plans", "--program", driver)
 
 
 class Clients(CoreChecks):

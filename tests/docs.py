@@ -205,7 +205,7 @@ class Pages(Checks):
         cases = sum(lines_of_table(table) for table in sorted(TOP.glob("cases/*.cases")))
         images = lines_of_table(TOP / "cases/images")
         told = " ".join((TOP / "README.md").read_text(encoding="utf-8").split())
-        wanted = (f"{edits} mistakes", f"{rows:,} calls", f"{cases} boot descriptions", f"{images} corrupted images")
+        wanted = (f" {edits} mistakes", f" {rows:,} calls", f" {cases} boot descriptions", f" {images} corrupted images")
         self.assertEqual([it for it in wanted if it not in told], [], "what README.md should tell, and does not")
 
     def test_version(self) -> None:
@@ -313,6 +313,9 @@ class Guide(ProgramChecks):
         env = {"PATH": f"{PROGRAM.parent}:{os.environ['PATH']}", "BOOTCORE": str(PROGRAM)}
         page = (TOP / "docs/GUIDE.md").read_text(encoding="utf-8")
         asked = [each.partition("\n") for block in self.BLOCK.findall(page) for each in re.split(r"^\$ ", block, flags=re.M)[1:]]
+        with self.check("the guide has a command for each of its steps at least"):
+            steps = re.findall(r"^## \d+\. ", page, re.M)
+            self.assertTrue(0 < len(steps) <= len(asked), f"{len(steps)} steps, {len(asked)} commands")
         for command, _, wanted in asked:
             if any(word in command for word in self.NOT_HERE):
                 continue

@@ -41,6 +41,7 @@ class WithProgram(ModelChecks):
     def test_program(self) -> None:
         self.model("the program does as the model with what is drawn at random", "fuzz", "300", "1")
         self.model("the program does as the model with descriptions changed in a key", "fuzz_keys", "900")
+        self.model("the program prints the digests that the model computes, of each case and of each changed image", "digests")
 
 
 class WithProbe(ModelChecks):

@@ -118,8 +118,10 @@ def run_parts(parts: Iterable[str], remarks: Callable[[], Iterable[str]] = tuple
     for part in parts:
         began = time.monotonic()
         print(f"---- {part}: {says(part)}", flush=True)
-        before = result.passed + len(result.failed)
+        before, left_out = result.passed + len(result.failed), len(result.left_out)
         InOrder().loadTestsFromModule(module_of(part)).run(result)
+        if (before, left_out) == (result.passed + len(result.failed), len(result.left_out)):
+            result.bad(f"{part} checks something", "no check ran, and none was left out")
         took = time.monotonic() - began
         print(f"---- {part}: {result.passed + len(result.failed) - before} checks in {took:.0f} seconds", flush=True)
     for remark in remarks():

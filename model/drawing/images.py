@@ -5,7 +5,8 @@ from typing import List, Tuple
 
 from rules import boot_params, information, paging
 from rules.handover import (BOOT_PARAMETERS, COMMAND_LINE, GDT, INFORMATION, INITRD, KERNEL, LINUX,
-                            LINUX64, MODULE, MULTIBOOT2, PAGE_TABLES, Handover, Part, registers_of)
+                            LINUX64, MODULE, MULTIBOOT2, PAGE_TABLES, Handover, Part, Piece,
+                            registers_of)
 from rules.image import COUNT_AT, FIELDS, HEADS, OLD, RECORD_SIZE, WRITTEN, spell
 from rules.information import Information, Module
 from rules.machine import Run
@@ -83,7 +84,7 @@ class Ground:
         at = self.at
         more = self.rng.choice([0, 0, 1, 8, 100])
         more = max(more, 0 if data else 1)
-        self.parts.append(Part(role, index, at, len(data) + more, [(0, data)]))
+        self.parts.append(Part(role, index, at, len(data) + more, [Piece(0, data)]))
         self.at += len(data) + more
         return at
 

@@ -54,14 +54,14 @@ def setup(rng: Random) -> str:
 
 def info(rng: Random) -> str:
     """The information of an image, whole or damaged."""
-    told = next(part for part in images.draw_multiboot2(rng).parts if part.role == 3).pieces[0][1]
+    told = next(part for part in images.draw_multiboot2(rng).parts if part.role == 3).pieces[0].data
     for _ in range(rng.choice([0, 1, 1, 2])):
         told = images.damaged(rng, told) if len(told) >= 16 else told
     return "read_info " + digits(told)
 
 
 def params(rng: Random) -> str:
-    told = next(part for part in images.draw_linux(rng).parts if part.role == 4).pieces[0][1]
+    told = next(part for part in images.draw_linux(rng).parts if part.role == 4).pieces[0].data
     for _ in range(rng.choice([0, 1, 1, 2])):
         told = changed(rng, told, [*range(0x1E8, 0x300)], 3)
     return "read_params " + digits(told)

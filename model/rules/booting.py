@@ -3,7 +3,7 @@
 import os
 from typing import Callable, List, NamedTuple, Optional, Tuple, Union
 
-from . import description, image, walking
+from . import description, digests, image, walking
 from .description import MAX_ENTRIES, MAX_MODULES, BadDescription, MenuEntry
 from .entry import Entry, LinuxEntry, Multiboot2Entry, hand_over, is_copy
 from .handover import MULTIBOOT2, Handover
@@ -120,6 +120,15 @@ def boot(text: bytes, path_named: Callable[[str], File]) -> Run:
     return Run(0, said + [f"booted {outcome.entry} {title}"], [], outcome.handover)
 
 
+def digest(text: bytes, path_named: Callable[[str], File]) -> Run:
+    """`bootcore digest`: the lines of a boot, and of the image that it would write the digests; no
+    image is written."""
+    run = boot(text, path_named)
+    if run.handover is None:
+        return run
+    return Run(run.status, run.said + digests.lines(run.handover), run.blamed)
+
+
 def map_of(text: bytes) -> Run:
     """`bootcore map`."""
     try:
@@ -153,6 +162,14 @@ def convert(data: bytes) -> Run:
     """`bootcore convert`; what is led to is not looked at."""
     try:
         return Run(0, [], [], None, image.convert(data))
+    except Refused as refusal:
+        return Run(2, [], [f"bad image {refusal.number}"])
+
+
+def digest_image(data: bytes) -> Run:
+    """`bootcore digest --image`: the digests of the image that a conversion makes of it."""
+    try:
+        return Run(0, digests.lines(image.handover_of(image.read(data))), [])
     except Refused as refusal:
         return Run(2, [], [f"bad image {refusal.number}"])
 

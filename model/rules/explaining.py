@@ -135,7 +135,7 @@ def booted_lines(boot: Boot) -> List[str]:
     files = [boot.file_named(name) for name in booting.file_names(entry)]
     lines = [f"booted {index} {entry.title}", "protocol " + PROTOCOL_NAMES[entry.protocol]]
     return attempt_lines(boot, index) + lines + handover_lines(
-        boot.described.machine, boot.outcome.handover, entry, files)
+        boot.described.machine, boot.outcome.handover, files)
 
 
 def boot_lines(boot: Boot) -> List[str]:

@@ -1,6 +1,6 @@
 """What is handed over: registers and parts. BOOT-RULES.md "Entry state"; FORMATS.md, "A record"."""
 
-from typing import Dict, List, NamedTuple, Tuple
+from typing import Dict, List, NamedTuple, Optional
 
 MULTIBOOT2, LINUX, LINUX64 = 1, 2, 3
 PROTOCOL_NAMES = {MULTIBOOT2: "multiboot2", LINUX: "linux", LINUX64: "linux64"}
@@ -16,13 +16,27 @@ WIDE_REGISTERS = ["RIP", "RAX", "RBX", "RCX", "RDX", "RSI", "RDI", "RBP", "RSP",
 KERNEL, MODULE, INFORMATION, BOOT_PARAMETERS, COMMAND_LINE, GDT, INITRD, PAGE_TABLES = range(1, 9)
 
 
+class Origin(NamedTuple):
+    """Where a piece's bytes stand: in which of the entry's files, the kernel's being 0, and from which
+    offset on."""
+    file: int
+    offset: int
+
+
+class Piece(NamedTuple):
+    """Bytes of a part from an offset in it on; without an origin the loader makes them."""
+    offset: int
+    data: bytes
+    origin: Optional[Origin] = None
+
+
 class Part(NamedTuple):
     """Its bytes are the pieces, each at its offset in the part, and zeros elsewhere."""
     role: int
     index: int
     address: int
     length: int
-    pieces: List[Tuple[int, bytes]]
+    pieces: List[Piece]
 
 
 class Handover(NamedTuple):
@@ -35,11 +49,15 @@ def in_order(parts: List[Part]) -> List[Part]:
     return sorted(parts, key=lambda part: part.address)
 
 
+def in_part_order(pieces: List[Piece]) -> List[Piece]:
+    return sorted(pieces, key=lambda piece: piece.offset)
+
+
 def part_bytes(part: Part) -> bytes:
     """All bytes of a part."""
     data = bytearray(part.length)
-    for offset, piece in part.pieces:
-        data[offset:offset + len(piece)] = piece
+    for piece in part.pieces:
+        data[piece.offset:piece.offset + len(piece.data)] = piece.data
     return bytes(data)
 
 

@@ -3,7 +3,7 @@
 from typing import Dict, Iterator, List, NamedTuple, Optional, Tuple
 
 from .handover import (INITRD, LINUX64, PAGE_TABLES, PROTOCOL_NAMES, REGISTERS, WIDE_REGISTERS,
-                       Handover, Part)
+                       Handover, Part, Piece, in_part_order)
 from .numbers import long, u32, u64, word
 from .refusals import refuse
 
@@ -56,24 +56,30 @@ class Image(NamedTuple):
 
 def chunks(handover: Handover, version: int = WRITTEN) -> Iterator[bytes]:
     """The image's bytes, in some pieces that follow each other."""
-    yield MAGIC + word(version) + word(handover.protocol)
-    for name in fields_of(version, handover.protocol):
-        value = 0 if name is ABSENT else handover.registers[name]
-        yield value.to_bytes(WIDTHS[version], "little")
-    yield word(len(handover.parts)) + word(0)
-    for part in handover.parts:
-        yield word(part.role) + word(part.index) + long(part.address) + long(part.length)
+    yield head(handover, version)
     for part in handover.parts:
         yield from part_chunks(part)
+
+
+def head(handover: Handover, version: int = WRITTEN) -> bytes:
+    """The head and the records: all that stands before the bytes of the parts."""
+    data = MAGIC + word(version) + word(handover.protocol)
+    for name in fields_of(version, handover.protocol):
+        value = 0 if name is ABSENT else handover.registers[name]
+        data += value.to_bytes(WIDTHS[version], "little")
+    data += word(len(handover.parts)) + word(0)
+    for part in handover.parts:
+        data += word(part.role) + word(part.index) + long(part.address) + long(part.length)
+    return data
 
 
 def part_chunks(part: Part) -> Iterator[bytes]:
     """The part's pieces, with zeros before, between and after them."""
     at = 0
-    for offset, piece in sorted(part.pieces):
-        yield from zeros(offset - at)
-        yield piece
-        at = offset + len(piece)
+    for piece in in_part_order(part.pieces):
+        yield from zeros(piece.offset - at)
+        yield piece.data
+        at = piece.offset + len(piece.data)
     yield from zeros(part.length - at)
 
 
@@ -87,11 +93,16 @@ def spell(handover: Handover, version: int = WRITTEN) -> bytes:
     return b"".join(chunks(handover, version))
 
 
+def handover_of(image: Image) -> Handover:
+    """What was read as what is handed over."""
+    return Handover(image.protocol, image.registers, [
+        Part(part.role, part.index, part.address, len(part.data), [Piece(0, part.data)])
+        for part in image.parts])
+
+
 def spell_read(image: Image, version: int = WRITTEN) -> bytes:
     """The whole image of what was read."""
-    parts = [Part(part.role, part.index, part.address, len(part.data), [(0, part.data)])
-             for part in image.parts]
-    return spell(Handover(image.protocol, image.registers, parts), version)
+    return spell(handover_of(image), version)
 
 
 # ---- read

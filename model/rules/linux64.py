@@ -5,7 +5,7 @@ from typing import Dict
 
 from . import paging
 from .bzimage import Setup
-from .handover import LINUX64, PAGE_TABLES, Part, registers_of
+from .handover import LINUX64, PAGE_TABLES, Part, Piece, registers_of
 from .places import GIB4, Planner
 from .refusals import refuse
 
@@ -24,7 +24,7 @@ def check_entry(setup: Setup) -> None:
 
 def page_tables(planner: Planner) -> Part:
     at = planner.part(PAGE_TABLES).lowest(paging.LENGTH, paging.FRAME, 0x1000, GIB4)
-    return Part(PAGE_TABLES, 0, at, paging.LENGTH, [(0, paging.tables(at))])
+    return Part(PAGE_TABLES, 0, at, paging.LENGTH, [Piece(0, paging.tables(at))])
 
 
 def registers(kernel: int, params: int, gdt_base: int, tables: int) -> Dict[str, int]:

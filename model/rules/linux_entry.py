@@ -4,7 +4,7 @@ from typing import Optional
 
 from . import boot_params, bzimage, linux64, paging
 from .handover import (BOOT_PARAMETERS, COMMAND_LINE, GDT, INITRD, KERNEL, LINUX, LINUX64, Handover,
-                       Part, in_order, registers_of)
+                       Origin, Part, Piece, in_order, registers_of)
 from .machine import Machine, normal_map
 from .numbers import FRAME, frames
 from .places import GIB4, MIB, Planner
@@ -41,12 +41,13 @@ def prepare(machine: Machine, kernel_file: bytes, line: bytes, initrd: Optional[
         kernel.address, disk_at, len(disk), line_at, runs))
     parts = [
         kernel,
-        Part(BOOT_PARAMETERS, 0, params_at, FRAME, [(0, params)]),
-        Part(COMMAND_LINE, 0, line_at, FRAME, [(0, line)]),
-        Part(GDT, 0, gdt_at, FRAME, [(0, paging.gdt64() if is_wide else boot_params.gdt())]),
+        Part(BOOT_PARAMETERS, 0, params_at, FRAME, [Piece(0, params)]),
+        Part(COMMAND_LINE, 0, line_at, FRAME, [Piece(0, line)]),
+        Part(GDT, 0, gdt_at, FRAME,
+             [Piece(0, paging.gdt64() if is_wide else boot_params.gdt())]),
     ]
     if disk:
-        parts.append(Part(INITRD, 0, disk_at, disk_length, [(0, disk)]))
+        parts.append(Part(INITRD, 0, disk_at, disk_length, [Piece(0, disk, Origin(1, 0))]))
     if tables is not None:
         parts.append(tables)
         registers = linux64.registers(kernel.address, params_at, gdt_at, tables.address)
@@ -65,4 +66,4 @@ def linux_kernel(planner: Planner, setup: bzimage.Setup, payload: bytes) -> Part
         end = max(MIB + len(payload), setup.pref_address + setup.init_size)
         length = end - MIB
         at = planner.fixed(MIB, end)
-    return Part(KERNEL, 0, at, length, [(0, payload)])
+    return Part(KERNEL, 0, at, length, [Piece(0, payload, Origin(0, setup.payload_at))])

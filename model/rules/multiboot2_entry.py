@@ -4,8 +4,8 @@ from typing import List, Optional, Tuple
 
 from . import elf, information, multiboot2
 from .elf import Segment
-from .handover import (INFORMATION, KERNEL, MODULE, MULTIBOOT2, Handover, Part, in_order,
-                       registers_of)
+from .handover import (INFORMATION, KERNEL, MODULE, MULTIBOOT2, Handover, Origin, Part, Piece,
+                       in_order, registers_of)
 from .machine import Machine, high_kib, low_kib, normal_map
 from .numbers import FRAME, frames
 from .places import GIB4, MIB, Planner
@@ -45,25 +45,27 @@ def prepare(machine: Machine, kernel: bytes, line: bytes,
     for i, (file, module_line) in enumerate(modules):
         length = max(frames(len(file)), 1) * FRAME
         at = planner.part(MODULE, i).lowest(length, FRAME, MIB, GIB4)
-        parts.append(Part(MODULE, i, at, length, [(0, file)]))
+        parts.append(Part(MODULE, i, at, length, [Piece(0, file, Origin(i + 1, 0))]))
         told_modules.append(information.Module(at, at + len(file), module_line))
     told = information.spell(information.Information(
         line, told_modules, low_kib(machine.regions), high_kib(machine.regions),
         normal_map(machine.regions), load_base, rsdp_old, rsdp_new))
     length = frames(len(told)) * FRAME
     at = planner.part(INFORMATION).lowest(length, FRAME, 0x1000, GIB4)
-    parts.append(Part(INFORMATION, 0, at, length, [(0, told)]))
+    parts.append(Part(INFORMATION, 0, at, length, [Piece(0, told)]))
     registers = {**registers_of(MULTIBOOT2), "EIP": entered + moved_by, "EBX": at}
     return Handover(MULTIBOOT2, registers, in_order(parts))
 
 
-def contents(segment: Segment, file: bytes) -> bytes:
-    return file[segment.offset:segment.offset + segment.filesz]
+def contents(segment: Segment, file: bytes, at: int = 0) -> Piece:
+    """Of a segment that begins at an offset in its part."""
+    data = file[segment.offset:segment.offset + segment.filesz]
+    return Piece(at, data, Origin(0, segment.offset))
 
 
 def fixed_segment(planner: Planner, index: int, segment: Segment, file: bytes) -> Part:
     at = planner.part(KERNEL, index).fixed(segment.address, segment.end)
-    return Part(KERNEL, index, at, segment.memsz, [(0, contents(segment, file))])
+    return Part(KERNEL, index, at, segment.memsz, [contents(segment, file)])
 
 
 def moved_block(planner: Planner, relocation: multiboot2.Relocation, segments: List[Segment],
@@ -79,5 +81,5 @@ def moved_block(planner: Planner, relocation: multiboot2.Relocation, segments: L
         at = planner.highest(*limits)
     else:
         at = planner.preferred(linked, *limits)
-    pieces = [(s.address - linked, contents(s, file)) for s in segments]
+    pieces = [contents(s, file, s.address - linked) for s in segments]
     return Part(KERNEL, 0, at, length, pieces)

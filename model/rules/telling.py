@@ -3,15 +3,15 @@ number, and hints. FORMATS.md "What the program says"."""
 
 from typing import Callable, List, Optional, Tuple
 
-from . import booting, bzimage, entry as entries, multiboot2_entry
+from . import booting, entry as entries
 from .booting import File
 from .description import Description, MenuEntry
-from .handover import (COMMAND_LINE, INITRD, KERNEL, MODULE, MULTIBOOT2, Handover, Part,
-                       names_of)
+from .handover import Handover, Part, names_of
 from .machine import (FIRST_USABLE, KIND_NAMES, USABLE, Machine, Region, kind_at,
                       usable_ranges)
 from .numbers import FRAME, frames, u16
 from .places import Wanted, undisturbed_frames
+from .plans import FILE, OWN, part_steps
 from .refusals import Refused
 
 ROLES = ["kernel", "module", "information", "boot-params", "command-line", "gdt", "initrd",
@@ -41,40 +41,19 @@ def frames_line(machine: Machine, handover: Optional[Handover], files: List[File
 # ---- a handover
 
 
-def ranges_words(place: int, ranges: List[Tuple[int, int]]) -> str:
-    """Ranges of a file, each an offset and a length; a part that takes no byte has zeros alone."""
-    filled = [f"at {offset}, {count} bytes" for offset, count in ranges if count > 0]
-    return f"file {place} " + ", ".join(filled) if filled else "zeros"
+def source_of(part: Part) -> str:
+    """By the steps of the plan that begin in the part."""
+    steps = list(part_steps(part, bytearray()))
+    of_file = [step for step in steps if step.source == FILE]
+    if of_file:
+        ranges = ", ".join(f"at {step.offset}, {step.length} bytes" for step in of_file)
+        return f"file {of_file[0].file} {ranges}"
+    return "here" if any(step.source == OWN for step in steps) else "zeros"
 
 
-def kernel_source(file: bytes, index: int) -> str:
-    """Of a Multiboot2 kernel's part: the range of its segment; of a moved one those of all, by their
-    addresses."""
-    header, segments, _ = multiboot2_entry.read_kernel(file)
-    if header.relocation is None:
-        segments = [segments[index]]
-    segments = sorted(segments, key=lambda s: s.address)
-    return ranges_words(0, [(s.offset, s.filesz) for s in segments])
-
-
-def source_of(part: Part, entry: MenuEntry, files: List[bytes]) -> str:
-    if part.role == KERNEL and entry.protocol == MULTIBOOT2:
-        return kernel_source(files[0], part.index)
-    if part.role == KERNEL:
-        at = bzimage.read(files[0]).payload_at
-        return ranges_words(0, [(at, len(files[0]) - at)])
-    if part.role in (MODULE, INITRD):
-        place = part.index + 1
-        return ranges_words(place, [(0, len(files[place]))])
-    if part.role == COMMAND_LINE and entry.line == b"":
-        return "zeros"
-    return "here"
-
-
-def handover_lines(machine: Machine, handover: Handover, entry: MenuEntry, files: List[bytes]
-                   ) -> List[str]:
+def handover_lines(machine: Machine, handover: Handover, files: List[File]) -> List[str]:
     lines = [f"part {ROLES[part.role - 1]} {part.index} {part.address:08x} {part.length} from "
-             + source_of(part, entry, files) for part in handover.parts]
+             + source_of(part) for part in handover.parts]
     for name in names_of(handover.protocol):
         value = handover.registers[name]
         lines.append(f"register {name.lower().replace(' ', '_')} {value:016x}")

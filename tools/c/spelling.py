@@ -28,11 +28,10 @@ def accepted(folder):
     return len(rows), read()
 
 
-def spelled(described):
-    """What cases.c reads."""
+def spelled(described, path_named=booting.paths_from(TOP)):
+    """What a driver reads, by case.h; path_named says what is at a path."""
     contents, files, modules, entries = bytearray(), [], [], []
     indices = {}
-    paths = booting.paths_from(TOP)
 
     def range_of(given):
         contents.extend(given)
@@ -41,7 +40,7 @@ def spelled(described):
     def file_of(name):
         if name not in indices:
             indices[name] = len(files)
-            whole = described.files[name] if name in described.files else paths(name)
+            whole = described.files[name] if name in described.files else path_named(name)
             files.append(MISSING if whole is None else range_of(whole))
         return indices[name]
 
