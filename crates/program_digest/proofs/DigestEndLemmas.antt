@@ -1,9 +1,10 @@
 -- How the digest of a boot ends, by what its steps answer.
-use Rattle.std.proofs.Common.{◌≡◌, ◌++◌, ℕ, List, Some, Result, Ok, Err, map, inl, inr, refl}
+use Rattle.std.proofs.Common.{◌≡◌, ◌++◌, ℕ, List, Some, Result, Ok, Err, map, inl, inr, refl, subst}
 use Rattle.std.specs.declared.alloc.AllocError.{AllocError}
 use Rattle.bl_map.specs.MachineFacts.{MachineFacts}
 use Rattle.bl_load.specs.WellFormedEntry.{IsWellFormedValue}
 use Rattle.bl_stage.specs.Files.{File, size_of}
+use Rattle.bl_session.specs.menu.Menu.{MenuFacts}
 use Rattle.bl_session.specs.menu.MenuFiles.{entry_value_in}
 use Rattle.bl_session.specs.session.Phases.{boot_facts}
 use Rattle.program_desc.specs.declared.desc.Description.{Description}
@@ -56,7 +57,7 @@ module _ {F : Type 0} (answers : F → List ℕ → File → Type 0) (faults : F
             found = found;
           }
 
-          pub booted_by : (old new : List ℕ) (end : End)
+          booted_by : (old new : List ℕ) (end : End)
               → FoundDigestEnds (view d)
               (boot_facts facts (menu_of (view d)) (map size_of files)) files old new (Ok end)
               → DigestEnds answers faults desc before after old new (Ok end)
@@ -75,6 +76,19 @@ module _ {F : Type 0} (answers : F → List ℕ → File → Type 0) (faults : F
             outcome = came;
             said = said;
           }
+
+          -- by the menu and the files that were found
+          pub ends_by : (menu : MenuFacts) (fetched : List File) → menu ≡ menu_of (view d)
+              → fetched ≡ files → (old new : List ℕ) (end : End)
+              → FoundDigestEnds (view d)
+              (boot_facts facts menu (map size_of fetched)) fetched old new (Ok end)
+              → DigestEnds answers faults desc before after old new (Ok end)
+          ends_by menu fetched is same old new end ended =
+              booted_by old new end
+              (subst (λ (found : List File). FoundDigestEnds (view d)
+              (boot_facts facts (menu_of (view d)) (map size_of found)) found old new (Ok end)) same
+              (subst (λ (m : MenuFacts). FoundDigestEnds (view d)
+              (boot_facts facts m (map size_of fetched)) fetched old new (Ok end)) is ended))
 
 -- each name was asked for, whatever came of the boot
 pub digest_asked : (ended : Result End DescFault) (names before after : List (List ℕ))

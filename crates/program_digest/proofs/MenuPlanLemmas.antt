@@ -3,6 +3,7 @@ use Rattle.std.proofs.Common.{◌≡◌, ◌<◌, ◌+◌, ◌++◌, ◌∙◌, 
 use Rattle.std.proofs.Common.{length, map, drop, get_or, Option, None, refl, sym, ap, subst, arith}
 use Rattle.std.proofs.Common.{if◌then◌else◌, add-one, drop-cons}
 use Rattle.bl_map.specs.MachineFacts.{MachineFacts}
+use Rattle.bl_load.specs.declared.entry.Entry.{Entry}
 use Rattle.bl_load.specs.declared.refusal.Refusal.{Refusal}
 use Rattle.bl_load.specs.declared.refused_entry.RefusedEntry.{RefusedEntry}
 use Rattle.bl_load.specs.PlanContents.{handover_by}
@@ -10,14 +11,14 @@ use Rattle.bl_load.specs.declared.plan.Plan.{Plan}
 use Rattle.bl_stage.specs.Files.{File, size_of}
 use Rattle.bl_session.specs.attempt.AttemptResult.{AttemptResult, AttemptHasResult, handed, refused}
 use Rattle.bl_session.specs.attempt.AwaitedPieces.{are_whole}
-use Rattle.bl_session.specs.menu.Menu.{EntryFacts, MenuFacts, entry_at}
+use Rattle.bl_session.specs.menu.Menu.{EntryFacts, MenuFacts, entry_at, facts_of, files_of}
 use Rattle.bl_session.specs.menu.MenuFiles.{entry_value_in, texts_of}
 use Rattle.bl_session.specs.session.BootSteps.{BootFacts, State, handed_over, none_left, sizes_of}
 use Rattle.bl_session.specs.session.BootSteps.{fresh}
 use Rattle.bl_session.specs.session.Outcome.{EntryHasResult, IsFirst}
 use Rattle.bl_session.specs.session.Phases.{boot_facts}
 use Rattle.bl_session.specs.session.Schedules.{no_fault}
-use Rattle.program_digest.specs.internal.EntryPlans.{EntryEnds, IsEntryPlan}
+use Rattle.program_digest.specs.internal.EntryPlans.{EntryEnds, IsEntryPlan, file_texts}
 
 -- without a fault no file is faulty
 none_if : (b : Bool) → (if b then None else None) ≡ (let none : Option ℕ = None in none)
@@ -65,3 +66,11 @@ module _ (machine : MachineFacts) (menu : MenuFacts) (files : List File) where
           entry_result entry (entry_at menu entry) (handed handover) refl ends.ends,
           refl,
         )
+
+-- an entry's files hold the same, by the entry and by its place in the menu
+pub same_texts : {A : Type 0} (machine : MachineFacts) (menu : MenuFacts) (files : List File)
+    (number : ℕ) (entry : Entry A) → facts_of entry ≡ entry_at menu number
+    → texts_of (boot_facts machine menu (map size_of files)) files number
+    ≡ file_texts files (files_of entry)
+same_texts machine menu files number entry is =
+    ap (λ (e : EntryFacts). file_texts files e.files) (sym is)

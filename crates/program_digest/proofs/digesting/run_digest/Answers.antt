@@ -1,6 +1,7 @@
 use Rattle.std.proofs.Common.{All, length, refl, subst}
 use Rattle.std.proofs.lemmas.Result.{err_from_is_err_and}
 use Rattle.bl_load.specs.WellFormedEntry.{IsWellFormedValue}
+use Rattle.bl_stage.specs.Files.{stored_files}
 use Rattle.bl_session.specs.menu.Menu.{MenuFacts}
 use Rattle.bl_session.proofs.menu_lemmas.MenuLemmas.{offered_values}
 use Rattle.program_desc.specs.Described.{described}
@@ -8,7 +9,7 @@ use Rattle.program_desc.specs.Views.{view}
 use Rattle.program_menu.specs.DescribedMenu.{boot_of, max_names}
 use Rattle.program_menu.specs.BootCases.{names_fetched, names_sought}
 use Rattle.program_menu.proofs.AskedLemmas.{fetched, inline_in, none_asked, none_missing, sought}
-use Rattle.program_digest.proofs.DigestEndLemmas.{booted_by, digest_asked, undescribed}
+use Rattle.program_digest.proofs.DigestEndLemmas.{digest_asked, ends_by, undescribed}
 use Rattle.program_digest.proofs.DigestEndLemmas.{without_machine}
 use Rattle.program_digest.proofs.digesting.run_digest.Goals as goal
 
@@ -72,3 +73,34 @@ returns-in_err-ready g c =
       missing = rw (sought c.args.desc.now d is) c.in_err-ready.ensures.missing;
       few = c.in_err-ready.ensures.few;
     })
+
+pub returns-in_err-digest_found-clause-asked : goal.returns-in_err-digest_found-clause-asked
+returns-in_err-digest_found-clause-asked g c =
+    digest_asked c.from_residual-in_err-digest_found.result
+    (names_fetched (described c.args.desc.now)) (g.F.Files.asked c.args.files.now) _
+    (rw (fetched c.args.desc.now c.in_ok-description.description
+    c.in_ok-description.ensures.given) c.in_ok-ready.ensures.asked)
+
+pub returns-in_err-digest_found-clause-inline : goal.returns-in_err-digest_found-clause-inline
+returns-in_err-digest_found-clause-inline g c = λ has. c.in_ok-ready.ensures.inline
+    (inline_in c.args.desc.now c.in_ok-description.description c.in_ok-description.ensures.given
+    has)
+
+pub returns-clause-ends : goal.returns-clause-ends
+returns-clause-ends g c =
+    let files = c.in_ok-ready.ready.store.files in
+    ends_by g.F.Files.answers g.F.Files.faults c.args.desc.now
+    c.in_ok-description.description c.in_ok-description.ensures.given
+    c.in_ok-machine.machine c.in_ok-machine.ensures.machine _ _ files c.in_ok-ready.ensures.found
+    (λ entry. offered_values
+    (boot_of (view c.in_ok-description.description) c.in_ok-machine.machine files) files entry
+    (subst (λ (m : MenuFacts). All (λ e. IsWellFormedValue e.blank) m.entries)
+    c.in_ok-ready.ensures.menu c.in_ok-ready.ensures.well_formed))
+    c.in_ok-ready.ready.menu (stored_files c.fetched.result.now)
+    c.in_ok-ready.ensures.menu c.fetched.ensures _ _
+    c.in_ok-digest_found.field-0 c.in_ok-digest_found.ensures
+
+pub returns-clause-inline : goal.returns-clause-inline
+returns-clause-inline g c = λ has. c.in_ok-ready.ensures.inline
+    (inline_in c.args.desc.now c.in_ok-description.description c.in_ok-description.ensures.given
+    has)
