@@ -36,8 +36,8 @@ static bootcore_session *session;
 static bootcore_request request;
 static bootcore_bytes files[2];
 static size_t file_count;
-static const uint8_t *piece;
-static size_t piece_length;
+static const uint8_t *piece, *fed;
+static size_t fed_length;
 static bootcore_digest kept_digest, kept_before, *digest;
 static bootcore_digests digests, digests_before, *told_digests;
 static bootcore_part_digest part_digests[4], part_digests_before[4], *told_parts;
@@ -89,7 +89,8 @@ static void right(void) {
     outcome.refusal_room = BOOTCORE_MAX_REFUSALS;
     session = &kept;
     piece = (const uint8_t *)kernel;
-    piece_length = 4;
+    fed = bytes;
+    fed_length = 4;
     request.length = sizeof kernel;
     memset(&digests, 0xA5, sizeof digests);
     memset(part_digests, 0xA5, sizeof part_digests);
@@ -131,7 +132,8 @@ static void null_digest(void) { digest = NULL; }
 static void null_digests(void) { told_digests = NULL; }
 static void null_parts(void) { told_parts = NULL; }
 static void null_refusal(void) { told_refusal = NULL; }
-static void long_piece(void) { piece_length = sizeof kernel; }
+static void null_fed(void) { fed = NULL; }
+static void long_fed(void) { fed_length = sizeof kernel + 1; } /* the first range is the whole kernel */
 static void set_machine(void) { machine.reserved = 1; }
 static void set_region(void) { regions[2].reserved = 1; }
 static void set_entry(void) { entries[0].reserved = 1; }
@@ -269,12 +271,12 @@ static const change of_digest_entry[] = {
     CHANGE(bad_protocol, BOOTCORE_BAD_PROTOCOL), CHANGE(many_modules, BOOTCORE_TOO_MANY), CHANGE(more_modules, BOOTCORE_TOO_MANY),
     CHANGE(long_rsdp, BOOTCORE_TOO_MANY), CHANGE(no_kernel, BOOTCORE_REFUSED), CHANGE(nothing, BOOTCORE_DONE)};
 /* a struct that keeps no digest, and one that does */
-static const change of_no_feed[] = {CHANGE(null_digest, BOOTCORE_NULL), CHANGE(null_piece, BOOTCORE_NULL),
-                                    CHANGE(long_piece, BOOTCORE_NO_SESSION), CHANGE(nothing, BOOTCORE_NO_SESSION)};
+static const change of_no_feed[] = {CHANGE(null_digest, BOOTCORE_NULL), CHANGE(null_fed, BOOTCORE_NULL),
+                                    CHANGE(long_fed, BOOTCORE_NO_SESSION), CHANGE(nothing, BOOTCORE_NO_SESSION)};
 static const change of_no_digest[] = {CHANGE(null_digest, BOOTCORE_NULL), CHANGE(null_digests, BOOTCORE_NULL),
                                       CHANGE(null_parts, BOOTCORE_NULL), CHANGE(nothing, BOOTCORE_NO_SESSION)};
-static const change of_feed[] = {CHANGE(null_digest, BOOTCORE_NULL), CHANGE(null_piece, BOOTCORE_NULL),
-                                 CHANGE(long_piece, BOOTCORE_UNWANTED)};
+static const change of_feed[] = {CHANGE(null_digest, BOOTCORE_NULL), CHANGE(null_fed, BOOTCORE_NULL),
+                                 CHANGE(long_fed, BOOTCORE_UNWANTED)};
 static const change of_told[] = {CHANGE(null_digest, BOOTCORE_NULL), CHANGE(null_digests, BOOTCORE_NULL),
                                  CHANGE(null_parts, BOOTCORE_NULL), CHANGE(nothing, BOOTCORE_WAITING)};
 
@@ -296,7 +298,7 @@ static uint32_t carry_out(void) { return bootcore_carry_out(&layout, files, file
 
 static uint32_t digest_make(void) { return bootcore_digest_make(digest, &machine, entries, told_refusal); }
 static uint32_t digest_entry(void) { return bootcore_digest_entry(&machine, entries, told_digests, told_parts, 4, told_refusal); }
-static uint32_t digest_feed(void) { return bootcore_digest_feed(digest, piece, piece_length); }
+static uint32_t digest_feed(void) { return bootcore_digest_feed(digest, fed, fed_length); }
 static uint32_t digest_told(void) { return bootcore_digest_told(digest, told_digests, told_parts, 4); }
 
 static int tried, wrong;
