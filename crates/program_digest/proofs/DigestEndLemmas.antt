@@ -1,6 +1,5 @@
 -- How the digest of a boot ends, by what its steps answer.
 use Rattle.std.proofs.Common.{◌≡◌, ◌++◌, ℕ, List, Some, Result, Ok, Err, map, inl, inr, refl, subst}
-use Rattle.std.specs.declared.alloc.AllocError.{AllocError}
 use Rattle.bl_map.specs.MachineFacts.{MachineFacts}
 use Rattle.bl_load.specs.WellFormedEntry.{IsWellFormedValue}
 use Rattle.bl_stage.specs.Files.{File, size_of}
@@ -18,7 +17,7 @@ use Rattle.program_menu.specs.DescribedMenu.{attempted_file_names, boot_of, menu
 use Rattle.program_menu.specs.FoundFiles.{AreFound}
 use Rattle.program_menu.specs.declared.boot_end.End.{End}
 use Rattle.program_menu.specs.declared.boot_end.End.TheVariants.{Booted, NoEntryLeft}
-use Rattle.program_menu.proofs.AskedLemmas.{all_asked, none_asked}
+use Rattle.program_menu.proofs.AskedLemmas.{all_asked}
 use Rattle.program_digest.specs.internal.DigestEnds.{DigestAsks, DigestEnds, FoundDigestEnds}
 
 -- files of a type F

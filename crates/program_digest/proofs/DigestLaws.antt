@@ -1,6 +1,5 @@
 -- Digests are those of the images that boots write, and an image has one table.
 use Rattle.std.proofs.Common.{◌≡◌, ◌∙◌, ◌++◌, ℕ, List, Some, refl, sym, ap}
-use Rattle.std.proofs.lemmas.List.{append_cancel_left}
 use Rattle.bl_digest.specs.Digests.{digests_of}
 use Rattle.bl_load.specs.Handover.{Handover}
 use Rattle.bl_image.specs.Image.{spelling}
@@ -37,46 +36,46 @@ module _ {F : Type 0} {answers : F → List ℕ → File → Type 0} {faults : F
   -- beside another boot or digest
   module _ {G : Type 0} {replies : G → List ℕ → File → Type 0} {wants : G → ℕ} {other : List ℕ}
     where
-    pub of_booted : {began ended : Surroundings G} (b : IsBooted replies wants other began ended)
-        → a.case.facts ≡ b.case.facts → entry_value_at a.case a.entry ≡ entry_value_at b.case b.entry
-        → (image table : List ℕ) × (ended.sink ≡ began.sink ++ image) × HasDigestLines image table
-        × (new ≡ old ++ (lines ++ table))
-    of_booted b machine value =
-        let f = boot_of a.case.description a.case.facts a.case.files in
-        let g = boot_of b.case.description b.case.facts b.case.files in
-        let same : a.handover ≡ b.handover =
-        same_handover f g a.case.files b.case.files no_fault no_fault
-        a.entry b.entry
-        a.earlier b.earlier a.handover b.handover machine value a.outcome b.outcome in (
-          spelling written_version b.handover,
-          table_by b.handover,
-          b.image,
-          record {
-            version = written_version;
-            handover = b.handover;
-            is = record { is = refl; has = tt; kept = b.kept };
-            lines_are = refl;
-          },
-          a.said ∙ ap (λ (h : Handover). old ++ (lines ++ table_by h)) same,
-        )
+      pub of_booted : {began ended : Surroundings G} (b : IsBooted replies wants other began ended)
+          → a.case.facts ≡ b.case.facts → entry_value_at a.case a.entry ≡ entry_value_at b.case b.entry
+          → (image table : List ℕ) × (ended.sink ≡ began.sink ++ image) × HasDigestLines image table
+          × (new ≡ old ++ (lines ++ table))
+      of_booted b machine value =
+          let f = boot_of a.case.description a.case.facts a.case.files in
+          let g = boot_of b.case.description b.case.facts b.case.files in
+          let same : a.handover ≡ b.handover =
+          same_handover f g a.case.files b.case.files no_fault no_fault
+          a.entry b.entry
+          a.earlier b.earlier a.handover b.handover machine value a.outcome b.outcome in (
+            spelling written_version b.handover,
+            table_by b.handover,
+            b.image,
+            record {
+              version = written_version;
+              handover = b.handover;
+              is = record { is = refl; has = tt; kept = b.kept };
+              lines_are = refl;
+            },
+            a.said ∙ ap (λ (h : Handover). old ++ (lines ++ table_by h)) same,
+          )
 
-    pub of_digested : {began ended : G} {was is : List ℕ}
-        (b : IsDigested replies wants other began ended was is)
-        → a.case.facts ≡ b.case.facts → entry_value_at a.case a.entry ≡ entry_value_at b.case b.entry
-        → (table : List ℕ) × (new ≡ old ++ (lines ++ table))
-        × (is ≡ was ++ (boot_lines b.earlier b.entry
-        (described_entry b.case.description b.entry).title ++ table))
-    of_digested b machine value =
-        let f = boot_of a.case.description a.case.facts a.case.files in
-        let g = boot_of b.case.description b.case.facts b.case.files in
-        let same : a.handover ≡ b.handover =
-        same_handover f g a.case.files b.case.files no_fault no_fault
-        a.entry b.entry
-        a.earlier b.earlier a.handover b.handover machine value a.outcome b.outcome in (
-          table_by b.handover,
-          a.said ∙ ap (λ (h : Handover). old ++ (lines ++ table_by h)) same,
-          b.said,
-        )
+      pub of_digested : {began ended : G} {was is : List ℕ}
+          (b : IsDigested replies wants other began ended was is)
+          → a.case.facts ≡ b.case.facts → entry_value_at a.case a.entry ≡ entry_value_at b.case b.entry
+          → (table : List ℕ) × (new ≡ old ++ (lines ++ table))
+          × (is ≡ was ++ (boot_lines b.earlier b.entry
+          (described_entry b.case.description b.entry).title ++ table))
+      of_digested b machine value =
+          let f = boot_of a.case.description a.case.facts a.case.files in
+          let g = boot_of b.case.description b.case.facts b.case.files in
+          let same : a.handover ≡ b.handover =
+          same_handover f g a.case.files b.case.files no_fault no_fault
+          a.entry b.entry
+          a.earlier b.earlier a.handover b.handover machine value a.outcome b.outcome in (
+            table_by b.handover,
+            a.said ∙ ap (λ (h : Handover). old ++ (lines ++ table_by h)) same,
+            b.said,
+          )
 
 -- what was read of bytes that are known is an image of them
 pub said_table : (image old new : List ℕ) (before after : SourceFacts)

@@ -1,10 +1,9 @@
 -- What an entry comes to with its files.
-use Rattle.std.proofs.Common.{◌≡◌, ◌∙◌, ◌<◌, ◌≤◌, ℕ, true, false, List, [], ◌∷◌, length, map}
-use Rattle.std.proofs.Common.{Option, Some, None, refl, sym, ap, subst, arith, inl}
-use Rattle.std.specs.Option.{option_or}
+use Rattle.std.proofs.Common.{◌≡◌, ◌∙◌, ◌<◌, ◌≤◌, ℕ, false, List, [], ◌∷◌, length, map}
+use Rattle.std.proofs.Common.{Option, Some, None, refl, sym, subst, arith, inl}
 use Rattle.std.proofs.lemmas.Bool.Decides.{nat_tests}
 use Rattle.std.proofs.lemmas.List.{length-map}
-use Rattle.std.specs.Prelude.{nat_lt, unwrap_or}
+use Rattle.std.specs.Prelude.{nat_lt}
 use Rattle.bl_map.specs.MachineFacts.{MachineFacts}
 use Rattle.bl_map.specs.PoolFrames.{frames_for, frames_in, open_frames}
 use Rattle.bl_plan.specs.Placed.{place_range}
@@ -18,20 +17,19 @@ use Rattle.bl_load.specs.declared.entry.Module.{Module}
 use Rattle.bl_load.specs.declared.plan.Plan.{Plan}
 use Rattle.bl_load.specs.declared.refusal.PrepFault.{PrepFault}
 use Rattle.bl_load.specs.declared.refusal.PrepFault.TheVariants as prep_fault
-use Rattle.bl_load.specs.declared.refusal.Refusal.{Refusal}
 use Rattle.bl_load.specs.declared.refusal.Refusal.TheVariants.{NoPool}
 use Rattle.bl_stage.specs.Files.{File, size_of}
 use Rattle.bl_session.specs.attempt.AttemptResult.{AttemptResult, handed, refused}
 use Rattle.bl_session.specs.attempt.AttemptResult.{HasWholeFilesResult, file_refusal, size_refusal}
-use Rattle.bl_session.specs.attempt.AttemptResult.{known_lengths, pool_refusal}
+use Rattle.bl_session.specs.attempt.AttemptResult.{known_lengths}
 use Rattle.bl_session.specs.menu.Menu.{facts_of, files_of, value_with}
 use Rattle.bl_session.specs.session.BootSteps.{BootFacts}
 use Rattle.bl_session.proofs.attempt_lemmas.AttemptLemmas.{value_is}
-use Rattle.bl_session.proofs.attempt_lemmas.EntryEndLemmas.{AreRead, are_read, ends_by_size}
+use Rattle.bl_session.proofs.attempt_lemmas.EntryEndLemmas.{AreRead, are_read}
 use Rattle.bl_session.proofs.attempt_lemmas.EntryEndLemmas.{ends_whole}
 use Rattle.bl_session.proofs.attempt_lemmas.FinishLemmas.{has_room, lacks_room}
 use Rattle.program_digest.specs.internal.EntryPlans.{file_sizes, file_texts, EntryEnds, IsEntryPlan}
-use Rattle.program_digest.specs.internal.EntryPlans.{IsPlanFault, IsSizesFault}
+use Rattle.program_digest.specs.internal.EntryPlans.{IsPlanFault}
 
 -- ---- by the sizes
 

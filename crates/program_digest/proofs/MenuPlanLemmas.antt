@@ -1,6 +1,6 @@
 -- What a menu comes to, attempt by attempt.
-use Rattle.std.proofs.Common.{◌≡◌, ◌<◌, ◌+◌, ◌++◌, ◌∙◌, ℕ, Bool, true, false, List, [], ◌∷◌}
-use Rattle.std.proofs.Common.{length, map, drop, get_or, Option, None, refl, sym, ap, subst, arith}
+use Rattle.std.proofs.Common.{◌≡◌, ◌<◌, ◌+◌, ◌++◌, ℕ, Bool, true, false, List, [], ◌∷◌}
+use Rattle.std.proofs.Common.{length, map, drop, get_or, Option, None, refl, sym, ap, subst}
 use Rattle.std.proofs.Common.{if◌then◌else◌, add-one, drop-cons}
 use Rattle.bl_map.specs.MachineFacts.{MachineFacts}
 use Rattle.bl_load.specs.declared.entry.Entry.{Entry}
@@ -13,7 +13,7 @@ use Rattle.bl_session.specs.attempt.AttemptResult.{AttemptResult, AttemptHasResu
 use Rattle.bl_session.specs.attempt.AwaitedPieces.{are_whole}
 use Rattle.bl_session.specs.menu.Menu.{EntryFacts, MenuFacts, entry_at, facts_of, files_of}
 use Rattle.bl_session.specs.menu.MenuFiles.{entry_value_in, texts_of}
-use Rattle.bl_session.specs.session.BootSteps.{BootFacts, State, handed_over, none_left, sizes_of}
+use Rattle.bl_session.specs.session.BootSteps.{BootFacts, State, handed_over, sizes_of}
 use Rattle.bl_session.specs.session.BootSteps.{fresh}
 use Rattle.bl_session.specs.session.Outcome.{EntryHasResult, IsFirst}
 use Rattle.bl_session.specs.session.Phases.{boot_facts}

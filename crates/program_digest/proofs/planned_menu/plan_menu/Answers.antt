@@ -1,10 +1,7 @@
-use Rattle.std.proofs.Common.{◌≡◌, ◌<◌, ◌≤◌, [], arith, drop, length, map, refl, subst}
+use Rattle.std.proofs.Common.{◌<◌, ◌≤◌, arith, length, refl}
 use Rattle.std.proofs.lemmas.List.{drop_all}
-use Rattle.bl_load.specs.PlanContents.{handover_by}
-use Rattle.bl_stage.specs.Files.{size_of, stored_files}
+use Rattle.bl_stage.specs.Files.{stored_files}
 use Rattle.bl_session.specs.menu.Menu.{facts_of}
-use Rattle.bl_session.specs.session.BootSteps.{none_left}
-use Rattle.program_digest.specs.internal.EntryPlans.{IsPlanFault}
 use Rattle.program_digest.proofs.MenuPlanLemmas.{handed_here, refused_here}
 use Rattle.program_digest.proofs.planned_menu.plan_menu.Goals as goal
 

@@ -1,4 +1,4 @@
-use Rattle.std.proofs.Common.{◌≡◌, List, ℕ, map, subst}
+use Rattle.std.proofs.Common.{List, ℕ, map, subst}
 use Rattle.bl_load.specs.Loadable.{lengths_of, IsLoadable}
 use Rattle.bl_load.specs.PlanContents.{handover_by}
 use Rattle.bl_stage.specs.Files.{size_of, stored_files}
@@ -38,8 +38,8 @@ returns-in_ok-say_digested-in-HandsOver g c =
       planned.refused.items,
       handover_by (file_texts files (files_of entry)) planned.plan,
       subst (λ (t : List (List ℕ)). IsOutcome (boot_facts machine menu (map size_of files)) files
-      no_fault (handed_over planned.entry planned.refused.items (handover_by t planned.plan)))
-      texts outcome,
+          no_fault (handed_over planned.entry planned.refused.items (handover_by t planned.plan)))
+          texts outcome,
       rw (c.deref.ensures.value, c.title_of-title.ensures, c.in_ok-digests-in-HandsOver.ensures)
           at c.in_ok-say_digested-in-HandsOver.ensures.ok,
     )
