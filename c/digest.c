@@ -62,8 +62,9 @@ BOOTCORE_CALL
 uint32_t bootcore_digest_entry(const bootcore_machine *machine, const bootcore_entry *entry,
                                bootcore_digests *digests, bootcore_part_digest *parts,
                                size_t room, bootcore_refusal *refusal) {
+    const bootcore_menu menu = {entry, 1, NULL, 0, 0, 0};
     bootcore_crossing_machine given_machine;
-    bootcore_given_entry given;
+    bootcore_crossing_entry *given;
     bootcore_part_digest no_part;
     uint32_t status;
     if (bootcore_machine_has_null(machine) || bootcore_entry_has_null(entry, BOOTCORE_READS_ALL) ||
@@ -74,9 +75,15 @@ uint32_t bootcore_digest_entry(const bootcore_machine *machine, const bootcore_e
     if (status != BOOTCORE_DONE) {
         return status;
     }
+    /* not on the stack, since of all calls the core needs most of it here */
+    given = bootcore_menu_crossing(&menu, BOOTCORE_READS_ALL);
+    if (!given) {
+        return BOOTCORE_NO_MEMORY;
+    }
     given_machine = bootcore_machine_crossing(machine);
-    bootcore_entry_crossing(entry, BOOTCORE_READS_ALL, &given);
-    return bootcore_digest_entry_arrays(&given_machine, bootcore_regions_crossing(machine),
-                                        machine->region_count, &given.entry, digests,
-                                        room ? parts : &no_part, room, refusal);
+    status = bootcore_digest_entry_arrays(&given_machine, bootcore_regions_crossing(machine),
+                                          machine->region_count, given, digests,
+                                          room ? parts : &no_part, room, refusal);
+    rattle_dealloc(given);
+    return status;
 }

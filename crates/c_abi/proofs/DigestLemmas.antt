@@ -1,5 +1,5 @@
 -- A digest is that of all files of an entry.
-use Rattle.std.proofs.Common.{◌≡◌, ◌≤◌, ◌<◌, ◌+◌, ◌∙◌, ℕ, zero, suc, List, [], ◌∷◌, All, length}
+use Rattle.std.proofs.Common.{◌≡◌, ◌≤◌, ℕ, List, [], ◌∷◌, All, length}
 use Rattle.std.proofs.Common.{ap, sym, subst, refl, arith}
 use Rattle.std.proofs.Common.{Result, Ok, Err, IfOk, IfErr, OnOk}
 use Rattle.std.proofs.lemmas.List.Elements.{All-nil, All-cons, All-head, All-tail, All-append}
@@ -10,7 +10,6 @@ use Rattle.bl_load.specs.declared.step.Step.{Step}
 use Rattle.bl_load.specs.declared.step.StepSource.{StepSource}
 use Rattle.bl_load.specs.declared.step.StepSource.TheVariants.{File, Own, Zeros}
 use Rattle.bl_load.specs.EntryValue.{EntryValue, value_of}
-use Rattle.bl_load.specs.Handover.{Handover}
 use Rattle.bl_load.specs.Loadable.{lengths_of, IsLoadable}
 use Rattle.bl_load.specs.Parts.{IsHandover}
 use Rattle.bl_load.specs.PlanContents.{handover_by}

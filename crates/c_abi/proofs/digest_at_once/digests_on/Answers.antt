@@ -1,4 +1,4 @@
-use Rattle.std.proofs.Common.{◌≡◌, ◌∙◌, ℕ, List, ap, map, refl, subst, sym}
+use Rattle.std.proofs.Common.{◌≡◌, ◌∙◌, ℕ, List, ap, map, subst, sym}
 use Rattle.bl_mem.specs.declared.byte_view.SliceView.{SliceView}
 use Rattle.bl_digest.specs.Digests.{digests_of}
 use Rattle.bl_load.specs.EntryValue.{EntryValue}

@@ -1,4 +1,4 @@
-use Rattle.std.proofs.Common.{◌≡◌, ◌∙◌, ap, refl, subst, sym}
+use Rattle.std.proofs.Common.{◌∙◌, ap, refl, subst, sym}
 use Rattle.bl_map.specs.MachineFacts.{MachineFacts}
 use Rattle.bl_digest.specs.Digests.{digests_of}
 use Rattle.bl_digest.specs.PlanInSteps.{DigestingFacts, handover_in_steps}

@@ -1,7 +1,7 @@
-use Rattle.std.proofs.Common.{◌≡◌, ◌∙◌, ℕ, List, ap, refl, sym}
+use Rattle.std.proofs.Common.{◌∙◌, List, ap, refl, sym}
 use Rattle.bl_digest.specs.declared.image_digest.ImageDigest.{ImageDigest}
 use Rattle.bl_digest.specs.declared.part_digest.PartDigest.{PartDigest}
-use Rattle.bl_digest.specs.Digests.{digests_of, image_digest}
+use Rattle.bl_digest.specs.Digests.{image_digest}
 use Rattle.bl_digest.specs.PlanInSteps.{handover_in_steps}
 use Rattle.c_abi.specs.DigestTold.{tells_digests}
 use Rattle.c_abi.specs.internal.Tellings.{digests_facts}
