@@ -216,6 +216,26 @@ class Pages(Checks):
         usage = first_match(r"^bootcore (.+)$", source)
         self.ends(f"tools/version prints the version of the usage text in {source}", ran, 0, usage + "\n")
 
+    def test_usage(self) -> None:
+        """The manual page and docs/FORMATS.md describe each subcommand of the usage text with its options, and no other."""
+        usage = (TOP / "crates/bootcore/src/program.rt").read_text(encoding="utf-8")
+        calls = re.findall(r"^(?:usage:)? +bootcore ([a-z]+)(.*)$", usage, re.M)
+        wanted: Dict[str, Set[str]] = {name: set() for name, _ in calls}
+        for name, rest in calls:
+            wanted[name].update(re.findall(r"--\w+", rest))
+        manual = MANUAL_PAGE.read_text(encoding="utf-8").replace("\\-", "-")
+        described, options = manual.split(".SH DESCRIPTION")[1].split(".SH EXIT STATUS")[0].split(".SH OPTIONS")
+        with self.check("the manual page has a paragraph of each subcommand, and of each option"):
+            self.assertEqual(sorted(re.findall(r"^\.TP\n\.B (\w+)$", described, re.M)), sorted(wanted))
+            told = set(re.findall(r"^\.TP\n\.B\w* (--\w+)", options, re.M))
+            self.assertEqual(sorted(told), sorted(set().union(*wanted.values(), {"--help"})))
+        with self.check("docs/FORMATS.md has a row of each subcommand with its options"):
+            page = (TOP / "docs/FORMATS.md").read_text(encoding="utf-8")
+            found: Dict[str, Set[str]] = {name: set() for name in wanted}
+            for name, row in re.findall(r"^\| `bootcore ([a-z]+) (.*)$", page, re.M):
+                found.setdefault(name, set()).update(re.findall(r"--\w+", row))
+            self.assertEqual(found, wanted)
+
     def test_completions(self) -> None:
         (self.room / ".zshrc").write_text(ZSHRC)
         env = {name: str(self.room) for name in ("HOME", "XDG_CONFIG_HOME", "XDG_DATA_HOME", "ZDOTDIR")}
