@@ -17,6 +17,8 @@ LINK_TO_HEADING = re.compile(r"\]\(([^)#\s]*)#([^)\s]+)\)")
 CONFLICT = re.compile(r"(<{7}|>{7}) ")
 MANUAL_PAGE = TOP / "docs/bootcore.1"
 
+DRAWN_FROM_SOURCES = ["layers", "session", "frame", "efi"]
+DRAWN_BY_PROGRAM = ["first", "second", "boot"]
 TOOLS = [
     ("each link to a definition or a clause has its line", "tools/anchors", "--check"),
     ("no name is declared more than once but those of tools/names.txt", "tools/names"),
@@ -31,6 +33,7 @@ TOOLS = [
     ("each must-fail edit changes a line that stands once, those of docs/EDITS.md in the function named there", "tools/edits"),
     ("the completions are those of the table of tools/completions, which has the calls of USAGE", "tools/completions", "--check"),
     ("docs/PLANTS.md has a row of each crate but those of tests, and a reason in each", "tools/plants", "--check"),
+    ("each picture that sources decide is what tools/pictures draws", "tools/pictures", "--check", *DRAWN_FROM_SOURCES),
     ("CONTRIBUTING.md lists each place where a refusal and a key stand", "tools/refusal_places", "--check"),
 ]
 
@@ -189,6 +192,13 @@ class Pages(Checks):
             ) if words not in text]
             self.assertEqual(missing, [])
 
+    def test_pictures(self) -> None:
+        """each picture of docs/pictures is one of those that tools/pictures draws, and no page shows another one"""
+        drawn = sorted(f"{name}.svg" for name in DRAWN_FROM_SOURCES + DRAWN_BY_PROGRAM)
+        self.assertEqual(sorted(it.name for it in (TOP / "docs/pictures").iterdir()), drawn)
+        shown = {link for page in repository.pages() for link in re.findall(r"!\[[^]]*\]\(([^)]*)\)", "\n".join(repository.lines(page)))}
+        self.assertEqual({Path(link).name for link in shown} - set(drawn), set())
+
     def test_copies(self) -> None:
         with self.check("HANDLES is its one line"):
             self.assertEqual((TOP / "HANDLES").read_bytes(), b"Handles allowed: none.\n", "the bytes of HANDLES")
@@ -215,6 +225,26 @@ class Pages(Checks):
         source = "crates/bootcore/src/program.rt"
         usage = first_match(r"^bootcore (.+)$", source)
         self.ends(f"tools/version prints the version of the usage text in {source}", ran, 0, usage + "\n")
+
+    def test_usage(self) -> None:
+        """The manual page and docs/FORMATS.md describe each subcommand of the usage text with its options, and no other."""
+        usage = (TOP / "crates/bootcore/src/program.rt").read_text(encoding="utf-8")
+        calls = re.findall(r"^(?:usage:)? +bootcore ([a-z]+)(.*)$", usage, re.M)
+        wanted: Dict[str, Set[str]] = {name: set() for name, _ in calls}
+        for name, rest in calls:
+            wanted[name].update(re.findall(r"--\w+", rest))
+        manual = MANUAL_PAGE.read_text(encoding="utf-8").replace("\\-", "-")
+        described, options = manual.split(".SH DESCRIPTION")[1].split(".SH EXIT STATUS")[0].split(".SH OPTIONS")
+        with self.check("the manual page has a paragraph of each subcommand, and of each option"):
+            self.assertEqual(sorted(re.findall(r"^\.TP\n\.B (\w+)$", described, re.M)), sorted(wanted))
+            told = set(re.findall(r"^\.TP\n\.B\w* (--\w+)", options, re.M))
+            self.assertEqual(sorted(told), sorted(set().union(*wanted.values(), {"--help"})))
+        with self.check("docs/FORMATS.md has a row of each subcommand with its options"):
+            page = (TOP / "docs/FORMATS.md").read_text(encoding="utf-8")
+            found: Dict[str, Set[str]] = {name: set() for name in wanted}
+            for name, row in re.findall(r"^\| `bootcore ([a-z]+) (.*)$", page, re.M):
+                found.setdefault(name, set()).update(re.findall(r"--\w+", row))
+            self.assertEqual(found, wanted)
 
     def test_completions(self) -> None:
         (self.room / ".zshrc").write_text(ZSHRC)
@@ -264,8 +294,8 @@ class ManualPage(Checks):
 
 class BesideProgram(ProgramChecks):
     def test_pictures(self) -> None:
-        sentence = "each picture of docs/pictures is what tools/pictures draws by the program"
-        self.passes(sentence, TOP / "tools/pictures", "--check", env={"BOOTCORE": str(PROGRAM)})
+        sentence = "each picture of a boot is what tools/pictures draws by the program"
+        self.passes(sentence, TOP / "tools/pictures", "--check", *DRAWN_BY_PROGRAM, env={"BOOTCORE": str(PROGRAM)})
         for name in ("first", "second"):
             drawn = self.room / f"{name}.svg"
             with self.check(f"examples/picture draws docs/pictures/{name}.svg of the {name} example"):
