@@ -10,7 +10,7 @@ from tests.cases import EXPAND, NONE, Case, read_cases
 from tests.changed_images import LENGTH_OF_HEAD, ChangedImage, base_images, change, changed_images
 from tests.examples import EXAMPLES, FIRST, SECOND
 from tests.program_checks import ImageChecks
-from tests.support import PROGRAM, Ran, difference, run, sha256
+from tests.support import PROGRAM, Ran, run, sha256
 
 # what the table calls a part of each role, from 1 on: docs/FORMATS.md
 NAMES = ["kernel", "module", "information", "parameters", "line", "gdt", "initrd", "tables"]

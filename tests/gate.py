@@ -6,7 +6,7 @@ import statistics
 import subprocess
 import sys
 import threading
-from typing import List, Optional, Tuple
+from typing import List, Tuple
 
 from tests.support import TOP, Checks, is_at_hand, run
 

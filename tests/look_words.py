@@ -4,7 +4,7 @@ import os
 import re
 import shutil
 from pathlib import Path
-from typing import Dict, List, NamedTuple, Optional, Tuple
+from typing import Dict, List, NamedTuple, Optional
 
 from tests.changed_images import image_by_hand
 from tests.examples import EXAMPLES, FIRST, multiboot2_kernel

@@ -3,8 +3,6 @@
 from random import Random
 from typing import List
 
-from rules import boot_params, information
-from rules.image import spell
 from rules.machine import KIND_NAMES
 
 from . import descriptions, images, kernels, linux_kernels, machines
