@@ -1,1 +1,2 @@
 pub mod ExplanationEnds
+pub mod FoundEntries

@@ -1,14 +1,13 @@
 //! A description is read, or blamed.
-ghost use Rattle.std.specs.Prelude.{◌≡◌, true, None, Some, IfOk, IfErr, OnOk, option_map};
+ghost use Rattle.std.specs.Prelude.{◌≡◌, true, None, option_map};
 ghost use Rattle.std.specs.Str.{is_utf8};
 ghost use Rattle.toml.specs.Errors.{IsMemory, IsWithin};
 ghost use Rattle.toml.specs.Parse.{parse_document};
 ghost use Rattle.program_desc.specs.Described.{described};
-ghost use Rattle.program_desc.specs.Views.{HasMenu, view};
+ghost use Rattle.program_desc.specs.Views.{view};
 ghost use Rattle.program_blame.specs.BlameLines.{blame_lines};
-ghost use Rattle.program_menu.specs.DescribedMachine.{IsMachineOf};
-ghost use Rattle.program_explain.specs.internal.ExplanationEnds.{IsMachineBlame, IsReadBlame};
-ghost use Rattle.program_explain.specs.internal.ExplanationEnds.{SaysLines};
+ghost use Rattle.program_explain.specs.internal.ExplanationEnds.{IsMachineOrBlamed, IsReadBlame};
+ghost use Rattle.program_explain.specs.internal.ExplanationEnds.{IsReadOrBlamed, SaysLines};
 
 use crate::fault::ExplainFault;
 use crate::text_place::text_place;
@@ -101,10 +100,7 @@ pub fn read_or_blame<A: Allocator + Copy, B: Allocator>(
     desc: &[u8],
     say: &mut Vec<u8, B>,
 ) -> Result<Description<A>, ExplainFault>
-    ensures given { IfOk result (λ d. described desc.now ≡ Some (view d)) }
-    ensures menu { IfOk result HasMenu }
-    ensures kept { OnOk result (say.new.items ≡ say.old.items) }
-    ensures fault { IfErr result (IsReadBlame desc.now say.old.items say.new.items) }
+    ensures { IsReadOrBlamed desc.now say.old.items say.new.items result }
 {
     match read_description(alloc, global, desc) {
         Ok(description) => Ok(description),
@@ -119,10 +115,7 @@ pub fn machine_or_blame<A: Allocator + Copy, B: Allocator>(
     description: &Description<A>,
     say: &mut Vec<u8, B>,
 ) -> Result<Machine<A>, ExplainFault>
-    ensures machine { IfOk result (IsMachineOf (view description.now)) }
-    ensures kept { OnOk result (say.new.items ≡ say.old.items) }
-    ensures fault { IfErr result
-        (IsMachineBlame (view description.now) say.old.items say.new.items) }
+    ensures { IsMachineOrBlamed (view description.now) say.old.items say.new.items result }
 {
     let pool = description.pool.start..description.pool.end;
     let regions = description.regions.as_slice();

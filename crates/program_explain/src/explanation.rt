@@ -6,6 +6,7 @@ ghost use Rattle.program_menu.specs.BootCases.{HasInlineFiles, names_sought, nam
 ghost use Rattle.program_explain.specs.internal.ExplanationEnds.{ExplainAsks, ExplainEnds};
 ghost use Rattle.program_explain.specs.Explained.{ExplainsBlame, ExplainsBoot, ExplainsRefusals};
 ghost use Rattle.program_menu.specs.FoundFiles.{AsksPrefix};
+ghost use Rattle.program_menu.specs.internal.SoughtFiles.{SeeksNamesOf};
 ghost use Rattle.program_desc.specs.Described.{described};
 
 use crate::description_blame::{machine_or_blame, read_or_blame};
@@ -29,12 +30,7 @@ fn run_explain<A: Allocator + Copy, F: Files, B: Allocator>(
         say.old.items say.new.items result }
     ensures asked { ExplainAsks (names_fetched (described desc.now))
         (F.asked files.old) (F.asked files.new) result }
-    ensures inline { HasInlineFiles desc.now → files.new ≡ files.old }
-    ensures same_files { (file : List ℕ) (answer : File) →
-        F.answers files.new file answer → F.answers files.old file answer }
-    ensures missing { (F.faults files.old ≤ F.faults files.new)
-        × (F.faults files.new ≤ F.faults files.old + length (names_sought (described desc.now))) }
-    ensures few { F.faults files.new ≤ F.faults files.old + max_names }
+    ensures sought { SeeksNamesOf F.answers F.faults desc.now files.old files.new }
 {
     let description = read_or_blame(alloc, global, desc, say)?;
     let machine = machine_or_blame(alloc, &description, say)?;

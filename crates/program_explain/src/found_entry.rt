@@ -1,9 +1,8 @@
 //! An entry of a description, with its files as they were found.
-ghost use Rattle.std.specs.Prelude.{◌≡◌, ◌∷◌, [], ◌++◌, IfOk, OnOk, length, map};
-ghost use Rattle.bl_load.specs.EntryValue.{value_of, file_count, IsWithinLimits};
+ghost use Rattle.std.specs.Prelude.{◌≡◌, ◌∷◌, [], ◌++◌, IfOk, OnOk, map};
 ghost use Rattle.program_desc.specs.EntryNames.{file_names, names_beside};
 ghost use Rattle.program_say.specs.Sought.{bytes_found};
-ghost use Rattle.program_explain.specs.Details.{value_sought};
+ghost use Rattle.program_explain.specs.internal.FoundEntries.{IsFoundEntry, texts_of_views};
 ghost use Rattle.program_desc.specs.Views.{entry_view, form_view, module_view};
 
 use bl_load::Entry;
@@ -19,8 +18,8 @@ fn add_text<'s, A: Allocator>(
     sought: &'s Sought<'_, A>,
     name: &str,
 ) -> Result<(), AllocError>
-    ensures { OnOk result (map (λ t. t.bytes.now) texts.new.items
-        ≡ map (λ t. t.bytes.now) texts.old.items ++ bytes_found sought.now name.now ∷ []) }
+    ensures { OnOk result (texts_of_views texts.new.items ≡ texts_of_views texts.old.items
+        ++ bytes_found sought.now name.now ∷ []) }
 {
     texts.push(SliceView::new(sought.bytes(name)))?;
     Ok(())
@@ -32,8 +31,7 @@ fn add_modules<'s, A: Allocator, B: Allocator>(
     sought: &'s Sought<'_, A>,
     modules: &[ModuleRow<B>],
 ) -> Result<(), AllocError>
-    ensures { OnOk result (map (λ t. t.bytes.now) texts.new.items
-        ≡ map (λ t. t.bytes.now) texts.old.items
+    ensures { OnOk result (texts_of_views texts.new.items ≡ texts_of_views texts.old.items
         ++ map (bytes_found sought.now) (map (λ m. m.file) (map module_view modules.now))) }
 {
     match modules {
@@ -51,8 +49,7 @@ fn add_beside<'s, A: Allocator, B: Allocator>(
     sought: &'s Sought<'_, A>,
     form: &EntryForm<B>,
 ) -> Result<(), AllocError>
-    ensures { OnOk result (map (λ t. t.bytes.now) texts.new.items
-        ≡ map (λ t. t.bytes.now) texts.old.items
+    ensures { OnOk result (texts_of_views texts.new.items ≡ texts_of_views texts.old.items
         ++ map (bytes_found sought.now) (names_beside (form_view form.now))) }
 {
     match form {
@@ -72,7 +69,7 @@ fn entry_texts<'s, A: Allocator, B: Allocator>(
     sought: &'s Sought<'_, A>,
     entry: &EntryRow<B>,
 ) -> Result<Vec<SliceView<'s>, A>, AllocError>
-    ensures { IfOk result (λ texts. map (λ t. t.bytes.now) texts.items
+    ensures { IfOk result (λ texts. texts_of_views texts.items
         ≡ map (bytes_found sought.now) (file_names (entry_view entry.now))) }
 {
     let mut texts = Vec::new(alloc);
@@ -94,10 +91,7 @@ pub fn entry_with_files<'s, A: Allocator + Copy>(
     sought: &'s Sought<'_, A>,
     row: &EntryRow<A>,
 ) -> Result<FoundEntry<'s, A>, AllocError>
-    ensures value { IfOk result (λ found. value_of (map (λ f. f.bytes.now) found.files.items)
-        found.entry ≡ value_sought sought.now (entry_view row.now)) }
-    ensures files { IfOk result (λ found. length found.files.items ≡ file_count found.entry) }
-    ensures limits { IfOk result (λ found. IsWithinLimits found.entry) }
+    ensures { IfOk result (IsFoundEntry sought.now (entry_view row.now)) }
 {
     let entry = entry_of(alloc, &[], row)?;
     let files = entry_texts(alloc, sought, row)?;

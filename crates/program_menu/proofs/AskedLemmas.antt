@@ -1,14 +1,16 @@
 -- The names that were asked for.
 use Rattle.std.proofs.Common.{◌≡◌, ◌∙◌, ◌+◌, ◌≤◌, ◌++◌, ℕ, List, [], Some, All, IsSome, refl, sym}
-use Rattle.std.proofs.Common.{subst, arith}
+use Rattle.std.proofs.Common.{length, subst, arith}
 use Rattle.std.proofs.lemmas.List.{append-nil}
 use Rattle.std.proofs.lemmas.Option.{same_Some}
+use Rattle.bl_stage.specs.Files.{File}
 use Rattle.program_desc.specs.declared.desc.Description.{Description}
 use Rattle.program_desc.specs.Described.{DescriptionFacts, described, file_named}
 use Rattle.program_desc.specs.Views.{view}
-use Rattle.program_menu.specs.DescribedMenu.{attempted_file_names}
+use Rattle.program_menu.specs.DescribedMenu.{attempted_file_names, max_names}
 use Rattle.program_menu.specs.BootCases.{HasInlineFiles, names_sought, names_fetched}
 use Rattle.program_menu.specs.FoundFiles.{AsksPrefix, names_to_ask}
+use Rattle.program_menu.specs.internal.SoughtFiles.{SeeksNamesOf}
 
 -- none of them is a beginning of them, and so are all
 pub none_asked : (names before : List (List ℕ)) → AsksPrefix names before before
@@ -23,6 +25,16 @@ all_asked names before after is =
 -- no name was missing, of so many
 pub none_missing : (faults names : ℕ) → (faults ≤ faults) × (faults ≤ faults + names)
 none_missing faults names = (omega arith, omega arith)
+
+-- where no name was looked for, the files are as they were
+pub none_sought : {F : Type 0} (answers : F → List ℕ → File → Type 0) (faults : F → ℕ)
+    (desc : List ℕ) (files : F) → SeeksNamesOf answers faults desc files files
+none_sought answers faults desc files = record {
+  inline = λ _. refl;
+  same_files = λ file answer told. told;
+  missing = none_missing (faults files) (length (names_sought (described desc)));
+  few = (none_missing (faults files) max_names).1;
+}
 
 -- the bytes describe d
 module _ {A : Type 0} (desc : List ℕ) (d : Description A) (is : described desc ≡ Some (view d))

@@ -1,11 +1,12 @@
 //! The files of a menu are found.
 ghost use Rattle.std.specs.Prelude.{◌≡◌, ℕ, List, ◌+◌, ◌-◌, ◌<◌, ◌≤◌, ◌^◌, All, IfOk, IsSome};
-ghost use Rattle.std.specs.Prelude.{length, map, [], ◌∷◌, ◌++◌, OnOk};
+ghost use Rattle.std.specs.Prelude.{length, map, ◌++◌, OnOk};
 ghost use Rattle.bl_stage.specs.Files.{File, file_of};
 ghost use Rattle.program_menu.specs.FoundFiles.{AreFound, AsksPrefix, IsFound, names_to_ask};
 ghost use Rattle.program_desc.specs.Described.{file_named};
 ghost use Rattle.program_desc.specs.Views.{view};
 ghost use Rattle.program_menu.specs.Files.{answer_for};
+ghost use Rattle.program_menu.specs.internal.SoughtFiles.{SeeksName};
 
 use crate::files::Files;
 use bl_mem::Bytes;
@@ -34,14 +35,8 @@ fn find_file<A: Allocator + Copy, F: Files>(
     requires { F.faults files.old < 2 ^ 64 - 1 }
     ensures found { IfOk result (λ file. IsFound F.answers F.faults (view description.now).files
         name.now files.old files.new (file_of file)) }
-    ensures asked { F.asked files.new
-        ≡ F.asked files.old ++ names_to_ask (view description.now).files (name.now ∷ []) }
-    ensures inline { IsSome (file_named name.now (view description.now).files) →
-        files.new ≡ files.old }
-    ensures same { (file : List ℕ) (answer : File) →
-        F.answers files.new file answer → F.answers files.old file answer }
-    ensures missing { (F.faults files.old ≤ F.faults files.new)
-        × (F.faults files.new ≤ F.faults files.old + 1) }
+    ensures sought { SeeksName F.answers F.faults F.asked (view description.now).files
+        name.now files.old files.new }
 {
     match description.file_named(name) {
         Some(file) => copy_of(alloc, file),

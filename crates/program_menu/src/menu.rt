@@ -6,8 +6,8 @@ ghost use Rattle.bl_session.specs.menu.Menu.{facts_of};
 ghost use Rattle.bl_session.specs.declared.menu.fault.MenuFault.TheVariants as menu_fault;
 ghost use Rattle.program_menu.specs.DescribedMenu as attempted;
 ghost use Rattle.program_menu.specs.DescribedMenu.{entry_facts};
-ghost use Rattle.program_desc.specs.EntryNames.{file_index};
-ghost use Rattle.program_desc.specs.Views.{HasMenu, entry_view, module_view, view};
+ghost use Rattle.program_menu.specs.internal.MenuRows.{AreEntriesOf, AreModulesOf};
+ghost use Rattle.program_desc.specs.Views.{HasMenu, entry_view, view};
 
 use bl_load::{Entry, Module};
 use bl_mem::Bytes;
@@ -22,12 +22,8 @@ fn modules_of<A: Allocator + Copy>(
     rows: &[ModuleRow<A>],
 ) -> Result<Vec<Module<A>, A>, AllocError>
     requires { length names.now < 2 ^ 32 }
-    ensures files { IfOk result (λ modules. map (λ m. m.file) modules.items
-        ≡ map (file_index (map (λ n. n.now) names.now))
-        (map (λ m. m.file) (map module_view rows.now))) }
-    ensures lines { IfOk result (λ modules. map (λ m. m.line) modules.items
-        ≡ map (λ m. m.line) (map module_view rows.now)) }
-    ensures count { IfOk result (λ modules. length modules.items ≡ length rows.now) }
+    ensures { IfOk result (λ modules.
+        AreModulesOf (map (λ n. n.now) names.now) rows.now modules.items) }
 {
     let mut modules = Vec::new(alloc);
     for row in rows {
@@ -97,10 +93,8 @@ fn entries_of<A: Allocator + Copy>(
     rows: &[EntryRow<A>],
 ) -> Result<Vec<Entry<A>, A>, AllocError>
     requires { length names.now < 2 ^ 32 }
-    ensures entries { IfOk result (λ entries. map facts_of entries.items
-        ≡ map (entry_facts (map (λ n. n.now) names.now)) (map entry_view rows.now)) }
-    ensures count { IfOk result (λ entries. length entries.items ≡ length rows.now) }
-    ensures few { IfOk result (λ entries. All IsWithinLimits entries.items) }
+    ensures { IfOk result (λ entries.
+        AreEntriesOf (map (λ n. n.now) names.now) rows.now entries.items) }
 {
     let mut entries = Vec::new(alloc);
     for row in rows {

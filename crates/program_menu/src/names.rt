@@ -1,11 +1,11 @@
 //! The names of the files that are looked for.
-ghost use Rattle.std.specs.Prelude.{◌≡◌, ◌*◌, ◌<◌, ◌≤◌, ◌++◌, ◌∷◌, ℕ, List, length, map, All, IfOk};
+ghost use Rattle.std.specs.Prelude.{◌≡◌, ◌*◌, ◌<◌, ◌≤◌, ◌∷◌, [], length, map, All, IfOk};
 ghost use Rattle.std.specs.Prelude.{OnOk};
 ghost use Rattle.std.specs.Str.{bytes_eq};
 ghost use Rattle.std.specs.List.{list_any};
 ghost use Rattle.program_menu.specs.DescribedMenu as attempted;
 ghost use Rattle.program_menu.specs.DescribedMenu.{names_of_entries};
-ghost use Rattle.program_menu.specs.internal.DistinctNames.{with_new_names};
+ghost use Rattle.program_menu.specs.internal.DistinctNames.{AddsNames};
 ghost use Rattle.program_desc.specs.EntryNames.{file_names};
 ghost use Rattle.program_desc.specs.Views.{HasMenu, entry_view, module_view, view};
 
@@ -22,9 +22,7 @@ fn is_among(name: &str, names: &[&str]) -> bool
 
 /// Appends a name, if it is not among the earlier ones.
 fn add_name<'a, A: Allocator>(names: &mut Vec<&'a str, A>, name: &'a str) -> Result<(), AllocError>
-    ensures { OnOk result ((rest : List (List ℕ)) →
-        with_new_names (map (λ n. n.now) names.new.items) rest
-        ≡ with_new_names (map (λ n. n.now) names.old.items) (name.now ∷ rest)) }
+    ensures { OnOk result (AddsNames names.old.items names.new.items (name.now ∷ [])) }
 {
     if !is_among(name, names) {
         names.push(name)?;
@@ -37,10 +35,8 @@ fn add_modules<'a, A: Allocator>(
     names: &mut Vec<&'a str, A>,
     modules: &'a [ModuleRow<A>],
 ) -> Result<(), AllocError>
-    ensures { OnOk result ((rest : List (List ℕ)) →
-        with_new_names (map (λ n. n.now) names.new.items) rest
-        ≡ with_new_names (map (λ n. n.now) names.old.items)
-        (map (λ m. m.file) (map module_view modules.now) ++ rest)) }
+    ensures { OnOk result (AddsNames names.old.items names.new.items
+        (map (λ m. m.file) (map module_view modules.now))) }
 {
     for module in modules {
         add_name(names, module.file.as_str())?;
@@ -53,10 +49,8 @@ fn add_entry<'a, A: Allocator>(
     names: &mut Vec<&'a str, A>,
     entry: &'a EntryRow<A>,
 ) -> Result<(), AllocError>
-    ensures { OnOk result ((rest : List (List ℕ)) →
-        with_new_names (map (λ n. n.now) names.new.items) rest
-        ≡ with_new_names (map (λ n. n.now) names.old.items)
-        (file_names (entry_view entry.now) ++ rest)) }
+    ensures { OnOk result (AddsNames names.old.items names.new.items
+        (file_names (entry_view entry.now))) }
 {
     add_name(names, entry.kernel.as_str())?;
     match &entry.form {

@@ -31,6 +31,11 @@ abbrev pub end_fault_of_desc_fault : DescFault → EndFault
 end_fault_of_desc_fault desc_fault.BadDescription = BadDescription
 end_fault_of_desc_fault desc_fault.NoMemory = NoMemory
 
+-- a sink took the image of what is handed over, which keeps all of it
+pub record TookImage (before after : List ℕ) (handover : Handover) : Type 0 where
+  pub image : after ≡ before ++ spelling written_version handover
+  pub kept : IsKeptByImages handover
+
 -- why an image was not handed over whole to a sink: the sink had a fault and took a beginning, or
 -- memory ran out before
 abbrev pub IsImageWriteFault : ℕ → ℕ → List ℕ → List ℕ → List ℕ → EndFault → Type 0

@@ -1,10 +1,9 @@
 //! An entry is handed over, or it is told that none is left.
 ghost use Rattle.std.specs.Prelude.{◌≡◌, ◌+◌, ◌<◌, ◌≤◌, ◌^◌, ◌++◌, length, All, OnOk, OnErr, IfErr};
 ghost use Rattle.bl_image.specs.Image.{spelling};
-ghost use Rattle.bl_image.specs.ImageHandover.{IsKeptByImages};
 ghost use Rattle.bl_image.specs.Versions.{written_version};
 ghost use Rattle.bl_session.specs.session.Phases.{handover_held};
-ghost use Rattle.program_boot.specs.internal.CallEnds.{IsImageWriteFault};
+ghost use Rattle.program_boot.specs.internal.CallEnds.{IsImageWriteFault, TookImage};
 ghost use Rattle.program_say.specs.BootAndMapLines.{booted_line, refused_lines, no_entry_line};
 
 use crate::booting::end_fault::EndFault;
@@ -45,10 +44,8 @@ pub fn write_handover<A: Allocator + Copy, M: PhysMem, S: Sink, B: Allocator>(
     requires inside { All (λ place. place.address + place.length ≤ length (M.bytes memory.now))
         outcome.now.handoff.places }
     requires faults { S.faults out.old < 2 ^ 63 }
-    ensures image { OnOk result (S.contents out.new ≡ S.contents out.old
-        ++ spelling written_version (handover_held (M.bytes memory.now) outcome.now.handoff)) }
-    ensures kept { OnOk result
-        (IsKeptByImages (handover_held (M.bytes memory.now) outcome.now.handoff)) }
+    ensures taken { OnOk result (TookImage (S.contents out.old) (S.contents out.new)
+        (handover_held (M.bytes memory.now) outcome.now.handoff)) }
     ensures said { OnOk result (say.new.items ≡ say.old.items
         ++ (refused_lines outcome.now.refused.items ++ booted_line outcome.now.entry title.now)) }
     ensures sound { OnOk result (S.faults out.new ≡ S.faults out.old) }

@@ -5,6 +5,7 @@ ghost use Rattle.program_menu.specs.BootCases.{HasInlineFiles, names_sought, nam
 ghost use Rattle.program_boot.specs.Ends.{IsBooted, IsCutShort, IsRefused};
 ghost use Rattle.program_menu.specs.DescribedMachine.{IsBadDescription};
 ghost use Rattle.program_menu.specs.FoundFiles.{AsksPrefix};
+ghost use Rattle.program_menu.specs.internal.SoughtFiles.{SeeksNamesOf};
 ghost use Rattle.program_boot.specs.internal.CallEnds.{BootEnds, CountsSinkFault, HasAsked};
 ghost use Rattle.program_menu.specs.DescribedMenu.{max_names};
 ghost use Rattle.program_desc.specs.Described.{described};
@@ -35,12 +36,7 @@ fn run_boot<A: Allocator + Copy, F: Files, S: Sink, B: Allocator>(
     ensures faults { CountsSinkFault (S.faults out.old) (S.faults out.new) result }
     ensures asked { HasAsked (names_fetched (described desc.now))
         (F.asked files.old) (F.asked files.new) result }
-    ensures inline { HasInlineFiles desc.now → files.new ≡ files.old }
-    ensures same_files { (file : List ℕ) (answer : File) →
-        F.answers files.new file answer → F.answers files.old file answer }
-    ensures missing { (F.faults files.old ≤ F.faults files.new)
-        × (F.faults files.new ≤ F.faults files.old + length (names_sought (described desc.now))) }
-    ensures few { F.faults files.new ≤ F.faults files.old + max_names }
+    ensures sought { SeeksNamesOf F.answers F.faults desc.now files.old files.new }
 {
     let description = read_description(alloc, global, desc)?;
     let machine = machine_of(alloc, &description)?;

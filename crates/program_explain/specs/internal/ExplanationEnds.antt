@@ -16,7 +16,9 @@ use Rattle.bl_stage.specs.Files.{File}
 use Rattle.bl_session.specs.session.BootSteps.{BootFacts, handed_over, none_left}
 use Rattle.bl_session.specs.session.Schedules.{no_fault}
 use Rattle.bl_session.specs.session.Outcome.{IsOutcome}
-use Rattle.program_desc.specs.Described.{DescriptionFacts}
+use Rattle.program_desc.specs.Described.{DescriptionFacts, described}
+use Rattle.program_desc.specs.Views.{HasMenu, view}
+use Rattle.program_desc.specs.declared.desc.Description.{Description}
 use Rattle.program_desc.specs.Entries.{Entry}
 use Rattle.program_menu.specs.declared.boot_end.End.{End}
 use Rattle.program_menu.specs.declared.boot_end.End.TheVariants.{Booted, NoEntryLeft}
@@ -25,6 +27,7 @@ use Rattle.program_explain.specs.declared.fault.ExplainFault.{ExplainFault}
 use Rattle.program_explain.specs.declared.fault.ExplainFault.TheVariants.{Blamed, NoMemory}
 use Rattle.program_blame.specs.BlameLines.{blame_lines}
 use Rattle.program_explain.specs.Explained.{ExplainsBlame, ExplainsBoot, ExplainsRefusals}
+use Rattle.program_menu.specs.DescribedMachine.{IsMachineOf}
 use Rattle.program_menu.specs.FoundFiles.{AsksPrefix}
 use Rattle.program_say.specs.Sought.{SoughtFacts}
 use Rattle.program_explain.specs.Details.{AreToldRefusals, value_sought}
@@ -36,6 +39,17 @@ use Rattle.program_say.specs.declared.subjects.refusal_detail.ToldRefusal.{ToldR
 abbrev pub IsReadBlame : (desc old new : List ℕ) → ExplainFault → Type 0
 IsReadBlame desc old new Blamed = ExplainsBlame desc old new
 IsReadBlame desc old new NoMemory = new ≡ old
+
+-- the bytes are read, and nothing is said
+pub record IsRead {A : Type 0} (desc old new : List ℕ) (description : Description A) : Type 0 where
+  pub given : described desc ≡ Some (view description)
+  pub menu : HasMenu description
+  pub kept : new ≡ old
+
+abbrev pub IsReadOrBlamed : {A : Type 0} → (desc old new : List ℕ)
+    → Result (Description A) ExplainFault → Type 0
+IsReadOrBlamed desc old new (Ok description) = IsRead desc old new description
+IsReadOrBlamed desc old new (Err fault) = IsReadBlame desc old new fault
 
 -- these lines were said, or memory ran out
 abbrev pub SaysLines : (lines old new : List ℕ) → ExplainFault → Type 0
@@ -49,6 +63,17 @@ IsMachineBlame description old new Blamed =
     × HasFirstMapFault description.size description.regions description.pool fault
     × (new ≡ old ++ blame_lines (BadMachine fault) (Some description))
 IsMachineBlame description old new NoMemory = new ≡ old
+
+-- there is one, and nothing is said
+pub record IsMachineMade (description : DescriptionFacts) (old new : List ℕ) (facts : MachineFacts)
+    : Type 0 where
+  pub machine : IsMachineOf description facts
+  pub kept : new ≡ old
+
+abbrev pub IsMachineOrBlamed : DescriptionFacts → (old new : List ℕ)
+    → Result MachineFacts ExplainFault → Type 0
+IsMachineOrBlamed description old new (Ok facts) = IsMachineMade description old new facts
+IsMachineOrBlamed description old new (Err fault) = IsMachineBlame description old new fault
 
 -- 19 and 20, by which an entry is refused where one of its parts finds no place
 abbrev pub is_placing : Refusal → Bool

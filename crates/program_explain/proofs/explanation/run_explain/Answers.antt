@@ -1,10 +1,9 @@
-use Rattle.std.proofs.Common.{◌∙◌, length, refl, ap}
+use Rattle.std.proofs.Common.{◌∙◌, length, ap}
 use Rattle.std.proofs.lemmas.List.{length-replicate}
 use Rattle.std.proofs.lemmas.Result.{err_from_is_err_and}
 use Rattle.program_desc.specs.Described.{described}
-use Rattle.program_menu.specs.DescribedMenu.{max_names}
-use Rattle.program_menu.specs.BootCases.{names_fetched, names_sought}
-use Rattle.program_menu.proofs.AskedLemmas.{fetched, inline_in, none_asked, none_missing, sought}
+use Rattle.program_menu.specs.BootCases.{names_fetched}
+use Rattle.program_menu.proofs.AskedLemmas.{fetched, inline_in, none_asked, none_sought, sought}
 use Rattle.program_explain.proofs.ExplainEnds.{explain_asked, explained_by, unmade, unread}
 use Rattle.program_explain.proofs.explanation.run_explain.Goals as goal
 
@@ -39,14 +38,10 @@ returns-in_err-description g c =
     rw (p.1, p.2)
     (record {
       ends = unread g.row.A.Denot g.F.Files.answers g.F.Files.faults c.args.desc.now c.args.files.now
-          c.args.say.now.items _ _ c.in_err-description.ensures.fault;
+          c.args.say.now.items _ _ c.in_err-description.ensures;
       asked = none_asked (names_fetched (described c.args.desc.now))
           (g.F.Files.asked c.args.files.now);
-      inline = λ _. refl;
-      same_files = λ file answer told. told;
-      missing = none_missing (g.F.Files.faults c.args.files.now)
-          (length (names_sought (described c.args.desc.now)));
-      few = (none_missing (g.F.Files.faults c.args.files.now) max_names).1;
+      sought = none_sought g.F.Files.answers g.F.Files.faults c.args.desc.now c.args.files.now;
     })
 
 pub returns-in_err-machine : goal.returns-in_err-machine
@@ -59,14 +54,10 @@ returns-in_err-machine g c =
       ends = unmade g.row.A.Denot g.F.Files.answers g.F.Files.faults c.args.desc.now
           c.in_ok-description.description c.in_ok-description.ensures.given c.args.files.now
           c.args.say.now.items _ _ (rw c.in_ok-description.ensures.kept
-          at c.in_err-machine.ensures.fault);
+          at c.in_err-machine.ensures);
       asked = none_asked (names_fetched (described c.args.desc.now))
           (g.F.Files.asked c.args.files.now);
-      inline = λ _. refl;
-      same_files = λ file answer told. told;
-      missing = none_missing (g.F.Files.faults c.args.files.now)
-          (length (names_sought (described c.args.desc.now)));
-      few = (none_missing (g.F.Files.faults c.args.files.now) max_names).1;
+      sought = none_sought g.F.Files.answers g.F.Files.faults c.args.desc.now c.args.files.now;
     })
 
 pub returns-in_err-ready : goal.returns-in_err-ready
@@ -80,11 +71,12 @@ returns-in_err-ready g c =
     (record {
       ends = c.in_ok-machine.ensures.kept ∙ c.in_ok-description.ensures.kept;
       asked = rw (fetched c.args.desc.now d is) c.in_err-ready.ensures.asked_first;
-      inline =
-          λ has. c.in_err-ready.ensures.inline (inline_in c.args.desc.now d is has);
-      same_files = c.in_err-ready.ensures.same;
-      missing = rw (sought c.args.desc.now d is) c.in_err-ready.ensures.missing;
-      few = c.in_err-ready.ensures.few;
+      sought = record {
+        inline = λ has. c.in_err-ready.ensures.inline (inline_in c.args.desc.now d is has);
+        same_files = c.in_err-ready.ensures.same;
+        missing = rw (sought c.args.desc.now d is) c.in_err-ready.ensures.missing;
+        few = c.in_err-ready.ensures.few;
+      };
     })
 
 pub returns-clause-asked : goal.returns-clause-asked
@@ -94,21 +86,16 @@ returns-clause-asked g c =
     (rw (fetched c.args.desc.now c.in_ok-description.description
     c.in_ok-description.ensures.given) c.in_ok-ready.ensures.asked)
 
-pub returns-clause-inline : goal.returns-clause-inline
-returns-clause-inline g c = λ has. c.in_ok-ready.ensures.inline
-    (inline_in c.args.desc.now c.in_ok-description.description c.in_ok-description.ensures.given
-    has)
-
-pub returns-clause-same_files : goal.returns-clause-same_files
-returns-clause-same_files g c = c.in_ok-ready.ensures.same
-
-pub returns-clause-missing : goal.returns-clause-missing
-returns-clause-missing g c =
-    rw (sought c.args.desc.now c.in_ok-description.description
-    c.in_ok-description.ensures.given) c.in_ok-ready.ensures.missing
-
-pub returns-clause-few : goal.returns-clause-few
-returns-clause-few g c = c.in_ok-ready.ensures.few
+pub returns-clause-sought : goal.returns-clause-sought
+returns-clause-sought g c =
+    let d = c.in_ok-description.description in
+    let is = c.in_ok-description.ensures.given in
+    record {
+      inline = λ has. c.in_ok-ready.ensures.inline (inline_in c.args.desc.now d is has);
+      same_files = c.in_ok-ready.ensures.same;
+      missing = rw (sought c.args.desc.now d is) c.in_ok-ready.ensures.missing;
+      few = c.in_ok-ready.ensures.few;
+    }
 
 pub returns-clause-ends : goal.returns-clause-ends
 returns-clause-ends g c =

@@ -21,21 +21,21 @@ loop-name-preserved g c =
     c.loop-name.files c.find_file.new.files
     so_far.found c.in_ok-answer.ensures.found in
     let more = names_grow names i c.loop-name-test.true in
-    let missing = c.in_ok-answer.ensures.missing in
+    let missing = c.in_ok-answer.ensures.sought.missing in
     record {
       found = rw (more, c.in_ok-push.ensures.items, map-append) found;
       asked =
           one_more_asked inline names i _ _ _ c.loop-name-test.true so_far.asked
-          c.in_ok-answer.ensures.asked;
+          c.in_ok-answer.ensures.sought.asked;
       inline =
           λ all.
-          c.in_ok-answer.ensures.inline
+          c.in_ok-answer.ensures.sought.inline
           (stands_at (λ name. IsSome (file_named name inline)) names i all
           c.loop-name-test.true)
           ∙ so_far.inline all;
       same =
           λ file answer told.
-          so_far.same file answer (c.in_ok-answer.ensures.same file answer told);
+          so_far.same file answer (c.in_ok-answer.ensures.sought.same file answer told);
       least = omega (arith, so_far.least, missing.0);
       most = omega (arith, so_far.most, missing.1);
     }
@@ -51,7 +51,7 @@ returns-in_err-answer-clause-asked_first g c =
     let inline = (view c.args.description.now).files in
     asks_first inline c.args.names.now (i + 1) _ _
     (one_more_asked inline c.args.names.now i _ _ _ c.loop-name-test.true
-    c.loop-name.invariant.asked c.in_err-answer.ensures.asked)
+    c.loop-name.invariant.asked c.in_err-answer.ensures.sought.asked)
 
 pub returns-in_err-push-clause-asked_first : goal.returns-in_err-push-clause-asked_first
 returns-in_err-push-clause-asked_first g c =
@@ -59,12 +59,12 @@ returns-in_err-push-clause-asked_first g c =
     let inline = (view c.args.description.now).files in
     asks_first inline c.args.names.now (i + 1) _ _
     (one_more_asked inline c.args.names.now i _ _ _ c.loop-name-test.true
-    c.loop-name.invariant.asked c.in_ok-answer.ensures.asked)
+    c.loop-name.invariant.asked c.in_ok-answer.ensures.sought.asked)
 
 pub returns-in_err-answer-clause-inline : goal.returns-in_err-answer-clause-inline
 returns-in_err-answer-clause-inline g c =
     λ all.
-    c.in_err-answer.ensures.inline
+    c.in_err-answer.ensures.sought.inline
     (stands_at (λ name. IsSome (file_named name (view c.args.description.now).files))
     c.args.names.now c.loop-name.name-index all c.loop-name-test.true)
     ∙ c.loop-name.invariant.inline all
@@ -72,12 +72,12 @@ returns-in_err-answer-clause-inline g c =
 pub returns-in_err-answer-clause-same : goal.returns-in_err-answer-clause-same
 returns-in_err-answer-clause-same g c =
     λ file answer told.
-    c.loop-name.invariant.same file answer (c.in_err-answer.ensures.same file answer told)
+    c.loop-name.invariant.same file answer (c.in_err-answer.ensures.sought.same file answer told)
 
 pub returns-in_err-push-clause-inline : goal.returns-in_err-push-clause-inline
 returns-in_err-push-clause-inline g c =
     λ all.
-    c.in_ok-answer.ensures.inline
+    c.in_ok-answer.ensures.sought.inline
     (stands_at (λ name. IsSome (file_named name (view c.args.description.now).files))
     c.args.names.now c.loop-name.name-index all c.loop-name-test.true)
     ∙ c.loop-name.invariant.inline all
@@ -85,7 +85,7 @@ returns-in_err-push-clause-inline g c =
 pub returns-in_err-push-clause-same : goal.returns-in_err-push-clause-same
 returns-in_err-push-clause-same g c =
     λ file answer told.
-    c.loop-name.invariant.same file answer (c.in_ok-answer.ensures.same file answer told)
+    c.loop-name.invariant.same file answer (c.in_ok-answer.ensures.sought.same file answer told)
 
 pub returns-clause-found : goal.returns-clause-found
 returns-clause-found g c =
@@ -111,7 +111,7 @@ returns-clause-missing g c =
 pub returns-in_err-answer-clause-missing : goal.returns-in_err-answer-clause-missing
 returns-in_err-answer-clause-missing g c =
     let so_far = c.loop-name.invariant in
-    let missing = c.in_err-answer.ensures.missing in (
+    let missing = c.in_err-answer.ensures.sought.missing in (
       omega (arith, so_far.least, missing.0),
       omega (arith, so_far.most, missing.1, c.loop-name-test.true),
     )
@@ -119,7 +119,7 @@ returns-in_err-answer-clause-missing g c =
 pub returns-in_err-push-clause-missing : goal.returns-in_err-push-clause-missing
 returns-in_err-push-clause-missing g c =
     let so_far = c.loop-name.invariant in
-    let missing = c.in_ok-answer.ensures.missing in (
+    let missing = c.in_ok-answer.ensures.sought.missing in (
       omega (arith, so_far.least, missing.0),
       omega (arith, so_far.most, missing.1, c.loop-name-test.true),
     )

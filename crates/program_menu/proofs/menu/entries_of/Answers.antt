@@ -20,10 +20,10 @@ loop-row-preserved g c =
           c.in_ok-entry_of.ensures.few,
     )
 
-pub returns-clause-entries : goal.returns-clause-entries
-returns-clause-entries g c =
-    rw (take_all c.loop-row.row-index c.args.rows.now c.loop-row-test.false)
-    at c.loop-row.invariant.0
-
-pub returns-clause-few : goal.returns-clause-few
-returns-clause-few g c = c.loop-row.invariant.2
+pub returns : goal.returns
+returns g c =
+    let past = c.loop-row-test.false in record {
+      entries = rw (take_all c.loop-row.row-index c.args.rows.now past) at c.loop-row.invariant.0;
+      count = omega (arith, c.loop-row.invariant.1, past, c.loop-row.auto.row-index-end);
+      few = c.loop-row.invariant.2;
+    }

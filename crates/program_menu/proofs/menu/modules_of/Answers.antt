@@ -1,4 +1,4 @@
-use Rattle.std.proofs.Common.{◌∙◌, ap, map}
+use Rattle.std.proofs.Common.{◌∙◌, ap, arith, map}
 use Rattle.std.proofs.lemmas.List.{take_all}
 use Rattle.program_desc.specs.EntryNames.{file_index}
 use Rattle.program_menu.proofs.MenuLemmas.{modules_more}
@@ -13,12 +13,10 @@ loop-row-preserved g c =
     (c.in_ok-copy.ensures.ok ∙ c.as_bytes.ensures.value ∙ c.as_str-in-loop-row.ensures)
     c.loop-row.invariant.0 c.loop-row.invariant.1 c.loop-row.invariant.2
 
-pub returns-clause-files : goal.returns-clause-files
-returns-clause-files g c =
-    rw (take_all c.loop-row.row-index c.args.rows.now c.loop-row-test.false)
-    at c.loop-row.invariant.0
-
-pub returns-clause-lines : goal.returns-clause-lines
-returns-clause-lines g c =
-    rw (take_all c.loop-row.row-index c.args.rows.now c.loop-row-test.false)
-    at c.loop-row.invariant.1
+pub returns : goal.returns
+returns g c =
+    let past = c.loop-row-test.false in record {
+      files = rw (take_all c.loop-row.row-index c.args.rows.now past) at c.loop-row.invariant.0;
+      lines = rw (take_all c.loop-row.row-index c.args.rows.now past) at c.loop-row.invariant.1;
+      count = omega (arith, c.loop-row.invariant.2, past, c.loop-row.auto.row-index-end);
+    }

@@ -21,8 +21,8 @@ returns-in-Ok-clause-ends g c =
       handover_held (g.M.PhysMem.bytes c.run-ended.new.memory) outcome.handoff,
       c.in-Ok.ensures.faithful c.requires.store
           (rw c.in-Ok.ensures.files at c.faithful.ensures) tt,
-      handed.kept,
-      handed.image,
+      handed.taken.kept,
+      handed.taken.image,
       rw c.title_of-title.ensures at handed.said,
     )
 

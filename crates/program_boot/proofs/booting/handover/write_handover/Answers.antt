@@ -9,8 +9,7 @@ returns-in_err-say_refusals g c =
     c.from_residual.ensures.1 in
     rw (p.1, p.2)
     (record {
-      image = tt;
-      kept = tt;
+      taken = tt;
       said = tt;
       sound = tt;
       unsaid = refl;
@@ -24,8 +23,7 @@ returns-in_err-say_booted g c =
     c.from_residual-in_err-say_booted.ensures.1 in
     rw (p.1, p.2)
     (record {
-      image = tt;
-      kept = tt;
+      taken = tt;
       said = tt;
       sound = tt;
       unsaid = refl;
@@ -38,11 +36,9 @@ write_image-requires-clause-inside g c = c.requires.inside
 pub write_image-requires-clause-faults : goal.write_image-requires-clause-faults
 write_image-requires-clause-faults g c = c.requires.faults
 
-pub returns-in-Ok-clause-image : goal.returns-in-Ok-clause-image
-returns-in-Ok-clause-image g c = c.in-Ok.ensures.ok
-
-pub returns-in-Ok-clause-kept : goal.returns-in-Ok-clause-kept
-returns-in-Ok-clause-kept g c = c.in-Ok.ensures.kept
+pub returns-in-Ok-clause-taken : goal.returns-in-Ok-clause-taken
+returns-in-Ok-clause-taken g c =
+    record { image = c.in-Ok.ensures.ok; kept = c.in-Ok.ensures.kept }
 
 pub returns-in-Ok-clause-sound : goal.returns-in-Ok-clause-sound
 returns-in-Ok-clause-sound g c = c.in-Ok.ensures.sound

@@ -6,9 +6,9 @@ use Rattle.bl_session.specs.menu.Menu.{MenuFacts}
 use Rattle.bl_session.proofs.menu_lemmas.MenuLemmas.{offered_values}
 use Rattle.program_desc.specs.Described.{described}
 use Rattle.program_desc.specs.Views.{view}
-use Rattle.program_menu.specs.DescribedMenu.{boot_of, max_names}
-use Rattle.program_menu.specs.BootCases.{names_fetched, names_sought}
-use Rattle.program_menu.proofs.AskedLemmas.{fetched, inline_in, none_missing, sought}
+use Rattle.program_menu.specs.DescribedMenu.{boot_of}
+use Rattle.program_menu.specs.BootCases.{names_fetched}
+use Rattle.program_menu.proofs.AskedLemmas.{fetched, inline_in, none_sought, sought}
 use Rattle.program_boot.proofs.EndLemmas.{asked_by, asked_undescribed, asked_without, ends_by}
 use Rattle.program_boot.proofs.EndLemmas.{sound_undescribed, sound_without, undescribed}
 use Rattle.program_boot.proofs.EndLemmas.{without_machine}
@@ -43,11 +43,7 @@ returns-in_err-description g c =
       faults = sound_undescribed (g.S.Sink.faults c.args.out.now) _;
       asked = asked_undescribed (names_fetched (described c.args.desc.now))
           (g.F.Files.asked c.args.files.now) _;
-      inline = λ _. refl;
-      same_files = λ file answer told. told;
-      missing = none_missing (g.F.Files.faults c.args.files.now)
-          (length (names_sought (described c.args.desc.now)));
-      few = (none_missing (g.F.Files.faults c.args.files.now) max_names).1;
+      sought = none_sought g.F.Files.answers g.F.Files.faults c.args.desc.now c.args.files.now;
     })
 
 pub returns-in_err-machine : goal.returns-in_err-machine
@@ -65,11 +61,7 @@ returns-in_err-machine g c =
       asked = asked_without (view c.in_ok-description.description)
           (names_fetched (described c.args.desc.now)) (g.F.Files.asked c.args.files.now) _
           c.in_err-machine.ensures.fault;
-      inline = λ _. refl;
-      same_files = λ file answer told. told;
-      missing = none_missing (g.F.Files.faults c.args.files.now)
-          (length (names_sought (described c.args.desc.now)));
-      few = (none_missing (g.F.Files.faults c.args.files.now) max_names).1;
+      sought = none_sought g.F.Files.answers g.F.Files.faults c.args.desc.now c.args.files.now;
     })
 
 pub returns-in_err-ready : goal.returns-in_err-ready
@@ -84,11 +76,12 @@ returns-in_err-ready g c =
       ends = (refl, refl);
       faults = refl;
       asked = rw (fetched c.args.desc.now d is) c.in_err-ready.ensures.asked_first;
-      inline =
-          λ has. c.in_err-ready.ensures.inline (inline_in c.args.desc.now d is has);
-      same_files = c.in_err-ready.ensures.same;
-      missing = rw (sought c.args.desc.now d is) c.in_err-ready.ensures.missing;
-      few = c.in_err-ready.ensures.few;
+      sought = record {
+        inline = λ has. c.in_err-ready.ensures.inline (inline_in c.args.desc.now d is has);
+        same_files = c.in_err-ready.ensures.same;
+        missing = rw (sought c.args.desc.now d is) c.in_err-ready.ensures.missing;
+        few = c.in_err-ready.ensures.few;
+      };
     })
 
 pub returns-clause-faults : goal.returns-clause-faults
@@ -101,21 +94,16 @@ returns-clause-asked g c =
     (rw (fetched c.args.desc.now c.in_ok-description.description
     c.in_ok-description.ensures.given) c.in_ok-ready.ensures.asked)
 
-pub returns-clause-inline : goal.returns-clause-inline
-returns-clause-inline g c = λ has. c.in_ok-ready.ensures.inline
-    (inline_in c.args.desc.now c.in_ok-description.description c.in_ok-description.ensures.given
-    has)
-
-pub returns-clause-same_files : goal.returns-clause-same_files
-returns-clause-same_files g c = c.in_ok-ready.ensures.same
-
-pub returns-clause-missing : goal.returns-clause-missing
-returns-clause-missing g c =
-    rw (sought c.args.desc.now c.in_ok-description.description
-    c.in_ok-description.ensures.given) c.in_ok-ready.ensures.missing
-
-pub returns-clause-few : goal.returns-clause-few
-returns-clause-few g c = c.in_ok-ready.ensures.few
+pub returns-clause-sought : goal.returns-clause-sought
+returns-clause-sought g c =
+    let d = c.in_ok-description.description in
+    let is = c.in_ok-description.ensures.given in
+    record {
+      inline = λ has. c.in_ok-ready.ensures.inline (inline_in c.args.desc.now d is has);
+      same_files = c.in_ok-ready.ensures.same;
+      missing = rw (sought c.args.desc.now d is) c.in_ok-ready.ensures.missing;
+      few = c.in_ok-ready.ensures.few;
+    }
 
 pub returns-clause-ends : goal.returns-clause-ends
 returns-clause-ends g c =
