@@ -17,7 +17,6 @@ LINK_TO_HEADING = re.compile(r"\]\(([^)#\s]*)#([^)\s]+)\)")
 CONFLICT = re.compile(r"(<{7}|>{7}) ")
 MANUAL_PAGE = TOP / "docs/bootcore.1"
 
-DRAWN_FROM_SOURCES = ["layers", "session", "frame", "efi"]
 DRAWN_BY_PROGRAM = ["first", "second", "boot"]
 TOOLS = [
     ("each link to a definition or a clause has its line", "tools/anchors", "--check"),
@@ -33,7 +32,6 @@ TOOLS = [
     ("each must-fail edit changes a line that stands once, those of docs/EDITS.md in the function named there", "tools/edits"),
     ("the completions are those of the table of tools/completions, which has the calls of USAGE", "tools/completions", "--check"),
     ("docs/PLANTS.md has a row of each crate but those of tests, and a reason in each", "tools/plants", "--check"),
-    ("each picture that sources decide is what tools/pictures draws", "tools/pictures", "--check", *DRAWN_FROM_SOURCES),
     ("CONTRIBUTING.md lists each place where a refusal and a key stand", "tools/refusal_places", "--check"),
 ]
 
@@ -193,11 +191,15 @@ class Pages(Checks):
             self.assertEqual(missing, [])
 
     def test_pictures(self) -> None:
-        """each picture of docs/pictures is one of those that tools/pictures draws, and no page shows another one"""
-        drawn = sorted(f"{name}.svg" for name in DRAWN_FROM_SOURCES + DRAWN_BY_PROGRAM)
-        self.assertEqual(sorted(it.name for it in (TOP / "docs/pictures").iterdir()), drawn)
-        shown = {link for page in repository.pages() for link in re.findall(r"!\[[^]]*\]\(([^)]*)\)", "\n".join(repository.lines(page)))}
-        self.assertEqual({Path(link).name for link in shown} - set(drawn), set())
+        drawn = first_match(r"^pictures=\((.*)\)$", "tools/pictures").split()
+        with self.check("each picture of docs/pictures is one that tools/pictures draws, and no page shows another one"):
+            self.assertEqual(sorted(it.stem for it in (TOP / "docs/pictures").glob("*.svg")), sorted(drawn))
+            texts = {page: "\n".join(repository.lines(page)) for page in repository.pages()}
+            shown = {page: re.findall(r"!\[[^]]*\]\(([^)]*)\)", text) for page, text in texts.items()}
+            others = [(page, it) for page, links in shown.items() for it in links if Path(it).name not in [f"{each}.svg" for each in drawn]]
+            self.assertEqual(others, [])
+        from_sources = [name for name in drawn if name not in DRAWN_BY_PROGRAM]
+        self.passes("each picture that needs no program is what tools/pictures draws", TOP / "tools/pictures", "--check", *from_sources)
 
     def test_copies(self) -> None:
         with self.check("HANDLES is its one line"):
