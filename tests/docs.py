@@ -220,6 +220,14 @@ class Pages(Checks):
         wanted = (f" {edits} mistakes", f" {rows:,} calls", f" {cases} boot descriptions", f" {images} corrupted images")
         self.assertEqual([it for it in wanted if it not in told], [], "what README.md should tell, and does not")
 
+    def test_hour(self) -> None:
+        """README and SECURITY tell how long it takes to read what must be believed, as docs/THEOREMS.md counts it"""
+        headline = first_match(r"^\| What every boot has \| \d+ \| (\d+) \|$", "docs/THEOREMS.md")
+        whole = int(first_match(r"^\| The four together \| \d+ \| (\d+) \|$", "docs/THEOREMS.md"))
+        hours = {2: "two hours", 3: "three hours", 4: "four hours"}[round(whole / 60)]
+        for page, words in (("README.md", f"(headline {headline} minutes, all {hours})"), ("SECURITY.md", f", {hours} in all.")):
+            self.assertIn(words, (TOP / page).read_text(encoding="utf-8"), page)
+
     def test_version(self) -> None:
         ran = run(TOP / "tools/version")
         newest = first_match(r"^## (.+)$", "docs/CHANGES.md")
