@@ -220,6 +220,16 @@ class Pages(Checks):
         wanted = (f" {edits} mistakes", f" {rows:,} calls", f" {cases} boot descriptions", f" {images} corrupted images")
         self.assertEqual([it for it in wanted if it not in told], [], "what README.md should tell, and does not")
 
+    def test_examples_of_refusals(self) -> None:
+        """each case that docs/REFUSALS.md names as an example of an entry's refusal ends with that number"""
+        lines = [line.split("|") for table in sorted(TOP.glob("cases/*.cases")) for line in repository.lines(str(table.relative_to(TOP)))]
+        said = {cells[0]: cells[-2] for cells in lines if len(cells) > 2}
+        page = (TOP / "docs/REFUSALS.md").read_text(encoding="utf-8")
+        rows = re.findall(r"^\| (\d+) \| .* \| `(\w+)` \| [^|]* \|$", page.split("## Of an entry")[1].split("\n## ")[0], re.M)
+        self.assertGreater(len(rows), 20)
+        wrong = [f"{name} is no example of {number}: {said.get(name)}" for number, name in rows if f" {number};" not in said.get(name, "")]
+        self.assertEqual(wrong, [])
+
     def test_hour(self) -> None:
         """README and SECURITY tell how long it takes to read what must be believed, as docs/THEOREMS.md counts it"""
         headline = first_match(r"^\| What every boot has \| \d+ \| (\d+) \|$", "docs/THEOREMS.md")
