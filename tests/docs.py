@@ -17,7 +17,6 @@ LINK_TO_HEADING = re.compile(r"\]\(([^)#\s]*)#([^)\s]+)\)")
 CONFLICT = re.compile(r"(<{7}|>{7}) ")
 MANUAL_PAGE = TOP / "docs/bootcore.1"
 
-DRAWN_FROM_SOURCES = ["layers", "session", "frame", "efi"]
 DRAWN_BY_PROGRAM = ["first", "second", "boot"]
 TOOLS = [
     ("each link to a definition or a clause has its line", "tools/anchors", "--check"),
@@ -33,7 +32,6 @@ TOOLS = [
     ("each must-fail edit changes a line that stands once, those of docs/EDITS.md in the function named there", "tools/edits"),
     ("the completions are those of the table of tools/completions, which has the calls of USAGE", "tools/completions", "--check"),
     ("docs/PLANTS.md has a row of each crate but those of tests, and a reason in each", "tools/plants", "--check"),
-    ("each picture that sources decide is what tools/pictures draws", "tools/pictures", "--check", *DRAWN_FROM_SOURCES),
     ("CONTRIBUTING.md lists each place where a refusal and a key stand", "tools/refusal_places", "--check"),
 ]
 
@@ -193,11 +191,15 @@ class Pages(Checks):
             self.assertEqual(missing, [])
 
     def test_pictures(self) -> None:
-        """each picture of docs/pictures is one of those that tools/pictures draws, and no page shows another one"""
-        drawn = sorted(f"{name}.svg" for name in DRAWN_FROM_SOURCES + DRAWN_BY_PROGRAM)
-        self.assertEqual(sorted(it.name for it in (TOP / "docs/pictures").iterdir()), drawn)
-        shown = {link for page in repository.pages() for link in re.findall(r"!\[[^]]*\]\(([^)]*)\)", "\n".join(repository.lines(page)))}
-        self.assertEqual({Path(link).name for link in shown} - set(drawn), set())
+        drawn = first_match(r"^pictures=\((.*)\)$", "tools/pictures").split()
+        with self.check("each picture of docs/pictures is one that tools/pictures draws, and no page shows another one"):
+            self.assertEqual(sorted(it.stem for it in (TOP / "docs/pictures").glob("*.svg")), sorted(drawn))
+            texts = {page: "\n".join(repository.lines(page)) for page in repository.pages()}
+            shown = {page: re.findall(r"!\[[^]]*\]\(([^)]*)\)", text) for page, text in texts.items()}
+            others = [(page, it) for page, links in shown.items() for it in links if Path(it).name not in [f"{each}.svg" for each in drawn]]
+            self.assertEqual(others, [])
+        from_sources = [name for name in drawn if name not in DRAWN_BY_PROGRAM]
+        self.passes("each picture that needs no program is what tools/pictures draws", TOP / "tools/pictures", "--check", *from_sources)
 
     def test_copies(self) -> None:
         with self.check("HANDLES is its one line"):
@@ -217,6 +219,24 @@ class Pages(Checks):
         told = " ".join((TOP / "README.md").read_text(encoding="utf-8").split())
         wanted = (f" {edits} mistakes", f" {rows:,} calls", f" {cases} boot descriptions", f" {images} corrupted images")
         self.assertEqual([it for it in wanted if it not in told], [], "what README.md should tell, and does not")
+
+    def test_examples_of_refusals(self) -> None:
+        """each case that docs/REFUSALS.md names as an example of an entry's refusal ends with that number"""
+        lines = [line.split("|") for table in sorted(TOP.glob("cases/*.cases")) for line in repository.lines(str(table.relative_to(TOP)))]
+        said = {cells[0]: cells[-2] for cells in lines if len(cells) > 2}
+        page = (TOP / "docs/REFUSALS.md").read_text(encoding="utf-8")
+        rows = re.findall(r"^\| (\d+) \| .* \| `(\w+)` \| [^|]* \|$", page.split("## Of an entry")[1].split("\n## ")[0], re.M)
+        self.assertGreater(len(rows), 20)
+        wrong = [f"{name} is no example of {number}: {said.get(name)}" for number, name in rows if f" {number};" not in said.get(name, "")]
+        self.assertEqual(wrong, [])
+
+    def test_hour(self) -> None:
+        """README and SECURITY tell how long it takes to read what must be believed, as docs/THEOREMS.md counts it"""
+        headline = first_match(r"^\| What every boot has \| \d+ \| (\d+) \|$", "docs/THEOREMS.md")
+        whole = int(first_match(r"^\| The four together \| \d+ \| (\d+) \|$", "docs/THEOREMS.md"))
+        hours = {2: "two hours", 3: "three hours", 4: "four hours"}[round(whole / 60)]
+        for page, words in (("README.md", f"(headline {headline} minutes, all {hours})"), ("SECURITY.md", f", {hours} in all.")):
+            self.assertIn(words, (TOP / page).read_text(encoding="utf-8"), page)
 
     def test_version(self) -> None:
         ran = run(TOP / "tools/version")
