@@ -34,7 +34,7 @@ class Examples(ImageChecks):
         self.ends("the second example, a Linux entry, boots", ran, 0, "booted 0 a small Linux\n")
         self.is_expected("the second example's image", examples.SECOND_IMAGE, image)
         page = (TOP / "docs/MEASURED.md").read_text(encoding="utf-8")
-        digests = "".join(re.findall(r"^(image   .*?\n)```$", page, re.M | re.S))
+        digests = "".join(re.findall(r"^(image +- .*?\n)```$", page, re.M | re.S))
         ran = run(EXAMPLES / "digests.sh", image)
         self.ends("the parts of the second example's image have the digests of docs/MEASURED.md", ran, 0, digests)
         with self.check("the digest of the ramdisk in docs/MEASURED.md is that of its file, with zeros up to a frame"):
