@@ -13,15 +13,15 @@
 extern "C" {
 #endif
 
-/* How long an arena is enough for each load, preparation and plan. A boot, a session and a walk may
- * want more: docs/EMBED.md. */
+/* How long an arena is enough for each load, preparation, plan and digest, if nothing else is kept
+ * in it. A boot, a session and a walk may want more: docs/EMBED.md. */
 enum { BOOTCORE_ARENA = 1048576 };
 
 /* The two functions are in libbootcore_freestanding.a alone: with libbootcore.a they don't link. */
 
-/* Gives the arena its memory, in place of what it had before: first free the sessions that are kept
- * in that. Before this call, and with a length of 0, each call that wants memory answers
- * BOOTCORE_NO_MEMORY. */
+/* Gives the arena its memory, in place of what it had before: first free the sessions and digests
+ * that are kept in that. Before this call, and with a length of 0, each call that wants memory
+ * answers BOOTCORE_NO_MEMORY. */
 BOOTCORE_CALL void bootcore_arena(void *memory, size_t length);
 
 /* How long an arena at the same address is enough for the same calls as since it was given. */
