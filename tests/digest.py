@@ -2,15 +2,16 @@
 
 import os
 import struct
+import unittest
 from concurrent.futures import ThreadPoolExecutor
 from pathlib import Path
-from typing import Iterator, List, NamedTuple, Optional, Union
+from typing import Iterator, List, NamedTuple, Optional, Sequence, Union
 
 from tests.cases import EXPAND, NONE, Case, read_cases
 from tests.changed_images import LENGTH_OF_HEAD, ChangedImage, base_images, change, changed_images
 from tests.examples import EXAMPLES, FIRST, SECOND
 from tests.program_checks import ImageChecks
-from tests.support import PROGRAM, Ran, run, sha256
+from tests.support import PROGRAM, TOP, Ran, is_at_hand, run, sha256
 
 # what the table calls a part of each role, from 1 on: docs/FORMATS.md
 NAMES = ["kernel", "module", "information", "parameters", "line", "gdt", "initrd", "tables"]
@@ -236,3 +237,54 @@ class Memory(DigestChecks):
         role, index, address, _ = RECORD.unpack_from(image, record)
         RECORD.pack_into(image, record, role, index, address, length)
         return bytes(image)
+
+
+class Growths(DigestChecks):
+    """Each growth of the program's memory refused in turn, by a library that is loaded before the C library."""
+
+    library: Path
+
+    @classmethod
+    def setUpClass(cls) -> None:
+        super().setUpClass()
+        if not is_at_hand("cc"):
+            raise unittest.SkipTest("cc is not at hand")
+        cls.library = cls.room / "refuse.so"
+        how = "-std=c99 -Wall -Wextra -Wpedantic -Wconversion -Werror -O1 -shared -fPIC".split()
+        ran = run("cc", *how, "-o", cls.library, TOP / "tools/c/refuse.c", "-ldl")
+        if ran.status != 0:
+            raise AssertionError(f"ran: {ran}\n{ran.err.decode(errors='replace')}")
+
+    def refusing(self, number: int, words: Sequence[Union[str, Path]]) -> Ran:
+        told = self.room / "growths" if number == 0 else os.devnull
+        env = {"LD_PRELOAD": str(self.library), "REFUSED": str(number), "GROWTHS": str(told)}
+        return self.digest(*words, env=env)
+
+    def test_refused(self) -> None:
+        missing = self.room / "missing.toml"
+        missing.write_bytes(self.described("kernel", '"none.elf"').read_bytes())
+        bad = self.described("size", "1.5")
+        for sentence, words, status in (
+            ("digest of a boot", [FIRST], 0),
+            ("digest of a boot of Linux", [SECOND], 0),
+            ("digest of a boot that is refused", [missing], 1),
+            ("digest of a bad description", [bad], 2),
+            ("digest of an image", ["--image", self.first], 0),
+            ("digest of a bad image", ["--image", FIRST], 2),
+        ):
+            with self.check(f"with each growth refused in turn {sentence} ends in out of memory, and nothing is printed"):
+                self.assert_refusals(words, status)
+
+    def assert_refusals(self, words: Sequence[Union[str, Path]], status: int) -> None:
+        whole = self.refusing(0, words)
+        self.assert_ended(whole, status, None, None)
+        growths = int((self.room / "growths").read_text())
+        self.assertGreater(growths, 50, f"ran: {whole}\nthe growths")
+        with ThreadPoolExecutor(os.cpu_count() or 1) as pool:
+            ran = list(pool.map(lambda number: self.refusing(number, words), range(1, growths + 1)))
+        # the words of the command line are asked room for once more where that was refused
+        again = [it for it in ran if (it.status, it.out, it.err) == (whole.status, whole.out, whole.err)]
+        self.assertLessEqual(len(again), 1, f"ran: {whole}\nthe growths without which it does the same")
+        for it in ran:
+            if it not in again:
+                self.assert_ended(it, 4, "", "no memory\n")
