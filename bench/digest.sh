@@ -1,6 +1,6 @@
 #!/usr/bin/env bash
 # Seconds and peak memory of `bootcore digest` beside the hashes that it takes: of a Linux kernel of 10 MiB with an initial ramdisk
-# of 234 MiB, together 256 MB, in a machine of 512 MiB.
+# of 234 MiB, together 256 MB, in a machine of 1 GiB.
 #
 #   [HASHER=PROGRAM] bench/digest.sh [BOOTCORE]
 #
@@ -162,7 +162,7 @@ fi
 
 "$here/make_bzimage.sh" vmlinuz $((10 << 20))
 numbers $((234 << 20)) > initrd.img
-describe $((512 << 20)) > linux.toml
+describe $((1 << 30)) > linux.toml
 call "$bootcore" boot linux.toml --out image
 sha256=$(sha256sum image | cut -d ' ' -f 1)
 
@@ -206,7 +206,7 @@ fi
 printf '\nmachine of MiB   peak KiB beside the files, of which a program that only says its usage has\n'
 weigh_command "$bootcore" --help
 usage_kib=$kib
-for mib in 512 1024 4096; do
+for mib in 1024 2048 4096; do
     describe $((mib << 20)) > machine.toml
     weigh_command "$bootcore" digest machine.toml
     if [ "$kib" != - ]; then
