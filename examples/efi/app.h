@@ -103,38 +103,48 @@ void each_file(const char *folder, void (*take)(const char *name));
 /* A whole file, which has no zero byte, with one behind it; or NULL, and what is wrong with it. All
    that is read is measured first. */
 char *read_text(const char *path, const char **wrong);
-/* Reads an entry's files, each into pages of its own. NULL, or what is wrong. */
+/* Reads an entry's kernel, plans the entry, and reads its other files. NULL, or what is wrong. */
 const char *read_files(menu_entry *entry);
+/* The core is told where they lie. */
+void give_files(menu_entry *entry);
 /* For tests: a new file, and bytes at its end. */
 EFI_FILE *create_file(const char *path);
 int append(EFI_FILE *file, const void *bytes, uint64_t length);
 
-/* ---- pages.c: pages of the firmware's memory, and page tables of our own */
+/* ---- pages.c: pages of the firmware's memory, and page tables of our own. NULL: there are none */
 
-/* Pages below 4 GiB, or NULL. */
+/* Pages below 4 GiB, where no step of the plan goes. */
 void *take_low_pages(uint64_t count);
-/* Pages there if there is room, or anywhere; or NULL. */
+/* Pages there if there is room, or anywhere where no step goes. */
 void *take_pages(uint64_t count);
+/* As the firmware's call has it, and kept to be given back. */
+void *take_pages_as(EFI_ALLOCATE_TYPE how, EFI_MEMORY_TYPE type, uint64_t count, uint64_t address);
+/* Whether a step goes to some of so many bytes at an address. */
+int is_met(const bootcore_step *step, uint64_t start, uint64_t length);
 extern uint32_t taken_count; /* how many times pages were taken, and not given back */
 /* Gives back all but what was taken first, so many times. */
 void give_back(uint32_t kept_count);
-/* Page tables that map all addresses below 4 GiB, all that was taken, and this range, each to
-   itself, to be read, written and executed. 0 if there is too little memory. */
+/* Page tables, where no step of the plan goes, that map all addresses below 4 GiB, all that was
+   taken, and this range, each to itself, to be read, written and executed. 0 if there is too little
+   memory. */
 int make_tables(const void *start, uint64_t length);
-/* What CR3 is to hold. */
-uint64_t tables_address(void);
+/* What CR3 is to hold where paging has five levels, or four. */
+uint64_t tables_address(int has_five_levels);
 
 /* ---- map.c: the firmware's memory map as the core's machine */
 
 typedef struct {
     bootcore_machine machine;
     bootcore_region regions[BOOTCORE_MAX_REGIONS];
-    uint64_t own; /* bytes of the loader's, which no kernel gets */
-    UINTN key;    /* of the map, for ExitBootServices */
+    uint64_t usable; /* bytes */
+    UINTN key;       /* of the map, for ExitBootServices */
 } machine_map;
 
 /* NULL, or why the firmware's map gives no machine. The firmware is asked for nothing else. */
 const char *read_map(machine_map *map);
+/* In the map that was read last, the first range from an address on that has a page, or NULL. They
+   overlap nowhere, and the firmware may list them in any order. */
+const EFI_MEMORY_DESCRIPTOR *first_range(uint64_t start);
 
 /* ---- memory.c */
 
@@ -155,21 +165,37 @@ int take_plan_room(void);
 const char *refusal_words(const bootcore_refusal *refusal);
 /* The digests of what plan_entry has planned: a status. */
 uint32_t digest_entry(const menu_entry *entry, bootcore_digests *digests);
-/* Plans an entry, whose files were read, on the firmware's map as it is now. NULL, or why it can't
-   be booted. The firmware is asked for nothing but the map. */
+/* Plans an entry, whose kernel was read, on the firmware's map as it is now. NULL, or why it can't be
+   booted. The firmware is asked for nothing but the map. */
 const char *plan_entry(const menu_entry *entry);
+/* Plans an entry, whose files were read, and makes all ready for the firmware's end. The firmware is
+   asked for nothing but the map and pages. */
+const char *make_ready(menu_entry *entry);
 /* Ends the firmware and enters the entry's kernel. It returns, with what is wrong, only while the
    firmware serves. */
-const char *leave_firmware(EFI_HANDLE image, const menu_entry *entry);
+const char *leave_firmware(EFI_HANDLE image, menu_entry *entry);
+
+/* ---- moves.c: what is left to copy then, and where all lies meanwhile */
+
+typedef struct {
+    uint64_t to, from, length; /* from 0: zeros */
+} move;
+
+/* Pages for an entry's file, as the core counts them: where a step takes it whole, if that memory is
+   free; or where no step goes. */
+void *take_file_pages(uint32_t file, uint64_t length);
+/* Moves files and the plan's bytes to where no step goes over them. 0 if there is too little memory. */
+int clear_sources(void);
+/* The steps as moves, and behind them one of no bytes. The sources were cleared. */
+void list_moves(move *list);
 
 /* ---- entry.c, entry.S: what is left to do without the firmware */
 
-int take_entry_room(void);
+extern move *last_moves; /* their list; the page before it is that of the last jump */
+/* Makes that page, the list and page tables, where no step goes. 0 if there is too little memory. */
+int make_entry(void);
 /* Loads by the plan, and enters the kernel. It never returns. */
 void enter_alone(void);
-/* Calls a function on another stack, by these page tables, with no handler of interrupts or faults.
-   It never returns. */
-void run_alone(void (*function)(void), void *stack_end, uint64_t tables);
 
 /* ---- keep.c: the choice, kept for the next boot */
 
@@ -230,7 +256,7 @@ void close_screen(void);
 enum choice choose_entry(void);
 void wait_key(void);
 
-/* ---- write.c: for tests: the handover as files on the disk */
+/* ---- write.c: for tests: the handover, and where all lies, as files on the disk */
 
 /* What came of it, in words. */
 const char *write_handover(const menu_entry *entry);

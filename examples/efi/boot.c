@@ -61,8 +61,9 @@ enum { most_tries = 8 };
 static void change(const char *when) {
     if (menu.change == NULL || !is_word(menu.change, when)) return;
     menu.change = NULL;
-    take_low_pages(1);
-    if (is_word(when, "key")) give_back(taken_count - 1);
+    void *there = take_low_pages(1);
+    give_back(taken_count - 1);
+    if (!is_word(when, "key")) take_pages_as(AllocateAddress, EfiReservedMemoryType, 1, (UINTN)there);
 }
 
 /* Whether the firmware's map is still that of the plan: then its new key is known. */
@@ -76,11 +77,19 @@ static int is_same_map(void) {
     return 1;
 }
 
-/* Plans an entry and measures the plan, until the map is the same afterwards. Each print may change
-   it, and so may a measurement. */
-static const char *plan_measured(const menu_entry *entry) {
+const char *make_ready(menu_entry *entry) {
+    const char *wrong = plan_entry(entry);
+    if (wrong != NULL) return wrong;
+    if (!clear_sources() || !make_entry()) return "There is too little memory beside the entry's.";
+    give_files(entry);
+    return NULL;
+}
+
+/* Makes an entry ready and measures the plan, until the map is the same afterwards. Each print may
+   change it, and so may a measurement. */
+static const char *make_measured(menu_entry *entry) {
     for (int tries = 0; tries < most_tries; tries++) {
-        const char *wrong = plan_entry(entry);
+        const char *wrong = make_ready(entry);
         if (wrong == NULL) wrong = measure_handover(entry);
         if (wrong != NULL) return wrong;
         change("measured");
@@ -98,8 +107,8 @@ __attribute__((noreturn)) static void restart(void) {
    its last reading and ExitBootServices, that call fails, and the firmware may have ended in part,
    and need serve memory alone: nothing is printed any more, and nothing measured. So the plan is
    made again only if none was measured; else another map was measured than would be booted. */
-const char *leave_firmware(EFI_HANDLE image, const menu_entry *entry) {
-    const char *wrong = plan_measured(entry);
+const char *leave_firmware(EFI_HANDLE image, menu_entry *entry) {
+    const char *wrong = make_measured(entry);
     if (wrong != NULL) return wrong;
     for (int tries = 0; tries < most_tries; tries++) {
         change("");
@@ -108,7 +117,7 @@ const char *leave_firmware(EFI_HANDLE image, const menu_entry *entry) {
             keep_log();
             enter_alone();
         }
-        if (!is_same_map() && (is_handover_measured() || plan_entry(entry) != NULL)) break;
+        if (!is_same_map() && (is_handover_measured() || make_ready(entry) != NULL)) break;
     }
     restart();
 }

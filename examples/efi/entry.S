@@ -1,7 +1,8 @@
 # From the state in which a firmware leaves its application (64-bit mode, paging) to the registers
 # that the core hands over: run_alone begins what is left to do without the firmware, and the
-# trampoline ends it. entry.c copies all between trampoline and trampoline_end to a page of its own
-# below 4 GiB, which no part of the kernel overlaps, and puts the registers into it.
+# trampoline does it. entry.c copies all between trampoline and trampoline_end to a page of its own
+# below 4 GiB, where no step of the plan goes, puts the registers into it, and behind the page the list
+# of moves: where to, where from (0 for zeros), how many bytes; the last one has none.
 #
 # Each entry leaves 64-bit mode: the one of 64 bits too, since only so the paging that the firmware
 # chose (of five levels, say) can be changed for that of the handover.
@@ -19,20 +20,17 @@
     .endr
 
     .text
-    # Of CR4 it leaves the paging in use, and SSE for the core. The rest is the firmware's: global
-    # pages, by which its page tables would last, shadow stacks, and what else limits what tables allow.
+    # Of CR4 it leaves the paging in use. The rest is the firmware's: global pages, by which its page
+    # tables would last, shadow stacks, and what else limits what tables allow.
     .globl run_alone
-run_alone:                          # (function, end of the stack, page tables); it never returns
+run_alone:                          # (the last page, page tables); it never returns
     cli
     lidt no_handlers(%rip)          # the firmware's handlers may be written over
     movq %cr4, %rax
-    andl $0x1620, %eax
+    andl $0x1020, %eax
     movq %rax, %cr4
-    movq %rdx, %cr3                 # these map the code here to where it runs
-    movq %rsi, %rsp
-    xorl %ebp, %ebp
-    call *%rdi
-    ud2
+    movq %rsi, %cr3                 # these map the code here to where it runs
+    jmp *%rdi
 no_handlers:
     .word 0
     .quad 0
@@ -43,6 +41,32 @@ no_handlers:
 trampoline:                         # interrupts are off, and there are no handlers
     cld
     leaq trampoline(%rip), %rbx     # the page: 32-bit code finds all by its offset from here
+    leaq stack_end(%rip), %rsp
+    leaq 4096(%rbx), %rdx
+next_move:                          # eight bytes at a time, and then the rest
+    movq (%rdx), %rdi
+    movq 8(%rdx), %rsi
+    movq 16(%rdx), %rbp
+    addq $24, %rdx
+    testq %rbp, %rbp
+    jz moved
+    movq %rbp, %rcx
+    shrq $3, %rcx
+    andl $7, %ebp
+    testq %rsi, %rsi
+    jz zeros
+    rep movsq
+    movl %ebp, %ecx
+    rep movsb
+    jmp next_move
+zeros:
+    xorl %eax, %eax
+    rep stosq
+    movl %ebp, %ecx
+    rep stosb
+    jmp next_move
+
+moved:
     leaq table32(%rip), %rax        # what LGDT takes has addresses: of the two tables below, and of
     movq %rax, table32_at + 2(%rip) # the kernel's own, if it is handed one
     leaq table64(%rip), %rax
@@ -56,11 +80,7 @@ trampoline:                         # interrupts are off, and there are no handl
     subl %eax, %ecx
     movl %ecx, jump32_end - 4(%rip)
 
-    movq %cr4, %rax                 # all but the paging in use: some of it needs what CR0 loses below
-    andl $0x1020, %eax
-    movq %rax, %cr4
     lgdt table32_at(%rip)
-    leaq stack_end(%rip), %rsp
     movl $data, %eax
     movw %ax, %ss
     movw %ax, %ds

@@ -1,44 +1,28 @@
 /* What is left to do once the firmware has ended: copies, and the last jump. Nothing is asked of
-   anybody, and nobody can be told. It runs on a stack and by page tables of our own. */
+   anybody, and nobody can be told. It runs in pages and by page tables of our own. */
 #include "app.h"
 
-enum { stack_pages = 16 };
+extern const uint8_t run_alone[], trampoline[], trampoline_registers[], trampoline_end[];
 
-static uint8_t *stack, *entry_page;
-static bootcore_memory parts[BOOTCORE_MAX_PLACES];
+move *last_moves;
 
-int take_entry_room(void) {
-    stack = take_low_pages(stack_pages);
-    entry_page = take_low_pages(1);
-    return stack != NULL && entry_page != NULL;
+/* The last page lies below 4 GiB, since from there the processor leaves 64-bit mode. */
+int make_entry(void) {
+    const bootcore_registers *registers = &boot.layout.handoff.registers;
+    const uint64_t list_length = (boot.layout.step_count + 1) * sizeof(move);
+    uint8_t *last_page = take_low_pages(1 + (list_length + page - 1) / page);
+    if (last_page == NULL) return 0;
+    memcpy(last_page, trampoline, (size_t)(trampoline_end - trampoline));
+    memcpy(last_page + (trampoline_registers - trampoline), registers, sizeof *registers);
+    last_moves = (move *)(last_page + page);
+    list_moves(last_moves);
+    return make_tables(run_alone, page);
 }
 
-/* Nothing is lent to the core but the parts. They lie in usable memory, and what is our own is not
-   told as usable: so no copy goes over what a later one reads. */
-static uint32_t carry_out(void) {
-    const bootcore_layout *layout = &boot.layout;
-    size_t count = layout->handoff.place_count;
-    for (size_t i = 0; i < count; i++) {
-        const bootcore_place *place = &layout->places[i];
-        parts[i] = (bootcore_memory){place->address, (void *)(UINTN)place->address, place->length};
-    }
-    return bootcore_carry_out(layout, files.read, files.count, parts, count);
-}
-
-static void enter_kernel(const bootcore_registers *registers) {
-    extern const uint8_t trampoline[], trampoline_registers[], trampoline_end[];
-    memcpy(entry_page, trampoline, (size_t)(trampoline_end - trampoline));
-    memcpy(entry_page + (trampoline_registers - trampoline), registers, sizeof *registers);
-    ((void (*)(void))(UINTN)entry_page)();
-}
-
-/* The steps are the plan's, the parts its places, and the files those that it was made for. So they
-   are carried out; if not, the machine starts anew by a fault, which has no handler. */
-static void load_and_enter(void) {
-    if (carry_out() == BOOTCORE_DONE) enter_kernel(&boot.layout.handoff.registers);
-    __asm__ volatile("ud2");
-}
-
+/* A processor with five levels keeps them until it leaves 64-bit mode. */
 void enter_alone(void) {
-    run_alone(load_and_enter, stack + stack_pages * page, tables_address());
+    uint64_t cr4;
+    __asm__("movq %%cr4, %0" : "=r"(cr4));
+    uint64_t last_page = (UINTN)last_moves - page, tables = tables_address(cr4 >> 12 & 1);
+    ((void (*)(uint64_t, uint64_t))(UINTN)run_alone)(last_page, tables);
 }

@@ -70,40 +70,47 @@ static uint32_t fill(const char *path, uint8_t *bytes, uint64_t length) {
     return length ? BOOTCORE_REFUSAL_FILE_FAULT : 0;
 }
 
-/* Files one after the other, in pages of their own: each begins at a multiple of 4, with zeros
-   before it, and behind the last there is a byte or more of room. `at` is the one that is read. */
-static uint32_t read_joined(const char *const *paths, uint32_t count, uint32_t *at,
-                            bootcore_bytes *joined) {
-    static uint64_t lengths[BOOTCORE_MAX_MODULES];
+static uint64_t lengths[1 + BOOTCORE_MAX_MODULES];
+static uint32_t at; /* the path that is looked at */
+
+/* Of paths from one to another: the files' lengths, and how long they are one after the other, each
+   from a multiple of 4 on. */
+static uint32_t find_lengths(const char *const *paths, uint32_t from, uint32_t to, uint64_t *whole) {
+    uint32_t fault = 0;
+    *whole = 0;
+    for (at = from; at < to; at++) {
+        fault = find_length(paths[at], &lengths[at]);
+        if (fault) return fault;
+        *whole = (*whole + 3) / 4 * 4 + lengths[at];
+        if (*whole > most_bytes) return BOOTCORE_REFUSAL_FILE_TOO_LONG;
+    }
+    return 0;
+}
+
+/* The files, whose lengths were found, with zeros between them. */
+static uint32_t read_joined(const char *const *paths, uint32_t from, uint32_t to, uint8_t *bytes) {
     uint64_t end = 0;
     uint32_t fault = 0;
-    for (*at = 0; *at < count; ++*at) {
-        fault = find_length(paths[*at], &lengths[*at]);
-        if (fault) return fault;
-        end = (end + 3) / 4 * 4 + lengths[*at];
-        if (end > most_bytes) return BOOTCORE_REFUSAL_FILE_TOO_LONG;
-    }
-    uint8_t *bytes = take_pages(end / page + 1);
-    if (bytes == NULL) return no_room;
-    *joined = (bootcore_bytes){bytes, end};
-    for (*at = 0, end = 0; *at < count && !fault; *at += !fault) {
+    for (at = from; at < to; at++) {
         for (; end % 4; end++) bytes[end] = 0;
-        fault = fill(paths[*at], bytes + end, lengths[*at]);
-        if (!fault) why_unmeasured = measure_file(paths[*at], bytes + end, lengths[*at]);
-        if (!fault && why_unmeasured != NULL) fault = unmeasured;
-        end += lengths[*at];
+        fault = fill(paths[at], bytes + end, lengths[at]);
+        if (fault) return fault;
+        why_unmeasured = measure_file(paths[at], bytes + end, lengths[at]);
+        if (why_unmeasured != NULL) return unmeasured;
+        end += lengths[at];
     }
-    return fault;
+    return 0;
 }
 
 char *read_text(const char *path, const char **wrong) {
-    bootcore_bytes read;
-    uint32_t at, fault = read_joined(&path, 1, &at, &read);
+    uint64_t length = 0;
+    uint32_t fault = find_lengths(&path, 0, 1, &length);
+    char *text = fault ? NULL : take_pages(length / page + 1);
+    if (text != NULL) fault = read_joined(&path, 0, 1, (uint8_t *)text);
     *wrong = fault == unmeasured ? why_unmeasured : "it can't be read, or is no text";
-    if (fault) return NULL;
-    char *text = (char *)(UINTN)read.bytes;
-    text[read.length] = 0;
-    return strlen(text) == read.length ? text : NULL;
+    if (text == NULL || fault) return NULL;
+    text[length] = 0;
+    return strlen(text) == length ? text : NULL;
 }
 
 int has_file(const char *path) {
@@ -132,26 +139,54 @@ void each_file(const char *folder, void (*take)(const char *name)) {
 
 /* ---- the files of an entry */
 
-/* To the kernel all ramdisks are one file. */
-const char *read_files(menu_entry *entry) {
-    int has_modules = entry->core.protocol == BOOTCORE_MULTIBOOT2;
-    uint32_t first = 0, at;
-    for (files.count = 0; first < entry->file_count; files.count++) {
-        uint32_t count = first == 0 || has_modules ? 1 : entry->file_count - first;
-        for (uint32_t i = first; i < first + count; i++)
-            print("    Reading %s.\n", entry->paths[i]);
-        bootcore_bytes *read = &files.read[files.count];
-        uint32_t fault = read_joined(entry->paths + first, count, &at, read);
-        if (fault == no_room) return "There is too little memory for the files.";
-        if (fault == unmeasured) return why_unmeasured;
-        if (fault)
-            return refusal_words(&(bootcore_refusal){.number = fault, .first = first + at});
-        if (first == 0) entry->core.kernel = *read;
-        else if (has_modules) entry->modules[first - 1].file = *read;
-        else entry->core.initrd = *read;
-        first += count;
+/* Of an entry's paths from one on, where those end that are one file to its kernel: all ramdisks are
+   one. */
+static uint32_t joined_end(const menu_entry *entry, uint32_t from) {
+    int is_alone = from == 0 || entry->core.protocol == BOOTCORE_MULTIBOOT2;
+    return is_alone ? from + 1 : entry->file_count;
+}
+
+void give_files(menu_entry *entry) {
+    entry->core.kernel = files.read[0];
+    if (entry->core.protocol != BOOTCORE_MULTIBOOT2) entry->core.initrd = files.read[1];
+    else
+        for (size_t i = 1; i < files.count; i++) entry->modules[i - 1].file = files.read[i];
+}
+
+static const char *fault_words(uint32_t fault) {
+    switch (fault) {
+    case 0: return NULL;
+    case no_room: return "There is too little memory for the files.";
+    case unmeasured: return why_unmeasured;
+    default: return refusal_words(&(bootcore_refusal){.number = fault, .first = at});
     }
-    return NULL;
+}
+
+static const char *read_file(menu_entry *entry, uint32_t index, uint32_t from, uint8_t *bytes) {
+    uint32_t to = joined_end(entry, from);
+    for (uint32_t i = from; i < to; i++) print("    Reading %s.\n", entry->paths[i]);
+    uint32_t fault = bytes ? read_joined(entry->paths, from, to, bytes) : no_room;
+    files.read[index].bytes = bytes;
+    if (!fault) give_files(entry);
+    return fault_words(fault);
+}
+
+/* A plan wants the kernel, and of the other files the lengths: so these are read to where the plan
+   has them, or at least out of its way. */
+const char *read_files(menu_entry *entry) {
+    uint32_t fault = 0, index = 0;
+    memset(&files, 0, sizeof files);
+    boot.layout.step_count = 0;
+    for (uint32_t i = 0; i < entry->file_count && !fault; i = joined_end(entry, i))
+        fault = find_lengths(entry->paths, i, joined_end(entry, i), &files.read[files.count++].length);
+    if (fault) return fault_words(fault);
+    const char *wrong = read_file(entry, 0, 0, take_pages(files.read[0].length / page + 1));
+    if (wrong == NULL) wrong = plan_entry(entry);
+    for (uint32_t i = 1; i < entry->file_count && wrong == NULL; i = joined_end(entry, i)) {
+        index++;
+        wrong = read_file(entry, index, i, take_file_pages(index, files.read[index].length));
+    }
+    return wrong;
 }
 
 /* ---- writing, for tests */

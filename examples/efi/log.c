@@ -63,7 +63,7 @@ static int take_area(void) {
 
 int take_log_room(void) {
     if (tpm == NULL || take_area()) return 1;
-    room = take_low_pages(own_room / page);
+    room = take_pages_as(AllocateMaxAddress, EfiReservedMemoryType, own_room / page, UINT32_MAX);
     room_length = own_room;
     return room != NULL;
 }

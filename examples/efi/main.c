@@ -41,7 +41,7 @@ static int begin(EFI_HANDLE image) {
         return print(": %s\n", wrong), 0;
     }
     mark_kept();
-    return (open_screen() && take_plan_room() && take_entry_room() && take_log_room()) ||
+    return (open_screen() && take_plan_room() && take_log_room()) ||
            say("There is too little memory.");
 }
 
@@ -57,13 +57,11 @@ static const char *attempt(EFI_HANDLE image, menu_entry *entry) {
     if (wrong != NULL) return wrong;
     if (entry->core.protocol == efi_program) return start_program(image, self->DeviceHandle, entry);
     wrong = read_files(entry);
-    if (wrong != NULL) return wrong;
-    if (!make_tables(self->ImageBase, self->ImageSize)) return "There is too little memory.";
-    wrong = plan_entry(entry);
+    if (wrong == NULL) wrong = make_ready(entry);
     if (wrong != NULL) return wrong;
     if (menu.writes) say(write_handover(entry));
-    print("    Booting %s. %u KiB are the loader's, the core took %u bytes.\n", entry->title,
-          boot.map.own / 1024, (uint64_t)bootcore_arena_peak());
+    print("    Booting %s. It is told of %u KiB of usable memory, the core took %u bytes.\n",
+          entry->title, boot.map.usable / 1024, (uint64_t)bootcore_arena_peak());
     print(log_address() == 0 ? "    It is %s.\n" : "    It is %s. The log is at 0x%x.\n",
           measured_words(), log_address());
     return leave_firmware(image, entry);

@@ -1,13 +1,15 @@
 /* Pages of the firmware's memory, and page tables of our own.
 
-   Memory of boot services is free once they have ended, so a kernel may be loaded over the
-   firmware's page tables. These may also forbid to execute what is no code of an image, or to write
-   what nobody has taken. So what is left to do then goes by tables of our own, in our own pages. */
+   Memory of boot services and of the loader is free once they have ended, so a kernel may be loaded
+   over the firmware's page tables, and over this application. The firmware's may also forbid to
+   execute what is no code of an image, or to write what nobody has taken. So what is left to do then
+   goes by tables of our own, in pages where no step of the plan goes. */
 #include "app.h"
 
 /* ---- pages */
 
 enum { max_taken = 512 };
+#define highest_mapped (((uint64_t)1 << 47) - 1) /* by page tables of four levels */
 
 static struct {
     EFI_PHYSICAL_ADDRESS start;
@@ -15,24 +17,13 @@ static struct {
 } taken[max_taken];
 uint32_t taken_count;
 
-/* Memory of the loader: it is told to the core as reserved, so no part of a kernel overlaps it. */
-static void *take(EFI_PHYSICAL_ADDRESS highest, uint64_t count) {
-    EFI_PHYSICAL_ADDRESS start = highest;
-    if (taken_count == max_taken ||
-        EFI_ERROR(BS->AllocatePages(AllocateMaxAddress, EfiLoaderData, count, &start)))
+void *take_pages_as(EFI_ALLOCATE_TYPE how, EFI_MEMORY_TYPE type, uint64_t count, uint64_t address) {
+    EFI_PHYSICAL_ADDRESS start = address;
+    if (taken_count == max_taken || EFI_ERROR(BS->AllocatePages(how, type, count, &start)))
         return NULL;
     taken[taken_count].start = start;
     taken[taken_count++].count = count;
     return (void *)(UINTN)start;
-}
-
-void *take_low_pages(uint64_t count) { return take(UINT32_MAX, count); }
-
-/* Drivers of some firmware can't read a disk to addresses from 4 GiB on. */
-void *take_pages(uint64_t count) {
-    const EFI_PHYSICAL_ADDRESS highest = ((uint64_t)1 << 47) - 1; /* that four levels map */
-    void *low = take_low_pages(count);
-    return low != NULL ? low : take(highest, count);
 }
 
 void give_back(uint32_t kept_count) {
@@ -40,6 +31,34 @@ void give_back(uint32_t kept_count) {
         taken_count--;
         BS->FreePages(taken[taken_count].start, taken[taken_count].count);
     }
+}
+
+int is_met(const bootcore_step *step, uint64_t start, uint64_t length) {
+    return step->address < start + length && start < step->address + step->length;
+}
+
+/* The firmware chooses pages below a limit, the highest ones as a rule. If a step goes there, the next
+   limit is the lowest such step: between it and others that go there is no room. */
+static void *take_clear(uint64_t count, uint64_t highest) {
+    for (;;) {
+        void *pages = take_pages_as(AllocateMaxAddress, EfiLoaderData, count, highest);
+        size_t i = 0;
+        if (pages == NULL) return NULL;
+        while (i < boot.layout.step_count &&
+               !is_met(&boot.layout.steps[i], (UINTN)pages, count * page))
+            i++;
+        if (i == boot.layout.step_count) return pages;
+        give_back(taken_count - 1);
+        highest = boot.layout.steps[i].address - 1;
+    }
+}
+
+void *take_low_pages(uint64_t count) { return take_clear(count, UINT32_MAX); }
+
+/* Drivers of some firmware can't read a disk to addresses from 4 GiB on. */
+void *take_pages(uint64_t count) {
+    void *low = take_low_pages(count);
+    return low != NULL ? low : take_clear(count, highest_mapped);
 }
 
 /* ---- tables: a word is the address of a table of the next level, or of a large page, and flags */
@@ -82,9 +101,6 @@ int make_tables(const void *start, uint64_t length) {
     return good;
 }
 
-/* A processor with five levels keeps them until it leaves 64-bit mode. */
-uint64_t tables_address(void) {
-    uint64_t cr4;
-    __asm__("movq %%cr4, %0" : "=r"(cr4));
-    return (UINTN)(cr4 >> 12 & 1 ? five_levels : four_levels);
+uint64_t tables_address(int has_five_levels) {
+    return (UINTN)(has_five_levels ? five_levels : four_levels);
 }

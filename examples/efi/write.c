@@ -1,12 +1,37 @@
 /* For tests: the handover as an image, and the description of the same boot, as files on the disk.
    `bootcore boot` of that description, with the same files beside it, must write the same image.
-   docs/FORMATS.md has both forms. */
+   docs/FORMATS.md has both forms. And a file that says where all lies as the firmware is to end. */
 #include "app.h"
 
 static int write_description(EFI_FILE *file, const menu_entry *entry) {
     static char text[max_text];
     size_t length = describe(&boot.map.machine, entry, text, sizeof text);
     return length != 0 && append(file, text, length);
+}
+
+/* Addresses and lengths of the firmware's ranges, by its number for their type, of the entry's files
+   and parts; the page of the last jump; and what is moved by it: to, from, how many bytes. */
+static int write_memory(EFI_FILE *file, const menu_entry *entry) {
+    static char text[max_text];
+    (void)entry;
+    read_map(&boot.map); /* pages were taken since it was read */
+    const EFI_MEMORY_DESCRIPTOR *d = first_range(0);
+    kept = text;
+    kept_end = text + sizeof text;
+    for (; d != NULL; d = first_range(d->PhysicalStart + 1))
+        print("range %u 0x%x 0x%x\n", (uint64_t)d->Type, d->PhysicalStart, d->NumberOfPages * page);
+    for (size_t i = 0; i < files.count; i++)
+        print("file %u 0x%x 0x%x\n", i, (UINTN)files.read[i].bytes, files.read[i].length);
+    for (size_t i = 0; i < boot.layout.handoff.place_count; i++) {
+        const bootcore_place *place = &boot.layout.places[i];
+        print("part %u 0x%x 0x%x\n", (uint64_t)place->role, place->address, place->length);
+    }
+    print("last 0x%x\n", (UINTN)last_moves - page);
+    for (const move *each = last_moves; each->length; each++)
+        print("move 0x%x 0x%x 0x%x\n", each->to, each->from, each->length);
+    size_t length = (size_t)(kept - text);
+    kept = NULL;
+    return append(file, text, length);
 }
 
 /* ---- the image: its head, then the parts' bytes, as the steps have them in order */
@@ -48,7 +73,8 @@ static int write_by(int (*write)(EFI_FILE *, const menu_entry *), const char *pa
    firmware ends. */
 const char *write_handover(const menu_entry *entry) {
     return write_by(write_description, "bootcore/handover.toml", entry) &&
-                   write_by(write_image, "bootcore/handover.image", entry)
+                   write_by(write_image, "bootcore/handover.image", entry) &&
+                   write_by(write_memory, "bootcore/handover.memory", entry)
                ? "The handover was written to bootcore/."
                : "The handover can't be written.";
 }

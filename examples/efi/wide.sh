@@ -1,0 +1,120 @@
+# shellcheck shell=bash disable=SC2034,SC2154 # its variables are used where it is sourced, or come from there
+# Sourced by `check --wide FOLDER`, which has the words: what takes too long for each run of the tests.
+
+# ---- machines and firmware
+
+# Of Debian's and Ubuntu's builds of OVMF: of 2 MiB, of 4 MiB, and one of 4 MiB that could check signatures and has
+# no keys, which wants the machine's management mode.
+builds=(/usr/share/OVMF/OVMF_CODE.fd /usr/share/OVMF/OVMF_CODE_4M.fd /usr/share/OVMF/OVMF_CODE_4M.secboot.fd)
+own_entries() {
+    printf '%s\n' 'timeout 0' write "default $1"
+    cat <<'END'
+title Multiboot2
+protocol multiboot2
+kernel spin_multiboot2
+line one "two" \three\
+module first the first one
+module random
+title 32-bit entry
+protocol linux
+kernel spin_linux
+line of the entry
+ramdisk random
+title 64-bit entry
+protocol linux64
+kernel spin_linux
+line of the entry
+ramdisk random
+END
+}
+entry_names=('Multiboot2' 'the 32-bit entry' 'the 64-bit entry')
+entry=0 # another one for each machine, so that each is entered with each size of memory
+for build in "${builds[@]}"; do
+    if [ ! -f "$build" ]; then
+        echo "skipped: nothing is run under another build of the firmware, since $build is not at hand"
+        continue
+    fi
+    export OVMF=$build
+    more=()
+    if [ "${build%.secboot.fd}" != "$build" ]; then
+        cp "${build%CODE*}VARS${build##*CODE}" variables 2>/dev/null || cp "${build%CODE*}VARS_4M.fd" variables
+        more=(-machine 'q35,smm=on' -global 'driver=cfi.pflash01,property=secure,value=on'
+            -drive 'if=pflash,format=raw,unit=1,file=variables')
+    fi
+    files=(spin_multiboot2 spin_linux first random)
+    for memory in 256M 512M 1G 3G 6G; do
+        disk < <(own_entries "$entry")
+        handed "$(basename "$build"), $memory, ${entry_names[entry]}" -m "$memory" "${more[@]}"
+        entry=$(((entry + 1) % 3))
+    done
+done
+unset OVMF
+
+# ---- kernels of Debian's packages
+
+# fetched PACKAGE FILE: a package's file, as the file `fetched`; the package is the newest one in the folder
+fetched() {
+    local package
+    rm -rf unpacked fetched
+    if ! command -v dpkg-deb >/dev/null 2>&1; then return 1; fi
+    package=$(find "$wide" -name "$1_*.deb" | sort -V | tail -n 1)
+    if [ -z "$package" ]; then
+        (cd "$wide" && apt-get download "$1") >/dev/null 2>&1
+        package=$(find "$wide" -name "$1_*.deb" | sort -V | tail -n 1)
+    fi
+    [ -n "$package" ] && dpkg-deb -x "$package" unpacked || return 1
+    cp "$(find unpacked -path "unpacked/boot/$2" | sort -V | tail -n 1)" fetched 2>/dev/null
+}
+# newest PATTERN: the name of the newest package that apt-get, or the folder, has
+newest() {
+    {
+        find "$wide" -name '*.deb' | sed 's|.*/||; s/_.*//'
+        apt-cache pkgnames linux-image 2>/dev/null
+    } | grep -xE "$1" | sort -Vu | tail -n 1
+}
+# runs NAME PACKAGE FILE PROTOCOL LINE PATTERN OPTION..: the kernel says so on the serial port, and its handover is
+# the program's
+runs() {
+    local name=$1 package=$2 file=$3 protocol=$4 line=$5 pattern=$6 word=ramdisk
+    shift 6
+    if ! fetched "$package" "$file"; then
+        echo "skipped: no $name is booted, since the package ${package:-of it} is not at hand"
+        return
+    fi
+    [ "$protocol" != multiboot2 ] || word=module
+    mv fetched kernel
+    if gzip -t <kernel 2>/dev/null; then
+        gzip -dc <kernel >plain
+        mv plain kernel
+    fi
+    files=(kernel ramdisk)
+    image_mib=200
+    disk <<END
+timeout 0
+write
+title $name
+protocol $protocol
+kernel kernel
+line $line
+$word ramdisk
+END
+    says "$name, $protocol: it says what it is to say ($*)" "$pattern" 300 "$@"
+    take_handover
+    is_copied_well "$name, $protocol"
+    is_programs "$name, $protocol"
+}
+amd64=$(newest 'linux-image-[0-9.]+-[0-9]+-amd64')
+cloud=$(newest 'linux-image-[0-9.]+-[0-9]+-cloud-amd64')
+line='console=ttyS0 panic=-1 acpi_rsdp=@rsdp@'
+for memory in 256M 1G 6G; do
+    runs "Debian's kernel" "$amd64" 'vmlinuz-*' linux64 "$line" 'userland is reached' -m "$memory"
+done
+runs "Debian's kernel" "$amd64" 'vmlinuz-*' linux "$line" 'userland is reached' -m 1G
+runs "Debian's kernel for clouds" "$cloud" 'vmlinuz-*' linux64 "$line" 'userland is reached' -m 3G
+# its first program is one of 64 bits, which this kernel does not start
+runs "Debian's kernel of 32 bits" "$(newest 'linux-image-[0-9.]+-[0-9]+-686')" 'vmlinuz-*' linux "$line" \
+    'Run /init as init process' -m 1G
+runs "memtest86+" 'memtest86+' 'memtest86+x64.bin' linux64 'console=ttyS0,115200' 'Memtest86' -m 1G
+runs "memtest86+ of 32 bits" 'memtest86+' 'memtest86+ia32.bin' linux 'console=ttyS0,115200' 'Memtest86' -m 1G
+runs "Xen" "$(newest 'xen-hypervisor-[0-9.]+-amd64')" 'xen-*-amd64.gz' multiboot2 'com1=115200,8n1 console=com1' \
+    'Xen [0-9.]+' -m 1G
