@@ -65,12 +65,12 @@ fetched() {
     [ -n "$package" ] && dpkg-deb -x "$package" unpacked || return 1
     cp "$(find unpacked -path "unpacked/boot/$2" | sort -V | tail -n 1)" fetched 2>/dev/null
 }
-# newest PATTERN: the name of the newest package that apt-get, or the folder, has
+# newest WORD PATTERN: the name of the newest package that the folder has, or else apt-get, from this word on
 newest() {
-    {
-        find "$wide" -name '*.deb' | sed 's|.*/||; s/_.*//'
-        apt-cache pkgnames linux-image 2>/dev/null
-    } | grep -xE "$1" | sort -Vu | tail -n 1
+    local found
+    found=$(find "$wide" -name "$1*.deb" | sed 's|.*/||; s/_.*//' | grep -xE "$1-$2" | sort -V | tail -n 1)
+    [ -n "$found" ] || found=$(apt-cache pkgnames "$1" 2>/dev/null | grep -xE "$1-$2" | sort -V | tail -n 1)
+    echo "$found"
 }
 # runs NAME PACKAGE FILE PROTOCOL LINE PATTERN OPTION..: the kernel says so on the serial port, and its handover is
 # the program's
@@ -103,8 +103,8 @@ END
     is_copied_well "$name, $protocol"
     is_programs "$name, $protocol"
 }
-amd64=$(newest 'linux-image-[0-9.]+-[0-9]+-amd64')
-cloud=$(newest 'linux-image-[0-9.]+-[0-9]+-cloud-amd64')
+amd64=$(newest linux-image '[0-9.]+-[0-9]+-amd64')
+cloud=$(newest linux-image '[0-9.]+-[0-9]+-cloud-amd64')
 line='console=ttyS0 panic=-1 acpi_rsdp=@rsdp@'
 for memory in 256M 1G 6G; do
     runs "Debian's kernel" "$amd64" 'vmlinuz-*' linux64 "$line" 'userland is reached' -m "$memory"
@@ -112,9 +112,10 @@ done
 runs "Debian's kernel" "$amd64" 'vmlinuz-*' linux "$line" 'userland is reached' -m 1G
 runs "Debian's kernel for clouds" "$cloud" 'vmlinuz-*' linux64 "$line" 'userland is reached' -m 3G
 # its first program is one of 64 bits, which this kernel does not start
-runs "Debian's kernel of 32 bits" "$(newest 'linux-image-[0-9.]+-[0-9]+-686')" 'vmlinuz-*' linux "$line" \
+runs "Debian's kernel of 32 bits" "$(newest linux-image '[0-9.]+-[0-9]+-686')" 'vmlinuz-*' linux "$line" \
     'Run /init as init process' -m 1G
 runs "memtest86+" 'memtest86+' 'memtest86+x64.bin' linux64 'console=ttyS0,115200' 'Memtest86' -m 1G
 runs "memtest86+ of 32 bits" 'memtest86+' 'memtest86+ia32.bin' linux 'console=ttyS0,115200' 'Memtest86' -m 1G
-runs "Xen" "$(newest 'xen-hypervisor-[0-9.]+-amd64')" 'xen-*-amd64.gz' multiboot2 'com1=115200,8n1 console=com1' \
-    'Xen [0-9.]+' -m 1G
+# it reads a BIOS's data, which there are none of, and ends before it says something
+runs "Xen" "$(newest xen-hypervisor '[0-9.]+-amd64')" 'xen-*-amd64.gz' multiboot2 'com1=115200,8n1 console=com1' \
+    'Booting Xen' -m 1G
