@@ -34,11 +34,21 @@ class Cell(NamedTuple):
     label: str
 
 
+def _top(memory: Memory) -> int:
+    """Where memory ends, and holes and devices begin."""
+    top = max(each.end for kind, each in memory.ranges if kind in FREE)
+    for _, each in memory.ranges:
+        top = each.end if each.start == top else top
+    return top
+
+
 def _rows(memory: Memory) -> List[Range]:
     """The ranges between boundaries: of what the firmware keeps, the boot manager, files, parts. Others are one with those beside."""
-    bounds = {0}
+    bounds = {0, _top(memory)}
     kept = False
     for kind, each in memory.ranges:
+        if each.start >= _top(memory):
+            break
         if (kind not in FREE) != kept or kind == 1:
             bounds.add(each.start)
         if kind == 1:
@@ -46,7 +56,6 @@ def _rows(memory: Memory) -> List[Range]:
         kept = kind not in FREE
     for each in [*memory.files, memory.last, *(part for _, part in memory.parts)]:
         bounds |= {each.start, each.end}
-    bounds.add(memory.ranges[-1][1].end)
     ordered = sorted(bounds)
     return [Range(start, end - start) for start, end in zip(ordered, ordered[1:])]
 
