@@ -103,7 +103,13 @@ fn digest_path(rt: &HostRuntime, path: &str) -> u8
     };
     let mut files = PathFiles::new(rt);
     let mut say = Vec::new(rt.alloc());
-    let status = digest_to(rt.alloc(), rt.alloc(), desc.as_slice(), &mut files, &mut say);
+    let status = digest_to(
+        rt.alloc(),
+        rt.alloc(),
+        desc.as_slice(),
+        &mut files,
+        &mut say,
+    );
     tell(rt, &say);
     status
 }
