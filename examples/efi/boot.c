@@ -61,9 +61,9 @@ enum { most_tries = 8 };
 static void change(const char *when) {
     if (menu.change == NULL || !is_word(menu.change, when)) return;
     menu.change = NULL;
-    void *there = take_low_pages(1);
+    void *free = take_low_pages(1);
     give_back(taken_count - 1);
-    if (!is_word(when, "key")) take_pages_as(AllocateAddress, EfiReservedMemoryType, 1, (UINTN)there);
+    if (!is_word(when, "key")) take_pages_as(AllocateAddress, EfiReservedMemoryType, 1, (UINTN)free);
 }
 
 /* Whether the firmware's map is still that of the plan: then its new key is known. */
@@ -80,7 +80,7 @@ static int is_same_map(void) {
 const char *make_ready(menu_entry *entry) {
     const char *wrong = plan_entry(entry);
     if (wrong != NULL) return wrong;
-    if (!clear_sources() || !make_entry()) return "There is too little memory beside the entry's.";
+    if (!clear_sources() || !make_entry()) return "There is no room beside the entry's parts.";
     give_files(entry);
     return NULL;
 }
