@@ -78,7 +78,9 @@ def boot(folder: Path, case: Case, *order: str) -> Boot:
     return booted
 
 
-class Cases(ProgramChecks):
+class WrittenCases(ProgramChecks):
+    """The cases, each a file of its own in a folder."""
+
     folder: Path
 
     @classmethod
@@ -86,8 +88,13 @@ class Cases(ProgramChecks):
         super().setUpClass()
         cls.folder = cls.room / "cases"
 
-    def test_cases(self) -> None:
+    def write_cases(self) -> None:
         self.ends("cases/expand writes the cases out", run(EXPAND, self.folder))
+
+
+class Cases(WrittenCases):
+    def test_cases(self) -> None:
+        self.write_cases()
         names = sorted(file.stem for file in self.folder.glob("*.toml"))
         with self.check("there are 475 cases"):
             self.assertEqual(len(names), 475, f"the files *.toml that {EXPAND} writes")

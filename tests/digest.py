@@ -7,7 +7,7 @@ from concurrent.futures import ThreadPoolExecutor
 from pathlib import Path
 from typing import Iterator, List, NamedTuple, Optional, Sequence, Union
 
-from tests.cases import EXPAND, NONE, Case, read_cases
+from tests.cases import NONE, Case, WrittenCases, read_cases
 from tests.changed_images import LENGTH_OF_HEAD, ChangedImage, base_images, change, changed_images
 from tests.examples import EXAMPLES, FIRST, SECOND
 from tests.program_checks import ImageChecks
@@ -58,18 +58,11 @@ class Tried(NamedTuple):
     of_image: Optional[Ran]
 
 
-class Cases(DigestChecks):
+class Cases(DigestChecks, WrittenCases):
     """The image of a case is wanted by its SHA-256, so what a boot wrote with that SHA-256 is the wanted image."""
 
-    folder: Path
-
-    @classmethod
-    def setUpClass(cls) -> None:
-        super().setUpClass()
-        cls.folder = cls.room / "cases"
-
     def test_cases(self) -> None:
-        self.ends("cases/expand writes the cases out", run(EXPAND, self.folder))
+        self.write_cases()
         cases = read_cases(self.folder)
         with self.check("some cases are booted, some refused, and some descriptions are bad"):
             self.assertEqual(sorted({case.status for case in cases}), [0, 1, 2], "the statuses of the cases")
