@@ -138,12 +138,28 @@ class StandIns(Checks):
         self.ends("after a proof that fails the status is 127", ran, 127, "booted 0 row one\n", err)
         self.called("after a proof that fails no file is left but IMAGE", "rt", "build")
 
+    def test_beside(self) -> None:
+        started = str(self.script.started)
+        build = {"started": started, "makes": str(self.script.built)}
+        ran = self.script.run(*self.BOOT, build=build, rt={**BOOTED, "awaits": started}, bootcore=BOOTED)
+        err = f"{self.COMPILES}{self.LOOKED}{self.BUILDS}{self.SAME}"
+        sentence = "the proof begins beside the run without a proof, and says nothing before that has ended"
+        self.ends(sentence, ran, 0, "booted 0 row one\n", err)
+
     def test_interrupt(self) -> None:
-        ran = self.script.run_interrupted(*self.BOOT, **self.BOTH)
+        ran = self.script.run_interrupted("build", *self.BOOT, **self.BOTH)
         wanted = f"{self.COMPILES}{self.LOOKED}{self.BUILDS}"
         self.ends("an interrupt during the proof ends it with the status 130", ran, 130, "booted 0 row one\n", wanted)
         self.called("an interrupt during the proof leaves no file but IMAGE", "rt", "build")
         self.image_is("an interrupt during the proof leaves the image of the run without a proof", "an image")
+
+        self.script.begin()
+        rt = {"awaits": str(self.script.started)}
+        ran = self.script.run_interrupted("rt", *self.BOOT, build={"started": str(self.script.started)}, rt=rt)
+        self.ends("an interrupt during the run without a proof ends it with the status 130", ran, 130, "", self.COMPILES)
+        self.called("an interrupt during the run without a proof leaves no file", "rt")
+        with self.check("an interrupt during the run without a proof ends the proof that has begun"):
+            self.assertFalse(self.script.is_building(), "tools/build still runs")
 
     # ---- the run without a proof alone
 

@@ -79,7 +79,7 @@ class Script:
 
     def __init__(self, folder: Path) -> None:
         self.top, self.room, self.temporary = folder / "a clone", folder / "room", folder / "temporary"
-        self.calls, self.begun = folder / "calls", folder / "begun"
+        self.calls, self.begun, self.started = folder / "calls", folder / "begun", folder / "started"
         for made in (self.top / "tools", self.top / "crates/bootcore/src", self.room, self.temporary, folder / "bin"):
             made.mkdir(parents=True)
         for name in ("bootcore", "crates.txt", "tools/look", "tools/look_plan", "crates/bootcore/src/program.rt"):
@@ -104,8 +104,9 @@ class Script:
         """All as before the first run, but an older IMAGE."""
         shutil.rmtree(self.built.parent, ignore_errors=True)
         self.calls.write_text("")
-        if self.image.exists():
-            self.image.unlink()
+        for file in (self.image, self.begun, self.started):
+            if file.exists():
+                file.unlink()
         if older is not None:
             self.image.write_text(older)
 
@@ -122,9 +123,10 @@ class Script:
         """Runs the script as it would be called from another folder."""
         return run(self.top / "bootcore", *words, cwd=self.room, env=self.env(**acts))
 
-    def run_interrupted(self, *words: str, **acts: dict) -> Ran:
-        """The same as from a terminal, with an interrupt once tools/build has begun."""
-        env = {**os.environ, **self.env(build={"begun": str(self.begun)}, **acts)}
+    def run_interrupted(self, which: str, *words: str, **acts: dict) -> Ran:
+        """The same as from a terminal, with an interrupt once this stand-in has done what it does."""
+        acts[which] = {**acts.get(which, {}), "begun": str(self.begun)}
+        env = {**os.environ, **self.env(**acts)}
         how = {"stdin": subprocess.DEVNULL, "stdout": subprocess.PIPE, "stderr": subprocess.PIPE}
         how.update({"start_new_session": True, "preexec_fn": can_be_interrupted})
         process = subprocess.Popen([self.top / "bootcore", *words], cwd=self.room, env=env, **how)
@@ -138,6 +140,14 @@ class Script:
             os.killpg(process.pid, signal.SIGKILL)
             out, err = process.communicate()
         return Ran(["bootcore", *words], self.room, process.returncode, out, err)
+
+    def is_building(self) -> bool:
+        """Whether the stand-in for tools/build, which was started, still runs."""
+        try:
+            os.kill(int(self.started.read_text()), 0)
+        except ProcessLookupError:
+            return False
+        return True
 
     def called(self) -> List[str]:
         """The stand-ins that were called, in their order."""
