@@ -13,7 +13,7 @@ ghost use Rattle.bl_image.specs.Spellable.{AreRegistersOf};
 ghost use Rattle.bl_image.specs.Versions.{version_number, max_protocol, HasProtocol};
 
 use crate::fault::ImageFault;
-use crate::fields::{read_exact, read_u32};
+use crate::field_reader::{read_exact, read_u32};
 use crate::front::{MAGIC, MAX_COUNT};
 use crate::register_reader::read_registers;
 use crate::source::Source;

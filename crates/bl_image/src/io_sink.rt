@@ -1,5 +1,5 @@
 //! A sink over a writer.
-use crate::history::History;
+use crate::ghost_history::History;
 use crate::sink::{DeviceFault, Sink};
 use std::io::Write;
 use std::marker::Model;

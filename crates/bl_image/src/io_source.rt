@@ -1,5 +1,5 @@
 //! A source over a reader.
-use crate::history::History;
+use crate::ghost_history::History;
 use crate::sink::DeviceFault;
 use crate::source::Source;
 use std::io::{self, Read};

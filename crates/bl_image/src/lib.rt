@@ -2,11 +2,11 @@
 #![tactic(auto)]
 
 mod fault;
-mod fields;
+mod field_reader;
 mod front;
+mod ghost_history;
 mod handoff_image;
 mod head_reader;
-mod history;
 mod image;
 mod io_sink;
 mod io_source;

@@ -6,7 +6,7 @@ ghost use Rattle.bl_image.specs.internal.PlaceRecords.{total_length};
 ghost use Rattle.bl_image.specs.internal.SourceReading.{ReadsBytes, AppendsBytes};
 
 use crate::fault::ImageFault;
-use crate::fields::read_exact;
+use crate::field_reader::read_exact;
 use crate::image::ImagePart;
 use crate::source::Source;
 use bl_mem::Bytes;

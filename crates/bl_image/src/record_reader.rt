@@ -12,7 +12,7 @@ ghost use Rattle.bl_image.specs.internal.SourceReading.{ReadsField, ReadsOrRefus
 ghost use Rattle.bl_image.specs.internal.SourceReading.{IsFoundByNumber};
 
 use crate::fault::ImageFault;
-use crate::fields::{read_u32, read_u64};
+use crate::field_reader::{read_u32, read_u64};
 use crate::source::Source;
 use bl_plan::{Place, Role};
 use std::alloc::Allocator;

@@ -14,7 +14,7 @@ ghost use Rattle.bl_image.specs.Versions.{version_number, HasProtocol};
 ghost use Rattle.bl_image.specs.declared.version.Version.TheVariants as version;
 
 use crate::fault::ImageFault;
-use crate::fields::{read_u32s, read_u64, read_u64s};
+use crate::field_reader::{read_u32s, read_u64, read_u64s};
 use crate::register_numbers::{WIDE, registers_of, wide_registers_of};
 use crate::source::Source;
 use crate::version::Version;

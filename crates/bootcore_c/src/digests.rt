@@ -13,8 +13,8 @@ ghost use Rattle.c_handle.specs.declared.handle_fault.HandleFault.TheVariants.{N
 
 use c_abi::{
     DigestsRecord, EntryRecord, FileRangeRecord, LoadFault, MachineRecord, PartDigestRecord,
-    RefusalRecord, RegionRecord, digest_given, digests_told, fed_told, feed_told, tell_load_fault,
-    wanted_told,
+    RefusalRecord, RegionRecord, digest_given, digests_told, fed_digests_told, feed_told,
+    tell_load_fault, wanted_told,
 };
 use c_handle::{DigestHandle, HandleFault, status_of};
 use std::alloc::Global;
@@ -102,7 +102,7 @@ pub extern "C" fn bootcore_digest_told_arrays(
 {
     match digest.take(alloc) {
         Some(kept) => {
-            let status = fed_told(&*kept, told, parts);
+            let status = fed_digests_told(&*kept, told, parts);
             digest.keep(kept);
             status
         }

@@ -51,7 +51,7 @@ pub(crate) fn tell_digests(
 }
 
 /// Tells the digests that a digest was fed for, unless it wants bytes, and the status.
-pub fn fed_told<A: Allocator>(
+pub fn fed_digests_told<A: Allocator>(
     digest: &Digesting<A>,
     told: &mut DigestsRecord,
     parts: &mut [PartDigestRecord],

@@ -3,8 +3,8 @@
 mod allowed_values;
 mod bad_items;
 mod entries;
+mod file_names;
 mod root_table;
 mod rules;
-mod same_names;
 
 pub use root_table::first_bad_key;

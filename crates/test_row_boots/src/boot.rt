@@ -6,7 +6,7 @@ use bl_image::{MemSink, Sink};
 use program_boot::{Files, MemFiles, boot, map_to};
 use program_line::Order;
 use std::alloc::Global;
-use test_row_parts::sinks::sink_over;
+use test_row_parts::memory_sink::sink_over;
 use test_rows::row::Row;
 
 /// What was said, in quotes.

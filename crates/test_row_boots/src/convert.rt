@@ -5,7 +5,7 @@
 use crate::boot::say_said;
 use bl_image::{Sink, Source};
 use program_boot::convert;
-use test_row_parts::sinks::sink_over;
+use test_row_parts::memory_sink::sink_over;
 use test_row_parts::source::SourceFields;
 use test_rows::row::Row;
 

@@ -2,7 +2,8 @@
 
 use crate::menu_calls::{menu, run, steps};
 use crate::{
-    elf, handoff, header, image, line, read_image, read_info, registers, setup, sink, walk,
+    command_line, elf, handoff, image, linux_setup, multiboot2_header, read_image, read_info,
+    registers, walk, writer_sink,
 };
 use test_rows::calls::is_one_of;
 use test_rows::row::Row;
@@ -18,8 +19,8 @@ pub fn takes_bytes(name: &str) -> bool {
 /// whether it is.
 pub fn make_plain(row: &mut Row<'_>, name: &str) -> bool {
     match name {
-        "sink" => sink::answer(row),
-        "line" => line::answer(row),
+        "sink" => writer_sink::answer(row),
+        "line" => command_line::answer(row),
         "menu" => menu::answer(row),
         "run" => run::answer(row),
         "session" => steps::answer(row),
@@ -33,9 +34,9 @@ pub fn make_plain(row: &mut Row<'_>, name: &str) -> bool {
 pub fn make_over(row: &mut Row<'_>, name: &str) -> bool {
     match name {
         "elf" => elf::answer(row),
-        "header" => header::answer(row),
-        "read_setup" => setup::answer(row),
-        "setup_fault" => setup::answer_fault(row),
+        "header" => multiboot2_header::answer(row),
+        "read_setup" => linux_setup::answer(row),
+        "setup_fault" => linux_setup::answer_fault(row),
         "read_info" => read_info::answer(row),
         "prepare" => handoff::answer_prepare(row),
         "registers" => registers::answer(row),

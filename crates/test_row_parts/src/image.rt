@@ -3,9 +3,9 @@
 //! fill=VV ENTRY of KERNEL`: what memory holds.
 ghost use Rattle.std.specs.Prelude.{◌+◌, ◌≤◌, length, All};
 
+use crate::memory_sink::sink_over;
 use crate::read_image::say_image;
 use crate::row_entry::{LoadedEntry, loaded_entry};
-use crate::sinks::sink_over;
 use bl_image::{Image, MemSink, Sink, write_image};
 use std::ops::Range;
 use test_refusing::Refusing;

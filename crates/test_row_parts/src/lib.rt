@@ -3,20 +3,20 @@
 #![tactic(auto)]
 
 pub mod calls;
+mod command_line;
 mod elf;
 mod entry;
 mod handoff;
-mod header;
 mod image;
-mod line;
+mod linux_setup;
+pub mod memory_sink;
 mod menu_calls;
+mod multiboot2_header;
 mod read_image;
 mod read_info;
 mod refusal;
 mod registers;
 mod row_entry;
-mod setup;
-mod sink;
-pub mod sinks;
 pub mod source;
 mod walk;
+mod writer_sink;

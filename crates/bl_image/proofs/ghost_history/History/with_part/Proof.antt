@@ -26,10 +26,10 @@ use denote.Triple.Entry.{on_entry, alive, Args}
 use denote.Triple.Walked.{says, Stays, stay_none_ref, stay_none_slice, Goes-none_ref}
 use denote.Triple.Walked.{Goes-none_slice, walk_of, ends_at}
 use Rattle.std.proofs.raw_atomic.Walks.{proved}
-use Rattle.bl_image.specs.contracts.history.History as H
-use Rattle.bl_image.specs.contracts.history.History.with_part as F
-use Rattle.bl_image.proofs.history.History.with_part.Statement.{statement}
-use Rattle.bl_image.proofs.history.History.with_part.Code as code
+use Rattle.bl_image.specs.contracts.ghost_history.History as H
+use Rattle.bl_image.specs.contracts.ghost_history.History.with_part as F
+use Rattle.bl_image.proofs.ghost_history.History.with_part.Statement.{statement}
+use Rattle.bl_image.proofs.ghost_history.History.with_part.Code as code
 
 abbrev stayed : Stays F.ended.signature.params F.ended.kept
 stayed = (

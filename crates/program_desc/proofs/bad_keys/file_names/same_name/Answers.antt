@@ -5,7 +5,7 @@ use Rattle.program_desc.specs.Described.{has_file, names_differ}
 use Rattle.program_desc.specs.internal.DescriptionSearch.{name_only_file, value_text_or_empty}
 use Rattle.program_desc.proofs.NameLemmas.{differ_more, has_more}
 use Rattle.program_desc.proofs.SameNameLemmas.{first_values}
-use Rattle.program_desc.proofs.bad_keys.same_names.same_name.Goals as goal
+use Rattle.program_desc.proofs.bad_keys.file_names.same_name.Goals as goal
 
 pub loop-i-preserved : goal.loop-i-preserved
 loop-i-preserved c =

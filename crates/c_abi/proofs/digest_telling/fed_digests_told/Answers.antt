@@ -5,7 +5,7 @@ use Rattle.bl_digest.specs.Digests.{image_digest}
 use Rattle.bl_digest.specs.PlanInSteps.{handover_in_steps}
 use Rattle.c_abi.specs.DigestTold.{tells_digests}
 use Rattle.c_abi.specs.internal.Tellings.{digests_facts}
-use Rattle.c_abi.proofs.digest_telling.fed_told.Goals as goal
+use Rattle.c_abi.proofs.digest_telling.fed_digests_told.Goals as goal
 
 pub returns-in-None : goal.returns-in-None
 returns-in-None g c =

@@ -18,10 +18,10 @@ use denote.Signature.{plain, types_at}
 use denote.Triple.Entry.{alive}
 use denote.Triple.Walked.{says, Stays, stay_none_ref, Goes-none_ref, walk_of, ends_at}
 use Rattle.std.proofs.raw_atomic.Walks.{proved}
-use Rattle.bl_image.specs.contracts.history.History as H
-use Rattle.bl_image.specs.contracts.history.History.of as F
-use Rattle.bl_image.proofs.history.History.of.Statement.{statement}
-use Rattle.bl_image.proofs.history.History.of.Code as code
+use Rattle.bl_image.specs.contracts.ghost_history.History as H
+use Rattle.bl_image.specs.contracts.ghost_history.History.of as F
+use Rattle.bl_image.proofs.ghost_history.History.of.Statement.{statement}
+use Rattle.bl_image.proofs.ghost_history.History.of.Code as code
 
 pub of_spec : {M : Type 1} → statement M
 of_spec 𝓤 𝓛 𝓜 𝓡 wired W L g d met =

@@ -4,7 +4,7 @@ use Rattle.std.specs.Cmp.Lexicographic.{slice_cmp}
 use Rattle.std.specs.Ordering.{nat_cmp}
 use Rattle.program_desc.specs.Described.{has_file, names_differ}
 use Rattle.program_desc.specs.internal.DescriptionSearch.{name_only_file}
-use Rattle.program_desc.proofs.bad_keys.same_names.same_name.Given as goal
+use Rattle.program_desc.proofs.bad_keys.file_names.same_name.Given as goal
 
 -- the set has the names of the files so far, which differ
 abbrev pub invariant-loop-i : goal.invariant-loop-i

@@ -1,5 +1,5 @@
 use Rattle.std.proofs.Common.{◌≤◌}
-use Rattle.test_row_parts.proofs.sink.say_parts.Given as goal
+use Rattle.test_row_parts.proofs.writer_sink.say_parts.Given as goal
 
 -- a sink has few faults
 abbrev pub invariant-loop-word : goal.invariant-loop-word

@@ -1,7 +1,7 @@
 use Rattle.std.proofs.Common.{rules}
 use Rattle.std.proofs.lemmas.Nat.{le_bytes_8}
 use Rattle.bl_mem.specs.LittleEndian.{u64_bytes}
-use Rattle.bl_image.proofs.fields.u64_of.Goals as goal
+use Rattle.bl_image.proofs.field_reader.u64_of.Goals as goal
 
 pub returns : goal.returns
 unfolding u64_bytes
