@@ -1,4 +1,4 @@
-"""the toolchain's gate: every proof from nothing, the edits that must be refused, the stored runs"""
+"""the toolchain's gate: every proof, the edits that must be refused, the stored runs"""
 
 import os
 import re

@@ -11,6 +11,7 @@ from typing import List, Optional
 from tests import examples
 from tests.c import GUEST
 from tests.c_core import CC, why_left_out
+from tests.kvm import why_no_kvm
 from tests.support import PROGRAM, TOP, ProgramChecks, Ran, is_at_hand, need_built, run
 
 INSTALL = TOP / "install"
@@ -145,6 +146,26 @@ class Released(ProgramChecks):
         self.are_same_file("a release that is made twice has the same bytes", *archives)
         ran = run("sha256sum", "-c", f"{self.name}.tar.gz.sha256", cwd=self.room / "once")
         self.ends("the SHA-256 beside the archive is the archive's", ran, 0, f"{self.name}.tar.gz: OK\n")
+
+    def test_monitor(self) -> None:
+        """the released monitor is built without a checkout, and boots a small kernel where KVM serves"""
+        unpacked = self.room / "unpacked"
+        unpacked.mkdir()
+        self.assert_ended(run("tar", "-xzf", self.room / "once" / f"{self.name}.tar.gz", "-C", unpacked))
+        top = unpacked / self.name
+        built = run(top / "examples/kvm/build", env={"CFLAGS": "-Werror"})
+        self.ends("the monitor of a release is built on its library", built, 0, None)
+        why = why_no_kvm()
+        sentence = "the monitor of a release boots a small kernel"
+        if why:
+            self.leave_out(sentence, why)
+            return
+        ran = run(top / "examples/kvm/run", top / "examples/kvm/out/linux64", top / "README.md", "a line of mine")
+        with self.check(sentence):
+            self.assert_ended(ran, 0, None, None)
+            said = ran.out.decode(errors="backslashreplace")
+            self.assertIn("line a line of mine", said, f"ran: {ran}\nstandard output")
+            self.assertIn(f"file # bootcore {self.name.split('-')[1]}", said, f"ran: {ran}\nstandard output")
 
     def test_empty_root(self) -> None:
         """the released program boots the first example in a root that has only libc and a shell"""
