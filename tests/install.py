@@ -11,7 +11,7 @@ from typing import List, Optional
 from tests import examples
 from tests.c import GUEST
 from tests.c_core import CC, why_left_out
-from tests.kvm import why_no_kvm
+from tests.kvm import assert_restarted, why_no_kvm
 from tests.support import PROGRAM, TOP, ProgramChecks, Ran, is_at_hand, need_built, run
 
 INSTALL = TOP / "install"
@@ -162,10 +162,10 @@ class Released(ProgramChecks):
             return
         ran = run(top / "examples/kvm/run", top / "examples/kvm/out/linux64", top / "README.md", "a line of mine")
         with self.check(sentence):
-            self.assert_ended(ran, 0, None, None)
-            said = ran.out.decode(errors="backslashreplace")
-            self.assertIn("line a line of mine", said, f"ran: {ran}\nstandard output")
-            self.assertIn(f"file # bootcore {self.name.split('-')[1]}", said, f"ran: {ran}\nstandard output")
+            begin = "a Linux kernel, by its 64-bit entry\nline a line of mine\nfile # bootcore "
+            self.assert_text(ran, begin, ran.out[: len(begin)], "first lines")
+            self.assertTrue(ran.out.endswith(b"\nended\n"), f"ran: {ran}\nits last line is not 'ended'\n{ran.out[-300:]!r}")
+            assert_restarted(self, ran)
 
     def test_empty_root(self) -> None:
         """the released program boots the first example in a root that has only libc and a shell"""

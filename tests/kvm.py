@@ -45,6 +45,12 @@ def why_no_kvm() -> Optional[str]:
     return None
 
 
+def assert_restarted(checks: Checks, ran: Ran) -> None:
+    """The last instructions are a fault of a fault of a fault; a KVM that is itself emulated may not know them."""
+    if not (ran.status == 3 and b"at an instruction that it does not emulate" in ran.err):
+        checks.assert_ended(ran, 0, None, "vmm: the guest restarted, by a fault of a fault of a fault\n")
+
+
 class MonitorChecks(Checks):
     """Checks of what a small kernel writes, by what the loader of examples/c prints of the same machine."""
 
@@ -115,9 +121,7 @@ class OnThisKvm(MonitorChecks):
     def boots(self, name: str, *more: str) -> None:
         ran = run(MONITOR, *more, *KERNELS[name][0], MADE / name, self.file, self.line(name), timeout=120)
         self.assert_told(ran, name, ran.out.decode(errors="replace"))
-        # its last instructions are a fault of a fault of a fault; a KVM that is itself emulated may not know them
-        if not (ran.status == 3 and b"at an instruction that it does not emulate" in ran.err):
-            self.assert_ended(ran, 0, None, "vmm: the guest restarted, by a fault of a fault of a fault\n")
+        assert_restarted(self, ran)
 
     def test_kernels(self) -> None:
         for name in KERNELS:
