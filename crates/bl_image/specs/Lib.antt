@@ -6,7 +6,7 @@ pub mod Image
 pub mod ImageFaults
 pub mod ImageHandover
 pub mod Layouts
-pub mod Lengths
+pub mod ImageLength
 pub mod internal
 pub mod Source
 pub mod Sources

@@ -2,7 +2,7 @@
 ghost use Rattle.std.specs.Prelude.{◌≡◌, ◌+◌, ◌≤◌, ℕ, List, length, All};
 ghost use Rattle.bl_load.specs.PlanContents.{handover_in};
 ghost use Rattle.bl_image.specs.Image.{spelling};
-ghost use Rattle.bl_image.specs.Lengths.{image_length};
+ghost use Rattle.bl_image.specs.ImageLength.{image_length};
 ghost use Rattle.bl_image.specs.Versions.{written_version};
 
 use crate::front::{HEAD, RECORD};

@@ -34,7 +34,7 @@ impl<A: Allocator> Model for MemSink<A> {
 
 impl<A: Allocator> MemSink<A> {
     ghost use Rattle.std.specs.Prelude.{◌≡◌, ◌≤◌, ◌-◌, ◌^◌, [], IfOk};
-    ghost use Rattle.bl_image.specs.Lengths.{image_length};
+    ghost use Rattle.bl_image.specs.ImageLength.{image_length};
 
     /// An empty sink, with the memory for all that it may take.
     pub fn new(alloc: A, limit: usize, step: usize) -> Result<MemSink<A>, AllocError>

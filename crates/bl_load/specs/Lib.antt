@@ -4,6 +4,7 @@ pub mod Handover
 pub mod KernelBlock
 pub mod PlanContents
 pub mod Loadable
+pub mod LeanPlans
 pub mod KernelAndLengths
 pub mod HandoffFacts
 pub mod EntryValue

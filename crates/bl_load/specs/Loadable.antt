@@ -1,9 +1,6 @@
--- Which plans can be loaded, and what a plan holds of the files. It speaks of the files' lengths
--- alone, and not of their bytes.
+-- Which plans can be loaded. It speaks of the files' lengths alone, and not of their bytes.
 use Rattle.std.specs.Prelude.{ℕ, ◌+◌, ◌<◌, ◌≤◌, ◌^◌, List, length, map, slice_index, All, AllPairs}
 use Rattle.bl_mem.specs.declared.segment.Segment.{Segment}
-use Rattle.bl_plan.specs.declared.part.Role.{Role}
-use Rattle.bl_plan.specs.declared.part.Role.TheVariants as role
 use Rattle.bl_load.specs.declared.plan.Content.{Content}
 use Rattle.bl_load.specs.declared.plan.Content.TheVariants.{Own, File, Block}
 use Rattle.bl_load.specs.declared.plan.PlannedPart.{PlannedPart}
@@ -48,30 +45,6 @@ content_length (Block file segments) = span_of segments.items
 pub record IsBacked {A : Type 0} (lengths : List ℕ) (part : PlannedPart A) : Type 0 where
   pub there : IsInFiles lengths part.content
   pub short : content_length part.content ≤ part.place.length
-
--- what a part of this role holds is made by the loader: no file's bytes, but in boot parameters the
--- setup header of the kernel's file
-abbrev pub IsMade : Role → Type 0
-IsMade role.Kernel = ⊥
-IsMade role.Module = ⊥
-IsMade role.Information = Unit {0}
-IsMade role.BootParams = Unit {0}
-IsMade role.CommandLine = Unit {0}
-IsMade role.Gdt = Unit {0}
-IsMade role.Initrd = ⊥
-IsMade role.PageTables = Unit {0}
-
--- a content's bytes stay in the files until it is loaded; only what the loader makes has bytes of
--- its own
-abbrev pub IsLeanContent : {A : Type 0} → Role → Content A → Type 0
-IsLeanContent r (Own bytes) = IsMade r
-IsLeanContent r (File file offset count) = Unit {0}
-IsLeanContent r (Block file segments) = Unit {0}
-
--- a plan holds none of the files' bytes but a Linux kernel's setup header, which has at most 0x9F
--- bytes, so it takes no memory in proportion to what a header claims
-abbrev pub IsLean : {A : Type 0} → List (PlannedPart A) → Type 0
-IsLean parts = All (λ part. IsLeanContent part.place.role part.content) parts
 
 -- a plan can be loaded out of files of these lengths into memory of this size: its contents are
 -- there, its places are inside it, and it is what a handoff keeps

@@ -4,7 +4,8 @@ ghost use Rattle.bl_load.specs.EntryValue.{value_of, file_count, IsWithinLimits}
 ghost use Rattle.bl_load.specs.Parts.{IsHandover, IsPrepFault};
 ghost use Rattle.bl_load.specs.Origins.{planned_origin, AreOrigins};
 ghost use Rattle.bl_load.specs.PlanContents.{handover_by};
-ghost use Rattle.bl_load.specs.Loadable.{lengths_of, IsLoadable, IsLean};
+ghost use Rattle.bl_load.specs.Loadable.{lengths_of, IsLoadable};
+ghost use Rattle.bl_load.specs.LeanPlans.{IsLean};
 
 use crate::checked_entry::Rsdps;
 use crate::entry::Entry;

@@ -5,7 +5,8 @@ ghost use Rattle.bl_load.specs.KernelAndLengths.{HaveKernelAndLengths};
 ghost use Rattle.bl_load.specs.Parts.{IsHandover, IsPrepFault};
 ghost use Rattle.bl_load.specs.Origins.{planned_origin, AreOrigins};
 ghost use Rattle.bl_load.specs.PlanContents.{handover_by};
-ghost use Rattle.bl_load.specs.Loadable.{lengths_of, IsLoadable, IsLean};
+ghost use Rattle.bl_load.specs.Loadable.{lengths_of, IsLoadable};
+ghost use Rattle.bl_load.specs.LeanPlans.{IsLean};
 
 use crate::entry::Entry;
 use crate::known_file::known_files;

@@ -7,8 +7,8 @@ ghost use Rattle.bl_mbi.specs.Bodies as spec;
 ghost use Rattle.bl_mbi.specs.Size.{map_entry_size};
 
 use crate::fault::InfoFault;
-use crate::fields::ENTRY_SIZE;
 use crate::module::Module;
+use crate::tag_types::ENTRY_SIZE;
 use bl_map::{Kind, MAX_LOW_KIB, MAX_REGION_END, Region};
 use bl_mem::{Bytes, SliceView, u32_at, u64_at};
 use std::alloc::Allocator;

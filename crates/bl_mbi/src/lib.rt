@@ -8,7 +8,6 @@
 
 mod body_reader;
 mod fault;
-mod fields;
 mod info;
 mod info_to_write;
 mod laws;
@@ -19,11 +18,11 @@ mod rest;
 mod size;
 mod tag_groups;
 mod tag_reader;
+mod tag_types;
 mod tag_writer;
 mod write;
 
 pub use fault::InfoFault;
-pub use fields::MIN_INFO_SIZE;
 pub use info::Info;
 pub use info_to_write::InfoToWrite;
 pub use laws::{read_is_spelled, spelled_is_read};
@@ -31,4 +30,5 @@ pub use module::Module;
 pub use module_to_write::ModuleToWrite;
 pub use reader::read_info;
 pub use size::{module_size, size_by_lengths};
+pub use tag_types::MIN_INFO_SIZE;
 pub use write::{info_size, write_info};

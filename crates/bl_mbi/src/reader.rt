@@ -9,10 +9,10 @@ ghost use Rattle.bl_mbi.specs.Reading as spec;
 
 use crate::body_reader::word;
 use crate::fault::InfoFault;
-use crate::fields::MIN_INFO_SIZE;
 use crate::info::Info;
 use crate::rest::Rest;
 use crate::tag_groups::{closing_tags_at, map_tags_at, text_and_module_tags_at};
+use crate::tag_types::MIN_INFO_SIZE;
 use std::alloc::Allocator;
 
 /// What the tags tell.

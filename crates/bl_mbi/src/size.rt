@@ -3,7 +3,7 @@ ghost use Rattle.std.specs.Prelude.{◌≡◌, ◌+◌, ◌<◌, ◌^◌, [], If
 ghost use Rattle.bl_mbi.specs.Size.{tag_size};
 ghost use Rattle.bl_mbi.specs.Size as spec;
 
-use crate::fields::ENTRY_SIZE;
+use crate::tag_types::ENTRY_SIZE;
 
 /// How many bytes a tag takes whose body has so many.
 pub(crate) fn tag_len(body: u64) -> u64

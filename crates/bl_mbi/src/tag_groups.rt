@@ -4,12 +4,12 @@ ghost use Rattle.bl_mbi.specs.internal.BytesLeft.{rest_facts};
 ghost use Rattle.bl_mbi.specs.internal.TagGroups as spec;
 
 use crate::fault::InfoFault;
-use crate::fields::{TAG_ACPI_NEW, TAG_ACPI_OLD, TAG_BOOT_LOADER_NAME, TAG_COMMAND_LINE};
 use crate::module::Module;
 use crate::rest::Rest;
 use crate::tag_reader::{
     copy_at, end_at, load_base_at, map_at, memory_at, modules_at, text_tag_at,
 };
+use crate::tag_types::{TAG_ACPI_NEW, TAG_ACPI_OLD, TAG_BOOT_LOADER_NAME, TAG_COMMAND_LINE};
 use bl_map::Region;
 use bl_mem::Bytes;
 use std::alloc::Allocator;

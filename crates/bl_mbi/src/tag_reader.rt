@@ -7,9 +7,9 @@ ghost use Rattle.bl_mbi.specs.Reading as spec;
 
 use crate::body_reader::{are_zeros, load_base_of, map_of, memory_of, module_of, text_of, word};
 use crate::fault::InfoFault;
-use crate::fields::{TAG_BASIC_MEMORY, TAG_END, TAG_LOAD_BASE, TAG_MEMORY_MAP, TAG_MODULE};
 use crate::module::Module;
 use crate::rest::{Rest, behind, first};
+use crate::tag_types::{TAG_BASIC_MEMORY, TAG_END, TAG_LOAD_BASE, TAG_MEMORY_MAP, TAG_MODULE};
 use bl_map::Region;
 use bl_mem::Bytes;
 use std::alloc::Allocator;

@@ -9,10 +9,10 @@ ghost use Rattle.bl_mbi.specs.Tags.{copy_tag, load_base_tag};
 ghost use Rattle.bl_mbi.specs.internal.Appending.{HasRoomFor, Appends};
 ghost use Rattle.bl_mbi.specs.internal.GroupSizes.{modules_size};
 
-use crate::fields::{
+use crate::module_to_write::ModuleToWrite;
+use crate::tag_types::{
     ENTRY_SIZE, TAG_BASIC_MEMORY, TAG_END, TAG_LOAD_BASE, TAG_MEMORY_MAP, TAG_MODULE,
 };
-use crate::module_to_write::ModuleToWrite;
 use bl_map::Region;
 use bl_mem::{put_bytes, put_u32, put_u64};
 use std::alloc::Allocator;

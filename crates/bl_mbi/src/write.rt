@@ -12,12 +12,12 @@ ghost use Rattle.bl_mbi.specs.internal.Appending.{HasRoomFor, Appends};
 ghost use Rattle.bl_mbi.specs.internal.GroupSizes.{texts_size, map_tags_size, closing_tags_size};
 ghost use Rattle.bl_mbi.specs.internal.GroupSizes.{modules_size};
 
-use crate::fields::{
-    ENTRY_SIZE, TAG_ACPI_NEW, TAG_ACPI_OLD, TAG_BOOT_LOADER_NAME, TAG_COMMAND_LINE,
-};
 use crate::info_to_write::InfoToWrite;
 use crate::module_to_write::ModuleToWrite;
 use crate::size::tag_len;
+use crate::tag_types::{
+    ENTRY_SIZE, TAG_ACPI_NEW, TAG_ACPI_OLD, TAG_BOOT_LOADER_NAME, TAG_COMMAND_LINE,
+};
 use crate::tag_writer::{
     put_copy, put_end, put_load_base, put_map, put_memory, put_modules, put_text,
 };

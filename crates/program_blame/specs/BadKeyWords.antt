@@ -6,19 +6,19 @@ use Rattle.toml.specs.Data.{Data, string, integer, float, boolean, datetime, arr
 use Rattle.toml.specs.View.{view}
 use Rattle.program_desc.specs.Allowed.{item_count}
 use Rattle.program_desc.specs.Keys.{keys_of_set}
-use Rattle.program_desc.specs.declared.bad_key.Allowed.{Allowed}
-use Rattle.program_desc.specs.declared.bad_key.Allowed.TheVariants.{Number, Byte, IndexBelow}
-use Rattle.program_desc.specs.declared.bad_key.Allowed.TheVariants.{TwoNumbers, Indices, Tables}
-use Rattle.program_desc.specs.declared.bad_key.Allowed.TheVariants.{EntryTables, ModuleTables}
-use Rattle.program_desc.specs.declared.bad_key.Allowed.TheVariants.{AnyText}
-use Rattle.program_desc.specs.declared.bad_key.Allowed.TheVariants.{Title, KindName, ProtocolName}
-use Rattle.program_desc.specs.declared.bad_key.Allowed.TheVariants.{HexText, CopyText}
+use Rattle.program_desc.specs.declared.allowed.Allowed.{Allowed}
+use Rattle.program_desc.specs.declared.allowed.Allowed.TheVariants.{Number, Byte, IndexBelow}
+use Rattle.program_desc.specs.declared.allowed.Allowed.TheVariants.{TwoNumbers, Indices, Tables}
+use Rattle.program_desc.specs.declared.allowed.Allowed.TheVariants.{EntryTables, ModuleTables}
+use Rattle.program_desc.specs.declared.allowed.Allowed.TheVariants.{AnyText}
+use Rattle.program_desc.specs.declared.allowed.Allowed.TheVariants.{Title, KindName, ProtocolName}
+use Rattle.program_desc.specs.declared.allowed.Allowed.TheVariants.{HexText, CopyText}
 use Rattle.program_desc.specs.declared.bad_key.BadKey.{BadKey}
 use Rattle.program_desc.specs.declared.bad_key.KeyFault.{KeyFault}
 use Rattle.program_desc.specs.declared.bad_key.KeyFault.TheVariants.{NoTable, Unknown, Missing}
 use Rattle.program_desc.specs.declared.bad_key.KeyFault.TheVariants.{BadValue}
 use Rattle.program_desc.specs.declared.bad_key.KeyFault.TheVariants.{BadItem, SameName}
-use Rattle.program_desc.specs.declared.bad_key.KeySet.{KeySet}
+use Rattle.program_desc.specs.declared.key_set.KeySet.{KeySet}
 use Rattle.program_desc.specs.declared.bad_key.TablePlace.{TablePlace}
 use Rattle.program_desc.specs.declared.bad_key.TablePlace.TheVariants.{Description, Region, File}
 use Rattle.program_desc.specs.declared.bad_key.TablePlace.TheVariants.{Entry}

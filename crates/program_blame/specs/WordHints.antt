@@ -7,8 +7,8 @@ use Rattle.bl_map.specs.declared.kind.Kind.TheVariants.{Usable, Reserved, Acpi, 
 use Rattle.bl_plan.specs.Protocols.{protocol_name}
 use Rattle.bl_plan.specs.declared.protocol.Protocol.TheVariants.{Multiboot2, Linux, Linux64}
 use Rattle.program_desc.specs.Keys.{keys_of_set}
-use Rattle.program_desc.specs.declared.bad_key.Allowed.{Allowed}
-use Rattle.program_desc.specs.declared.bad_key.Allowed.TheVariants.{KindName, ProtocolName}
+use Rattle.program_desc.specs.declared.allowed.Allowed.{Allowed}
+use Rattle.program_desc.specs.declared.allowed.Allowed.TheVariants.{KindName, ProtocolName}
 use Rattle.program_desc.specs.declared.bad_key.KeyFault.{KeyFault}
 use Rattle.program_desc.specs.declared.bad_key.KeyFault.TheVariants.{Unknown, BadValue}
 use Rattle.program_blame.specs.EditDistance.{is_one_edit_away}

@@ -25,10 +25,10 @@ use Rattle.program_desc.specs.internal.BadKeySearch.{all_items, array_items, ite
 use Rattle.program_desc.specs.internal.BadKeySearch.{table_passes}
 use Rattle.program_desc.specs.internal.DescriptionSearch.{name_value, name_only_file}
 use Rattle.program_desc.specs.internal.DescriptionSearch.{value_text_or_empty, value_or}
-use Rattle.program_desc.specs.declared.bad_key.Allowed.TheVariants.{Number, IndexBelow, TwoNumbers}
-use Rattle.program_desc.specs.declared.bad_key.Allowed.TheVariants.{Indices, Tables, ModuleTables}
-use Rattle.program_desc.specs.declared.bad_key.Allowed.TheVariants.{AnyText, HexText}
-use Rattle.program_desc.specs.declared.bad_key.KeySet.TheVariants as keys
+use Rattle.program_desc.specs.declared.allowed.Allowed.TheVariants.{Number, IndexBelow, TwoNumbers}
+use Rattle.program_desc.specs.declared.allowed.Allowed.TheVariants.{Indices, Tables, ModuleTables}
+use Rattle.program_desc.specs.declared.allowed.Allowed.TheVariants.{AnyText, HexText}
+use Rattle.program_desc.specs.declared.key_set.KeySet.TheVariants as keys
 use Rattle.program_desc.proofs.DescribesLemmas.{each_reads, module_reads, region_reads}
 use Rattle.program_desc.proofs.DescribesLemmas.{required_reads}
 use Rattle.program_desc.proofs.DescribesLemmas.{rule_passes, some_of, table_parts}

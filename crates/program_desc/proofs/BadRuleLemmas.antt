@@ -17,12 +17,12 @@ use Rattle.toml.specs.declared.value.Value.{Value}
 use Rattle.program_desc.specs.Values.{has_only}
 use Rattle.program_desc.specs.Keys.{KeyRule, key_rules, keys_of_set, with_items}
 use Rattle.program_desc.specs.BadKeys.{BreaksAnyOf, BreaksRule, IsItemFault, IsKeyFault}
-use Rattle.program_desc.specs.declared.bad_key.Allowed.{Allowed}
+use Rattle.program_desc.specs.declared.allowed.Allowed.{Allowed}
 use Rattle.program_desc.specs.declared.bad_key.KeyFault.{KeyFault}
 use Rattle.program_desc.specs.declared.bad_key.KeyFault.TheVariants.{NoTable, Unknown, Missing}
 use Rattle.program_desc.specs.declared.bad_key.KeyFault.TheVariants.{BadValue}
 use Rattle.program_desc.specs.declared.bad_key.KeyFault.TheVariants.{BadItem, SameName}
-use Rattle.program_desc.specs.declared.bad_key.KeySet.{KeySet}
+use Rattle.program_desc.specs.declared.key_set.KeySet.{KeySet}
 
 -- what is known of an answer, in other words
 pub answer_in : {X : Type 0} (o : Option X) {P Q : Type 0} {R S : X → Type 0}

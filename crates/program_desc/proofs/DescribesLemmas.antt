@@ -15,10 +15,10 @@ use Rattle.program_desc.specs.Keys.{optional_key}
 use Rattle.program_desc.specs.Keys.{required_key}
 use Rattle.program_desc.specs.internal.BadKeySearch.{all_items, all_pass, passes, passes_at}
 use Rattle.program_desc.specs.internal.BadKeySearch.{table_passes}
-use Rattle.program_desc.specs.declared.bad_key.Allowed.{Allowed}
-use Rattle.program_desc.specs.declared.bad_key.Allowed.TheVariants.{Number, KindName, AnyText}
-use Rattle.program_desc.specs.declared.bad_key.KeySet.{KeySet}
-use Rattle.program_desc.specs.declared.bad_key.KeySet.TheVariants as keys
+use Rattle.program_desc.specs.declared.allowed.Allowed.{Allowed}
+use Rattle.program_desc.specs.declared.allowed.Allowed.TheVariants.{Number, KindName, AnyText}
+use Rattle.program_desc.specs.declared.key_set.KeySet.{KeySet}
+use Rattle.program_desc.specs.declared.key_set.KeySet.TheVariants as keys
 
 -- what is given
 pub some_of : {A : Type 0} (o : Option A) → IsSome o → (x : A) × (o ≡ Some x)

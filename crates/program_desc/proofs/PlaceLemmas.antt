@@ -22,15 +22,15 @@ use Rattle.program_desc.specs.internal.EntrySearch.{IsModulesFaultAt}
 use Rattle.program_desc.specs.internal.EntrySearch.{copy_rules, entry_set_in, common_rules}
 use Rattle.program_desc.specs.internal.EntrySearch.{entry_passes, passes_by, protocol_in}
 use Rattle.program_desc.specs.internal.DescriptionSearch.{index_rules, machine_rules}
-use Rattle.program_desc.specs.declared.bad_key.Allowed.TheVariants.{Number, IndexBelow}
-use Rattle.program_desc.specs.declared.bad_key.Allowed.TheVariants.{TwoNumbers, Indices}
+use Rattle.program_desc.specs.declared.allowed.Allowed.TheVariants.{Number, IndexBelow}
+use Rattle.program_desc.specs.declared.allowed.Allowed.TheVariants.{TwoNumbers, Indices}
 use Rattle.program_desc.specs.declared.bad_key.BadKey.{BadKey}
 use Rattle.program_desc.specs.declared.bad_key.KeyFault.{KeyFault}
 use Rattle.program_desc.specs.declared.bad_key.KeyFault.TheVariants.{NoTable, Unknown, Missing}
 use Rattle.program_desc.specs.declared.bad_key.KeyFault.TheVariants.{BadValue}
 use Rattle.program_desc.specs.declared.bad_key.KeyFault.TheVariants.{BadItem, SameName}
-use Rattle.program_desc.specs.declared.bad_key.KeySet.{KeySet}
-use Rattle.program_desc.specs.declared.bad_key.KeySet.TheVariants as keys
+use Rattle.program_desc.specs.declared.key_set.KeySet.{KeySet}
+use Rattle.program_desc.specs.declared.key_set.KeySet.TheVariants as keys
 use Rattle.program_desc.specs.declared.bad_key.TablePlace.{TablePlace}
 use Rattle.program_desc.specs.declared.bad_key.TablePlace.TheVariants as places
 use Rattle.program_desc.specs.declared.bad_keys.bad_items.TableArray.TheVariants.{Regions, Files}

@@ -20,8 +20,8 @@ use Rattle.program_desc.specs.internal.DescriptionSearch.{IsSameName, files_pass
 use Rattle.program_desc.specs.internal.DescriptionSearch.{name_value}
 use Rattle.program_desc.specs.internal.DescriptionSearch.{name_only_file}
 use Rattle.program_desc.specs.internal.DescriptionSearch.{value_text_or_empty, value_or}
-use Rattle.program_desc.specs.declared.bad_key.Allowed.TheVariants.{AnyText}
-use Rattle.program_desc.specs.declared.bad_key.KeySet.TheVariants as keys
+use Rattle.program_desc.specs.declared.allowed.Allowed.TheVariants.{AnyText}
+use Rattle.program_desc.specs.declared.key_set.KeySet.TheVariants as keys
 use Rattle.program_desc.proofs.DescribesLemmas.{rule_passes, table_parts}
 use Rattle.program_desc.proofs.PlaceLemmas.{item_of}
 use Rattle.program_desc.specs.Keys.{key_rules, required_key}

@@ -36,12 +36,12 @@ use Rattle.program_desc.specs.internal.DescriptionSearch.{menu_passes}
 use Rattle.program_desc.specs.internal.EntrySearch.{modules_pass, multiboot2_passes, passes_by}
 use Rattle.program_desc.specs.internal.EntrySearch.{protocol_in}
 use Rattle.program_desc.specs.internal.DescriptionSearch.{regions_pass}
-use Rattle.program_desc.specs.declared.bad_key.Allowed.TheVariants.{Number, Byte, IndexBelow}
-use Rattle.program_desc.specs.declared.bad_key.Allowed.TheVariants.{TwoNumbers, Indices, Tables}
-use Rattle.program_desc.specs.declared.bad_key.Allowed.TheVariants.{EntryTables, ModuleTables}
-use Rattle.program_desc.specs.declared.bad_key.Allowed.TheVariants.{AnyText}
-use Rattle.program_desc.specs.declared.bad_key.Allowed.TheVariants.{Title, ProtocolName, CopyText}
-use Rattle.program_desc.specs.declared.bad_key.KeySet.TheVariants as keys
+use Rattle.program_desc.specs.declared.allowed.Allowed.TheVariants.{Number, Byte, IndexBelow}
+use Rattle.program_desc.specs.declared.allowed.Allowed.TheVariants.{TwoNumbers, Indices, Tables}
+use Rattle.program_desc.specs.declared.allowed.Allowed.TheVariants.{EntryTables, ModuleTables}
+use Rattle.program_desc.specs.declared.allowed.Allowed.TheVariants.{AnyText}
+use Rattle.program_desc.specs.declared.allowed.Allowed.TheVariants.{Title, ProtocolName, CopyText}
+use Rattle.program_desc.specs.declared.key_set.KeySet.TheVariants as keys
 use Rattle.program_desc.proofs.ArrayLemmas.{fallbacks_given, files_given, modules_given, pool_given}
 use Rattle.program_desc.proofs.ArrayLemmas.{regions_given}
 use Rattle.program_desc.proofs.DescribesLemmas.{each_reads, given_reads, optional_reads}

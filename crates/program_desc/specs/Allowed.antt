@@ -6,13 +6,13 @@ use Rattle.bl_plan.specs.MenuLimits.{max_entries, max_modules}
 use Rattle.program_desc.specs.Values.{◌>>=◌, toml_number, toml_byte, toml_text, toml_bytes}
 use Rattle.program_desc.specs.Values.{toml_index}
 use Rattle.program_desc.specs.Entries.{toml_title, toml_rsdp_copy, toml_protocol}
-use Rattle.program_desc.specs.declared.bad_key.Allowed.{Allowed}
-use Rattle.program_desc.specs.declared.bad_key.Allowed.TheVariants.{Number, Byte, IndexBelow}
-use Rattle.program_desc.specs.declared.bad_key.Allowed.TheVariants.{TwoNumbers, Indices, Tables}
-use Rattle.program_desc.specs.declared.bad_key.Allowed.TheVariants.{EntryTables, ModuleTables}
-use Rattle.program_desc.specs.declared.bad_key.Allowed.TheVariants.{AnyText}
-use Rattle.program_desc.specs.declared.bad_key.Allowed.TheVariants.{Title, KindName, ProtocolName}
-use Rattle.program_desc.specs.declared.bad_key.Allowed.TheVariants.{HexText, CopyText}
+use Rattle.program_desc.specs.declared.allowed.Allowed.{Allowed}
+use Rattle.program_desc.specs.declared.allowed.Allowed.TheVariants.{Number, Byte, IndexBelow}
+use Rattle.program_desc.specs.declared.allowed.Allowed.TheVariants.{TwoNumbers, Indices, Tables}
+use Rattle.program_desc.specs.declared.allowed.Allowed.TheVariants.{EntryTables, ModuleTables}
+use Rattle.program_desc.specs.declared.allowed.Allowed.TheVariants.{AnyText}
+use Rattle.program_desc.specs.declared.allowed.Allowed.TheVariants.{Title, KindName, ProtocolName}
+use Rattle.program_desc.specs.declared.allowed.Allowed.TheVariants.{HexText, CopyText}
 
 abbrev pub item_count : Items → ℕ
 item_count no_items = 0

@@ -16,8 +16,8 @@ use Rattle.program_desc.specs.declared.bad_key.KeyFault.{KeyFault}
 use Rattle.program_desc.specs.declared.bad_key.KeyFault.TheVariants.{NoTable, Unknown, Missing}
 use Rattle.program_desc.specs.declared.bad_key.KeyFault.TheVariants.{BadValue}
 use Rattle.program_desc.specs.declared.bad_key.KeyFault.TheVariants.{BadItem, SameName}
-use Rattle.program_desc.specs.declared.bad_key.KeySet.{KeySet}
-use Rattle.program_desc.specs.declared.bad_key.KeySet.TheVariants as keys
+use Rattle.program_desc.specs.declared.key_set.KeySet.{KeySet}
+use Rattle.program_desc.specs.declared.key_set.KeySet.TheVariants as keys
 use Rattle.program_desc.specs.declared.bad_key.TablePlace.{TablePlace}
 use Rattle.program_desc.specs.declared.bad_key.TablePlace.TheVariants.{Description, Region, File}
 use Rattle.program_desc.specs.declared.bad_key.TablePlace.TheVariants.{Entry}

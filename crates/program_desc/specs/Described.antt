@@ -15,7 +15,7 @@ use Rattle.program_desc.specs.Values.{toml_range, toml_index, toml_indices, has_
 use Rattle.program_desc.specs.Values.{at_key_or, in_tables}
 use Rattle.program_desc.specs.Keys.{keys_of_set}
 use Rattle.program_desc.specs.Entries.{Entry, toml_entries}
-use Rattle.program_desc.specs.declared.bad_key.KeySet.TheVariants as keys
+use Rattle.program_desc.specs.declared.key_set.KeySet.TheVariants as keys
 
 -- a file that stands in the description
 pub record InlineFile : Type 0 where

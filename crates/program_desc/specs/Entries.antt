@@ -8,7 +8,7 @@ use Rattle.program_desc.specs.Values.{◌>>=◌, some_when, toml_text, toml_byte
 use Rattle.program_desc.specs.Values.{at_key_or}
 use Rattle.program_desc.specs.Values.{at_key_if, in_tables}
 use Rattle.program_desc.specs.Keys.{keys_of_set, set_of_protocol}
-use Rattle.program_desc.specs.declared.bad_key.KeySet.TheVariants as keys
+use Rattle.program_desc.specs.declared.key_set.KeySet.TheVariants as keys
 use Rattle.bl_plan.specs.MenuLimits.{max_rsdp_length, max_entries, max_modules}
 use Rattle.bl_plan.specs.Protocols.{protocol_named}
 use Rattle.bl_plan.specs.declared.protocol.Protocol.{Protocol}

@@ -3,17 +3,17 @@ use Rattle.std.specs.Prelude.{ℕ, Bool, true, false, List, [], ◌∷◌, ◌++
 use Rattle.std.specs.Prelude.{codes, map}
 use Rattle.bl_plan.specs.declared.protocol.Protocol.{Protocol}
 use Rattle.bl_plan.specs.declared.protocol.Protocol.TheVariants.{Multiboot2, Linux, Linux64}
-use Rattle.program_desc.specs.declared.bad_key.Allowed.{Allowed}
-use Rattle.program_desc.specs.declared.bad_key.Allowed.TheVariants.{Number, Byte, IndexBelow}
-use Rattle.program_desc.specs.declared.bad_key.Allowed.TheVariants.{TwoNumbers, Indices, Tables}
-use Rattle.program_desc.specs.declared.bad_key.Allowed.TheVariants.{EntryTables, ModuleTables}
-use Rattle.program_desc.specs.declared.bad_key.Allowed.TheVariants.{AnyText}
-use Rattle.program_desc.specs.declared.bad_key.Allowed.TheVariants.{Title, KindName, ProtocolName}
-use Rattle.program_desc.specs.declared.bad_key.Allowed.TheVariants.{HexText, CopyText}
-use Rattle.program_desc.specs.declared.bad_key.KeySet.{KeySet}
-use Rattle.program_desc.specs.declared.bad_key.KeySet.TheVariants.{Description, Region, File, Entry}
-use Rattle.program_desc.specs.declared.bad_key.KeySet.TheVariants.{Multiboot2Entry, LinuxEntry}
-use Rattle.program_desc.specs.declared.bad_key.KeySet.TheVariants.{Module}
+use Rattle.program_desc.specs.declared.allowed.Allowed.{Allowed}
+use Rattle.program_desc.specs.declared.allowed.Allowed.TheVariants.{Number, Byte, IndexBelow}
+use Rattle.program_desc.specs.declared.allowed.Allowed.TheVariants.{TwoNumbers, Indices, Tables}
+use Rattle.program_desc.specs.declared.allowed.Allowed.TheVariants.{EntryTables, ModuleTables}
+use Rattle.program_desc.specs.declared.allowed.Allowed.TheVariants.{AnyText}
+use Rattle.program_desc.specs.declared.allowed.Allowed.TheVariants.{Title, KindName, ProtocolName}
+use Rattle.program_desc.specs.declared.allowed.Allowed.TheVariants.{HexText, CopyText}
+use Rattle.program_desc.specs.declared.key_set.KeySet.{KeySet}
+use Rattle.program_desc.specs.declared.key_set.KeySet.TheVariants.{Description, Region, File, Entry}
+use Rattle.program_desc.specs.declared.key_set.KeySet.TheVariants.{Multiboot2Entry, LinuxEntry}
+use Rattle.program_desc.specs.declared.key_set.KeySet.TheVariants.{Module}
 
 -- a key of a table: whether it must stand, what it may hold, and what each item of an array may,
 -- where an item is no table

@@ -1,4 +1,6 @@
 //! What is wrong with a key of a description.
+use crate::allowed::Allowed;
+use crate::key_set::KeySet;
 use toml::Value;
 
 /// A table of a description. Indices count from 0.
@@ -14,54 +16,6 @@ pub enum TablePlace {
     Entry(usize),
     /// The module of an entry: the entry's index, and its own.
     Module(usize, usize),
-}
-
-/// The keys that a table may have.
-#[derive(Clone, Copy, Debug, PartialEq, Eq)]
-pub enum KeySet {
-    Description,
-    Region,
-    File,
-    /// Those of an entry that has no protocol.
-    Entry,
-    /// Those of an entry of the protocol `multiboot2`.
-    Multiboot2Entry,
-    /// Those of an entry of the protocol `linux` or `linux64`.
-    LinuxEntry,
-    Module,
-}
-
-/// What a key of a description may hold.
-#[derive(Clone, Copy, Debug, PartialEq, Eq)]
-pub enum Allowed {
-    /// A number of 0 or more.
-    Number,
-    /// A number from 0 to 255.
-    Byte,
-    /// The index of an entry, of which there are so many.
-    IndexBelow(u64),
-    /// An array of two; each must be a number.
-    TwoNumbers,
-    /// An array; each item must be an index.
-    Indices,
-    /// An array; each item must be a table.
-    Tables,
-    /// An array of 1 to 32; each item must be a table.
-    EntryTables,
-    /// An array of at most 64; each item must be a table.
-    ModuleTables,
-    /// A text.
-    AnyText,
-    /// A text of 1 to 64 printable characters of ASCII.
-    Title,
-    /// The name of a kind of memory.
-    KindName,
-    /// The name of a protocol.
-    ProtocolName,
-    /// A text of hexadecimal digits, an even number of them.
-    HexText,
-    /// The same, for 1 to 256 bytes.
-    CopyText,
 }
 
 /// What is wrong with a table of a description, or with one of its keys.

@@ -5,12 +5,12 @@ ghost use Rattle.program_desc.specs.Values as values;
 ghost use Rattle.program_desc.specs.Described as spec;
 ghost use Rattle.program_desc.specs.Views.{AnswersAs, HasMenu, view};
 
-use crate::bad_key::KeySet;
 use crate::default_and_fallbacks::{default_at, fallbacks_at};
 use crate::desc::Description;
 use crate::entries::entries_at;
 use crate::fault::DescFault;
 use crate::files::files_at;
+use crate::key_set::KeySet;
 use crate::keys::{at_key, has_only, number_at};
 use crate::regions::regions_at;
 use crate::values::{toml_byte, toml_range};

@@ -5,9 +5,9 @@ ghost use Rattle.program_desc.specs.Values as values;
 ghost use Rattle.program_desc.specs.Described as spec;
 ghost use Rattle.program_desc.specs.Views.{AnswersAs, file_view};
 
-use crate::bad_key::KeySet;
 use crate::fault::DescFault;
 use crate::file_row::FileRow;
+use crate::key_set::KeySet;
 use crate::keys::{at_key, has_only, text_at};
 use crate::owned_text::Text;
 use crate::values::toml_bytes;

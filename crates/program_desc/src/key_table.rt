@@ -5,7 +5,8 @@ ghost use Rattle.std.specs.List.{list_any};
 ghost use Rattle.std.specs.Str.{bytes_eq};
 ghost use Rattle.program_desc.specs.Keys.{keys_of_set};
 
-use crate::bad_key::{Allowed, KeySet};
+use crate::allowed::Allowed;
+use crate::key_set::KeySet;
 
 /// A key of a table: whether it must stand, and what it may hold.
 #[derive(Clone, Copy, Debug)]

@@ -6,8 +6,8 @@ ghost use Rattle.program_desc.specs.Keys.{keys_of_set};
 ghost use Rattle.program_desc.specs.Values as spec;
 ghost use Rattle.program_desc.specs.Views.{AnswersAs};
 
-use crate::bad_key::KeySet;
 use crate::fault::DescFault;
+use crate::key_set::KeySet;
 use crate::key_table::is_key;
 use crate::values::toml_number;
 use toml::{Table, Value};

@@ -1,6 +1,7 @@
 //! The description of a boot: TOML to records.
 #![tactic(auto)]
 
+mod allowed;
 mod bad_key;
 mod bad_keys;
 mod default_and_fallbacks;
@@ -12,6 +13,7 @@ mod entry_row;
 mod fault;
 mod file_row;
 mod files;
+mod key_set;
 mod key_table;
 mod keys;
 mod modules;
@@ -22,7 +24,8 @@ mod regions;
 mod rsdp_copies;
 mod values;
 
-pub use bad_key::{Allowed, BadKey, KeyFault, KeySet, TablePlace};
+pub use allowed::Allowed;
+pub use bad_key::{BadKey, KeyFault, TablePlace};
 pub use bad_keys::first_bad_key;
 pub use bl_plan::{MAX_ENTRIES, MAX_MODULES};
 pub use desc::{Description, file_named};
@@ -31,6 +34,7 @@ pub use entry_form::{EntryForm, ModuleRow, Modules};
 pub use entry_row::EntryRow;
 pub use fault::DescFault;
 pub use file_row::FileRow;
+pub use key_set::KeySet;
 pub use key_table::{Key, keys_of};
 pub use name_index::file_index;
 pub use owned_text::Text;

@@ -5,9 +5,9 @@ ghost use Rattle.program_desc.specs.Values as values;
 ghost use Rattle.program_desc.specs.Entries as spec;
 ghost use Rattle.program_desc.specs.Views.{AnswersAs, module_view};
 
-use crate::bad_key::KeySet;
 use crate::entry_form::{ModuleRow, Modules};
 use crate::fault::DescFault;
+use crate::key_set::KeySet;
 use crate::keys::{at_key, has_only, text_at, text_or_empty};
 use crate::owned_text::Text;
 use bl_plan::MAX_MODULES;

@@ -8,9 +8,9 @@ ghost use Rattle.program_desc.specs.Keys.{keys_of_set, set_of_protocol};
 ghost use Rattle.program_desc.specs.EntryFormViews.{HasCopyLength};
 ghost use Rattle.program_desc.specs.Views.{AnswersAs, form_view};
 
-use crate::bad_key::KeySet;
 use crate::entry_form::EntryForm;
 use crate::fault::DescFault;
+use crate::key_set::KeySet;
 use crate::keys::{has_only, text_at, text_if};
 use crate::modules::modules_at;
 use crate::owned_text::Text;

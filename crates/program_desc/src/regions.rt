@@ -5,8 +5,8 @@ ghost use Rattle.program_desc.specs.Values as values;
 ghost use Rattle.program_desc.specs.Described as spec;
 ghost use Rattle.program_desc.specs.Views.{AnswersAs};
 
-use crate::bad_key::KeySet;
 use crate::fault::DescFault;
+use crate::key_set::KeySet;
 use crate::keys::{at_key, has_only, number_at, text_at};
 use bl_map::{Kind, Region};
 use std::alloc::Allocator;

@@ -4,13 +4,13 @@ use Rattle.bl_mem.specs.declared.byte_view.ByteView.{Ghosts}
 use Rattle.bl_plan.specs.declared.part.Place.{Place}
 use Rattle.bl_plan.specs.declared.part.Role.{Role}
 use Rattle.bl_plan.specs.declared.part.Role.TheVariants.{Kernel, Module}
-use Rattle.bl_mem.specs.Files.{nth_file}
+use Rattle.bl_mem.specs.HeldAddresses.{nth_file}
 use Rattle.bl_load.specs.declared.checked_entry.CheckedEntry.{CheckedEntry}
 use Rattle.bl_load.specs.declared.plan.Content.{Content}
 use Rattle.bl_load.specs.declared.plan.PlannedPart.{PlannedPart}
 use Rattle.bl_load.specs.KernelReading.{KernelReading}
-use Rattle.bl_load.specs.Loadable.{lengths_of, content_length, IsInFiles, IsLeanContent}
-use Rattle.bl_load.specs.Loadable.{IsBacked, IsLean}
+use Rattle.bl_load.specs.Loadable.{lengths_of, content_length, IsInFiles, IsBacked}
+use Rattle.bl_load.specs.LeanPlans.{IsLeanContent, IsLean}
 use Rattle.bl_load.specs.Origins.{Origin, origin_of, planned_origin, origin_at, origin_from}
 use Rattle.bl_load.specs.EntryValue.{module_file}
 use Rattle.bl_load.specs.Origins.{file_range, kernel_origin}

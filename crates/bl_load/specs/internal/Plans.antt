@@ -6,7 +6,8 @@ use Rattle.bl_load.specs.declared.checked_entry.CheckedEntry.{CheckedEntry}
 use Rattle.bl_load.specs.declared.plan.Plan.{Plan}
 use Rattle.bl_load.specs.EntryValue.{EntryValue}
 use Rattle.bl_load.specs.KernelReading.{KernelReading}
-use Rattle.bl_load.specs.Loadable.{lengths_of, IsLoadable, IsLean}
+use Rattle.bl_load.specs.Loadable.{lengths_of, IsLoadable}
+use Rattle.bl_load.specs.LeanPlans.{IsLean}
 use Rattle.bl_load.specs.Origins.{planned_origin, AreOrigins}
 use Rattle.bl_load.specs.Parts.{IsHandover}
 use Rattle.bl_load.specs.PlanContents.{handover_by}

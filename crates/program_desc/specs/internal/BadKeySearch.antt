@@ -14,14 +14,14 @@ use Rattle.program_desc.specs.Entries.{is_rsdp_copy, is_title}
 use Rattle.program_desc.specs.Allowed.{allows}
 use Rattle.program_desc.specs.Keys.{KeyRule, key_rules, keys_of_set}
 use Rattle.program_desc.specs.BadKeys.{IsItemFault}
-use Rattle.program_desc.specs.declared.bad_key.Allowed.{Allowed}
-use Rattle.program_desc.specs.declared.bad_key.Allowed.TheVariants.{AnyText, Title, KindName}
-use Rattle.program_desc.specs.declared.bad_key.Allowed.TheVariants.{ProtocolName, HexText, CopyText}
+use Rattle.program_desc.specs.declared.allowed.Allowed.{Allowed}
+use Rattle.program_desc.specs.declared.allowed.Allowed.TheVariants.{AnyText, Title, KindName}
+use Rattle.program_desc.specs.declared.allowed.Allowed.TheVariants.{ProtocolName, HexText, CopyText}
 use Rattle.program_desc.specs.declared.bad_key.BadKey.{BadKey}
 use Rattle.program_desc.specs.declared.bad_key.KeyFault.{KeyFault}
 use Rattle.program_desc.specs.declared.bad_key.KeyFault.TheVariants.{BadItem}
-use Rattle.program_desc.specs.declared.bad_key.KeySet.{KeySet}
-use Rattle.program_desc.specs.declared.bad_key.KeySet.TheVariants as keys
+use Rattle.program_desc.specs.declared.key_set.KeySet.{KeySet}
+use Rattle.program_desc.specs.declared.key_set.KeySet.TheVariants as keys
 use Rattle.program_desc.specs.declared.bad_key.TablePlace.{TablePlace}
 use Rattle.program_desc.specs.declared.bad_key.TablePlace.TheVariants as places
 use Rattle.program_desc.specs.declared.key_table.Key.{Key}

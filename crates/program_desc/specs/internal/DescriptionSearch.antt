@@ -10,11 +10,11 @@ use Rattle.program_desc.specs.Allowed.{allows, item_count}
 use Rattle.program_desc.specs.Keys.{KeyRule, keys_of_set, optional_key, required_key}
 use Rattle.program_desc.specs.internal.BadKeySearch.{all_items, all_pass, array_items, item_passes}
 use Rattle.program_desc.specs.internal.BadKeySearch.{passes}
-use Rattle.program_desc.specs.declared.bad_key.Allowed.TheVariants.{Number}
-use Rattle.program_desc.specs.declared.bad_key.Allowed.TheVariants.{TwoNumbers, Byte, Tables}
-use Rattle.program_desc.specs.declared.bad_key.Allowed.TheVariants.{EntryTables, IndexBelow}
-use Rattle.program_desc.specs.declared.bad_key.Allowed.TheVariants.{Indices}
-use Rattle.program_desc.specs.declared.bad_key.KeySet.TheVariants as keys
+use Rattle.program_desc.specs.declared.allowed.Allowed.TheVariants.{Number}
+use Rattle.program_desc.specs.declared.allowed.Allowed.TheVariants.{TwoNumbers, Byte, Tables}
+use Rattle.program_desc.specs.declared.allowed.Allowed.TheVariants.{EntryTables, IndexBelow}
+use Rattle.program_desc.specs.declared.allowed.Allowed.TheVariants.{Indices}
+use Rattle.program_desc.specs.declared.key_set.KeySet.TheVariants as keys
 use Rattle.program_desc.specs.internal.EntrySearch.{entry_item_passes}
 
 -- ---- names of files

@@ -12,12 +12,12 @@ use Rattle.program_desc.specs.Keys.{set_of_protocol}
 use Rattle.program_desc.specs.BadKeys.{BreaksAnyOf, BreaksRule, entry_set, IsItemFault, IsKeyFault}
 use Rattle.program_desc.specs.internal.BadKeySearch.{all_items, all_pass, array_items, item_passes}
 use Rattle.program_desc.specs.internal.BadKeySearch.{passes}
-use Rattle.program_desc.specs.declared.bad_key.Allowed.TheVariants.{AnyText, Title, ProtocolName}
-use Rattle.program_desc.specs.declared.bad_key.Allowed.TheVariants.{CopyText, ModuleTables}
+use Rattle.program_desc.specs.declared.allowed.Allowed.TheVariants.{AnyText, Title, ProtocolName}
+use Rattle.program_desc.specs.declared.allowed.Allowed.TheVariants.{CopyText, ModuleTables}
 use Rattle.program_desc.specs.declared.bad_key.BadKey.{BadKey}
 use Rattle.program_desc.specs.declared.bad_key.KeyFault.{KeyFault}
-use Rattle.program_desc.specs.declared.bad_key.KeySet.{KeySet}
-use Rattle.program_desc.specs.declared.bad_key.KeySet.TheVariants as keys
+use Rattle.program_desc.specs.declared.key_set.KeySet.{KeySet}
+use Rattle.program_desc.specs.declared.key_set.KeySet.TheVariants as keys
 use Rattle.program_desc.specs.declared.bad_key.TablePlace.{TablePlace}
 use Rattle.program_desc.specs.declared.bad_key.TablePlace.TheVariants as places
 

@@ -8,7 +8,7 @@ ghost use Rattle.program_desc.specs.Values.{bytes_from, toml_index};
 ghost use Rattle.program_desc.specs.Allowed as spec;
 ghost use Rattle.program_desc.specs.internal.BadKeySearch as kept;
 
-use crate::bad_key::Allowed;
+use crate::allowed::Allowed;
 use crate::entries::is_title;
 use crate::values::{toml_byte, toml_number};
 use bl_map::Kind;

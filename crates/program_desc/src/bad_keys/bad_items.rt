@@ -7,9 +7,11 @@ ghost use Rattle.program_desc.specs.Keys.{key_rules};
 ghost use Rattle.program_desc.specs.BadKeys.{BreaksAnyOf, IsItemFault, IsKeyFault};
 ghost use Rattle.program_desc.specs.internal.BadKeySearch as kept;
 
-use crate::bad_key::{Allowed, BadKey, KeyFault, KeySet, TablePlace};
+use crate::allowed::Allowed;
+use crate::bad_key::{BadKey, KeyFault, TablePlace};
 use crate::bad_keys::allowed_values::allows;
 use crate::bad_keys::rules::{broken_rules, unknown_key};
+use crate::key_set::KeySet;
 use crate::key_table::{IN_FILE, IN_MODULE, IN_REGION};
 use crate::keys::at_key;
 use toml::{Table, Value};

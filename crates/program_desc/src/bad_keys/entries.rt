@@ -4,9 +4,10 @@ ghost use Rattle.toml.specs.View.{view, table_view, items_view};
 ghost use Rattle.program_desc.specs.internal.BadKeySearch.{FindsBad, FindsFault, all_items};
 ghost use Rattle.program_desc.specs.internal.EntrySearch as kept;
 
-use crate::bad_key::{BadKey, KeyFault, KeySet, TablePlace};
+use crate::bad_key::{BadKey, KeyFault, TablePlace};
 use crate::bad_keys::bad_items::{TableArray, bad_among, items_at};
 use crate::bad_keys::rules::{broken_rule, broken_rules, unknown_key};
+use crate::key_set::KeySet;
 use crate::key_table::{INITRD, KERNEL, LINE, MODULE, PROTOCOL, RSDP_NEW, RSDP_OLD, TITLE};
 use crate::keys::at_key;
 use bl_plan::Protocol;

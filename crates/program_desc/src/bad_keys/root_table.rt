@@ -6,11 +6,13 @@ ghost use Rattle.program_desc.specs.BadKeys.{BreaksAnyOf, IsBadKey};
 ghost use Rattle.program_desc.specs.internal.BadKeySearch.{FindsBad, FindsFault, all_pass};
 ghost use Rattle.program_desc.specs.internal.DescriptionSearch as kept;
 
-use crate::bad_key::{Allowed, BadKey, KeyFault, KeySet, TablePlace};
+use crate::allowed::Allowed;
+use crate::bad_key::{BadKey, KeyFault, TablePlace};
 use crate::bad_keys::bad_items::{TableArray, bad_among, bad_number, items_at};
 use crate::bad_keys::entries::bad_among_entries;
 use crate::bad_keys::file_names::{name_value, same_name};
 use crate::bad_keys::rules::{broken_rule, broken_rules, unknown_key};
+use crate::key_set::KeySet;
 use crate::key_table::{DEFAULT, ENTRY, FALLBACK, FILE, FILL, Key, POOL, REGION, SIZE};
 use std::alloc::{AllocError, Global};
 use toml::{Table, Value};

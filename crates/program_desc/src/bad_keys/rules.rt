@@ -6,8 +6,9 @@ ghost use Rattle.program_desc.specs.Keys.{keys_of_set};
 ghost use Rattle.program_desc.specs.BadKeys.{BreaksAnyOf, BreaksRule, IsKeyFault};
 ghost use Rattle.program_desc.specs.internal.BadKeySearch.{FindsFault, all_pass, passes, rule_view};
 
-use crate::bad_key::{BadKey, KeyFault, KeySet, TablePlace};
+use crate::bad_key::{BadKey, KeyFault, TablePlace};
 use crate::bad_keys::allowed_values::allows;
+use crate::key_set::KeySet;
 use crate::key_table::{Key, is_key};
 use crate::keys::at_key;
 use toml::Table;

@@ -1,6 +1,6 @@
 use Rattle.std.proofs.Common.{◌<◌, ◌≤◌, length, arith, ap, ◌∙◌}
 use Rattle.std.proofs.lemmas.List.{take_all}
-use Rattle.bl_image.specs.Lengths.{image_length}
+use Rattle.bl_image.specs.ImageLength.{image_length}
 use Rattle.bl_image.proofs.LengthLemmas.{one_more, short_at, image_size}
 use Rattle.bl_image.proofs.lengths.image_len.Goals as goal
 

@@ -1,5 +1,5 @@
 use Rattle.std.proofs.Common.{◌≡◌, ◌+◌, ◌*◌, ◌≤◌, ◌^◌, take}
-use Rattle.bl_image.specs.Lengths.{image_length}
+use Rattle.bl_image.specs.ImageLength.{image_length}
 use Rattle.bl_image.proofs.lengths.image_len.Given as goal
 
 -- the head, the records and the bytes of the first places

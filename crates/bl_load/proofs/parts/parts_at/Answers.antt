@@ -10,7 +10,8 @@ use Rattle.bl_load.specs.Origins.{Origin, PartOrigin, planned_origin, origin_at}
 use Rattle.bl_load.specs.Parts.{part_from}
 use Rattle.bl_load.specs.PlannedPlaces.{planned_place}
 use Rattle.bl_load.specs.PlanContents.{part_by}
-use Rattle.bl_load.specs.Loadable.{lengths_of, IsBacked, IsLeanContent}
+use Rattle.bl_load.specs.Loadable.{lengths_of, IsBacked}
+use Rattle.bl_load.specs.LeanPlans.{IsLeanContent}
 use Rattle.bl_load.specs.internal.CheckedEntries.{texts_in, value_of_files}
 use Rattle.bl_load.proofs.parts.parts_at.Goals as goal
 

@@ -3,7 +3,8 @@ use Rattle.bl_load.specs.Origins.{planned_origin, origin_at}
 use Rattle.bl_load.specs.Parts.{part_from}
 use Rattle.bl_load.specs.PlannedPlaces.{planned_place}
 use Rattle.bl_load.specs.PlanContents.{part_by}
-use Rattle.bl_load.specs.Loadable.{lengths_of, IsBacked, IsLean}
+use Rattle.bl_load.specs.Loadable.{lengths_of, IsBacked}
+use Rattle.bl_load.specs.LeanPlans.{IsLean}
 use Rattle.bl_load.specs.internal.CheckedEntries.{texts_in, value_of_files}
 use Rattle.bl_load.proofs.parts.parts_at.Given as goal
 

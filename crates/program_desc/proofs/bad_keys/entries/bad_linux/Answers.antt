@@ -1,5 +1,5 @@
 use Rattle.toml.specs.View.{table_view}
-use Rattle.program_desc.specs.declared.bad_key.KeySet.TheVariants as keys
+use Rattle.program_desc.specs.declared.key_set.KeySet.TheVariants as keys
 use Rattle.program_desc.proofs.BadRuleLemmas.{answer_in, both}
 use Rattle.program_desc.proofs.PlaceLemmas.{at_entry, front-Linux, front_fault, initrd-Linux}
 use Rattle.program_desc.proofs.bad_keys.entries.bad_linux.Goals as goal

@@ -1,4 +1,4 @@
--- Files that memory may hold. Own.
+-- Files by their numbers, and the addresses at which memory may hold them. Own.
 use Rattle.std.specs.Prelude.{◌≡◌, ℕ, ◌<◌, ◌≤◌, List, [], slice_index, slice_index_or, All}
 use Rattle.std.specs.declared.ops.Range.{Range}
 

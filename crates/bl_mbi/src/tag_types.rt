@@ -1,4 +1,5 @@
-//! The numbers of boot information (Multiboot2 3.6 "Boot information format"). Sizes are in bytes.
+//! The types of boot information's tags, and its fixed sizes in bytes (Multiboot2 3.6 "Boot information
+//! format").
 
 /// The types of tags: 3.6.5 "Boot command line".
 pub(crate) const TAG_COMMAND_LINE: u32 = 1;
