@@ -1,4 +1,4 @@
-"""boot, map, explain: the calls of program_boot and program_explain on a description."""
+"""boot, map, explain: the calls of program_commands on a description."""
 
 from typing import List, Optional, Set
 

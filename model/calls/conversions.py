@@ -1,4 +1,4 @@
-"""convert: the call of program_boot that writes an image anew."""
+"""convert: the call of program_commands that writes an image anew."""
 
 from typing import Optional
 

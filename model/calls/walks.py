@@ -1,4 +1,4 @@
-"""walk, walk_to: the calls of bl_walk, and of program_boot on an image."""
+"""walk, walk_to: the calls of bl_walk, and of program_commands on an image."""
 
 from typing import List
 

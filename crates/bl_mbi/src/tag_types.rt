@@ -1,5 +1,5 @@
-//! The types of boot information's tags, and its fixed sizes in bytes (Multiboot2 3.6 "Boot information
-//! format").
+//! The types of boot information's tags, and its fixed sizes in bytes (Multiboot2 3.6 "Boot
+//! information format").
 
 /// The types of tags: 3.6.5 "Boot command line".
 pub(crate) const TAG_COMMAND_LINE: u32 = 1;

@@ -4,8 +4,7 @@ ghost use Rattle.std.specs.Prelude.{◌≡◌, ◌⊎◌, ◌≤◌, IfErr};
 use crate::image_file::ImageFile;
 use crate::program::{tell, tell_status};
 use bl_image::IoSource;
-use program_boot::{convert, walk_to};
-use program_digest::digest_image_to;
+use program_commands::{convert, digest_image_to, walk_to};
 use std::io::Write;
 use std::{fs, io, rt};
 

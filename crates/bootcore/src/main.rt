@@ -12,9 +12,10 @@ mod program;
 pub use image_file::ImageFile;
 pub use path_files::{PathFiles, read_file};
 use program::{run_line, tell_status};
-pub use program_boot::{AskedNames, FILE_LIMIT, Fetched, Files, MemFiles, boot, map_to, walk_to};
-pub use program_digest::{digest_image_to, digest_to};
-pub use program_explain::explain_to;
+pub use program_commands::{
+    AskedNames, FILE_LIMIT, Fetched, Files, MemFiles, boot, digest_image_to, digest_to, explain_to,
+    map_to, walk_to,
+};
 pub use program_line::{Job, LineFault, Order, read_line};
 use std::process::ExitCode;
 use std::{env, io};

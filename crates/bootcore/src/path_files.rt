@@ -1,9 +1,9 @@
 //! Files of the operating system.
 ghost use Rattle.std.specs.Prelude.{IfOk};
-ghost use Rattle.program_menu.specs.internal.WholeReads.{IsReadWhole};
+ghost use Rattle.program_commands.specs.internal.described.WholeReads.{IsReadWhole};
 
 use bl_mem::Bytes;
-use program_boot::{AskedNames, FILE_LIMIT, Fetched, Files};
+use program_commands::{AskedNames, FILE_LIMIT, Fetched, Files};
 use std::alloc::{AllocError, Allocator};
 use std::io::{Eprint, Read};
 use std::marker::Model;

@@ -1,3 +1,4 @@
+pub mod blame_lemmas
 pub mod HexLemmas
 pub mod SaidLemmas
 pub mod FrameLemmas

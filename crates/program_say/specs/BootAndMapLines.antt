@@ -1,4 +1,4 @@
--- The lines that the program says. Own.
+-- The lines of a boot and of a map, and that of a bad image. Own.
 use Rattle.std.specs.Prelude.{ℕ, ◌+◌, ◌-◌, false, List, ◌++◌, length, replicate, codes, decimal}
 use Rattle.std.specs.Fmt.{digits}
 use Rattle.std.specs.List.{flat_map}

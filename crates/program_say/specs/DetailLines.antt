@@ -8,8 +8,8 @@ use Rattle.bl_plan.specs.declared.part.Choice.{Choice}
 use Rattle.bl_plan.specs.declared.part.Choice.TheVariants.{Fixed, Lowest, Highest, Preferred}
 use Rattle.bl_plan.specs.declared.part.Row.{Row}
 use Rattle.program_desc.specs.Entries.{Entry}
-use Rattle.program_blame.specs.Addresses.{hex8}
-use Rattle.program_blame.specs.UnusableAddress.{unusable_line}
+use Rattle.program_say.specs.blame.Addresses.{hex8}
+use Rattle.program_say.specs.blame.UnusableAddress.{unusable_line}
 use Rattle.program_say.specs.Frames.{number_between, frames_line, frames_wanted, names_at}
 use Rattle.program_say.specs.HandoffLines.{role_name}
 use Rattle.program_say.specs.Sought.{SoughtFacts}

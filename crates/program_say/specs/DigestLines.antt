@@ -10,7 +10,7 @@ use Rattle.bl_plan.specs.declared.part.Role.TheVariants.{Kernel, Module, Informa
 use Rattle.bl_plan.specs.declared.part.Role.TheVariants.{CommandLine, Gdt, Initrd, PageTables}
 use Rattle.bl_digest.specs.DigestsFacts.{DigestsFacts}
 use Rattle.bl_digest.specs.declared.part_digest.PartDigest.{PartDigest}
-use Rattle.program_blame.specs.Addresses.{hex8}
+use Rattle.program_say.specs.blame.Addresses.{hex8}
 
 -- ---- fields
 

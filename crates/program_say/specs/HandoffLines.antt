@@ -9,7 +9,7 @@ use Rattle.bl_load.specs.HandoffFacts.{HandoffFacts}
 use Rattle.bl_load.specs.Handover.{Part, Handover}
 use Rattle.bl_load.specs.NamedRegisters.{named_in}
 use Rattle.bl_load.specs.declared.registers.Registers.{Registers}
-use Rattle.program_blame.specs.UnusableAddress.{address_words}
+use Rattle.program_say.specs.blame.UnusableAddress.{address_words}
 use Rattle.program_say.specs.BootAndMapLines.{hex16_between}
 use Rattle.program_say.specs.WalkLines.{protocol_line}
 

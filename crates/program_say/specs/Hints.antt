@@ -8,7 +8,7 @@ use Rattle.bl_load.specs.declared.refusal.Refusal.TheVariants.{NoHeader, NotBzIm
 use Rattle.bl_load.specs.declared.refused_entry.RefusedEntry.{RefusedEntry}
 use Rattle.program_desc.specs.Described.{DescriptionFacts}
 use Rattle.program_desc.specs.Entries.{Entry}
-use Rattle.program_blame.specs.RegionHints.{region_hints}
+use Rattle.program_say.specs.blame.RegionHints.{region_hints}
 use Rattle.program_say.specs.Sought.{SoughtFacts, bytes_found}
 
 -- ---- kernels of another protocol

@@ -1,3 +1,4 @@
+pub mod blame
 pub mod BootAndMapLines
 pub mod WalkLines
 pub mod Sought

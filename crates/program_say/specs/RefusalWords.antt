@@ -14,7 +14,7 @@ use Rattle.bl_load.specs.declared.refusal.Refusal.TheVariants.{NotUsable, NoRoom
 use Rattle.bl_load.specs.declared.refusal.Refusal.TheVariants.{NotBzImage, OldProtocol, NotHigh}
 use Rattle.bl_load.specs.declared.refusal.Refusal.TheVariants.{SetupCut, BadPreferred, LineTooLong}
 use Rattle.bl_load.specs.declared.refusal.Refusal.TheVariants.{LineHasNul, MapTooLong, No64Entry}
-use Rattle.program_blame.specs.ToldNumbers.{number_told}
+use Rattle.program_say.specs.blame.BracketedNumber.{number_told}
 
 abbrev pub refusal_name : Refusal → List ℕ
 refusal_name (NoFile file) = codes "NoFile"

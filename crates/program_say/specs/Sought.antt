@@ -3,7 +3,7 @@ use Rattle.std.specs.Prelude.{ℕ, ◌+◌, List, [], ◌∷◌, ◌++◌, codes
 use Rattle.std.specs.Prelude.{Option, Some, None}
 use Rattle.bl_map.specs.PoolFrames.{frames_of}
 use Rattle.bl_stage.specs.Files.{File, missing, size_of, file_bytes}
-use Rattle.program_blame.specs.ShownNames.{shown_name}
+use Rattle.program_say.specs.blame.ShownNames.{shown_name}
 use Rattle.program_desc.specs.EntryNames.{file_index}
 
 -- the names that were looked for, and what was found for each of them

@@ -1,4 +1,4 @@
-//! The lines that the program says on standard output.
+//! The lines of boots, maps, walks, digests and explanations, and that of a bad image.
 
 mod attempts;
 mod digests;

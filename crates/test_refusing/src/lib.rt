@@ -1,4 +1,4 @@
-//! An allocator for tests (the libraries of rows), which refuses the nth request for memory and
+//! An allocator for tests (of test_rows), which refuses the nth request for memory and
 //! each one after it.
 //!
 //! Lent as `&heap`, it is handed to code that takes any `A: Allocator + Copy`. A test calls that

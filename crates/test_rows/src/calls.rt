@@ -1,13 +1,27 @@
-//! The calls, by their names.
+//! The calls of the core, by their names. Each file of this folder answers the rows of one call, or
+//! of a few that say the same.
 
+mod elf;
+pub mod handoff;
+mod image;
+mod linux_setup;
 pub mod machine;
 pub mod memory;
-mod own;
+mod menu;
+mod multiboot2_header;
+mod owned_bytes;
 mod paging;
 mod params;
 mod plan;
+mod read_image;
+mod read_info;
+mod registers;
+mod run;
 mod stage;
 mod staging;
+mod steps;
+mod walk;
+mod writer_sink;
 
 use crate::row::Row;
 
@@ -24,13 +38,17 @@ pub trait Calls {
 }
 
 /// Whether a name is one of these.
-pub fn is_one_of(name: &str, names: &[&str]) -> bool {
+fn is_one_of(name: &str, names: &[&str]) -> bool {
     names.iter().any(|known| *known == name)
 }
 
 /// Whether the words after this name are bytes, and nothing else.
 pub fn takes_bytes(name: &str) -> bool {
+    let kernels = ["elf", "header", "read_setup", "setup_fault"];
+    let others = ["read_info", "read_image", "image_fault", "walk"];
     is_one_of(name, &["own", "read_params"])
+        || is_one_of(name, &kernels)
+        || is_one_of(name, &others)
 }
 
 /// Makes a call on memory, or on files that are staged in it.
@@ -52,16 +70,42 @@ pub fn make_plain(row: &mut Row<'_>, name: &str) {
         "plan" => plan::answer(row),
         "gdt64" => paging::answer_gdt64(row),
         "page_tables" => paging::answer_tables(row),
+        "sink" => writer_sink::answer(row),
+        "menu" => menu::answer(row),
+        "run" => run::answer(row),
+        "session" => steps::answer(row),
         _ => make_on_memory(row, name),
+    }
+}
+
+/// Makes a call on an entry, or on its image, over the row's bytes.
+fn make_on_entry(row: &mut Row<'_>, name: &str) {
+    match name {
+        "prepare" => handoff::answer_prepare(row),
+        "registers" => registers::answer(row),
+        "load" => handoff::answer_load(row),
+        "image" => image::answer(row),
+        "images" => image::answer_each(row),
+        "image_of" => image::answer_held(row),
+        "read_image" => read_image::answer(row),
+        "image_fault" => read_image::answer_fault(row),
+        "read_images" => read_image::answer_each(row),
+        "walk" => walk::answer(row),
+        _ => row.refuse(),
     }
 }
 
 /// Makes a call of this name over the row's bytes.
 pub fn make_over(row: &mut Row<'_>, name: &str) {
     match name {
-        "own" => own::answer(row),
+        "own" => owned_bytes::answer(row),
         "read_params" => params::answer(row),
         "translate" => paging::answer_translate(row),
-        _ => row.refuse(),
+        "elf" => elf::answer(row),
+        "header" => multiboot2_header::answer(row),
+        "read_setup" => linux_setup::answer(row),
+        "setup_fault" => linux_setup::answer_fault(row),
+        "read_info" => read_info::answer(row),
+        _ => make_on_entry(row, name),
     }
 }

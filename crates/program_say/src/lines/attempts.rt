@@ -8,9 +8,9 @@ ghost use Rattle.program_desc.specs.Views.{view};
 use crate::lines::refusal::say_refusal;
 use crate::lines::refusal_detail::say_detail;
 use crate::lines::sought::say_entry_files;
+use crate::say;
 use crate::subjects::{Sought, ToldRefusal, entry_at};
 use bl_map::Machine;
-use program_blame::say;
 use program_desc::Description;
 use std::alloc::{AllocError, Allocator};
 

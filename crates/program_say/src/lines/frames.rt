@@ -7,10 +7,10 @@ ghost use Rattle.program_say.specs.Frames.{frames_line, frames_wanted, length_fo
 ghost use Rattle.program_say.specs.Frames.{number_between, sought_frames_line};
 ghost use Rattle.program_desc.specs.Views.{entry_view, form_view, module_view, view};
 
+use crate::say;
 use crate::subjects::{Sought, entry_at};
 use bl_load::Handoff;
 use bl_map::{Machine, frames_in, frames_of, open_frames};
-use program_blame::say;
 use program_desc::{Description, EntryForm, EntryRow, ModuleRow};
 use std::alloc::{AllocError, Allocator};
 

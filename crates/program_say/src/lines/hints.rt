@@ -5,10 +5,11 @@ ghost use Rattle.program_say.specs.Hints as hints;
 ghost use Rattle.program_say.specs.Hints.{kernel_hint_of};
 ghost use Rattle.program_desc.specs.Views.{view};
 
+use crate::blame::say_region_hints;
+use crate::say;
 use crate::subjects::{Sought, entry_at};
 use bl_load::{Refusal, RefusedEntry};
 use bl_mem::{SliceView, u16_at, u32_at};
-use program_blame::{say, say_region_hints};
 use program_desc::Description;
 use std::alloc::{AllocError, Allocator};
 

@@ -6,11 +6,12 @@ ghost use Rattle.program_say.specs.HandoffLines as handed;
 ghost use Rattle.program_say.specs.HandoffLines.{place_line};
 ghost use Rattle.program_say.specs.PartSources.{source_words};
 
+use crate::blame::say_address;
 use crate::lines::hex16::say_hex16;
 use crate::lines::part_sources::say_steps;
 use crate::lines::walk::say_protocol;
+use crate::say;
 use bl_load::{Handoff, NamedRegister, Place, Registers, Role, Step};
-use program_blame::{say, say_address};
 use std::alloc::{AllocError, Allocator};
 
 /// The role's name in a line.

@@ -5,8 +5,8 @@ ghost use Rattle.program_say.specs.BootAndMapLines as says;
 ghost use Rattle.program_say.specs.BootAndMapLines.{run_line};
 
 use crate::lines::hex16::say_hex16;
+use crate::say;
 use bl_map::Region;
-use program_blame::say;
 use std::alloc::{AllocError, Allocator};
 use std::ops::Range;
 

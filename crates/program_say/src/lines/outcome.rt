@@ -1,9 +1,9 @@
-//! What a boot comes to, entry by entry.
+//! What a boot comes to, entry by entry; and that an image is refused.
 ghost use Rattle.std.specs.Prelude.{◌≡◌, ◌++◌, OnOk, OnErr};
 ghost use Rattle.program_say.specs.BootAndMapLines as says;
 
+use crate::say;
 use bl_load::RefusedEntry;
-use program_blame::say;
 use std::alloc::{AllocError, Allocator};
 
 /// Appends the lines of entries that were refused, in order: each by its index in the menu, and the

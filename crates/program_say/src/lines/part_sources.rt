@@ -4,8 +4,8 @@ ghost use Rattle.std.specs.List.{filter};
 ghost use Rattle.program_say.specs.PartSources as sources;
 ghost use Rattle.program_say.specs.PartSources.{is_told, steps_words};
 
+use crate::say;
 use bl_load::{Place, Step, StepSource};
-use program_blame::say;
 use std::alloc::{AllocError, Allocator};
 
 /// Whether the step begins at the place and is not of zeros.

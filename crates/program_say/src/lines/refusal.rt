@@ -3,8 +3,8 @@ ghost use Rattle.std.specs.Prelude.{◌≡◌, ◌++◌, OnOk};
 ghost use Rattle.program_say.specs.RefusalWords as words;
 
 use crate::lines::refusal_words::{refusal_meaning, refusal_name};
+use crate::say;
 use bl_load::Refusal;
-use program_blame::say;
 use std::alloc::{AllocError, Allocator};
 
 /// Appends what a refusal tells beside its name: the place of a file in its entry, the offset of a

@@ -5,17 +5,18 @@ ghost use Rattle.bl_map.specs.NormalMap.{kind_at};
 ghost use Rattle.program_say.specs.DetailLines as words;
 ghost use Rattle.program_desc.specs.Views.{view};
 
+use crate::blame::{say_address, say_unusable};
 use crate::lines::frames::{frames_at, say_counted, say_frames};
 use crate::lines::kernel_handoff::role_name;
+use crate::say;
 use crate::subjects::{RefusalDetail, Sought};
 use bl_load::{Choice, Row};
 use bl_map::{Kind, Machine, frames_in};
-use program_blame::{say, say_address, say_unusable};
 use program_desc::Description;
 use std::alloc::{AllocError, Allocator};
 
 /// Appends where a part may lie.
-#[tactic(auto, unfolding(program_blame::specs::UnusableAddress::address_words))]
+#[tactic(auto, unfolding(crate::specs::blame::UnusableAddress::address_words))]
 fn say_window<A: Allocator + Copy>(
     out: &mut Vec<u8, A>,
     align: u64,
@@ -30,7 +31,7 @@ fn say_window<A: Allocator + Copy>(
 }
 
 /// Appends how a part's address is chosen.
-#[tactic(auto, unfolding(program_blame::specs::UnusableAddress::address_words))]
+#[tactic(auto, unfolding(crate::specs::blame::UnusableAddress::address_words))]
 fn say_choice<A: Allocator + Copy>(out: &mut Vec<u8, A>, choice: Choice) -> Result<(), AllocError>
     ensures { OnOk result (out.new.items ≡ out.old.items ++ words.choice_words choice) }
 {

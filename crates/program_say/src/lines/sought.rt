@@ -5,9 +5,10 @@ ghost use Rattle.program_say.specs.Sought as sought_files;
 ghost use Rattle.program_say.specs.Sought.{sought_line, sought_lines};
 ghost use Rattle.program_desc.specs.Views.{entry_view, module_view};
 
+use crate::blame::say_name;
+use crate::say;
 use crate::subjects::Sought;
 use bl_map::frames_of;
-use program_blame::{say, say_name};
 use program_desc::{EntryForm, EntryRow, ModuleRow};
 use std::alloc::{AllocError, Allocator};
 

@@ -1,5 +1,5 @@
 //! What a kernel sees in an image, line by line.
-#![tactic(auto, unfolding(program_blame::specs::UnusableAddress::address_words))]
+#![tactic(auto, unfolding(crate::specs::blame::UnusableAddress::address_words))]
 
 ghost use Rattle.std.specs.Prelude.{◌≡◌, ◌≤◌, ◌++◌, All, OnOk, OnErr, codes};
 ghost use Rattle.std.specs.List.{flat_map};
@@ -9,12 +9,13 @@ ghost use Rattle.bl_walk.specs.EntryShown.{RunsEndLow};
 ghost use Rattle.program_say.specs.WalkLines as says;
 ghost use Rattle.program_say.specs.WalkLines.{kernel_line, module_line, seen_run_line};
 
+use crate::blame::say_address;
 use crate::lines::hex16::say_hex16;
+use crate::say;
 use bl_load::Protocol;
 use bl_map::Region;
 use bl_mem::Bytes;
 use bl_walk::{Seen, SeenFile, SeenModule, SeenPart};
-use program_blame::{say, say_address};
 use std::alloc::{AllocError, Allocator};
 
 /// Appends a text as a line ends with it: its length, and its bytes in hexadecimal digits if there

@@ -1,5 +1,5 @@
 use Rattle.program_desc.specs.Views.{view}
-use Rattle.program_blame.proofs.CountedLemmas.{one_more_counted}
+use Rattle.program_say.proofs.blame_lemmas.CountedLemmas.{one_more_counted}
 use Rattle.program_say.specs.Hints.{unattempted_hint_at}
 use Rattle.program_say.proofs.lines.hints.say_unattempted.Goals as goal
 

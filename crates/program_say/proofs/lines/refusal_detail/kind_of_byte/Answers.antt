@@ -1,6 +1,6 @@
 use Rattle.std.proofs.Common.{sym}
 use Rattle.bl_map.specs.NormalMap.{kind_at}
-use Rattle.program_blame.proofs.PoolLemmas.{kind_told}
+use Rattle.program_say.proofs.blame_lemmas.PoolLemmas.{kind_told}
 use Rattle.program_say.proofs.lines.refusal_detail.kind_of_byte.Goals as goal
 
 pub returns : goal.returns

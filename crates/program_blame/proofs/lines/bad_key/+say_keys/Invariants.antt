@@ -1,5 +1,0 @@
-use Rattle.std.proofs.Common.{length}
-use Rattle.program_blame.proofs.lines.bad_key.+say_keys.Given as goal
-
-abbrev pub decreases-say_keys : goal.decreases-say_keys
-decreases-say_keys g l = length l.keys.now

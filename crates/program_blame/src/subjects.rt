@@ -1,5 +1,0 @@
-//! What lines are said of.
-
-mod blame;
-
-pub use blame::{Blame, TextPlace};

@@ -1,5 +1,0 @@
-pub mod Ends
-pub mod MachineMap
-pub mod internal
-pub mod Walked
-pub mod Converted

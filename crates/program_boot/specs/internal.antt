@@ -1,2 +1,0 @@
-pub mod CallEnds
-pub mod WalkEnds

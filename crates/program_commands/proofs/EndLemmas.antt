@@ -1,0 +1,167 @@
+-- How boots end.
+use Rattle.std.proofs.Common.{◌≡◌, ◌++◌, ℕ, List, Some, Result, Ok, Err, inl, inr, map, refl}
+use Rattle.bl_map.specs.MachineFacts.{MachineFacts}
+use Rattle.bl_load.specs.WellFormedEntry.{IsWellFormedValue}
+use Rattle.bl_load.specs.Handover.{Handover}
+use Rattle.bl_load.specs.declared.refused_entry.RefusedEntry.{RefusedEntry}
+use Rattle.bl_stage.specs.Files.{File, size_of}
+use Rattle.bl_image.specs.Image.{spelling}
+use Rattle.bl_image.specs.Versions.{written_version}
+use Rattle.bl_session.specs.session.BootSteps.{BootFacts, handed_over}
+use Rattle.bl_session.specs.menu.MenuFiles.{entry_value_in}
+use Rattle.bl_session.specs.session.Schedules.{no_fault}
+use Rattle.bl_session.specs.session.Outcome.{IsOutcome}
+use Rattle.bl_session.specs.session.Phases.{boot_facts}
+use Rattle.program_desc.specs.declared.desc.Description.{Description}
+use Rattle.program_desc.specs.Described.{DescriptionFacts, described}
+use Rattle.program_desc.specs.declared.fault.DescFault.{DescFault}
+use Rattle.program_desc.specs.declared.fault.DescFault.TheVariants as desc_fault
+use Rattle.program_desc.specs.Views.{IsReaderFault, view}
+use Rattle.program_commands.specs.declared.described.boot_end.End.{End}
+use Rattle.program_commands.specs.declared.described.boot_end.End.TheVariants.{Booted, NoEntryLeft}
+use Rattle.program_commands.specs.declared.booting.end_fault.EndFault.{EndFault}
+use Rattle.program_commands.specs.declared.booting.end_fault.EndFault.TheVariants.{BadDescription}
+use Rattle.program_commands.specs.declared.booting.end_fault.EndFault.TheVariants.{Device}
+use Rattle.program_commands.specs.declared.booting.end_fault.EndFault.TheVariants.{NoMemory}
+use Rattle.program_commands.specs.described.FoundFiles.{AreFound}
+use Rattle.program_commands.specs.described.DescribedMenu.{attempted_file_names, menu_of, boot_of}
+use Rattle.program_commands.specs.described.DescribedMachine.{IsMachineFault, IsMachineOf}
+use Rattle.program_commands.specs.described.BootCases.{BootCase}
+use Rattle.program_commands.specs.Ends.{Surroundings}
+use Rattle.program_commands.specs.internal.CallEnds.{end_fault_of_desc_fault, IsImageWriteFault}
+use Rattle.program_commands.specs.internal.CallEnds.{CountsSinkFault}
+use Rattle.program_commands.specs.internal.CallEnds.{HasAsked}
+use Rattle.program_commands.specs.internal.CallEnds.{FoundBootEnds, BootEnds}
+use Rattle.program_commands.proofs.described_lemmas.AskedLemmas.{none_asked, all_asked}
+
+-- the sink has one fault more exactly if it had one while the image was written
+pub faults_by : (old new : ℕ) (s t image : List ℕ) (fault : EndFault)
+    → IsImageWriteFault old new s t image fault → CountsSinkFault old new (Err fault)
+faults_by old new s t image BadDescription never = absurd never
+faults_by old new s t image Device broken = broken.0
+faults_by old new s t image NoMemory kept = kept.0
+
+-- an entry that is not handed over after all
+pub not_handed : (description : DescriptionFacts) (facts : BootFacts) (files : List File)
+    (entry : ℕ) (earlier : List RefusedEntry) (handover : Handover)
+    → IsOutcome facts files no_fault (handed_over entry earlier handover)
+    → (old new : ℕ) (s t u v : List ℕ) (fault : EndFault)
+    → IsImageWriteFault old new s t (spelling written_version handover) fault → v ≡ u
+    → FoundBootEnds description facts files s t u v (Err fault)
+not_handed description facts files entry earlier handover came old new s t u v BadDescription never
+    unsaid = absurd never
+not_handed description facts files entry earlier handover came old new s t u v Device broken
+    unsaid = (entry, earlier, handover, came, broken.1, unsaid)
+not_handed description facts files entry earlier handover came old new s t u v NoMemory kept
+    unsaid = (kept.1, unsaid)
+
+-- ---- the names that were asked for
+
+-- none is, if there is no machine
+pub asked_without : (description : DescriptionFacts) (names before : List (List ℕ)) (fault : DescFault)
+    → IsMachineFault description fault
+    → HasAsked names before before (Err (end_fault_of_desc_fault fault))
+asked_without description names before desc_fault.BadDescription is = none_asked names before
+asked_without description names before desc_fault.NoMemory is = none_asked names before
+
+-- nothing is described, or memory ran out: the boot ends as it began
+pub undescribed : {F : Type 0} (answers : F → List ℕ → File → Type 0) (faults : F → ℕ)
+    (desc : List ℕ) (around : Surroundings F) (fault : DescFault)
+    → IsReaderFault fault (described desc)
+    → BootEnds answers faults desc around around (Err (end_fault_of_desc_fault fault))
+undescribed answers faults desc around desc_fault.BadDescription none = (inl none, refl)
+undescribed answers faults desc around desc_fault.NoMemory given = (refl, refl)
+
+pub sound_undescribed : (faults : ℕ) (fault : DescFault)
+    → CountsSinkFault faults faults (Err (end_fault_of_desc_fault fault))
+sound_undescribed faults desc_fault.BadDescription = refl
+sound_undescribed faults desc_fault.NoMemory = refl
+
+pub asked_undescribed : (names before : List (List ℕ)) (fault : DescFault)
+    → HasAsked names before before (Err (end_fault_of_desc_fault fault))
+asked_undescribed names before desc_fault.BadDescription = none_asked names before
+asked_undescribed names before desc_fault.NoMemory = none_asked names before
+
+-- so it does where there is no such machine
+pub without_machine : {A F : Type 0} (desc : List ℕ) (d : Description A)
+    → described desc ≡ Some (view d)
+    → (answers : F → List ℕ → File → Type 0) (faults : F → ℕ) (around : Surroundings F)
+    (fault : DescFault) → IsMachineFault (view d) fault
+    → BootEnds answers faults desc around around (Err (end_fault_of_desc_fault fault))
+without_machine desc d is answers faults around desc_fault.BadDescription bad =
+    (inr (view d, is, bad), refl)
+without_machine desc d is answers faults around desc_fault.NoMemory given = (refl, refl)
+
+pub sound_without : (description : DescriptionFacts) (faults : ℕ) (fault : DescFault)
+    → IsMachineFault description fault → CountsSinkFault faults faults (Err (end_fault_of_desc_fault fault))
+sound_without description faults desc_fault.BadDescription bad = refl
+sound_without description faults desc_fault.NoMemory given = refl
+
+-- all are, before the boot of what was found
+pub asked_by : (ended : Result End EndFault) (names before after : List (List ℕ))
+    → after ≡ before ++ names → HasAsked names before after ended
+asked_by (Ok end) names before after all = all
+asked_by (Err BadDescription) names before after all = all_asked names before after all
+asked_by (Err Device) names before after all = all
+asked_by (Err NoMemory) names before after all = all_asked names before after all
+
+-- the bytes describe d
+module _ {A : Type 0} (desc : List ℕ) (d : Description A) (is : described desc ≡ Some (view d))
+  where
+    -- its machine has these facts, these files were found, and the values of its entries are well-formed
+    module _ {F : Type 0} (answers : F → List ℕ → File → Type 0) (faults : F → ℕ)
+        (facts : MachineFacts)
+        (machine : IsMachineOf (view d) facts) (before after : F) (files : List File)
+        (found : AreFound answers faults (view d).files (attempted_file_names (view d)) before after files)
+        (well_formed : (entry : ℕ)
+        → IsWellFormedValue (entry_value_in (boot_of (view d) facts files) files entry))
+      where
+        abbrev this_case : BootCase answers faults desc before after
+        this_case = record {
+          description = view d;
+          facts = facts;
+          files = files;
+          is_described = is;
+          machine = machine;
+          found = found;
+        }
+
+        -- around it the sink and what is said went so
+        abbrev around : F → List ℕ → List ℕ → Surroundings F
+        around files sink said = record { files = files; sink = sink; said = said }
+
+        -- it ends as the boot of what was found
+        pub ends_by : (s t u v : List ℕ) (ended : Result End EndFault)
+            → FoundBootEnds (view d)
+            (boot_facts facts (menu_of (view d)) (map size_of files)) files s t u v ended
+            → BootEnds answers faults desc (around before s u) (around after t v) ended
+        ends_by s t u v (Ok Booted) (entry, earlier, handover, came, kept, image, said) = record {
+          case = this_case;
+          entry = entry;
+          earlier = earlier;
+          handover = handover;
+          outcome = came;
+          well_formed = well_formed entry;
+          kept = kept;
+          image = image;
+          said = said;
+        }
+        ends_by s t u v (Ok NoEntryLeft) (refused, came, nothing, said) =
+            record {
+              case = this_case;
+              refused = refused;
+              outcome = came;
+              nothing = nothing;
+              said = said;
+            }
+        ends_by s t u v (Err BadDescription) never = absurd never
+        ends_by s t u v (Err Device) (entry, earlier, handover, came, begun, unsaid) = record {
+          case = this_case;
+          entry = entry;
+          earlier = earlier;
+          handover = handover;
+          outcome = came;
+          begun = begun;
+          unsaid = unsaid;
+        }
+        ends_by s t u v (Err NoMemory) kept = kept

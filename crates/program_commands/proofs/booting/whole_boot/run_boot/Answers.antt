@@ -1,0 +1,120 @@
+use Rattle.std.proofs.Common.{◌∙◌, All, length, refl, ap, subst}
+use Rattle.std.proofs.lemmas.List.{length-replicate}
+use Rattle.std.proofs.lemmas.Result.{err_from_is_err_and}
+use Rattle.bl_load.specs.WellFormedEntry.{IsWellFormedValue}
+use Rattle.bl_session.specs.menu.Menu.{MenuFacts}
+use Rattle.bl_session.proofs.menu_lemmas.MenuLemmas.{offered_values}
+use Rattle.program_desc.specs.Described.{described}
+use Rattle.program_desc.specs.Views.{view}
+use Rattle.program_commands.specs.described.DescribedMenu.{boot_of}
+use Rattle.program_commands.specs.described.BootCases.{names_fetched}
+use Rattle.program_commands.proofs.described_lemmas.AskedLemmas.{fetched, inline_in, none_sought}
+use Rattle.program_commands.proofs.described_lemmas.AskedLemmas.{sought}
+use Rattle.program_commands.proofs.EndLemmas.{asked_by, asked_undescribed, asked_without, ends_by}
+use Rattle.program_commands.proofs.EndLemmas.{sound_undescribed, sound_without, undescribed}
+use Rattle.program_commands.proofs.EndLemmas.{without_machine}
+use Rattle.program_commands.proofs.booting.whole_boot.run_boot.Goals as goal
+
+pub ready_boot-requires-clause-menu : goal.ready_boot-requires-clause-menu
+ready_boot-requires-clause-menu g c = c.in_ok-description.ensures.menu
+
+pub ready_boot-requires-clause-faults : goal.ready_boot-requires-clause-faults
+ready_boot-requires-clause-faults g c = c.requires.files
+
+pub boot_found-requires-clause-size : goal.boot_found-requires-clause-size
+boot_found-requires-clause-size g c =
+    ap length c.in_ok-ready.ensures.memory
+    ∙ length-replicate c.size.result c.in_ok-description.description.fill ∙ c.size.ensures.size
+
+pub boot_found-requires-clause-store : goal.boot_found-requires-clause-store
+boot_found-requires-clause-store g c = c.in_ok-ready.ensures.given
+
+pub boot_found-requires-clause-sink : goal.boot_found-requires-clause-sink
+boot_found-requires-clause-sink g c = c.requires.sink
+
+pub returns-in_err-description : goal.returns-in_err-description
+returns-in_err-description g c =
+    let p =
+    err_from_is_err_and c.from_residual.result
+    c.from_residual.ensures.1 in
+    rw (p.1, p.2)
+    (record {
+      ends = undescribed g.F.Files.answers g.F.Files.faults c.args.desc.now _ _
+          c.in_err-description.ensures.given;
+      faults = sound_undescribed (g.S.Sink.faults c.args.out.now) _;
+      asked = asked_undescribed (names_fetched (described c.args.desc.now))
+          (g.F.Files.asked c.args.files.now) _;
+      sought = none_sought g.F.Files.answers g.F.Files.faults c.args.desc.now c.args.files.now;
+    })
+
+pub returns-in_err-machine : goal.returns-in_err-machine
+returns-in_err-machine g c =
+    let p =
+    err_from_is_err_and c.from_residual-in_err-machine.result
+    c.from_residual-in_err-machine.ensures.1 in
+    rw (p.1, p.2)
+    (record {
+      ends = without_machine c.args.desc.now c.in_ok-description.description
+          c.in_ok-description.ensures.given g.F.Files.answers g.F.Files.faults _ _
+          c.in_err-machine.ensures.fault;
+      faults = sound_without (view c.in_ok-description.description)
+          (g.S.Sink.faults c.args.out.now) _ c.in_err-machine.ensures.fault;
+      asked = asked_without (view c.in_ok-description.description)
+          (names_fetched (described c.args.desc.now)) (g.F.Files.asked c.args.files.now) _
+          c.in_err-machine.ensures.fault;
+      sought = none_sought g.F.Files.answers g.F.Files.faults c.args.desc.now c.args.files.now;
+    })
+
+pub returns-in_err-ready : goal.returns-in_err-ready
+returns-in_err-ready g c =
+    let p =
+    err_from_is_err_and c.from_residual-in_err-ready.result c.from_residual-in_err-ready.ensures.1
+    in
+    let d = c.in_ok-description.description in
+    let is = c.in_ok-description.ensures.given in
+    rw (p.1, p.2)
+    (record {
+      ends = (refl, refl);
+      faults = refl;
+      asked = rw (fetched c.args.desc.now d is) c.in_err-ready.ensures.asked_first;
+      sought = record {
+        inline = λ has. c.in_err-ready.ensures.inline (inline_in c.args.desc.now d is has);
+        same_files = c.in_err-ready.ensures.same;
+        missing = rw (sought c.args.desc.now d is) c.in_err-ready.ensures.missing;
+        few = c.in_err-ready.ensures.few;
+      };
+    })
+
+pub returns-clause-faults : goal.returns-clause-faults
+returns-clause-faults g c = c.boot_found.ensures.faults
+
+pub returns-clause-asked : goal.returns-clause-asked
+returns-clause-asked g c =
+    asked_by c.boot_found.result (names_fetched (described c.args.desc.now))
+    (g.F.Files.asked c.args.files.now) _
+    (rw (fetched c.args.desc.now c.in_ok-description.description
+    c.in_ok-description.ensures.given) c.in_ok-ready.ensures.asked)
+
+pub returns-clause-sought : goal.returns-clause-sought
+returns-clause-sought g c =
+    let d = c.in_ok-description.description in
+    let is = c.in_ok-description.ensures.given in
+    record {
+      inline = λ has. c.in_ok-ready.ensures.inline (inline_in c.args.desc.now d is has);
+      same_files = c.in_ok-ready.ensures.same;
+      missing = rw (sought c.args.desc.now d is) c.in_ok-ready.ensures.missing;
+      few = c.in_ok-ready.ensures.few;
+    }
+
+pub returns-clause-ends : goal.returns-clause-ends
+returns-clause-ends g c =
+    let files = c.in_ok-ready.ready.store.files in
+    ends_by c.args.desc.now c.in_ok-description.description c.in_ok-description.ensures.given
+    g.F.Files.answers g.F.Files.faults
+    c.in_ok-machine.machine c.in_ok-machine.ensures.machine _ _ files c.in_ok-ready.ensures.found
+    (λ entry. offered_values
+    (boot_of (view c.in_ok-description.description) c.in_ok-machine.machine files) files entry
+    (subst (λ (m : MenuFacts). All (λ e. IsWellFormedValue e.blank) m.entries)
+    c.in_ok-ready.ensures.menu c.in_ok-ready.ensures.well_formed))
+    _ _ _ _ c.boot_found.result
+    (rw c.in_ok-ready.ensures.menu at c.boot_found.ensures.ends)

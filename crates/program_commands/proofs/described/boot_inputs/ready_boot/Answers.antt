@@ -1,0 +1,48 @@
+use Rattle.std.proofs.Common.{◌≡◌, ◌∙◌, length, ap, arith}
+use Rattle.program_desc.specs.Views.{view}
+use Rattle.program_commands.specs.described.DescribedMenu.{attempted_file_names}
+use Rattle.program_commands.proofs.described_lemmas.NameLemmas.{as_many, few_missing, few_seen}
+use Rattle.program_commands.proofs.described.boot_inputs.ready_boot.Goals as goal
+
+pub attempted_file_names-requires : goal.attempted_file_names-requires
+attempted_file_names-requires g c = c.requires.menu
+
+pub menu_of-requires-clause-menu : goal.menu_of-requires-clause-menu
+menu_of-requires-clause-menu g c = c.requires.menu
+
+pub menu_of-requires-clause-names : goal.menu_of-requires-clause-names
+menu_of-requires-clause-names g c = rw c.deref.ensures.value c.in_ok-names.ensures.names
+
+pub menu_of-requires-clause-few : goal.menu_of-requires-clause-few
+menu_of-requires-clause-few g c =
+    few_seen c.in_ok-names.names.items c.deref.result.now c.deref.ensures.value
+    c.in_ok-names.ensures.few
+
+pub find_files-requires : goal.find_files-requires
+find_files-requires g c =
+    few_missing (g.F.Files.faults c.args.files.now) c.in_ok-names.names.items
+    c.deref-2.result.now c.deref-2.ensures.value c.in_ok-names.ensures.few c.requires.faults
+
+pub returns-in_err-found-clause-inline : goal.returns-in_err-found-clause-inline
+returns-in_err-found-clause-inline g c = λ all. c.in_err-found.ensures.inline
+    (rw (c.deref-2.ensures.value, c.in_ok-names.ensures.names) all)
+
+pub returns-clause-inline : goal.returns-clause-inline
+returns-clause-inline g c = λ all. c.in_ok-found.ensures.inline
+    (rw (c.deref-2.ensures.value, c.in_ok-names.ensures.names) all)
+
+pub returns-in_err-found-clause-missing : goal.returns-in_err-found-clause-missing
+returns-in_err-found-clause-missing g c =
+    let missing = c.in_err-found.ensures.missing in
+    let count : length c.deref-2.result.now ≡ length (attempted_file_names (view c.args.description.now)) =
+    ap length c.deref-2.ensures.value
+    ∙ as_many c.in_ok-names.names.items _ c.in_ok-names.ensures.names in
+    (missing.0, omega (arith, missing.1, count))
+
+pub returns-clause-missing : goal.returns-clause-missing
+returns-clause-missing g c =
+    let missing = c.in_ok-found.ensures.missing in
+    let count : length c.deref-2.result.now ≡ length (attempted_file_names (view c.args.description.now)) =
+    ap length c.deref-2.ensures.value
+    ∙ as_many c.in_ok-names.names.items _ c.in_ok-names.ensures.names in
+    (missing.0, omega (arith, missing.1, count))

@@ -1,0 +1,11 @@
+use Rattle.std.proofs.Common.{rules}
+use Rattle.program_commands.specs.explaining.BlameConditions.{HasBlame}
+use Rattle.program_say.specs.declared.subjects.blame.Blame.TheVariants.{NotToml}
+use Rattle.program_commands.proofs.explaining_lemmas.ExplainEnds.{blamed_for}
+use Rattle.program_commands.proofs.explaining.description_blame.toml_fault.Goals as goal
+
+pub returns-in-Some : goal.returns-in-Some
+returns-in-Some g c =
+    let stands : HasBlame c.args.text.now (NotToml c.text_place.result) = search rules in
+    blamed_for c.args.text.now (NotToml c.text_place.result) c.args.say.now.items
+    c.blamed.new.say.items c.blamed.result c.requires.bad stands c.blamed.ensures

@@ -1,0 +1,115 @@
+use Rattle.std.proofs.Common.{◌∙◌, length, ap}
+use Rattle.std.proofs.lemmas.List.{length-replicate}
+use Rattle.std.proofs.lemmas.Result.{err_from_is_err_and}
+use Rattle.program_desc.specs.Described.{described}
+use Rattle.program_commands.specs.described.BootCases.{names_fetched}
+use Rattle.program_commands.proofs.described_lemmas.AskedLemmas.{fetched, inline_in, none_asked}
+use Rattle.program_commands.proofs.described_lemmas.AskedLemmas.{none_sought, sought}
+use Rattle.program_commands.proofs.explaining_lemmas.ExplainEnds.{explain_asked, explained_by}
+use Rattle.program_commands.proofs.explaining_lemmas.ExplainEnds.{unmade, unread}
+use Rattle.program_commands.proofs.explaining.explanation.run_explain.Goals as goal
+
+pub ready_boot-requires-clause-menu : goal.ready_boot-requires-clause-menu
+ready_boot-requires-clause-menu g c = c.in_ok-description.ensures.menu
+
+pub ready_boot-requires-clause-faults : goal.ready_boot-requires-clause-faults
+ready_boot-requires-clause-faults g c = c.requires
+
+pub explain_found-requires-clause-size : goal.explain_found-requires-clause-size
+explain_found-requires-clause-size g c =
+    ap length c.in_ok-ready.ensures.memory
+    ∙ length-replicate c.size.result c.in_ok-description.description.fill ∙ c.size.ensures.size
+
+pub explain_found-requires-clause-store : goal.explain_found-requires-clause-store
+explain_found-requires-clause-store g c = c.in_ok-ready.ensures.given
+
+pub explain_found-requires-clause-few : goal.explain_found-requires-clause-few
+explain_found-requires-clause-few g c = c.in_ok-description.ensures.menu.1
+
+pub explain_found-requires-clause-menu : goal.explain_found-requires-clause-menu
+explain_found-requires-clause-menu g c = c.in_ok-ready.ensures.menu
+
+pub explain_found-requires-clause-names : goal.explain_found-requires-clause-names
+explain_found-requires-clause-names g c = rw c.deref.ensures.value c.in_ok-ready.ensures.names
+
+pub returns-in_err-description : goal.returns-in_err-description
+returns-in_err-description g c =
+    let p =
+    err_from_is_err_and c.from_residual.result
+    c.from_residual.ensures.1 in
+    rw (p.1, p.2)
+    (record {
+      ends = unread g.row.A.Denot g.F.Files.answers g.F.Files.faults c.args.desc.now c.args.files.now
+          c.args.say.now.items _ _ c.in_err-description.ensures;
+      asked = none_asked (names_fetched (described c.args.desc.now))
+          (g.F.Files.asked c.args.files.now);
+      sought = none_sought g.F.Files.answers g.F.Files.faults c.args.desc.now c.args.files.now;
+    })
+
+pub returns-in_err-machine : goal.returns-in_err-machine
+returns-in_err-machine g c =
+    let p =
+    err_from_is_err_and c.from_residual-in_err-machine.result
+    c.from_residual-in_err-machine.ensures.1 in
+    rw (p.1, p.2)
+    (record {
+      ends = unmade g.row.A.Denot g.F.Files.answers g.F.Files.faults c.args.desc.now
+          c.in_ok-description.description c.in_ok-description.ensures.given c.args.files.now
+          c.args.say.now.items _ _ (rw c.in_ok-description.ensures.kept
+          at c.in_err-machine.ensures);
+      asked = none_asked (names_fetched (described c.args.desc.now))
+          (g.F.Files.asked c.args.files.now);
+      sought = none_sought g.F.Files.answers g.F.Files.faults c.args.desc.now c.args.files.now;
+    })
+
+pub returns-in_err-ready : goal.returns-in_err-ready
+returns-in_err-ready g c =
+    let p =
+    err_from_is_err_and c.from_residual-in_err-ready.result c.from_residual-in_err-ready.ensures.1
+    in
+    let d = c.in_ok-description.description in
+    let is = c.in_ok-description.ensures.given in
+    rw (p.1, p.2)
+    (record {
+      ends = c.in_ok-machine.ensures.kept ∙ c.in_ok-description.ensures.kept;
+      asked = rw (fetched c.args.desc.now d is) c.in_err-ready.ensures.asked_first;
+      sought = record {
+        inline = λ has. c.in_err-ready.ensures.inline (inline_in c.args.desc.now d is has);
+        same_files = c.in_err-ready.ensures.same;
+        missing = rw (sought c.args.desc.now d is) c.in_err-ready.ensures.missing;
+        few = c.in_err-ready.ensures.few;
+      };
+    })
+
+pub returns-clause-asked : goal.returns-clause-asked
+returns-clause-asked g c =
+    explain_asked c.explain_found.result (names_fetched (described c.args.desc.now))
+    (g.F.Files.asked c.args.files.now) _
+    (rw (fetched c.args.desc.now c.in_ok-description.description
+    c.in_ok-description.ensures.given) c.in_ok-ready.ensures.asked)
+
+pub returns-clause-sought : goal.returns-clause-sought
+returns-clause-sought g c =
+    let d = c.in_ok-description.description in
+    let is = c.in_ok-description.ensures.given in
+    record {
+      inline = λ has. c.in_ok-ready.ensures.inline (inline_in c.args.desc.now d is has);
+      same_files = c.in_ok-ready.ensures.same;
+      missing = rw (sought c.args.desc.now d is) c.in_ok-ready.ensures.missing;
+      few = c.in_ok-ready.ensures.few;
+    }
+
+pub returns-clause-ends : goal.returns-clause-ends
+returns-clause-ends g c =
+    explained_by g.row.A.Denot g.F.Files.answers g.F.Files.faults c.args.desc.now
+    c.in_ok-description.description c.in_ok-description.ensures.given
+    c.in_ok-machine.machine c.in_ok-machine.ensures.machine _ _ c.in_ok-ready.ready.store.files
+    c.in_ok-ready.ensures.found
+    _ _ c.explain_found.result
+    (rw (
+      c.in_ok-ready.ensures.menu,
+      c.deref.ensures.value,
+      c.in_ok-ready.ensures.names,
+      c.in_ok-machine.ensures.kept,
+      c.in_ok-description.ensures.kept,
+    ) at c.explain_found.ensures)

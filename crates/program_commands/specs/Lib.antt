@@ -1,0 +1,8 @@
+pub mod described
+pub mod Ends
+pub mod MachineMap
+pub mod internal
+pub mod Walked
+pub mod Converted
+pub mod digesting
+pub mod explaining

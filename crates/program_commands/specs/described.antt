@@ -1,0 +1,5 @@
+pub mod Files
+pub mod FoundFiles
+pub mod DescribedMenu
+pub mod DescribedMachine
+pub mod BootCases

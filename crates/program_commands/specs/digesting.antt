@@ -1,0 +1,3 @@
+pub mod PlannedMenu
+pub mod Digested
+pub mod ImageDigested

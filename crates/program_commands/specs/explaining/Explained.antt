@@ -1,0 +1,57 @@
+-- How the explanation of a boot ends. Own.
+use Rattle.std.specs.Prelude.{◌≡◌, ℕ, List, ◌++◌}
+use Rattle.bl_load.specs.Handover.{Handover}
+use Rattle.bl_load.specs.declared.refused_entry.RefusedEntry.{RefusedEntry}
+use Rattle.bl_load.specs.declared.step.Step.{Step}
+use Rattle.bl_stage.specs.Files.{File}
+use Rattle.bl_session.specs.session.BootSteps.{State, handed_over, none_left}
+use Rattle.program_desc.specs.Described.{described}
+use Rattle.program_say.specs.declared.subjects.blame.Blame.{Blame}
+use Rattle.program_commands.specs.explaining.BlameConditions.{HasBlame}
+use Rattle.program_say.specs.blame.BlameLines.{blame_lines}
+use Rattle.program_commands.specs.described.DescribedMachine.{IsBadDescription}
+use Rattle.program_commands.specs.described.BootCases.{BootCase, HasOutcome}
+use Rattle.program_commands.specs.explaining.Details.{AreToldRefusals}
+use Rattle.program_commands.specs.explaining.EntrySteps.{AreToldSteps}
+use Rattle.program_commands.specs.explaining.ExplanationLines.{refused_in, sought_in}
+use Rattle.program_commands.specs.explaining.ExplanationLines.{explanation_lines}
+use Rattle.program_say.specs.declared.subjects.refusal_detail.ToldRefusal.{ToldRefusal}
+
+-- with files of a type F: what they may answer for a name, and how many faults they had; and with
+-- memory from an A
+module _ (A : Type 0) {F : Type 0} (answers : F → List ℕ → File → Type 0) (faults : F → ℕ) where
+  -- the boot that is described comes to this, and what is said tells it, with what is told beside
+  -- each refusal, and the steps of the entry that is handed over
+  pub record IsExplained (desc : List ℕ) (before after : F) (old new : List ℕ)
+      (state : State) : Type 0 where
+    pub case : BootCase answers faults desc before after
+    pub outcome : HasOutcome answers faults case state
+    pub told : List ToldRefusal
+    pub are_told : AreToldRefusals case.facts case.description.entries
+        (sought_in case.description case.files) (refused_in state) told
+    pub steps : List Step
+    pub are_steps : AreToldSteps A case.facts case.description.entries
+        (sought_in case.description case.files) state steps
+    pub said : new
+        ≡ old ++ explanation_lines case.description case.facts
+        (sought_in case.description case.files) told steps state
+
+  -- an entry would be handed over
+  pub record ExplainsBoot (desc : List ℕ) (before after : F) (old new : List ℕ) : Type 0 where
+    pub entry : ℕ
+    pub earlier : List RefusedEntry
+    pub handover : Handover
+    pub explained : IsExplained desc before after old new (handed_over entry earlier handover)
+
+  -- each entry that is attempted is refused
+  pub record ExplainsRefusals (desc : List ℕ) (before after : F) (old new : List ℕ)
+      : Type 0 where
+    pub refused : List RefusedEntry
+    pub explained : IsExplained desc before after old new (none_left refused)
+
+-- the description is a bad one, for what is said
+pub record ExplainsBlame (desc old new : List ℕ) : Type 0 where
+  pub bad : IsBadDescription desc
+  pub blame : Blame
+  pub stands : HasBlame desc blame
+  pub said : new ≡ old ++ blame_lines blame (described desc)

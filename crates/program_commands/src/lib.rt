@@ -1,0 +1,28 @@
+//! The program's commands: each takes a description or an image, and answers a status. Boots,
+//! maps, walks, conversions, digests, and a boot told for a person.
+#![tactic(auto)]
+
+mod booting;
+mod described;
+mod digesting;
+mod explaining;
+mod image_conversion;
+mod image_walk;
+mod laws;
+mod machine_map;
+
+pub use bl_session::{FILE_LIMIT, Fetched};
+pub use booting::boot;
+pub use described::{
+    AskedNames, DescribedBoot, End, Files, MemFiles, ReadyBoot, attempted_file_names, entry_of,
+    find_files, machine_of, menu_of, order_of, ready_boot, title_of,
+};
+pub use digesting::{MenuPlan, PlannedEntry, digest_image_to, digest_to, plan_menu};
+pub use explaining::explain_to;
+pub use image_conversion::convert;
+pub use image_walk::walk_to;
+pub use laws::{
+    booted_images_show_their_entries, converted_images_are_walked_alike,
+    digests_are_of_booted_images, images_have_one_table, two_boots,
+};
+pub use machine_map::map_to;

@@ -1,4 +1,0 @@
-pub mod PlannedMenu
-pub mod Digested
-pub mod ImageDigested
-pub mod internal

@@ -1,0 +1,12 @@
+pub mod ShownNames
+pub mod BracketedNumber
+pub mod Addresses
+pub mod RegionHints
+pub mod UnusableAddress
+pub mod BadKeyWords
+pub mod BlameLine
+pub mod EditDistance
+pub mod WordHints
+pub mod PoolLines
+pub mod RadixHints
+pub mod BlameLines

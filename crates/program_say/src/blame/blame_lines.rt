@@ -1,0 +1,151 @@
+//! Why a description is a bad one, line by line.
+ghost use Rattle.std.specs.Prelude.{◌≡◌, ◌++◌, OnErr, OnOk, option_map};
+ghost use Rattle.program_desc.specs.Views.{view};
+ghost use Rattle.program_say.specs.blame.BlameLines as hints;
+ghost use Rattle.program_say.specs.blame.BlameLine as blames;
+
+use crate::blame::bad_key::say_bad_key;
+use crate::blame::pool_lines::say_pool_lines;
+use crate::blame::radix_hints::{say_pool_hints, say_size_hint};
+use crate::blame::word_hints::say_key_hint;
+use crate::say;
+use crate::subjects::{Blame, TextPlace};
+use bl_map::MapFault;
+use program_desc::Description;
+use std::alloc::{AllocError, Allocator};
+
+/// The name of a machine's fault.
+fn map_fault_name(fault: MapFault) -> &'static str
+    ensures { result.now ≡ blames.map_fault_name fault }
+{
+    match fault {
+        MapFault::BadSize => "BadSize",
+        MapFault::BadRegion(_) => "BadRegion",
+        MapFault::TooManyRegions => "TooManyRegions",
+        MapFault::BadPool => "BadPool",
+        MapFault::NoMemory => "NoMemory",
+    }
+}
+
+/// What a machine's fault means.
+fn map_fault_meaning(fault: MapFault) -> &'static str
+    ensures { result.now ≡ blames.map_fault_meaning fault }
+{
+    match fault {
+        MapFault::BadSize => "a bad size: not 1 MiB to 4 GiB in whole frames",
+        MapFault::BadRegion(_) => "the region with this index ends above 2^52",
+        MapFault::TooManyRegions => "more than 128 regions",
+        MapFault::BadPool => "a bad pool: not whole frames, or with a byte that is not usable",
+        MapFault::NoMemory => "out of memory while a machine was made",
+    }
+}
+
+/// Appends what a machine's fault tells beside its name: the index of a region.
+fn say_told<A: Allocator + Copy>(out: &mut Vec<u8, A>, fault: MapFault) -> Result<(), AllocError>
+    ensures { OnOk result (out.new.items ≡ out.old.items ++ blames.map_fault_told fault) }
+{
+    match fault {
+        MapFault::BadRegion(index) => say!(out, "({index})"),
+        _ => Ok(()),
+    }
+}
+
+/// Appends a machine's fault: its number, its name with what it tells, its meaning.
+fn say_map_fault<A: Allocator + Copy>(
+    out: &mut Vec<u8, A>,
+    fault: MapFault,
+) -> Result<(), AllocError>
+    ensures { OnOk result (out.new.items ≡ out.old.items ++ blames.map_fault_words fault) }
+{
+    say!(out, "{} {}", fault.number(), map_fault_name(fault))?;
+    say_told(out, fault)?;
+    say!(out, ": {}", map_fault_meaning(fault))
+}
+
+/// Appends where a text is not TOML.
+fn say_place<A: Allocator + Copy>(out: &mut Vec<u8, A>, place: &TextPlace) -> Result<(), AllocError>
+    ensures { OnOk result (out.new.items ≡ out.old.items ++ blames.not_toml_words place.now) }
+{
+    let line = place.line;
+    let column = place.column;
+    say!(out, "it is not TOML, at line {line}, column {column}")
+}
+
+fn say_words<A: Allocator + Copy>(out: &mut Vec<u8, A>, blame: &Blame<'_>) -> Result<(), AllocError>
+    ensures { OnOk result (out.new.items ≡ out.old.items ++ blames.blame_words blame.now) }
+{
+    match blame {
+        Blame::NotUtf8 => out.extend_from_slice(b"it is not UTF-8"),
+        Blame::NotToml(place) => say_place(out, place),
+        Blame::BadKey(bad) => say_bad_key(out, bad),
+        Blame::BadMachine(fault) => {
+            out.extend_from_slice(b"machine ")?;
+            say_map_fault(out, *fault)
+        }
+    }
+}
+
+/// Appends the line that tells why a description is a bad one.
+fn say_line<A: Allocator + Copy>(out: &mut Vec<u8, A>, blame: &Blame<'_>) -> Result<(), AllocError>
+    ensures { OnOk result (out.new.items ≡ out.old.items ++ blames.blame_line blame.now) }
+{
+    out.extend_from_slice(b"bad description: ")?;
+    say_words(out, blame)?;
+    out.extend_from_slice(b"\n")
+}
+
+/// Appends what is told of a machine, behind its fault.
+fn say_machine<A: Allocator + Copy, B: Allocator>(
+    out: &mut Vec<u8, A>,
+    fault: MapFault,
+    description: &Description<B>,
+) -> Result<(), AllocError>
+    ensures { OnOk result
+        (out.new.items ≡ out.old.items ++ hints.machine_lines fault (view description.now)) }
+{
+    match fault {
+        MapFault::BadSize => say_size_hint(out, description.size),
+        MapFault::BadPool => {
+            say_pool_lines(out, description)?;
+            say_pool_hints(out, description.size, &description.pool)
+        }
+        _ => Ok(()),
+    }
+}
+
+/// Appends what is told behind a blame, by what is described.
+fn say_behind<A: Allocator + Copy, B: Allocator>(
+    out: &mut Vec<u8, A>,
+    blame: &Blame<'_>,
+    description: Option<&Description<B>>,
+) -> Result<(), AllocError>
+    ensures { OnOk result (out.new.items ≡ out.old.items
+        ++ hints.lines_behind blame.now (option_map (λ d. view d.now) description.entry)) }
+{
+    match blame {
+        Blame::BadKey(bad) => say_key_hint(out, &bad.fault),
+        Blame::BadMachine(fault) => match description {
+            Some(description) => say_machine(out, *fault, description),
+            None => Ok(()),
+        },
+        _ => Ok(()),
+    }
+}
+
+/// Appends the lines that tell why a description is bad, where it describes this, if anything. They
+/// are formed in `alloc` first, so that an error leaves the text as it was.
+pub fn say_blame<A: Allocator + Copy, B: Allocator>(
+    alloc: A,
+    blame: &Blame<'_>,
+    description: Option<&Description<A>>,
+    out: &mut Vec<u8, B>,
+) -> Result<(), AllocError>
+    ensures ok { OnOk result (out.new.items ≡ out.old.items
+        ++ hints.blame_lines blame.now (option_map (λ d. view d.now) description.entry)) }
+    ensures err { OnErr result (out.new.items ≡ out.old.items) }
+{
+    let mut lines = Vec::new(alloc);
+    say_line(&mut lines, blame)?;
+    say_behind(&mut lines, blame, description)?;
+    out.extend_from_slice(&lines)
+}

@@ -1,0 +1,86 @@
+//! Whether a word is another one but for one edit of its bytes.
+ghost use Rattle.std.specs.Prelude.{◌≡◌};
+ghost use Rattle.program_say.specs.blame.EditDistance as near;
+
+fn has_extra(word: &[u8], other: &[u8]) -> bool
+    ensures { result ≡ near.has_extra word.now other.now }
+{
+    match word {
+        [] => false,
+        [_, rest @ ..] => rest == other,
+    }
+}
+
+fn has_replaced(word: &[u8], other: &[u8]) -> bool
+    ensures { result ≡ near.has_replaced word.now other.now }
+{
+    match word {
+        [] => false,
+        [_, rest @ ..] => match other {
+            [] => false,
+            [_, others @ ..] => rest == others,
+        },
+    }
+}
+
+fn has_swapped(word: &[u8], other: &[u8]) -> bool
+    ensures { result ≡ near.has_swapped word.now other.now }
+{
+    match word {
+        [] => false,
+        [_] => false,
+        [a, b, rest @ ..] => match other {
+            [] => false,
+            [_] => false,
+            [c, d, others @ ..] => {
+                if *a != *d {
+                    return false;
+                }
+                if *b != *c {
+                    return false;
+                }
+                rest == others
+            }
+        },
+    }
+}
+
+/// Whether they are the same but for one edit at the front.
+#[tactic(auto, unfolding(crate::specs::blame::EditDistance::is_edited))]
+fn is_edited(word: &[u8], other: &[u8]) -> bool
+    ensures { result ≡ near.is_edited word.now other.now }
+{
+    if has_extra(word, other) {
+        return true;
+    }
+    if has_extra(other, word) {
+        return true;
+    }
+    if has_replaced(word, other) {
+        return true;
+    }
+    has_swapped(word, other)
+}
+
+/// Whether one edit makes a word the other one: a byte more, a byte less, another byte, or two
+/// neighbours swapped.
+#[tactic(auto, unfolding(crate::specs::blame::EditDistance::is_one_edit_away))]
+pub fn is_one_edit_away(word: &[u8], other: &[u8]) -> bool
+    ensures { result ≡ near.is_one_edit_away word.now other.now }
+{
+    match word {
+        [] => is_edited(word, other),
+        [first, rest @ ..] => match other {
+            [] => is_edited(word, other),
+            [its_first, others @ ..] => {
+                if is_edited(word, other) {
+                    return true;
+                }
+                if *first != *its_first {
+                    return false;
+                }
+                is_one_edit_away(rest, others)
+            }
+        },
+    }
+}

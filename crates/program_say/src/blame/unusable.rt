@@ -1,0 +1,58 @@
+//! A byte on which no part may lie.
+ghost use Rattle.std.specs.Prelude.{◌≡◌, ◌++◌, OnOk};
+ghost use Rattle.program_say.specs.blame.UnusableAddress as words;
+
+use crate::say;
+use bl_map::{FIRST_USABLE, Kind};
+use std::alloc::{AllocError, Allocator};
+
+/// Appends an address between two texts.
+pub fn say_address<A: Allocator + Copy>(
+    out: &mut Vec<u8, A>,
+    before: &str,
+    address: u64,
+    behind: &str,
+) -> Result<(), AllocError>
+    ensures { OnOk result (out.new.items ≡ out.old.items
+        ++ words.address_words before.now address behind.now) }
+{
+    say!(out, "{before}{address:08x}{behind}")
+}
+
+/// Why no part may lie on a byte of kind usable.
+fn limit_words(size: u64, address: u64) -> &'static str
+    ensures { result.now ≡ words.limit_words size address }
+{
+    if address < FIRST_USABLE {
+        return "in the first frame";
+    }
+    if size <= address {
+        return "at or above the size";
+    }
+    "in the last frame below 4 GiB"
+}
+
+/// Why no part may lie on a byte of this kind.
+fn unusable_words(size: u64, address: u64, kind: Option<Kind>) -> &'static str
+    ensures { result.now ≡ words.unusable_words size address kind }
+{
+    match kind {
+        None => "in no region",
+        Some(Kind::Usable) => limit_words(size, address),
+        Some(kind) => kind.name(),
+    }
+}
+
+/// Appends the line of a byte that is not usable, of a machine of this size, by its kind.
+pub fn say_unusable<A: Allocator + Copy>(
+    out: &mut Vec<u8, A>,
+    size: u64,
+    address: u64,
+    kind: Option<Kind>,
+) -> Result<(), AllocError>
+    ensures { OnOk result (out.new.items ≡ out.old.items ++ words.unusable_line size address kind) }
+{
+    say_address(out, "not usable ", address, " ")?;
+    out.extend_from_slice(unusable_words(size, address, kind).as_bytes())?;
+    out.extend_from_slice(b"\n")
+}

@@ -1,0 +1,38 @@
+//! `elf BYTES`: an executable's segments and entry.
+
+use crate::entries::refusal::say_fault;
+use crate::row::Row;
+use bl_elf::read_elf;
+use bl_load::PrepFault;
+use bl_mem::{Segment, SliceView};
+
+/// A segment as `OFFSET,ADDRESS,FILESZ,MEMSZ`.
+pub fn say_segment(row: &mut Row<'_>, before: &str, segment: &Segment) {
+    row.say_numbers(&[
+        (before, segment.offset),
+        (",", segment.address),
+        (",", segment.filesz),
+        (",", segment.memsz),
+    ]);
+}
+
+/// Reads the executable over the heap.
+pub fn answer(row: &mut Row<'_>) {
+    let elf = match read_elf(row.heap, &SliceView::new(row.bytes)) {
+        Ok(elf) => elf,
+        Err(fault) => return say_fault(row, "fault ", PrepFault::from(fault)),
+    };
+    if elf.segments().is_empty() {
+        row.say("none");
+    }
+    let mut before = "";
+    for segment in elf.segments() {
+        say_segment(row, before, segment);
+        before = ";";
+    }
+    row.say(" entry ");
+    match elf.entry() {
+        Ok(entry) => row.say_number("", entry as u64),
+        Err(fault) => say_fault(row, "fault ", PrepFault::from(fault)),
+    }
+}

@@ -1,0 +1,50 @@
+//! `registers ENTRY of KERNEL`, on the last machine: the registers by their names, and the segment
+//! registers whole.
+
+use crate::entries::row_entry::prepared_entry;
+use crate::row::Row;
+use bl_load::{SegmentName, SegmentRegister};
+
+/// A segment register with its name, and the flags that are set, by theirs.
+fn say_segment(row: &mut Row<'_>, name: &str, segment: &SegmentRegister) {
+    row.say(name);
+    row.say_numbers(&[
+        (" selector ", segment.selector as u64),
+        (" base ", segment.base),
+        (" limit ", segment.limit as u64),
+        (" type ", segment.segment_type as u64),
+        (" dpl ", segment.dpl as u64),
+    ]);
+    let flags = [
+        (" s", segment.s),
+        (" p", segment.p),
+        (" avl", segment.avl),
+        (" l", segment.l),
+        (" db", segment.db),
+        (" g", segment.g),
+    ];
+    for (name, is_set) in &flags {
+        if *is_set {
+            row.say(name);
+        }
+    }
+}
+
+/// Prepares the entry over the heap.
+pub fn answer(row: &mut Row<'_>) {
+    let Some(plan) = prepared_entry(row) else {
+        return;
+    };
+    row.say_shown(plan.registers);
+    let names = [
+        (", cs", SegmentName::Cs),
+        (", ds", SegmentName::Ds),
+        (", es", SegmentName::Es),
+        (", fs", SegmentName::Fs),
+        (", gs", SegmentName::Gs),
+        (", ss", SegmentName::Ss),
+    ];
+    for (text, name) in &names {
+        say_segment(row, text, &plan.registers.segment(*name));
+    }
+}

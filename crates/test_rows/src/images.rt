@@ -1,0 +1,4 @@
+//! Where the images of rows come from and go to.
+
+pub mod memory_sink;
+pub mod source;
