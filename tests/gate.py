@@ -6,11 +6,13 @@ import statistics
 import subprocess
 import sys
 import threading
-from typing import List, Tuple
+from pathlib import Path
+from typing import List, Optional, Tuple
 
 from tests.support import TOP, Checks, is_at_hand, run
 
 BETWEEN_MEASURES = 25 * 60
+CHECK_BYTES = 4 << 30  # what the largest checks take of memory
 
 
 def seconds_of(words: List[str], stdout=subprocess.DEVNULL) -> Tuple[int, float]:
@@ -19,6 +21,32 @@ def seconds_of(words: List[str], stdout=subprocess.DEVNULL) -> Tuple[int, float]
     _, status, usage = os.wait4(process.pid, 0)
     process.returncode = os.waitstatus_to_exitcode(status) if hasattr(os, "waitstatus_to_exitcode") else status >> 8
     return process.returncode, usage.ru_utime + usage.ru_stime
+
+
+def number_in(path: str, pattern: str) -> Optional[int]:
+    """The first number that the pattern finds in a file of the kernel; None where there is none, or no such file."""
+    try:
+        found = re.search(pattern, Path(path).read_text(encoding="ascii"), re.M)
+    except OSError:
+        return None
+    return int(found[1]) if found else None
+
+
+def checks_at_once() -> int:
+    """A check for each processor, but no more than memory holds; of a container, within what its control group (version 2 or 1) allows."""
+    group = "/sys/fs/cgroup"
+    processors = len(os.sched_getaffinity(0))
+    for quota, period in (
+        (number_in(f"{group}/cpu.max", r"^(\d+)"), number_in(f"{group}/cpu.max", r" (\d+)")),
+        (number_in(f"{group}/cpu/cpu.cfs_quota_us", r"^(\d+)"), number_in(f"{group}/cpu/cpu.cfs_period_us", r"^(\d+)")),
+    ):
+        if quota and period:
+            processors = min(processors, quota // period)
+    free = (number_in("/proc/meminfo", r"^MemAvailable: +(\d+)") or 0) << 10
+    for limit in (number_in(f"{group}/memory.max", r"^(\d+)"), number_in(f"{group}/memory/memory.limit_in_bytes", r"^(\d+)")):
+        if limit:
+            free = min(free, limit)
+    return max(1, min(processors, free // CHECK_BYTES))
 
 
 class MeasuredBeside(threading.Thread):
@@ -63,8 +91,16 @@ class Gate(Checks):
 
     def gate(self) -> Tuple[int, float, str]:
         """Runs rt ci and shows its lines; its status, its processor seconds, its last line."""
+        # Without a number rt ci gives a proof up to four jobs, each of which loads all libraries below once more, and lets edits
+        # wait meanwhile. With one, each check has one job, and edits fill what proofs leave free.
+        jobs = {"RT_JOBS": str(checks_at_once())}
         gate = subprocess.Popen(
-            ["rt", "ci"], cwd=TOP, stdin=subprocess.DEVNULL, stdout=subprocess.PIPE, stderr=subprocess.STDOUT
+            ["rt", "ci"],
+            cwd=TOP,
+            env={**jobs, **os.environ},
+            stdin=subprocess.DEVNULL,
+            stdout=subprocess.PIPE,
+            stderr=subprocess.STDOUT,
         )
         times = subprocess.Popen(["tools/gate_times"], cwd=TOP, stdin=subprocess.PIPE, stdout=sys.stdout)
         last = b""
