@@ -32,8 +32,8 @@ def number_in(path: str, pattern: str) -> Optional[int]:
     return int(found[1]) if found else None
 
 
-def checks_at_once() -> int:
-    """A check for each processor, but no more than memory holds; of a container, within what its control group (version 2 or 1) allows."""
+def checks_at_once() -> Optional[int]:
+    """One for each processor, of a container within what its control group (version 2 or 1) allows; None where memory may not hold so many."""
     group = "/sys/fs/cgroup"
     processors = len(os.sched_getaffinity(0))
     for quota, period in (
@@ -41,12 +41,12 @@ def checks_at_once() -> int:
         (number_in(f"{group}/cpu/cpu.cfs_quota_us", r"^(\d+)"), number_in(f"{group}/cpu/cpu.cfs_period_us", r"^(\d+)")),
     ):
         if quota and period:
-            processors = min(processors, quota // period)
+            processors = max(1, min(processors, quota // period))
     free = (number_in("/proc/meminfo", r"^MemAvailable: +(\d+)") or 0) << 10
     for limit in (number_in(f"{group}/memory.max", r"^(\d+)"), number_in(f"{group}/memory/memory.limit_in_bytes", r"^(\d+)")):
         if limit:
             free = min(free, limit)
-    return max(1, min(processors, free // CHECK_BYTES))
+    return processors if free >= processors * CHECK_BYTES else None
 
 
 class MeasuredBeside(threading.Thread):
@@ -92,8 +92,10 @@ class Gate(Checks):
     def gate(self) -> Tuple[int, float, str]:
         """Runs rt ci and shows its lines; its status, its processor seconds, its last line."""
         # Without a number rt ci gives a proof up to four jobs, each of which loads all libraries below once more, and lets edits
-        # wait meanwhile. With one, each check has one job, and edits fill what proofs leave free.
-        jobs = {"RT_JOBS": str(checks_at_once())}
+        # wait meanwhile. With one, each check has one job, and edits fill what proofs leave free. Then it does not look at memory any
+        # more, so where that may not do, it is left to itself.
+        checks = checks_at_once()
+        jobs = {"RT_JOBS": str(checks)} if checks else {}
         gate = subprocess.Popen(
             ["rt", "ci"],
             cwd=TOP,
