@@ -1,4 +1,4 @@
-use Rattle.std.proofs.Common.{arith}
+use Rattle.std.proofs.Common.{arith, rules}
 use Rattle.bl_params.proofs.FormLemmas.{behind_is, end_is}
 use Rattle.bl_params.proofs.reader.read_params.Goals as goal
 
@@ -8,3 +8,6 @@ pass_zeros-requires-clause-plain g c =
 
 pub pass_zeros-requires-2-clause-plain : goal.pass_zeros-requires-2-clause-plain
 pass_zeros-requires-2-clause-plain g c = λ k from below. end_is _ k (omega arith) from
+
+pub returns-clause-read : goal.returns-clause-read
+returns-clause-read g c = search rules

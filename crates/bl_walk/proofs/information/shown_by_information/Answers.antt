@@ -1,4 +1,4 @@
-use Rattle.std.proofs.Common.{◌≡◌, ◌-◌, List, All, get_or, sym, ap, ◌∙◌, subst}
+use Rattle.std.proofs.Common.{◌≡◌, ◌-◌, List, All, get_or, sym, ap, ◌∙◌, subst, rules}
 use Rattle.std.proofs.lemmas.List.Elements.{All-contains_itself}
 use Rattle.bl_mbi.specs.InfoToWriteFacts.{ModuleInfo, IsModule}
 use Rattle.bl_mbi.specs.InfoFacts.{InfoFacts}
@@ -26,3 +26,6 @@ modules_at-requires-clause-followed g c =
     (λ k d within.
     loaded_module c.in_ok-info.info (get_or told k d) says
     (All-contains_itself told k d within))
+
+pub returns : goal.returns
+returns g c = search rules

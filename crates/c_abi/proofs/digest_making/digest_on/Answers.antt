@@ -1,4 +1,4 @@
-use Rattle.std.proofs.Common.{refl, subst, sym}
+use Rattle.std.proofs.Common.{refl, rules, subst, sym}
 use Rattle.c_abi.specs.Load.{IsEntryFault}
 use Rattle.c_abi.proofs.DigestLemmas.{is_digest_on}
 use Rattle.c_abi.proofs.LoadLemmas.{given_value, entry_sound, of_given_is, of_prepared_is}
@@ -38,3 +38,6 @@ pub returns-in-Ok-begin-clause-sound : goal.returns-in-Ok-begin-clause-sound
 returns-in-Ok-begin-clause-sound g c =
     entry_sound c.args.row.now c.in-Ok.entry c.in-Ok.ensures.value c.in-Ok.ensures.sound
     c.in-Ok.ensures.limits
+
+pub returns-clause-fault : goal.returns-clause-fault
+returns-clause-fault g c = search rules

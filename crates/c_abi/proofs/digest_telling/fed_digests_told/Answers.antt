@@ -1,4 +1,4 @@
-use Rattle.std.proofs.Common.{◌∙◌, List, ap, refl, sym}
+use Rattle.std.proofs.Common.{◌∙◌, List, ap, refl, sym, rules}
 use Rattle.bl_digest.specs.declared.image_digest.ImageDigest.{ImageDigest}
 use Rattle.bl_digest.specs.declared.part_digest.PartDigest.{PartDigest}
 use Rattle.bl_digest.specs.Digests.{image_digest}
@@ -16,3 +16,6 @@ returns-in-None g c =
     ap (λ (i : ImageDigest). digests_facts i parts) (c.image.ensures texts fed)
     ∙ ap (λ (ps : List PartDigest). digests_facts (image_digest h) ps) (c.parts.ensures texts fed))
     refl c.tell_digests.ensures
+
+pub returns-in-Some : goal.returns-in-Some
+returns-in-Some g c = search rules

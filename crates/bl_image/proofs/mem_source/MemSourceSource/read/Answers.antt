@@ -1,4 +1,4 @@
-use Rattle.std.proofs.Common.{◌+◌, ◌≤◌, ℕ, List, length, slice_range, drop, ap, ◌∙◌, arith}
+use Rattle.std.proofs.Common.{◌+◌, ◌≤◌, ℕ, List, length, slice_range, drop, ap, ◌∙◌, arith, rules}
 use Rattle.bl_image.proofs.Inputs.{part_came, came_from}
 use Rattle.bl_image.proofs.mem_source.MemSourceSource.read.Goals as goal
 
@@ -14,3 +14,6 @@ returns-clause-gave g c =
     ∙ ap (λ (l : List ℕ). slice_range l at (at + n)) c.deref.ensures.value in
     came_from _ _ c.self.view_is
     (part_came bytes at n c.copy_from_slice.new.self (drop n c.args.out.now) within is)
+
+pub returns-clause-due : goal.returns-clause-due
+returns-clause-due g c = search rules

@@ -23,3 +23,6 @@ returns-in-Ok-clause-begun g c =
 pub lengths_of-requires : goal.lengths_of-requires
 lengths_of-requires g c =
     let few = few_files c.args.entry.now c.requires in grind (arith, common_steps, few)
+
+pub returns-clause-fault : goal.returns-clause-fault
+returns-clause-fault g c = search rules
