@@ -14,6 +14,11 @@ from tests.support import TOP, Checks, is_at_hand, run
 BETWEEN_MEASURES = 25 * 60
 CHECK_BYTES = 4 << 30  # what the largest checks take of memory
 
+# A refused edit whose proof cites what the edited code no longer has, as where a call was replaced: a right body would be refused too.
+MISFIT = re.compile(
+    rb"must-fail (\S+): refused, as it must be: \S+: error: (?:`[^`]*`: )?(?:record `|module `|`goal\.[^`]*`: module )"
+)
+
 
 def seconds_of(words: List[str], stdout=subprocess.DEVNULL) -> Tuple[int, float]:
     """A command's status and the processor seconds that it and all that it started took."""
@@ -76,7 +81,7 @@ class Gate(Checks):
         print("gate: rt ci takes three quarters of an hour to one and a half on four cores, up to two and a half on two", flush=True)
         beside = MeasuredBeside()
         beside.start()
-        status, seconds, last = self.gate()
+        status, seconds, last, misfits = self.gate()
         beside.ended.set()
         counts = re.fullmatch(r"(\d+) passed, (\d+) failed", last)
         with self.check("rt ci ends in a count, and its status is that of the count"):
@@ -84,13 +89,15 @@ class Gate(Checks):
             self.assertEqual(status == 0, counts[2] == "0", f"rt ci: status {status}, last line {last!r}")
         if counts:
             self.tally("rt ci: proofs, edits, tests and runs", int(counts[1]), int(counts[2]), "its own lines above name them")
+        with self.check("no edit is refused only since its proof cites what the edited code lacks"):
+            self.assertEqual(misfits, [], "such an edit")
         with self.check("README names the toolchain with which all of this was proved"):
             version = run("rt", "version").out.decode().strip()
             self.assertIn(f"`{version}`", (TOP / "README.md").read_text(encoding="utf-8"), "README")
         self.tell_cost(before, beside.took, seconds)
 
-    def gate(self) -> Tuple[int, float, str]:
-        """Runs rt ci and shows its lines; its status, its processor seconds, its last line."""
+    def gate(self) -> Tuple[int, float, str, List[str]]:
+        """Runs rt ci and shows its lines; its status, its processor seconds, its last line, and the edits that show nothing."""
         # Without a number rt ci gives a proof up to four jobs, each of which loads all libraries below once more, and lets edits
         # wait meanwhile. With one, each check has one job, and edits fill what proofs leave free. Then it does not look at memory any
         # more, so where that may not do, it is left to itself.
@@ -105,17 +112,18 @@ class Gate(Checks):
             stderr=subprocess.STDOUT,
         )
         times = subprocess.Popen(["tools/gate_times"], cwd=TOP, stdin=subprocess.PIPE, stdout=sys.stdout)
-        last = b""
+        last, misfits = b"", []
         assert gate.stdout is not None and times.stdin is not None
         for line in gate.stdout:
             times.stdin.write(line)
             times.stdin.flush()
             last = line
+            misfits += [it.decode() for it in MISFIT.findall(line)]
         times.stdin.close()
         _, status, usage = os.wait4(gate.pid, 0)
         gate.returncode = status >> 8 if os.WIFEXITED(status) else 128 + os.WTERMSIG(status)
         times.wait()
-        return gate.returncode, usage.ru_utime + usage.ru_stime, last.decode(errors="replace").strip()
+        return gate.returncode, usage.ru_utime + usage.ru_stime, last.decode(errors="replace").strip(), misfits
 
     @staticmethod
     def tell_cost(before: float, beside: List[float], seconds: float) -> None:
