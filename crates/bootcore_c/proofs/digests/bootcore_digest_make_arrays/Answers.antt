@@ -1,4 +1,4 @@
-use Rattle.std.proofs.Common.{Err, arith, inl, inr, refl}
+use Rattle.std.proofs.Common.{Err, arith, inl, inr, refl, rules}
 use Rattle.c_abi.specs.Load.{bad_machine}
 use Rattle.c_abi.specs.declared.given_fault.GivenFault.TheVariants as given_fault
 use Rattle.c_abi.specs.declared.load_fault.LoadFault.TheVariants.{NoMemory}
@@ -11,3 +11,6 @@ returns-in-Err-make c = (
   (λ texts files. bad_machine (omega arith) given_fault.NoMemory (inr (inl refl))),
   (c.tell_load_fault.ensures.status, c.in-Err-make.ensures.err, c.tell_load_fault.ensures.refusal),
 )
+
+pub returns-in-Ok-make : goal.returns-in-Ok-make
+returns-in-Ok-make c = search rules
