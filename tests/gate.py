@@ -78,7 +78,7 @@ class Gate(Checks):
         status, before = seconds_of(["rt", "selftest"])
         with self.check("rt selftest proves and runs the toolchain's own example"):
             self.assertEqual(status, 0, "the status of rt selftest")
-        print("gate: rt ci takes three quarters of an hour to one and a half on four cores, up to two and a half on two", flush=True)
+        print("gate: rt ci takes half an hour to one and a half on four cores, up to two and a half on two", flush=True)
         beside = MeasuredBeside()
         beside.start()
         status, seconds, last, misfits = self.gate()
