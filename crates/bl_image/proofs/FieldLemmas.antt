@@ -13,7 +13,7 @@ use Rattle.bl_image.specs.declared.fault.ImageFault.TheVariants.{BadMagic, BadVe
 use Rattle.bl_image.specs.declared.fault.ImageFault.TheVariants.{BadPart, WrongLength, DeviceFault}
 use Rattle.bl_image.specs.declared.fault.ImageFault.TheVariants.{NoMemory}
 use Rattle.bl_image.specs.Fields.{Field, u32_field, u64_field, fields_fault}
-use Rattle.bl_image.specs.Source.{SourceFacts, Comes, IsPossibleRest, ShowsFault, IsInputFault}
+use Rattle.bl_image.specs.SourceFacts.{SourceFacts, Comes, IsPossibleRest, ShowsFault, IsInputFault}
 use Rattle.bl_image.specs.internal.SourceReading.{EndsEarly, IsCut, Passes}
 use Rattle.bl_image.proofs.Inputs.{comes_nothing, comes_more}
 

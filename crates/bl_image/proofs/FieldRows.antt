@@ -4,7 +4,7 @@ use Rattle.std.proofs.Common.{refl, sym, ap, ◌∙◌, arith, subst, append_ass
 use Rattle.std.specs.Prelude.{replicate}
 use Rattle.bl_image.specs.declared.fault.ImageFault.{ImageFault}
 use Rattle.bl_image.specs.Fields.{Field, fields_fault}
-use Rattle.bl_image.specs.Source.{SourceFacts, IsInputFault}
+use Rattle.bl_image.specs.SourceFacts.{SourceFacts, IsInputFault}
 use Rattle.bl_image.specs.internal.SourceReading.{Passes, PassAll}
 use Rattle.bl_image.proofs.FieldLemmas.{field_passes, passed_refuses}
 use Rattle.bl_image.proofs.Inputs.{comes_nothing, comes_more}

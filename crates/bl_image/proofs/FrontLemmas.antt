@@ -21,7 +21,7 @@ use Rattle.bl_image.specs.Fields.{fields_fault}
 use Rattle.bl_image.specs.Fields.{count_field, zero_field}
 use Rattle.bl_image.specs.ImageFaults.{head_fault, image_fault, parts_fault, no_records}
 use Rattle.bl_image.specs.Layouts.{Layout, layout, layout_of, max_role}
-use Rattle.bl_image.specs.Source.{SourceFacts, IsInputFault}
+use Rattle.bl_image.specs.SourceFacts.{SourceFacts, IsInputFault}
 use Rattle.bl_image.specs.Spellable.{AreRegistersOf}
 use Rattle.bl_image.specs.Versions.{version_number, HasProtocol}
 use Rattle.bl_image.proofs.FieldLemmas.{field_passes, word_tells}

@@ -15,7 +15,7 @@ use Rattle.bl_image.specs.Fields.{fields_fault, opening_fields, magic_field, ver
 use Rattle.bl_image.specs.Fields.{protocol_field}
 use Rattle.bl_image.specs.ImageFaults.{fault_or, head_fault}
 use Rattle.bl_image.specs.Layouts.{layout, layout_of, layout_fields}
-use Rattle.bl_image.specs.Source.{SourceFacts, Comes, IsInputFault}
+use Rattle.bl_image.specs.SourceFacts.{SourceFacts, Comes, IsInputFault}
 use Rattle.bl_image.specs.Versions.{version_number, max_protocol, HasProtocol}
 use Rattle.bl_image.proofs.FieldLemmas.{field_passes, word_tells, Passed, passed_more}
 use Rattle.bl_image.proofs.FieldLemmas.{passed_refuses}

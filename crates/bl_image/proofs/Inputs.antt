@@ -7,8 +7,8 @@ use Rattle.std.proofs.Math.Seq.{take-append-add}
 use Rattle.std.proofs.lemmas.List.{append-nil, length-take-le, take-append-le, same_lists, places}
 use Rattle.std.proofs.lemmas.List.{take_at}
 use Rattle.std.specs.Io.KnownBytes.{Consumes}
-use Rattle.bl_image.specs.Source.{SourceFacts, Comes}
-use Rattle.bl_image.specs.Sources.{MemSourceFacts, mem_source_input}
+use Rattle.bl_image.specs.SourceFacts.{SourceFacts, Comes}
+use Rattle.bl_image.specs.SourceFacts.{MemSourceFacts, mem_source_input}
 
 consumes_nothing : (rest : Option (List ℕ)) → Consumes rest rest []
 consumes_nothing None = tt

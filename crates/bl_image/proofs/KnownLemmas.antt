@@ -14,8 +14,8 @@ use Rattle.bl_image.specs.Image.{spelling}
 use Rattle.bl_image.specs.ImageFaults.{image_fault}
 use Rattle.bl_image.specs.ImageHandover.{IsKeptByImages, IsImage}
 use Rattle.bl_image.specs.Versions.{HasProtocol}
-use Rattle.bl_image.specs.Source.{SourceFacts, Comes, IsEnded, IsPossibleRest, ShowsFault}
-use Rattle.bl_image.specs.Source.{IsInputFault, IsBytesFault}
+use Rattle.bl_image.specs.SourceFacts.{SourceFacts, Comes, IsEnded, IsPossibleRest, ShowsFault}
+use Rattle.bl_image.specs.SourceFacts.{IsInputFault, IsBytesFault}
 
 all_came : (old new : Option (List ℕ)) (came bytes : List ℕ) → old ≡ Some bytes → new ≡ Some []
     → Consumes old new came → bytes ≡ came

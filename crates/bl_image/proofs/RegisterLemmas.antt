@@ -21,7 +21,7 @@ use Rattle.bl_image.specs.declared.version.Version.TheVariants.{One, Two}
 use Rattle.bl_image.specs.Fields.{Field, fields_fault, register_field, wide_register_field}
 use Rattle.bl_image.specs.Image.{narrow_values, wide_values, spelled_registers}
 use Rattle.bl_image.specs.Layouts.{layout, registers_1, registers_2_wide}
-use Rattle.bl_image.specs.Source.{SourceFacts}
+use Rattle.bl_image.specs.SourceFacts.{SourceFacts}
 use Rattle.bl_image.specs.internal.SourceReading.{PassAll}
 use Rattle.bl_image.specs.Spellable.{AreRegistersOf}
 use Rattle.bl_image.specs.Versions.{version_number, HasProtocol}

@@ -1,5 +1,5 @@
 pub mod SinkFacts
-pub mod Faults
+pub mod FaultNumbers
 pub mod Fields
 pub mod Front
 pub mod Image
@@ -8,7 +8,6 @@ pub mod ImageHandover
 pub mod Layouts
 pub mod ImageLength
 pub mod internal
-pub mod Source
-pub mod Sources
+pub mod SourceFacts
 pub mod Spellable
 pub mod Versions

@@ -1,3 +1,3 @@
-pub mod PlaceRecords
+pub mod KeptRecords
 pub mod SinkWriting
 pub mod SourceReading

@@ -1,7 +1,7 @@
 //! Why an image is not written, or not read.
 ghost use Rattle.std.specs.Prelude.{◌≡◌};
 ghost use Rattle.bl_image.specs.declared.fault.ImageFault.TheVariants as faults;
-ghost use Rattle.bl_image.specs.Faults.{image_fault_number};
+ghost use Rattle.bl_image.specs.FaultNumbers.{image_fault_number};
 
 use crate::sink::DeviceFault;
 use std::alloc::{AllocError, AllocFailed};

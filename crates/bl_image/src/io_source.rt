@@ -19,7 +19,7 @@ pub struct IoSource<R: Read + Drop> {
 }
 
 impl<R: Read + Drop> Model for IoSource<R> {
-    ghost use Rattle.bl_image.specs.Sources.{IoSourceFacts, rest_of};
+    ghost use Rattle.bl_image.specs.SourceFacts.{IoSourceFacts, rest_of};
 
     ghost Value = { IoSourceFacts };
 

@@ -1,5 +1,5 @@
 //! A sink in memory.
-use crate::lengths::image_len;
+use crate::image_length::image_len;
 use crate::sink::{DeviceFault, Sink};
 use bl_load::Handoff;
 use std::alloc::{AllocError, Allocator};

@@ -17,7 +17,7 @@ pub struct MemSource<A: Allocator> {
 
 impl<A: Allocator> Model for MemSource<A> {
     ghost use Rattle.std.specs.Prelude.{◌≤◌, length};
-    ghost use Rattle.bl_image.specs.Sources.{MemSourceFacts};
+    ghost use Rattle.bl_image.specs.SourceFacts.{MemSourceFacts};
 
     ghost Value = { MemSourceFacts };
 
@@ -62,8 +62,8 @@ impl<A: Allocator> MemSource<A> {
 impl<A: Allocator> Source for MemSource<A> {
     ghost use Rattle.std.specs.Prelude.{◌≡◌, [], ◌+◌, ◌-◌, ◌<◌, ◌≤◌, ◌^◌, length, min, take};
     ghost use Rattle.std.specs.Prelude.{IfOk, OnOk, OnErr, MatchResult};
-    ghost use Rattle.bl_image.specs.Source.{Comes, IsEnded};
-    ghost use Rattle.bl_image.specs.Sources.{mem_source_input};
+    ghost use Rattle.bl_image.specs.SourceFacts.{Comes, IsEnded};
+    ghost use Rattle.bl_image.specs.SourceFacts.{mem_source_input};
 
     ghost input = { mem_source_input };
 

@@ -1,7 +1,7 @@
 //! Where bytes are read from.
 ghost use Rattle.std.specs.Prelude.{◌≡◌, ℕ, [], ◌+◌, ◌-◌, ◌≤◌, ◌<◌, ◌^◌, length, take};
 ghost use Rattle.std.specs.Prelude.{IfOk, OnOk, OnErr};
-ghost use Rattle.bl_image.specs.Source.{SourceFacts, Comes, IsEnded};
+ghost use Rattle.bl_image.specs.SourceFacts.{SourceFacts, Comes, IsEnded};
 
 use crate::sink::DeviceFault;
 

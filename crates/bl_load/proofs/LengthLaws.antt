@@ -9,7 +9,7 @@ use Rattle.bl_load.specs.declared.known_file.KnownFile.{KnownFile}
 use Rattle.bl_load.specs.declared.plan.Plan.{Plan}
 use Rattle.bl_load.specs.declared.refusal.PrepFault.{PrepFault}
 use Rattle.bl_load.specs.EntryValue.{value_of}
-use Rattle.bl_load.specs.KernelAndLengths.{HaveKernelAndLengths}
+use Rattle.bl_load.specs.FilesByLengths.{HaveKernelAndLengths}
 use Rattle.bl_load.specs.Loadable.{lengths_of, IsLoadable}
 use Rattle.bl_load.specs.Origins.{PartOrigin, planned_origin, AreOrigins}
 use Rattle.bl_load.specs.Parts.{IsHandover, IsPrepFault}

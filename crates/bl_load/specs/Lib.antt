@@ -5,7 +5,7 @@ pub mod KernelBlock
 pub mod PlanContents
 pub mod Loadable
 pub mod LeanPlans
-pub mod KernelAndLengths
+pub mod FilesByLengths
 pub mod HandoffFacts
 pub mod EntryValue
 pub mod WellFormedEntry

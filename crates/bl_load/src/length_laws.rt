@@ -5,7 +5,7 @@ ghost use Rattle.bl_load.specs.declared.entry.Entry.{Entry};
 ghost use Rattle.bl_load.specs.declared.plan.Plan.{Plan};
 ghost use Rattle.bl_load.specs.declared.refusal.PrepFault.{PrepFault};
 ghost use Rattle.bl_load.specs.EntryValue.{value_of};
-ghost use Rattle.bl_load.specs.KernelAndLengths.{HaveKernelAndLengths};
+ghost use Rattle.bl_load.specs.FilesByLengths.{HaveKernelAndLengths};
 ghost use Rattle.bl_load.specs.Origins.{PartOrigin, planned_origin, AreOrigins};
 ghost use Rattle.bl_load.specs.Parts.{IsHandover, IsPrepFault};
 ghost use Rattle.bl_load.specs.PlanContents.{handover_by};

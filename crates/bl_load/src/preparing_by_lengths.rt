@@ -1,7 +1,7 @@
 //! What is loaded for an entry, by its kernel and by the lengths of its other files.
 ghost use Rattle.std.specs.Prelude.{◌≡◌, ℕ, ◌+◌, List, IfOk, IfErr, length, map};
 ghost use Rattle.bl_load.specs.EntryValue.{value_of, file_count, IsWithinLimits};
-ghost use Rattle.bl_load.specs.KernelAndLengths.{HaveKernelAndLengths};
+ghost use Rattle.bl_load.specs.FilesByLengths.{HaveKernelAndLengths};
 ghost use Rattle.bl_load.specs.Parts.{IsHandover, IsPrepFault};
 ghost use Rattle.bl_load.specs.Origins.{planned_origin, AreOrigins};
 ghost use Rattle.bl_load.specs.PlanContents.{handover_by};

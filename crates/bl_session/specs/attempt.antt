@@ -1,4 +1,4 @@
 pub mod AttemptResult
 pub mod FinishedAttempt
 pub mod AwaitedPieces
-pub mod Tickets
+pub mod AwaitedTickets

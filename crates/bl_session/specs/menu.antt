@@ -1,5 +1,5 @@
 pub mod Menu
 pub mod MenuFaults
-pub mod MenuFiles
+pub mod EntryContents
 pub mod AttemptOrder
 pub mod NamedFiles

@@ -8,7 +8,7 @@ ghost use Rattle.bl_session.specs.attempt.AttemptResult.{AttemptResult, AttemptH
 ghost use Rattle.bl_session.specs.attempt.AttemptResult.{HasWholeFilesResult};
 ghost use Rattle.bl_session.specs.session.BootSteps.{BootFacts, EventFacts, State, Starts, StepsTo};
 ghost use Rattle.bl_session.specs.session.BootSteps.{Begins, LeadsTo, handed_over};
-ghost use Rattle.bl_session.specs.menu.MenuFiles.{entry_value_in};
+ghost use Rattle.bl_session.specs.menu.EntryContents.{entry_value_in};
 ghost use Rattle.bl_session.specs.session.Schedules.{IsGenuine};
 ghost use Rattle.bl_session.specs.session.Outcome.{IsOutcome};
 ghost use Rattle.bl_session.specs.session.Outcome.{HasEnded};

@@ -48,7 +48,7 @@ pub struct Session<'a, A: Allocator + Copy> {
 
 impl<'a, A: Allocator + Copy> Model for Session<'a, A> {
     ghost use Rattle.bl_session.specs.session.Phases.{SessionFacts, boot_facts, phase_facts};
-    ghost use Rattle.bl_session.specs.internal.session.SessionPhases.{IsPhaseKept};
+    ghost use Rattle.bl_session.specs.internal.session.KeptPhases.{IsPhaseKept};
 
     ghost Value = { SessionFacts };
 

@@ -1,3 +1,4 @@
 pub mod ImageFileFacts
 pub mod StatusMessages
 pub mod PathFilesFacts
+pub mod internal

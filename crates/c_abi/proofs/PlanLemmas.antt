@@ -12,7 +12,7 @@ use Rattle.bl_load.specs.declared.step.StepSource.{StepSource}
 use Rattle.bl_load.specs.declared.step.StepSource.TheVariants.{File, Own, Zeros}
 use Rattle.bl_load.specs.EntryValue.{EntryValue, IsWithinLimits, file_count, value_of}
 use Rattle.bl_load.specs.Handover.{overwrite_parts}
-use Rattle.bl_load.specs.KernelAndLengths.{HaveKernelAndLengths}
+use Rattle.bl_load.specs.FilesByLengths.{HaveKernelAndLengths}
 use Rattle.bl_load.specs.Loadable.{lengths_of, IsLoadable}
 use Rattle.bl_load.specs.Parts.{IsHandover}
 use Rattle.bl_load.specs.PlanContents.{handover_by}

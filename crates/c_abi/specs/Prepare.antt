@@ -2,7 +2,7 @@
 -- loaded. Nothing is said of memory. Own.
 use Rattle.std.specs.Prelude.{◌≡◌, ◌≤◌, ℕ, List, Result, Ok, Err}
 use Rattle.bl_map.specs.MachineFacts.{MachineFacts}
-use Rattle.bl_load.specs.KernelAndLengths.{HaveKernelAndLengths}
+use Rattle.bl_load.specs.FilesByLengths.{HaveKernelAndLengths}
 use Rattle.bl_load.specs.HandoffFacts.{HandoffFacts, max_parts}
 use Rattle.bl_load.specs.Handover.{Handover}
 use Rattle.bl_load.specs.Parts.{IsHandover}

@@ -3,7 +3,7 @@ use Rattle.std.specs.Prelude.{◌≡◌, ℕ, List, Result, Ok, Err}
 use Rattle.bl_load.specs.Handover.{Handover}
 use Rattle.bl_image.specs.ImageFaults.{image_fault}
 use Rattle.bl_image.specs.ImageHandover.{IsImage}
-use Rattle.bl_image.specs.Source.{IsBytesFault}
+use Rattle.bl_image.specs.SourceFacts.{IsBytesFault}
 use Rattle.bl_image.specs.declared.version.Version.{Version}
 use Rattle.bl_walk.specs.Faults.{HasWalkFault, IsSound}
 use Rattle.bl_walk.specs.Seen.{IsSeen}

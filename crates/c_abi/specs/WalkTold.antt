@@ -1,6 +1,6 @@
 -- What C is told of a walk. Own.
 use Rattle.std.specs.Prelude.{◌≡◌, ◌≤◌, ℕ, List, ◌++◌, length, drop, Result, Ok, Err}
-use Rattle.bl_image.specs.Faults.{image_fault_number}
+use Rattle.bl_image.specs.FaultNumbers.{image_fault_number}
 use Rattle.bl_image.specs.declared.fault.ImageFault.{ImageFault}
 use Rattle.bl_image.specs.declared.fault.ImageFault.TheVariants as image_faults
 use Rattle.bl_walk.specs.Faults.{walk_fault_number}

@@ -2,7 +2,7 @@
 ghost use Rattle.std.specs.Prelude.{MatchResult, Result};
 ghost use Rattle.bl_image.specs.ImageFaults.{image_fault};
 ghost use Rattle.bl_image.specs.ImageHandover.{IsImage};
-ghost use Rattle.bl_image.specs.Source.{IsBytesFault};
+ghost use Rattle.bl_image.specs.SourceFacts.{IsBytesFault};
 ghost use Rattle.bl_image.specs.declared.version.Version.{Version};
 ghost use Rattle.c_abi.specs.SeenTold.{WalkRecordsFacts};
 ghost use Rattle.c_abi.specs.Walk as ends;

@@ -7,7 +7,7 @@ use Rattle.bl_image.specs.declared.fault.ImageFault.{ImageFault}
 use Rattle.bl_image.specs.declared.fault.ImageFault.TheVariants as image
 use Rattle.bl_image.specs.declared.version.Version.{Version}
 use Rattle.bl_image.specs.ImageHandover.{IsImage}
-use Rattle.bl_image.specs.Source.{SourceFacts, IsTransient}
+use Rattle.bl_image.specs.SourceFacts.{SourceFacts, IsTransient}
 use Rattle.bl_image.specs.Versions.{written_version}
 use Rattle.bl_image.proofs.ImageLaws.{image_not_refused}
 use Rattle.bl_image.proofs.KnownLemmas.{known_ok}
@@ -18,7 +18,8 @@ use Rattle.bl_walk.specs.declared.fault.WalkFault.{WalkFault}
 use Rattle.bl_walk.specs.declared.fault.WalkFault.TheVariants as walking
 use Rattle.bl_walk.proofs.SeenLaws.{seen_is_determined}
 use Rattle.program_commands.specs.Converted.{Converts, Walks, WalkRefuses}
-use Rattle.program_commands.specs.Walked.{ReadsImage, IsBadImage}
+use Rattle.program_commands.specs.ReadImage.{ReadsImage}
+use Rattle.program_commands.specs.Walked.{IsBadImage}
 use Rattle.program_say.specs.WalkLines.{walk_lines}
 
 -- what was read of bytes that are known is an image of them

@@ -8,7 +8,7 @@ use Rattle.bl_stage.specs.Files.{File, size_of}
 use Rattle.bl_image.specs.Image.{spelling}
 use Rattle.bl_image.specs.Versions.{written_version}
 use Rattle.bl_session.specs.session.BootSteps.{BootFacts, handed_over}
-use Rattle.bl_session.specs.menu.MenuFiles.{entry_value_in}
+use Rattle.bl_session.specs.menu.EntryContents.{entry_value_in}
 use Rattle.bl_session.specs.session.Schedules.{no_fault}
 use Rattle.bl_session.specs.session.Outcome.{IsOutcome}
 use Rattle.bl_session.specs.session.Phases.{boot_facts}

@@ -3,10 +3,10 @@ use Rattle.std.specs.Prelude.{◌≡◌, ◌+◌, ◌⊎◌, ℕ, List, ◌++◌
 use Rattle.bl_load.specs.Handover.{Handover}
 use Rattle.bl_image.specs.SinkFacts.{TookBeginning}
 use Rattle.bl_image.specs.Image.{spelling}
-use Rattle.bl_image.specs.Source.{SourceFacts}
+use Rattle.bl_image.specs.SourceFacts.{SourceFacts}
 use Rattle.bl_image.specs.Versions.{written_version}
-use Rattle.program_commands.specs.Walked.{ReadsImage, IsWalked, IsNoImage, IsBadImage}
-use Rattle.program_say.specs.BootAndMapLines.{bad_image_line}
+use Rattle.program_commands.specs.ReadImage.{ReadsImage}
+use Rattle.program_commands.specs.Walked.{IsWalked, IsBadImage}
 
 -- the image of a handover came, and the sink took it in the version that is written
 pub record IsConverted (before after : SourceFacts) (old new : List ℕ) : Type 0 where
@@ -19,13 +19,6 @@ pub record IsTorn (before after : SourceFacts) (old new : List ℕ) : Type 0 whe
   pub handover : Handover
   pub read : ReadsImage before after handover
   pub begun : TookBeginning old new (spelling written_version handover)
-
--- what came is no image, and that was said
-pub record IsUnreadable (before after : SourceFacts)
-    (blamed_before blamed_after : List ℕ) : Type 0 where
-  pub number : ℕ
-  pub bad : IsNoImage before after number
-  pub blamed : blamed_after ≡ blamed_before ++ bad_image_line number
 
 -- a device stops a conversion: the source has a fault more and the sink took nothing, or the sink
 -- has one more and took a beginning

@@ -1,30 +1,15 @@
 -- How a walk of an image ends. Own.
 use Rattle.std.specs.Prelude.{◌≡◌, ◌≢◌, ◌⊎◌, ℕ, List, ◌++◌}
 use Rattle.bl_load.specs.Handover.{Handover}
-use Rattle.bl_image.specs.declared.version.Version.{Version}
-use Rattle.bl_image.specs.Image.{spelling}
-use Rattle.bl_image.specs.ImageFaults.{image_fault}
-use Rattle.bl_image.specs.ImageHandover.{IsKeptByImages}
-use Rattle.bl_image.specs.Faults.{image_fault_number}
-use Rattle.bl_image.specs.Versions.{HasProtocol}
-use Rattle.bl_image.specs.Source.{SourceFacts, Comes, IsEnded, IsInputFault}
-use Rattle.bl_image.specs.declared.fault.ImageFault.{ImageFault}
-use Rattle.bl_image.specs.declared.fault.ImageFault.TheVariants as image
+use Rattle.bl_image.specs.SourceFacts.{SourceFacts}
 use Rattle.bl_walk.specs.Seen.{IsSeen}
 use Rattle.bl_walk.specs.SeenFacts.{SeenFacts}
 use Rattle.bl_walk.specs.Faults.{HasWalkFault, IsSound, walk_fault_number}
 use Rattle.bl_walk.specs.declared.fault.WalkFault.{WalkFault}
 use Rattle.bl_walk.specs.declared.fault.WalkFault.TheVariants as walking
+use Rattle.program_commands.specs.ReadImage.{ReadsImage, IsNoImage}
 use Rattle.program_say.specs.BootAndMapLines.{bad_image_line}
 use Rattle.program_say.specs.WalkLines.{walk_lines}
-
--- the image of a handover, in a version, came from the source, and then its end
-pub record ReadsImage (before after : SourceFacts) (handover : Handover) : Type 0 where
-  pub version : Version
-  pub has : HasProtocol version handover.protocol
-  pub came : Comes before after (spelling version handover)
-  pub ended : IsEnded after
-  pub kept : IsKeptByImages handover
 
 -- what is seen in the image that came was said
 pub record IsWalked (before after : SourceFacts) (said_before said_after : List ℕ) : Type 0 where
@@ -34,14 +19,6 @@ pub record IsWalked (before after : SourceFacts) (said_before said_after : List 
   pub is_seen : IsSeen handover seen
   pub sound : IsSound handover
   pub said : said_after ≡ said_before ++ walk_lines seen
-
--- what came is no image, for a fault of this number
-pub record IsNoImage (before after : SourceFacts) (number : ℕ) : Type 0 where
-  pub fault : ImageFault
-  pub no_device : fault ≢ image.DeviceFault
-  pub no_memory : fault ≢ image.NoMemory
-  pub shown : IsInputFault image_fault before after fault
-  pub numbered : number ≡ image_fault_number fault
 
 -- an image came in which a kernel sees nothing, for a fault of this number
 pub record ShowsNothing (before after : SourceFacts) (number : ℕ) : Type 0 where

@@ -1,6 +1,7 @@
 //! The conversion of an image: it is written anew, in the version of the format that is written.
 ghost use Rattle.std.specs.Prelude.{◌≡◌, ◌⊎◌, ◌<◌, ◌^◌};
-ghost use Rattle.program_commands.specs.Converted.{IsConverted, IsUnreadable, IsTorn, ConvertStops};
+ghost use Rattle.program_commands.specs.Converted.{IsConverted, IsTorn, ConvertStops};
+ghost use Rattle.program_commands.specs.ReadImage.{IsUnreadable};
 
 use bl_image::{ImageFault, Sink, Source, read_image, write_value};
 use program_say::say_bad_image;

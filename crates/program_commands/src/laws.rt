@@ -7,7 +7,7 @@ ghost use Rattle.bl_map.specs.NormalMap.{kind_at};
 ghost use Rattle.bl_load.specs.Handover.{Handover};
 ghost use Rattle.bl_image.specs.Image.{spelling};
 ghost use Rattle.bl_image.specs.ImageHandover.{IsImage};
-ghost use Rattle.bl_image.specs.Source.{SourceFacts};
+ghost use Rattle.bl_image.specs.SourceFacts.{SourceFacts};
 ghost use Rattle.bl_image.specs.Versions.{written_version};
 ghost use Rattle.bl_image.specs.declared.version.Version.{Version};
 ghost use Rattle.bl_walk.specs.Faults.{IsSound};

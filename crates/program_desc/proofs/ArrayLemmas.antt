@@ -12,15 +12,15 @@ use Rattle.toml.specs.View.{view, items_view}
 use Rattle.toml.specs.declared.value.Value.{Value}
 use Rattle.bl_map.specs.declared.region.Region.{Region}
 use Rattle.bl_plan.specs.MenuLimits.{max_modules}
-use Rattle.program_desc.specs.Values.{required, optional, toml_number, toml_text, toml_bytes}
-use Rattle.program_desc.specs.Values.{toml_range, toml_index, toml_indices, each_item, in_table}
-use Rattle.program_desc.specs.Values.{has_only}
+use Rattle.program_desc.specs.TomlValues.{required, optional, toml_number, toml_text, toml_bytes}
+use Rattle.program_desc.specs.TomlValues.{toml_range, toml_index, toml_indices, each_item, in_table}
+use Rattle.program_desc.specs.TomlValues.{has_only}
 use Rattle.program_desc.specs.Described.{InlineFile, file_in, has_file, names_differ}
 use Rattle.program_desc.specs.Described.{region_in, toml_files, toml_regions}
 use Rattle.program_desc.specs.Entries.{Module, module_in, toml_modules}
 use Rattle.program_desc.specs.Allowed.{allows, count_within, item_count}
-use Rattle.program_desc.specs.Keys.{key_rules, keys_of_set}
-use Rattle.program_desc.specs.Keys.{required_key}
+use Rattle.program_desc.specs.KeyRules.{key_rules, keys_of_set}
+use Rattle.program_desc.specs.KeyRules.{required_key}
 use Rattle.program_desc.specs.internal.BadKeySearch.{all_items, array_items, item_passes, passes_at}
 use Rattle.program_desc.specs.internal.BadKeySearch.{table_passes}
 use Rattle.program_desc.specs.internal.DescriptionSearch.{name_value, name_only_file}

@@ -14,8 +14,8 @@ use Rattle.std.specs.Ordering.{nat_cmp, match_ordering}
 use Rattle.toml.specs.Data.{Data, Members, get_member, as_table}
 use Rattle.toml.specs.View.{members_view}
 use Rattle.toml.specs.declared.value.Value.{Value}
-use Rattle.program_desc.specs.Values.{has_only}
-use Rattle.program_desc.specs.Keys.{KeyRule, key_rules, keys_of_set, with_items}
+use Rattle.program_desc.specs.TomlValues.{has_only}
+use Rattle.program_desc.specs.KeyRules.{KeyRule, key_rules, keys_of_set, with_items}
 use Rattle.program_desc.specs.BadKeys.{BreaksAnyOf, BreaksRule, IsItemFault, IsKeyFault}
 use Rattle.program_desc.specs.declared.allowed.Allowed.{Allowed}
 use Rattle.program_desc.specs.declared.bad_key.KeyFault.{KeyFault}

@@ -16,7 +16,7 @@ use Rattle.toml.specs.Data.{Data, string, integer, float, boolean, datetime, arr
 use Rattle.toml.specs.Data.{Items}
 use Rattle.toml.specs.View.{items_view}
 use Rattle.toml.specs.declared.value.Value.{Value}
-use Rattle.program_desc.specs.Values.{◌>>=◌, bytes_from, some_when, toml_text}
+use Rattle.program_desc.specs.TomlValues.{◌>>=◌, bytes_from, some_when, toml_text}
 use Rattle.program_desc.specs.Allowed.{count_within, item_count}
 use Rattle.program_desc.specs.internal.BadKeySearch.{text_test}
 

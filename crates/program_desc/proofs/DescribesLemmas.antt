@@ -5,14 +5,14 @@ use Rattle.std.specs.Prelude.{IsSome, codes, slice_get}
 use Rattle.std.proofs.lemmas.Bool.{and_parts}
 use Rattle.toml.specs.Data.{Data, Items, no_items, item, Members, get_member}
 use Rattle.bl_map.specs.Kinds.{kind_named}
-use Rattle.program_desc.specs.Values.{◌>>=◌, required, optional, if_given, toml_number, toml_text}
-use Rattle.program_desc.specs.Values.{each_item, has_only}
+use Rattle.program_desc.specs.TomlValues.{◌>>=◌, required, optional, if_given, toml_number, toml_text}
+use Rattle.program_desc.specs.TomlValues.{each_item, has_only}
 use Rattle.program_desc.specs.Described.{region_in}
 use Rattle.program_desc.specs.Entries.{module_in}
 use Rattle.program_desc.specs.Allowed.{allows, item_count}
-use Rattle.program_desc.specs.Keys.{KeyRule, key_rules, keys_of_set}
-use Rattle.program_desc.specs.Keys.{optional_key}
-use Rattle.program_desc.specs.Keys.{required_key}
+use Rattle.program_desc.specs.KeyRules.{KeyRule, key_rules, keys_of_set}
+use Rattle.program_desc.specs.KeyRules.{optional_key}
+use Rattle.program_desc.specs.KeyRules.{required_key}
 use Rattle.program_desc.specs.internal.BadKeySearch.{all_items, all_pass, passes, passes_at}
 use Rattle.program_desc.specs.internal.BadKeySearch.{table_passes}
 use Rattle.program_desc.specs.declared.allowed.Allowed.{Allowed}

@@ -9,7 +9,7 @@ use Rattle.toml.proofs.Views.{items_view-drop}
 use Rattle.program_desc.specs.declared.fault.DescFault.{DescFault}
 use Rattle.program_desc.specs.declared.fault.DescFault.TheVariants.{BadDescription, NoMemory}
 use Rattle.program_desc.specs.Views.{IsReaderFault}
-use Rattle.program_desc.specs.Values.{◌>>=◌, range_in, each_item}
+use Rattle.program_desc.specs.TomlValues.{◌>>=◌, range_in, each_item}
 
 -- what was read before, and what is still read
 abbrev pub with_front : {A : Type 0} → List A → Option (List A) → Option (List A)

@@ -6,7 +6,7 @@ use Rattle.std.specs.Map.{keys_of}
 use Rattle.std.specs.Str.{bytes_eq}
 use Rattle.toml.specs.View.{members_view}
 use Rattle.toml.specs.declared.value.Value.{Value}
-use Rattle.program_desc.specs.Values.{has_only}
+use Rattle.program_desc.specs.TomlValues.{has_only}
 use Rattle.program_desc.specs.declared.key_table.Key.{Key}
 
 -- keys and their names

@@ -7,12 +7,12 @@ use Rattle.std.specs.Option.{IsSomeAnd}
 use Rattle.toml.specs.Data.{Data, string, integer, float, boolean, datetime, array, table}
 use Rattle.toml.specs.Data.{Members, get_member, get_item, at, as_array}
 use Rattle.toml.specs.Data.{as_table}
-use Rattle.program_desc.specs.Values.{◌>>=◌}
+use Rattle.program_desc.specs.TomlValues.{◌>>=◌}
 use Rattle.program_desc.specs.Allowed.{item_count}
-use Rattle.program_desc.specs.Keys.{KeyRule, key_rules, optional_key, required_key}
+use Rattle.program_desc.specs.KeyRules.{KeyRule, key_rules, optional_key, required_key}
 use Rattle.program_desc.specs.BadKeys.{BreaksAnyOf, BreaksRule, IsBadKey, IsFaultAt, IsItemFault}
 use Rattle.program_desc.specs.BadKeys.{IsKeyFault, count_at, item_count_or_zero, item_at}
-use Rattle.program_desc.specs.Keys.{set_of_protocol}
+use Rattle.program_desc.specs.KeyRules.{set_of_protocol}
 use Rattle.program_desc.specs.internal.DescriptionSearch.{fill_rule, region_rule, file_rule, entry_rule}
 use Rattle.program_desc.specs.internal.EntrySearch.{module_rule, initrd_rule, protocol_rule}
 use Rattle.program_desc.specs.internal.BadKeySearch.{IsListedBad, IsBadItemFault, array_items}

@@ -24,7 +24,7 @@ use Rattle.program_desc.specs.declared.allowed.Allowed.TheVariants.{AnyText}
 use Rattle.program_desc.specs.declared.key_set.KeySet.TheVariants as keys
 use Rattle.program_desc.proofs.DescribesLemmas.{rule_passes, table_parts}
 use Rattle.program_desc.proofs.PlaceLemmas.{item_of}
-use Rattle.program_desc.specs.Keys.{key_rules, required_key}
+use Rattle.program_desc.specs.KeyRules.{key_rules, required_key}
 use Rattle.std.proofs.lemmas.Option.{slice_get_read}
 
 -- the first values, and one more

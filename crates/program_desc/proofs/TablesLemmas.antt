@@ -2,7 +2,7 @@
 use Rattle.std.proofs.Common.{◌≡◌, Option, Some, None, refl}
 use Rattle.toml.specs.Data.{Data, string, integer, float, boolean, datetime, array, table, Items}
 use Rattle.toml.specs.Data.{Members, as_array}
-use Rattle.program_desc.specs.Values.{each_item, in_table, in_tables}
+use Rattle.program_desc.specs.TomlValues.{each_item, in_table, in_tables}
 
 -- the items of an array are read one by one
 pub tables_read : {A : Type 0} (read : Members → Option A) (d : Data) (items : Items)

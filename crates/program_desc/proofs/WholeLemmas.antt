@@ -10,16 +10,16 @@ use Rattle.bl_map.specs.declared.region.Region.{Region}
 use Rattle.bl_plan.specs.MenuLimits.{max_entries}
 use Rattle.bl_plan.specs.declared.protocol.Protocol.{Protocol}
 use Rattle.bl_plan.specs.declared.protocol.Protocol.TheVariants.{Multiboot2, Linux, Linux64}
-use Rattle.program_desc.specs.Values.{◌>>=◌, required, optional, if_given, toml_number, toml_byte}
-use Rattle.program_desc.specs.Values.{toml_text, toml_range, toml_index, toml_indices, each_item}
-use Rattle.program_desc.specs.Values.{has_only, in_table}
+use Rattle.program_desc.specs.TomlValues.{◌>>=◌, required, optional, if_given, toml_number, toml_byte}
+use Rattle.program_desc.specs.TomlValues.{toml_text, toml_range, toml_index, toml_indices, each_item}
+use Rattle.program_desc.specs.TomlValues.{has_only, in_table}
 use Rattle.program_desc.specs.Described.{InlineFile, described_in, toml_files, toml_regions}
 use Rattle.program_desc.specs.Entries.{Entry, Module, entry_by, menu_entry_in, toml_rsdp_copy}
 use Rattle.program_desc.specs.Entries.{toml_entries}
 use Rattle.program_desc.specs.Entries.{toml_modules, toml_protocol, toml_title}
 use Rattle.program_desc.specs.Allowed.{allows, count_within, item_count}
-use Rattle.program_desc.specs.Keys.{keys_of_set, optional_key}
-use Rattle.program_desc.specs.Keys.{required_key}
+use Rattle.program_desc.specs.KeyRules.{keys_of_set, optional_key}
+use Rattle.program_desc.specs.KeyRules.{required_key}
 use Rattle.program_desc.specs.internal.DescriptionSearch.{fill_rule, region_rule, file_rule, entry_rule}
 use Rattle.program_desc.specs.internal.EntrySearch.{module_rule, initrd_rule}
 use Rattle.program_desc.specs.internal.BadKeySearch.{all_items, all_pass, array_items, item_passes}

@@ -3,8 +3,8 @@ use Rattle.std.specs.Prelude.{ℕ, suc, Bool, false, ◌&&◌, nat_le, Option, S
 use Rattle.toml.specs.Data.{Data, Items, no_items, item, as_array}
 use Rattle.bl_map.specs.Kinds.{kind_named}
 use Rattle.bl_plan.specs.MenuLimits.{max_entries, max_modules}
-use Rattle.program_desc.specs.Values.{◌>>=◌, toml_number, toml_byte, toml_text, toml_bytes}
-use Rattle.program_desc.specs.Values.{toml_index}
+use Rattle.program_desc.specs.TomlValues.{◌>>=◌, toml_number, toml_byte, toml_text, toml_bytes}
+use Rattle.program_desc.specs.TomlValues.{toml_index}
 use Rattle.program_desc.specs.Entries.{toml_title, toml_rsdp_copy, toml_protocol}
 use Rattle.program_desc.specs.declared.allowed.Allowed.{Allowed}
 use Rattle.program_desc.specs.declared.allowed.Allowed.TheVariants.{Number, Byte, IndexBelow}

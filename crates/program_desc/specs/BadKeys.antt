@@ -7,10 +7,10 @@ use Rattle.std.specs.Str.{bytes_eq}
 use Rattle.std.specs.List.{list_any}
 use Rattle.toml.specs.Data.{Data, string, Items, Members, get_member, get, at, as_array, as_table}
 use Rattle.toml.specs.View.{view}
-use Rattle.program_desc.specs.Values.{◌>>=◌, toml_text}
+use Rattle.program_desc.specs.TomlValues.{◌>>=◌, toml_text}
 use Rattle.program_desc.specs.Entries.{toml_protocol}
 use Rattle.program_desc.specs.Allowed.{allows, item_count}
-use Rattle.program_desc.specs.Keys.{KeyRule, key_rules, keys_of_set, set_of_protocol}
+use Rattle.program_desc.specs.KeyRules.{KeyRule, key_rules, keys_of_set, set_of_protocol}
 use Rattle.program_desc.specs.declared.bad_key.BadKey.{BadKey}
 use Rattle.program_desc.specs.declared.bad_key.KeyFault.{KeyFault}
 use Rattle.program_desc.specs.declared.bad_key.KeyFault.TheVariants.{NoTable, Unknown, Missing}

@@ -9,11 +9,11 @@ use Rattle.toml.specs.Data.{Data, Members}
 use Rattle.toml.specs.Parse.{parse_document}
 use Rattle.bl_map.specs.Kinds.{kind_named}
 use Rattle.bl_map.specs.declared.region.Region.{Region}
-use Rattle.program_desc.specs.Values.{◌>>=◌, some_when, toml_number, toml_byte, toml_text}
-use Rattle.program_desc.specs.Values.{toml_bytes}
-use Rattle.program_desc.specs.Values.{toml_range, toml_index, toml_indices, has_only, at_key}
-use Rattle.program_desc.specs.Values.{at_key_or, in_tables}
-use Rattle.program_desc.specs.Keys.{keys_of_set}
+use Rattle.program_desc.specs.TomlValues.{◌>>=◌, some_when, toml_number, toml_byte, toml_text}
+use Rattle.program_desc.specs.TomlValues.{toml_bytes}
+use Rattle.program_desc.specs.TomlValues.{toml_range, toml_index, toml_indices, has_only, at_key}
+use Rattle.program_desc.specs.TomlValues.{at_key_or, in_tables}
+use Rattle.program_desc.specs.KeyRules.{keys_of_set}
 use Rattle.program_desc.specs.Entries.{Entry, toml_entries}
 use Rattle.program_desc.specs.declared.key_set.KeySet.TheVariants as keys
 

@@ -4,10 +4,10 @@ use Rattle.std.specs.Prelude.{ℕ, Bool, ◌&&◌, if◌then◌else◌, nat_le, 
 use Rattle.std.specs.Prelude.{Option, Some, None, codes}
 use Rattle.std.specs.List.{list_all}
 use Rattle.toml.specs.Data.{Data, Members}
-use Rattle.program_desc.specs.Values.{◌>>=◌, some_when, toml_text, toml_bytes, has_only, at_key}
-use Rattle.program_desc.specs.Values.{at_key_or}
-use Rattle.program_desc.specs.Values.{at_key_if, in_tables}
-use Rattle.program_desc.specs.Keys.{keys_of_set, set_of_protocol}
+use Rattle.program_desc.specs.TomlValues.{◌>>=◌, some_when, toml_text, toml_bytes, has_only, at_key}
+use Rattle.program_desc.specs.TomlValues.{at_key_or}
+use Rattle.program_desc.specs.TomlValues.{at_key_if, in_tables}
+use Rattle.program_desc.specs.KeyRules.{keys_of_set, set_of_protocol}
 use Rattle.program_desc.specs.declared.key_set.KeySet.TheVariants as keys
 use Rattle.bl_plan.specs.MenuLimits.{max_rsdp_length, max_entries, max_modules}
 use Rattle.bl_plan.specs.Protocols.{protocol_named}

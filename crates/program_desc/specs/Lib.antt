@@ -1,5 +1,5 @@
-pub mod Values
-pub mod Keys
+pub mod TomlValues
+pub mod KeyRules
 pub mod Entries
 pub mod EntryNames
 pub mod Described

@@ -1,7 +1,7 @@
 //! The default entry of a menu and its fallbacks.
 ghost use Rattle.std.specs.Prelude.{◌<◌, ◌≤◌, [], length, map, codes, All, IfOk};
 ghost use Rattle.toml.specs.View.{view, table_view, items_view};
-ghost use Rattle.program_desc.specs.Values as spec;
+ghost use Rattle.program_desc.specs.TomlValues as spec;
 ghost use Rattle.bl_plan.specs.MenuLimits.{max_entries};
 ghost use Rattle.program_desc.specs.Views.{AnswersAs, entry_view};
 

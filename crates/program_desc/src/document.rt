@@ -1,7 +1,7 @@
 //! A description as a whole.
 ghost use Rattle.std.specs.Prelude.{codes, IfOk};
 ghost use Rattle.toml.specs.View.{table_view};
-ghost use Rattle.program_desc.specs.Values as values;
+ghost use Rattle.program_desc.specs.TomlValues as values;
 ghost use Rattle.program_desc.specs.Described as spec;
 ghost use Rattle.program_desc.specs.Views.{AnswersAs, HasMenu, view};
 

@@ -1,7 +1,7 @@
 //! The entries of a description.
 ghost use Rattle.std.specs.Prelude.{◌≡◌, ◌≤◌, length, map, codes, IfOk, IfSome};
 ghost use Rattle.toml.specs.View.{view, table_view, items_view};
-ghost use Rattle.program_desc.specs.Values as values;
+ghost use Rattle.program_desc.specs.TomlValues as values;
 ghost use Rattle.program_desc.specs.Entries as spec;
 ghost use Rattle.bl_plan.specs.MenuLimits.{max_entries};
 ghost use Rattle.program_desc.specs.EntryFormViews.{HasCopyLength};
@@ -12,7 +12,7 @@ use crate::entry_row::EntryRow;
 use crate::fault::DescFault;
 use crate::keys::{at_key, text_at, text_or_empty};
 use crate::owned_text::Text;
-use crate::protocols::{form_in, has_only_entry_keys, protocol_in};
+use crate::protocol_keys::{form_in, has_only_entry_keys, protocol_in};
 use bl_plan::{MAX_ENTRIES, Protocol};
 use std::alloc::{AllocError, Allocator};
 use toml::{Table, Value};

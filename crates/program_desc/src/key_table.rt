@@ -3,7 +3,7 @@
 ghost use Rattle.std.specs.Prelude.{◌≡◌, map};
 ghost use Rattle.std.specs.List.{list_any};
 ghost use Rattle.std.specs.Str.{bytes_eq};
-ghost use Rattle.program_desc.specs.Keys.{keys_of_set};
+ghost use Rattle.program_desc.specs.KeyRules.{keys_of_set};
 
 use crate::allowed::Allowed;
 use crate::key_set::KeySet;

@@ -2,8 +2,8 @@
 ghost use Rattle.std.specs.Prelude.{◌≡◌, [], option_map};
 ghost use Rattle.toml.specs.View.{view, table_view};
 ghost use Rattle.toml.specs.Data.{get_member};
-ghost use Rattle.program_desc.specs.Keys.{keys_of_set};
-ghost use Rattle.program_desc.specs.Values as spec;
+ghost use Rattle.program_desc.specs.KeyRules.{keys_of_set};
+ghost use Rattle.program_desc.specs.TomlValues as spec;
 ghost use Rattle.program_desc.specs.Views.{AnswersAs};
 
 use crate::fault::DescFault;

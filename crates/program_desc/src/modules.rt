@@ -1,7 +1,7 @@
 //! The modules of an entry.
 ghost use Rattle.std.specs.Prelude.{[], map, codes};
 ghost use Rattle.toml.specs.View.{view, table_view, items_view};
-ghost use Rattle.program_desc.specs.Values as values;
+ghost use Rattle.program_desc.specs.TomlValues as values;
 ghost use Rattle.program_desc.specs.Entries as spec;
 ghost use Rattle.program_desc.specs.Views.{AnswersAs, module_view};
 

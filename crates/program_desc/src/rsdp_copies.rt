@@ -1,7 +1,7 @@
 //! The copies of an RSDP that an entry hands over.
 ghost use Rattle.std.specs.Prelude.{◌≡◌, IfOk, IfSome};
 ghost use Rattle.toml.specs.View.{view, table_view};
-ghost use Rattle.program_desc.specs.Values as values;
+ghost use Rattle.program_desc.specs.TomlValues as values;
 ghost use Rattle.program_desc.specs.Entries as spec;
 ghost use Rattle.program_desc.specs.EntryFormViews.{HasCopyLength};
 ghost use Rattle.program_desc.specs.Views.{AnswersAs};

@@ -1,7 +1,7 @@
 //! Single values of a description.
 ghost use Rattle.std.specs.Prelude.{◌≡◌, ◌<◌, IfOk};
 ghost use Rattle.toml.specs.View.{view, items_view};
-ghost use Rattle.program_desc.specs.Values as spec;
+ghost use Rattle.program_desc.specs.TomlValues as spec;
 ghost use Rattle.program_desc.specs.Views.{AnswersAs};
 
 use crate::fault::DescFault;
@@ -70,7 +70,7 @@ fn range_in(items: &[Value]) -> Result<Range<u64>, DescFault>
 }
 
 /// The range that a value is: where it starts, and its end.
-#[tactic(auto, unfolding(crate::specs::Values::toml_range))]
+#[tactic(auto, unfolding(crate::specs::TomlValues::toml_range))]
 pub fn toml_range(value: &Value) -> Result<Range<u64>, DescFault>
     ensures { AnswersAs (λ range. range) result (spec.toml_range (view value.now)) }
 {

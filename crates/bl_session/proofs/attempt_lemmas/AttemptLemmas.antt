@@ -15,7 +15,7 @@ use Rattle.bl_session.specs.attempt.AttemptResult.{AttemptResult, HasWholeFilesR
 use Rattle.bl_session.specs.attempt.AttemptResult.{known_lengths}
 use Rattle.bl_session.specs.menu.Menu.{EntryFacts, facts_of, value_with}
 use Rattle.bl_session.specs.attempt.AwaitedPieces.{are_whole, waiting_files}
-use Rattle.bl_session.specs.internal.session.SessionPhases.{IsFreshStage}
+use Rattle.bl_session.specs.internal.session.KeptPhases.{IsFreshStage}
 use Rattle.bl_session.specs.internal.attempt.AttemptStates.{IsAttempt, IsAttemptBegun, IsRefusedFor}
 use Rattle.bl_session.specs.declared.attempt.Attempt.{Attempt}
 use Rattle.bl_session.proofs.attempt_lemmas.WholeLemmas.{first_awaited, whole_came, whole_texts}

@@ -8,8 +8,8 @@ use Rattle.std.proofs.lemmas.List.FromFn.{get_or-map-range_with_len, length-map-
 use Rattle.bl_map.specs.PoolFrames.{frames_of}
 use Rattle.bl_stage.specs.PieceStates.{PieceState, lacks, has, waiting_pieces}
 use Rattle.bl_session.specs.declared.attempt.ticket.Ticket.{Ticket}
-use Rattle.bl_session.specs.attempt.Tickets.{ticket_of, first_awaited_piece, first_ticket}
-use Rattle.bl_session.specs.attempt.Tickets.{ticket_or}
+use Rattle.bl_session.specs.attempt.AwaitedTickets.{ticket_of, first_awaited_piece, first_ticket}
+use Rattle.bl_session.specs.attempt.AwaitedTickets.{ticket_or}
 use Rattle.bl_session.specs.attempt.AwaitedPieces.{is_awaited, awaits, piece_state_of, with_piece}
 use Rattle.bl_session.specs.attempt.AwaitedPieces.{waiting_files}
 

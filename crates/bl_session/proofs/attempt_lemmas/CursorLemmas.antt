@@ -11,8 +11,8 @@ use Rattle.bl_stage.specs.Pieces.{is_missing}
 use Rattle.bl_stage.specs.PieceStates.{PieceState, lacks, has, piece_states}
 use Rattle.bl_session.specs.declared.attempt.ticket.Ticket.{Ticket}
 use Rattle.bl_session.specs.attempt.AwaitedPieces.{is_awaited, piece_state_of, with_piece}
-use Rattle.bl_session.specs.attempt.Tickets.{ticket_of, first_awaited_piece, first_ticket}
-use Rattle.bl_session.specs.attempt.Tickets.{ticket_or}
+use Rattle.bl_session.specs.attempt.AwaitedTickets.{ticket_of, first_awaited_piece, first_ticket}
+use Rattle.bl_session.specs.attempt.AwaitedTickets.{ticket_or}
 use Rattle.bl_session.specs.internal.attempt.Cursors.{NoneMissingBelow, first_ticket_from}
 use Rattle.bl_session.proofs.attempt_lemmas.AwaitedLemmas.{still_awaited}
 use Rattle.bl_session.proofs.attempt_lemmas.MissingLemmas.{file_next}

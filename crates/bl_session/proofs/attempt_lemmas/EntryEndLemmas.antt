@@ -17,7 +17,7 @@ use Rattle.bl_session.specs.attempt.AttemptResult.{pool_refusal}
 use Rattle.bl_session.specs.attempt.AttemptResult.{known_lengths}
 use Rattle.bl_session.specs.menu.Menu.{entry_at}
 use Rattle.bl_session.specs.session.BootSteps.{BootFacts, sizes_of, fresh}
-use Rattle.bl_session.specs.menu.MenuFiles.{texts_of}
+use Rattle.bl_session.specs.menu.EntryContents.{texts_of}
 use Rattle.bl_session.proofs.attempt_lemmas.GatherLemmas.{FitAll, fits_first}
 
 -- ---- an entry that its sizes don't refuse has its files whole in the store

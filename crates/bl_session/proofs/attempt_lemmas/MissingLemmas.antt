@@ -12,8 +12,8 @@ use Rattle.bl_stage.specs.PieceStates.{PieceState, lacks, has, piece_states}
 use Rattle.bl_session.specs.declared.attempt.ticket.Ticket.{Ticket}
 use Rattle.bl_session.specs.attempt.AwaitedPieces.{is_awaited, piece_state_of, are_whole}
 use Rattle.bl_session.specs.session.BootSteps.{fault, is_wanted}
-use Rattle.bl_session.specs.attempt.Tickets.{ticket_of, first_awaited_piece, first_ticket}
-use Rattle.bl_session.specs.attempt.Tickets.{ticket_or}
+use Rattle.bl_session.specs.attempt.AwaitedTickets.{ticket_of, first_awaited_piece, first_ticket}
+use Rattle.bl_session.specs.attempt.AwaitedTickets.{ticket_or}
 use Rattle.bl_session.proofs.attempt_lemmas.PieceStateLemmas.{length-piece_states_of}
 use Rattle.bl_session.proofs.attempt_lemmas.PieceStateLemmas.{length-piece_states}
 use Rattle.bl_session.proofs.attempt_lemmas.PieceStateLemmas.{file_piece_states}

@@ -17,12 +17,12 @@ use Rattle.bl_session.specs.session.BootSteps.{BootFacts}
 use Rattle.bl_session.specs.menu.Menu.{entry_at}
 use Rattle.bl_session.specs.session.Phases.{PhaseFacts, waits, state_at}
 use Rattle.bl_session.specs.attempt.AwaitedPieces.{piece_state_of}
-use Rattle.bl_session.specs.attempt.Tickets.{first_awaited_piece, first_ticket, ticket_or}
+use Rattle.bl_session.specs.attempt.AwaitedTickets.{first_awaited_piece, first_ticket, ticket_or}
 use Rattle.bl_session.specs.internal.attempt.Cursors.{first_ticket_from}
-use Rattle.bl_session.specs.attempt.Tickets.{length_awaited, request_for}
+use Rattle.bl_session.specs.attempt.AwaitedTickets.{length_awaited, request_for}
 use Rattle.bl_session.specs.session.Requests.{first_request}
 use Rattle.bl_session.specs.session.Requests.{request_after}
-use Rattle.bl_session.specs.attempt.Tickets.{ticket_after}
+use Rattle.bl_session.specs.attempt.AwaitedTickets.{ticket_after}
 use Rattle.bl_session.proofs.attempt_lemmas.PieceStateLemmas.{Named, length-piece_states}
 use Rattle.bl_session.proofs.attempt_lemmas.PieceStateLemmas.{piece_state_named}
 use Rattle.bl_session.proofs.attempt_lemmas.StoredLemmas.{piece_size}

@@ -8,7 +8,7 @@ use Rattle.bl_load.specs.declared.refusal.Refusal.TheVariants.{FileTooLong}
 use Rattle.bl_stage.specs.Staged.{Staging}
 use Rattle.bl_stage.specs.Files.{file_limit}
 use Rattle.bl_session.specs.attempt.AttemptResult.{file_refusal, known_lengths}
-use Rattle.bl_session.specs.internal.session.SessionPhases.{HasSmallFiles}
+use Rattle.bl_session.specs.internal.session.KeptPhases.{HasSmallFiles}
 
 -- the first is small, and none after it is refused
 first_small : (place size : ℕ) (sizes : List (Option ℕ)) (long : Bool)

@@ -13,7 +13,7 @@ use Rattle.bl_stage.specs.Files.{File}
 use Rattle.bl_session.specs.menu.Menu.{EntryFacts, value_with, files_of, facts_of, entry_at}
 use Rattle.bl_session.specs.menu.Menu.{no_entry}
 use Rattle.bl_session.specs.session.BootSteps.{BootFacts}
-use Rattle.bl_session.specs.menu.MenuFiles.{entry_value_in}
+use Rattle.bl_session.specs.menu.EntryContents.{entry_value_in}
 
 -- ---- entries as contracts see them
 

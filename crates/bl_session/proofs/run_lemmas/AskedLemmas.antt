@@ -13,7 +13,7 @@ use Rattle.bl_session.specs.session.BootSteps.{BootFacts, EventFacts, State, uns
 use Rattle.bl_session.specs.session.BootSteps.{handed_over}
 use Rattle.bl_session.specs.session.BootSteps.{none_left, out_of_memory, StepsTo, attempt_number}
 use Rattle.bl_session.specs.store.History.{HistoryItem, file_under}
-use Rattle.bl_session.specs.attempt.Tickets.{ticket_of}
+use Rattle.bl_session.specs.attempt.AwaitedTickets.{ticket_of}
 use Rattle.bl_session.specs.store.Submissions.{attempt_submissions, new_submissions}
 use Rattle.bl_session.proofs.store_lemmas.TicketLemmas.{file_both}
 use Rattle.bl_session.proofs.run_lemmas.OrderLemmas.{found_files}

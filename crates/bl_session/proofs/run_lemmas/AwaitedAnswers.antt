@@ -14,7 +14,7 @@ use Rattle.bl_session.specs.store.History.{HistoryItem, submitted, came, failed,
 use Rattle.bl_session.specs.store.History.{file_under}
 use Rattle.bl_session.specs.store.History.{IsPieceOf}
 use Rattle.bl_session.specs.session.Schedules.{EventAgreesWithFaults}
-use Rattle.bl_session.specs.attempt.Tickets.{first_ticket}
+use Rattle.bl_session.specs.attempt.AwaitedTickets.{first_ticket}
 use Rattle.bl_session.specs.runs.Run.{IsAnswer, IsMarked}
 use Rattle.bl_session.specs.store.Faithful.{times_asked, times_answered, HasPiece, IsFaithfulItem}
 use Rattle.bl_session.proofs.store_lemmas.TicketLemmas.{both, IsAskedOnce, same_ticket}

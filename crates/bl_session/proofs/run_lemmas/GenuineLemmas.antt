@@ -11,7 +11,7 @@ use Rattle.bl_session.specs.declared.attempt.ticket.Ticket.{Ticket}
 use Rattle.bl_session.specs.menu.Menu.{entry_at}
 use Rattle.bl_session.specs.attempt.AwaitedPieces.{awaits, piece_state_of}
 use Rattle.bl_session.specs.session.BootSteps.{BootFacts, EventFacts, piece, running, is_wanted}
-use Rattle.bl_session.specs.menu.MenuFiles.{texts_of}
+use Rattle.bl_session.specs.menu.EntryContents.{texts_of}
 use Rattle.bl_session.specs.session.Schedules.{IsGenuineEvent, EventAgreesWithFaults}
 use Rattle.bl_session.specs.store.History.{HistoryItem, submitted, came, failed, nothing}
 use Rattle.bl_session.specs.store.History.{file_under}

@@ -8,7 +8,7 @@ use Rattle.bl_stage.specs.PieceStates.{PieceState}
 use Rattle.bl_session.specs.declared.attempt.ticket.Ticket.{Ticket}
 use Rattle.bl_session.specs.store.History.{HistoryItem, submitted, came, failed, is_same}
 use Rattle.bl_session.specs.store.History.{last_submitted_file}
-use Rattle.bl_session.specs.attempt.Tickets.{ticket_of}
+use Rattle.bl_session.specs.attempt.AwaitedTickets.{ticket_of}
 use Rattle.bl_session.specs.store.Submissions.{piece_submissions, submissions_for_files}
 use Rattle.bl_session.proofs.store_lemmas.TicketLemmas.{same_fields, is_same_self, other_ticket}
 use Rattle.bl_session.proofs.store_lemmas.TicketLemmas.{IsUntouched}

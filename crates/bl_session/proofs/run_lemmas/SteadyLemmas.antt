@@ -12,7 +12,7 @@ use Rattle.bl_session.specs.session.BootSteps.{BootFacts, State, unstarted, runn
 use Rattle.bl_session.specs.session.BootSteps.{none_left}
 use Rattle.bl_session.specs.session.BootSteps.{out_of_memory, sizes_of, fresh}
 use Rattle.bl_session.specs.store.History.{HistoryItem}
-use Rattle.bl_session.specs.menu.MenuFiles.{texts_of}
+use Rattle.bl_session.specs.menu.EntryContents.{texts_of}
 use Rattle.bl_session.specs.store.Submissions.{attempt_submissions, submissions_for_files}
 use Rattle.bl_session.proofs.attempt_lemmas.EntryEndLemmas.{are_read, length_read}
 use Rattle.bl_session.proofs.store_lemmas.TicketLemmas.{IsUntouched, IsAskedOnce, untouched_both}

@@ -9,7 +9,7 @@ use Rattle.bl_session.specs.declared.session.outcome.Outcome.{Outcome}
 use Rattle.bl_session.specs.declared.session.phase.Phase.{Phase}
 use Rattle.bl_session.specs.declared.session.phase.Phase.TheVariants.{Unstarted, Waits, HandedOver}
 use Rattle.bl_session.specs.declared.session.phase.Phase.TheVariants.{Failed}
-use Rattle.bl_session.specs.internal.session.SessionPhases.{IsPhaseKept, end_in, lent_end}
+use Rattle.bl_session.specs.internal.session.KeptPhases.{IsPhaseKept, end_in, lent_end}
 use Rattle.bl_session.specs.menu.Menu.{MenuFacts}
 use Rattle.bl_session.specs.runs.Run.{final_phase}
 use Rattle.bl_session.specs.session.Phases.{PhaseFacts, not_started, waits, hands_over, has_none}

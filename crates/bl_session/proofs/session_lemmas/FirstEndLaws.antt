@@ -18,7 +18,7 @@ use Rattle.bl_session.specs.session.BootSteps.{fresh}
 use Rattle.bl_session.specs.session.BootSteps.{TextsHaveResult, AfterAttempt, BeginsUnless, Begins}
 use Rattle.bl_session.specs.session.BootSteps.{is_wanted}
 use Rattle.bl_session.specs.session.BootSteps.{TakesEvent, StepsTo, LeadsTo}
-use Rattle.bl_session.specs.menu.MenuFiles.{texts_of, entry_value_in}
+use Rattle.bl_session.specs.menu.EntryContents.{texts_of, entry_value_in}
 use Rattle.bl_session.specs.session.Schedules.{IsGenuineEvent}
 use Rattle.bl_session.specs.session.Outcome.{faulty_file}
 use Rattle.bl_session.specs.session.Schedules.{IsGenuineAt, IsGenuine}

@@ -18,7 +18,7 @@ use Rattle.bl_session.specs.session.BootSteps.{handed_over, none_left, out_of_me
 use Rattle.bl_session.specs.session.BootSteps.{is_taken}
 use Rattle.bl_session.specs.session.BootSteps.{TakesEvent}
 use Rattle.bl_session.specs.session.BootSteps.{StepsToOrFails, progress}
-use Rattle.bl_session.specs.attempt.Tickets.{first_ticket}
+use Rattle.bl_session.specs.attempt.AwaitedTickets.{first_ticket}
 use Rattle.bl_session.specs.session.BootMemory.{IsMemoryAt}
 use Rattle.bl_session.specs.internal.runs.RunParts.{attempts_left}
 use Rattle.bl_session.proofs.attempt_lemmas.MissingLemmas.{first_wanted}

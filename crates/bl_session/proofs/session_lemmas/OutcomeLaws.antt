@@ -14,7 +14,7 @@ use Rattle.bl_session.specs.attempt.AttemptResult.{AttemptResult, handed, refuse
 use Rattle.bl_session.specs.attempt.AttemptResult.{HasWholeFilesResult}
 use Rattle.bl_session.specs.attempt.AttemptResult.{AttemptHasResult, UnlessRefused, size_refusal}
 use Rattle.bl_session.specs.session.BootSteps.{BootFacts, State, handed_over, sizes_of}
-use Rattle.bl_session.specs.menu.MenuFiles.{entry_value_in}
+use Rattle.bl_session.specs.menu.EntryContents.{entry_value_in}
 use Rattle.bl_session.specs.session.Outcome.{faulty_file, IsFirst, IsOutcome}
 use Rattle.bl_session.proofs.attempt_lemmas.EndLaws.{one_end}
 use Rattle.bl_session.proofs.session_lemmas.BootLaws.{one_goes}

@@ -5,7 +5,7 @@ use Rattle.std.proofs.lemmas.Bool.Decides.{nat_tests}
 use Rattle.bl_session.specs.declared.attempt.ticket.Ticket.{Ticket}
 use Rattle.bl_session.specs.store.History.{HistoryItem, submitted, came, failed, nothing, is_same}
 use Rattle.bl_session.specs.store.History.{last_submitted_file}
-use Rattle.bl_session.specs.attempt.Tickets.{ticket_of}
+use Rattle.bl_session.specs.attempt.AwaitedTickets.{ticket_of}
 use Rattle.bl_session.specs.store.Faithful.{times_asked, times_answered}
 
 -- ---- tickets

@@ -1,2 +1,2 @@
-pub mod SessionPhases
+pub mod KeptPhases
 pub mod BootCalls

@@ -17,7 +17,7 @@ use Rattle.bl_session.specs.store.History.{HistoryItem, submitted, came, failed,
 use Rattle.bl_session.specs.store.History.{file_under}
 use Rattle.bl_session.specs.store.History.{IsPieceOf}
 use Rattle.bl_session.specs.store.Submissions.{attempt_submissions, new_submissions}
-use Rattle.bl_session.specs.attempt.Tickets.{first_ticket}
+use Rattle.bl_session.specs.attempt.AwaitedTickets.{first_ticket}
 use Rattle.bl_session.specs.session.Phases.{PhaseFacts, outcome_facts, fault_facts}
 
 -- ---- answers as events

@@ -7,7 +7,7 @@ use Rattle.bl_session.specs.attempt.AwaitedPieces.{are_whole}
 use Rattle.bl_session.specs.session.BootSteps.{BootFacts, State, unstarted, running, handed_over}
 use Rattle.bl_session.specs.session.BootSteps.{none_left}
 use Rattle.bl_session.specs.session.BootSteps.{out_of_memory, sizes_of, fresh, AfterAttempt}
-use Rattle.bl_session.specs.menu.MenuFiles.{entry_value_in}
+use Rattle.bl_session.specs.menu.EntryContents.{entry_value_in}
 use Rattle.bl_session.specs.session.Schedules.{Faults}
 
 -- the file of which a fault comes. If the files have no byte there is no piece, so that no fault

@@ -1,4 +1,4 @@
--- Where a session stands, by its fields and by what memory holds.
+-- Where a session stands, by its fields and by what memory holds. Own.
 use Rattle.std.specs.Prelude.{ℕ, ◌+◌, ◌≤◌, Bool, true, false, List, drop, All, Option, None}
 use Rattle.std.specs.Prelude.{Some, Result, Ok, Err}
 use Rattle.std.specs.Borrow.{Bor}

@@ -6,7 +6,7 @@ use Rattle.bl_session.specs.declared.attempt.ticket.Ticket.{Ticket}
 use Rattle.bl_session.specs.declared.attempt.ticket.Request.{Request}
 use Rattle.bl_session.specs.menu.Menu.{entry_at}
 use Rattle.bl_session.specs.session.BootSteps.{BootFacts, State, on_running}
-use Rattle.bl_session.specs.attempt.Tickets.{first_ticket, request_for, ticket_after}
+use Rattle.bl_session.specs.attempt.AwaitedTickets.{first_ticket, request_for, ticket_after}
 
 -- the first piece that the attempt which runs awaits
 abbrev pub first_request : BootFacts → State → Option Request

@@ -9,7 +9,7 @@ use Rattle.bl_session.specs.session.BootSteps.{BootFacts, EventFacts, piece, fau
 use Rattle.bl_session.specs.session.BootSteps.{is_wanted}
 use Rattle.bl_session.specs.session.BootSteps.{StepsTo}
 use Rattle.bl_session.specs.session.BootSteps.{on_running}
-use Rattle.bl_session.specs.menu.MenuFiles.{texts_of}
+use Rattle.bl_session.specs.menu.EntryContents.{texts_of}
 
 -- for each attempt, by its number, the place of the file of which a fault comes, or None
 abbrev pub Faults : Type 0

@@ -4,7 +4,7 @@ use Rattle.std.specs.Prelude.{if◌then◌else◌}
 use Rattle.std.specs.List.{range_with_len}
 use Rattle.bl_stage.specs.PieceStates.{PieceState}
 use Rattle.bl_session.specs.menu.Menu.{entry_at}
-use Rattle.bl_session.specs.attempt.Tickets.{ticket_of}
+use Rattle.bl_session.specs.attempt.AwaitedTickets.{ticket_of}
 use Rattle.bl_session.specs.session.BootSteps.{BootFacts, State, attempt_number, on_running}
 use Rattle.bl_session.specs.store.History.{HistoryItem, submitted}
 

@@ -1,5 +1,5 @@
 //! A cursor over the pieces of an attempt: nothing looks for a missing one from the first on.
-ghost use Rattle.bl_session.specs.attempt.Tickets.{first_ticket};
+ghost use Rattle.bl_session.specs.attempt.AwaitedTickets.{first_ticket};
 ghost use Rattle.bl_session.specs.internal.attempt.Cursors.{NoneMissingBelow};
 ghost use Rattle.bl_session.specs.internal.attempt.MissingPieces.{CanSearchFrom, FindsMissing};
 

@@ -5,12 +5,12 @@ ghost use Rattle.bl_map.specs.PoolFrames as room;
 ghost use Rattle.bl_stage.specs.Pieces.{is_missing};
 ghost use Rattle.bl_stage.specs.PieceStates.{piece_states};
 ghost use Rattle.bl_session.specs.menu.Menu.{files_of};
-ghost use Rattle.bl_session.specs.attempt.Tickets.{first_awaited_piece, first_ticket};
-ghost use Rattle.bl_session.specs.internal.session.SessionPhases.{HasSmallFiles};
+ghost use Rattle.bl_session.specs.attempt.AwaitedTickets.{first_awaited_piece, first_ticket};
+ghost use Rattle.bl_session.specs.internal.session.KeptPhases.{HasSmallFiles};
 ghost use Rattle.bl_session.specs.internal.attempt.Cursors.{first_ticket_from};
 ghost use Rattle.bl_session.specs.internal.attempt.MissingPieces.{HasCountablePieces, FindsMissing};
 ghost use Rattle.bl_session.specs.attempt.AwaitedPieces.{piece_state_of};
-ghost use Rattle.bl_session.specs.attempt.Tickets.{length_awaited, request_for, ticket_after};
+ghost use Rattle.bl_session.specs.attempt.AwaitedTickets.{length_awaited, request_for, ticket_after};
 
 use crate::attempt::ticket::{Request, Ticket};
 use crate::menu::entry_files::file_at;

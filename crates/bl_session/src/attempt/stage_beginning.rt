@@ -3,9 +3,9 @@ ghost use Rattle.std.specs.Prelude.{◌≡◌, ◌≤◌, ◌+◌, ◌∷◌, �
 ghost use Rattle.std.specs.Prelude.{IfErr, MatchResult, length, slice_index_or};
 ghost use Rattle.bl_load.specs.EntryValue.{IsWithinLimits};
 ghost use Rattle.bl_session.specs.attempt.AttemptResult.{file_refusal};
-ghost use Rattle.bl_session.specs.internal.session.SessionPhases.{sizes_for, sizes_in};
-ghost use Rattle.bl_session.specs.internal.session.SessionPhases.{AreLengths, IsFileRefusal};
-ghost use Rattle.bl_session.specs.internal.session.SessionPhases.{IsBegunStage, IsSizeFault};
+ghost use Rattle.bl_session.specs.internal.session.KeptPhases.{sizes_for, sizes_in};
+ghost use Rattle.bl_session.specs.internal.session.KeptPhases.{AreLengths, IsFileRefusal};
+ghost use Rattle.bl_session.specs.internal.session.KeptPhases.{IsBegunStage, IsSizeFault};
 
 use crate::menu::entry_files::files_of;
 use bl_load::{Entry, PrepFault, Refusal};

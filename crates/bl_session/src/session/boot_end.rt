@@ -1,6 +1,6 @@
 //! The end of a boot, by its phase.
 ghost use Rattle.std.specs.Prelude.{◌≡◌};
-ghost use Rattle.bl_session.specs.internal.session.SessionPhases.{end_in, lent_end};
+ghost use Rattle.bl_session.specs.internal.session.KeptPhases.{end_in, lent_end};
 
 use crate::session::outcome::{BootFault, Outcome};
 use crate::session::phase::Phase;

@@ -5,7 +5,7 @@ ghost use Rattle.bl_stage.specs.PieceStates.{piece_states};
 ghost use Rattle.bl_session.specs.session.BootSteps.{fault, is_wanted};
 ghost use Rattle.bl_session.specs.session.Phases.{event_facts};
 ghost use Rattle.bl_session.specs.declared.session.phase.Phase.TheVariants.{Waits};
-ghost use Rattle.bl_session.specs.internal.session.SessionPhases.{IsPhaseKept};
+ghost use Rattle.bl_session.specs.internal.session.KeptPhases.{IsPhaseKept};
 ghost use Rattle.bl_session.specs.internal.session.BootCalls.{HasPoolRoom, TakesEventOn};
 ghost use Rattle.bl_session.specs.internal.session.BootCalls.{HasRoomWhileWaiting, HasTakenEvent};
 

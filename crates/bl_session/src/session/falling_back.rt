@@ -3,7 +3,7 @@ ghost use Rattle.std.specs.Prelude.{◌≡◌, ◌<◌, ◌≤◌, true, OnErr, 
 ghost use Rattle.bl_mem.specs.Memory.{KeepsSizeAndRoom};
 ghost use Rattle.bl_stage.specs.PieceStates.{piece_states};
 ghost use Rattle.bl_session.specs.attempt.AwaitedPieces.{are_whole};
-ghost use Rattle.bl_session.specs.internal.session.SessionPhases.{IsWaiting, phase_by};
+ghost use Rattle.bl_session.specs.internal.session.KeptPhases.{IsWaiting, phase_by};
 ghost use Rattle.bl_session.specs.internal.session.BootCalls.{HasPoolRoom, LeadsToPhase, GoesFrom};
 ghost use Rattle.bl_session.specs.internal.session.BootCalls.{FallsBack, GoesOnOrEnds};
 

@@ -34,7 +34,7 @@ pub struct OwnedSession<A: Allocator + Copy> {
 
 impl<A: Allocator + Copy> Model for OwnedSession<A> {
     ghost use Rattle.bl_session.specs.session.Phases.{SessionFacts, boot_facts, phase_facts};
-    ghost use Rattle.bl_session.specs.internal.session.SessionPhases.{IsPhaseKept};
+    ghost use Rattle.bl_session.specs.internal.session.KeptPhases.{IsPhaseKept};
 
     ghost Value = { SessionFacts };
 

@@ -3,7 +3,7 @@ ghost use Rattle.std.specs.Prelude.{◌≡◌, ℕ, List};
 ghost use Rattle.bl_session.specs.session.BootSteps.{attempt_number};
 ghost use Rattle.bl_session.specs.session.BootSteps as boot;
 ghost use Rattle.bl_session.specs.session.Phases.{phase_facts, is_waiting};
-ghost use Rattle.bl_session.specs.internal.session.SessionPhases.{state_of, IsPhaseKept};
+ghost use Rattle.bl_session.specs.internal.session.KeptPhases.{state_of, IsPhaseKept};
 
 use crate::attempt::cursor::Cursor;
 use crate::menu::Menu;

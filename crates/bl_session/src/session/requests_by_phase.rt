@@ -2,8 +2,8 @@
 ghost use Rattle.std.specs.Prelude.{◌≡◌, ℕ, List, Some, true};
 ghost use Rattle.bl_session.specs.store.Submissions.{attempt_submissions};
 ghost use Rattle.bl_session.specs.session.Phases.{phase_facts, is_waiting};
-ghost use Rattle.bl_session.specs.internal.session.SessionPhases.{IsPhaseKept, facts_of_boot};
-ghost use Rattle.bl_session.specs.internal.session.SessionPhases.{state_in};
+ghost use Rattle.bl_session.specs.internal.session.KeptPhases.{IsPhaseKept, facts_of_boot};
+ghost use Rattle.bl_session.specs.internal.session.KeptPhases.{state_in};
 ghost use Rattle.bl_session.specs.session.Requests.{first_request, request_after};
 ghost use Rattle.bl_session.specs.internal.runs.RunParts.{AreSubmitted, first_awaited_ticket};
 

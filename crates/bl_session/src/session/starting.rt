@@ -1,7 +1,7 @@
 //! A session starts: its first attempt begins.
 ghost use Rattle.std.specs.Prelude.{◌≡◌, [], OnOk, length};
 ghost use Rattle.bl_mem.specs.Memory.{KeepsSizeAndRoom};
-ghost use Rattle.bl_session.specs.internal.session.SessionPhases.{IsPhaseKept};
+ghost use Rattle.bl_session.specs.internal.session.KeptPhases.{IsPhaseKept};
 ghost use Rattle.bl_session.specs.internal.session.BootCalls.{HasPoolRoom, GoesFrom, LeadsToPhase};
 ghost use Rattle.bl_session.specs.internal.session.BootCalls.{HasStarted};
 

@@ -4,7 +4,7 @@ use Rattle.bl_map.specs.MachineFacts.{MachineFacts}
 use Rattle.bl_load.specs.WellFormedEntry.{IsWellFormedValue}
 use Rattle.bl_stage.specs.Files.{File, size_of}
 use Rattle.bl_session.specs.menu.Menu.{MenuFacts}
-use Rattle.bl_session.specs.menu.MenuFiles.{entry_value_in}
+use Rattle.bl_session.specs.menu.EntryContents.{entry_value_in}
 use Rattle.bl_session.specs.session.Phases.{boot_facts}
 use Rattle.program_desc.specs.declared.desc.Description.{Description}
 use Rattle.program_desc.specs.Described.{described}

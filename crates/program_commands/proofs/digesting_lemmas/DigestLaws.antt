@@ -4,7 +4,7 @@ use Rattle.bl_digest.specs.Digests.{digests_of}
 use Rattle.bl_load.specs.Handover.{Handover}
 use Rattle.bl_image.specs.Image.{spelling}
 use Rattle.bl_image.specs.ImageHandover.{IsImage}
-use Rattle.bl_image.specs.Source.{SourceFacts}
+use Rattle.bl_image.specs.SourceFacts.{SourceFacts}
 use Rattle.bl_image.specs.Versions.{written_version}
 use Rattle.bl_image.specs.declared.version.Version.{Version}
 use Rattle.bl_image.proofs.KnownLemmas.{known_ok}
@@ -14,7 +14,7 @@ use Rattle.bl_session.specs.session.Schedules.{no_fault}
 use Rattle.bl_session.proofs.session_lemmas.OutcomeLaws.{same_handover}
 use Rattle.program_commands.specs.Converted.{Converts}
 use Rattle.program_commands.specs.Ends.{IsBooted, Surroundings}
-use Rattle.program_commands.specs.Walked.{ReadsImage}
+use Rattle.program_commands.specs.ReadImage.{ReadsImage}
 use Rattle.program_commands.proofs.ConvertLaws.{one_handover}
 use Rattle.program_commands.specs.described.BootCases.{entry_value_at}
 use Rattle.program_commands.specs.described.DescribedMenu.{boot_of, described_entry}

@@ -12,7 +12,7 @@ use Rattle.bl_stage.specs.Files.{File, size_of}
 use Rattle.bl_session.specs.attempt.AttemptResult.{AttemptResult, AttemptHasResult, handed, refused}
 use Rattle.bl_session.specs.attempt.AwaitedPieces.{are_whole}
 use Rattle.bl_session.specs.menu.Menu.{EntryFacts, MenuFacts, entry_at, facts_of, files_of}
-use Rattle.bl_session.specs.menu.MenuFiles.{entry_value_in, texts_of}
+use Rattle.bl_session.specs.menu.EntryContents.{entry_value_in, texts_of}
 use Rattle.bl_session.specs.session.BootSteps.{BootFacts, State, handed_over, sizes_of}
 use Rattle.bl_session.specs.session.BootSteps.{fresh}
 use Rattle.bl_session.specs.session.Outcome.{EntryHasResult, IsFirst}

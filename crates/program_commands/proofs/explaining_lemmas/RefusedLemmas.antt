@@ -22,7 +22,7 @@ use Rattle.bl_session.specs.attempt.AttemptResult.{size_refusal}
 use Rattle.bl_session.specs.session.BootSteps.{BootFacts, State, fresh, sizes_of}
 use Rattle.bl_session.specs.menu.Menu.{EntryFacts, MenuFacts, entry_at, no_entry, value_with}
 use Rattle.bl_session.specs.session.Outcome.{EntryHasResult, IsFirst, IsOutcome, faulty_file}
-use Rattle.bl_session.specs.menu.MenuFiles.{entry_value_in}
+use Rattle.bl_session.specs.menu.EntryContents.{entry_value_in}
 use Rattle.bl_session.specs.session.Schedules.{no_fault}
 use Rattle.bl_session.specs.session.Phases.{boot_facts}
 use Rattle.bl_session.specs.attempt.AwaitedPieces.{are_whole}

@@ -5,7 +5,7 @@ use Rattle.bl_load.specs.EntryValue.{EntryValue}
 use Rattle.bl_stage.specs.Files.{File}
 use Rattle.bl_session.specs.attempt.AttemptResult.{AttemptResult}
 use Rattle.bl_session.specs.session.BootSteps.{State, sizes_of}
-use Rattle.bl_session.specs.menu.MenuFiles.{entry_value_in}
+use Rattle.bl_session.specs.menu.EntryContents.{entry_value_in}
 use Rattle.bl_session.specs.session.Schedules.{no_fault}
 use Rattle.bl_session.specs.session.Outcome.{IsOutcome, EntryHasResult}
 use Rattle.program_desc.specs.Described.{DescriptionFacts, described, file_named}

@@ -3,9 +3,9 @@ use Rattle.std.specs.Prelude.{◌≡◌, ℕ, List, ◌++◌}
 use Rattle.bl_digest.specs.Digests.{digests_of}
 use Rattle.bl_load.specs.Handover.{Handover}
 use Rattle.bl_image.specs.ImageHandover.{IsImage}
-use Rattle.bl_image.specs.Source.{SourceFacts}
+use Rattle.bl_image.specs.SourceFacts.{SourceFacts}
 use Rattle.bl_image.specs.declared.version.Version.{Version}
-use Rattle.program_commands.specs.Walked.{ReadsImage}
+use Rattle.program_commands.specs.ReadImage.{ReadsImage}
 use Rattle.program_say.specs.DigestLines.{digest_lines}
 
 -- the image of a handover came, and its digests were said

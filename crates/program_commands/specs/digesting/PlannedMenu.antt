@@ -3,7 +3,7 @@ use Rattle.std.specs.Prelude.{◌<◌, List, length}
 use Rattle.bl_load.specs.Loadable.{lengths_of, IsLoadable}
 use Rattle.bl_load.specs.PlanContents.{handover_by}
 use Rattle.bl_stage.specs.Files.{File}
-use Rattle.bl_session.specs.menu.MenuFiles.{texts_of}
+use Rattle.bl_session.specs.menu.EntryContents.{texts_of}
 use Rattle.bl_session.specs.session.BootSteps.{BootFacts, State, handed_over, none_left}
 use Rattle.program_commands.specs.declared.digesting.planned_menu.MenuPlan.{MenuPlan}
 use Rattle.program_commands.specs.declared.digesting.planned_menu.MenuPlan.TheVariants.{HandsOver}

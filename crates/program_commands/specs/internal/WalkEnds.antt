@@ -1,7 +1,7 @@
 -- What the code keeps of how a walk ends, by its result.
 use Rattle.std.specs.Prelude.{◌≡◌, ℕ, List, Result, Ok, Err}
-use Rattle.bl_image.specs.Faults.{image_fault_number}
-use Rattle.bl_image.specs.Source.{SourceFacts}
+use Rattle.bl_image.specs.FaultNumbers.{image_fault_number}
+use Rattle.bl_image.specs.SourceFacts.{SourceFacts}
 use Rattle.bl_image.specs.declared.fault.ImageFault.{ImageFault}
 use Rattle.bl_image.specs.declared.fault.ImageFault.TheVariants as image
 use Rattle.bl_walk.specs.Faults.{walk_fault_number}

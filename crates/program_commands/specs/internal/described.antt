@@ -1,4 +1,3 @@
 pub mod DistinctNames
 pub mod MenuRows
 pub mod SoughtFiles
-pub mod WholeReads

@@ -1,7 +1,7 @@
 //! The digests of an image that is there.
 ghost use Rattle.std.specs.Prelude.{◌≡◌, ◌⊎◌, ◌+◌, ◌<◌, ◌^◌, ◌++◌, OnOk, OnErr};
 ghost use Rattle.bl_digest.specs.Digests.{digests_of};
-ghost use Rattle.program_commands.specs.Converted.{IsUnreadable};
+ghost use Rattle.program_commands.specs.ReadImage.{IsUnreadable};
 ghost use Rattle.program_commands.specs.digesting.ImageDigested.{IsImageDigested};
 ghost use Rattle.program_say.specs.DigestLines.{digest_lines};
 

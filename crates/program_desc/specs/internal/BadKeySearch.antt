@@ -9,10 +9,10 @@ use Rattle.toml.specs.View.{view}
 use Rattle.hex.specs.Hex.{decode_of}
 use Rattle.bl_map.specs.Kinds.{kind_named}
 use Rattle.bl_plan.specs.Protocols.{protocol_named}
-use Rattle.program_desc.specs.Values.{◌>>=◌, bytes_from, some_when, has_only}
+use Rattle.program_desc.specs.TomlValues.{◌>>=◌, bytes_from, some_when, has_only}
 use Rattle.program_desc.specs.Entries.{is_rsdp_copy, is_title}
 use Rattle.program_desc.specs.Allowed.{allows}
-use Rattle.program_desc.specs.Keys.{KeyRule, key_rules, keys_of_set}
+use Rattle.program_desc.specs.KeyRules.{KeyRule, key_rules, keys_of_set}
 use Rattle.program_desc.specs.BadKeys.{IsItemFault}
 use Rattle.program_desc.specs.declared.allowed.Allowed.{Allowed}
 use Rattle.program_desc.specs.declared.allowed.Allowed.TheVariants.{AnyText, Title, KindName}

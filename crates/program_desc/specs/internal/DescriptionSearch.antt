@@ -4,10 +4,10 @@ use Rattle.std.specs.Prelude.{codes, [], ◌∷◌, map, length, take, slice_get
 use Rattle.toml.specs.Data.{Data, string, Members, get_member, get}
 use Rattle.toml.specs.View.{view, items_view}
 use Rattle.toml.specs.declared.value.Value.{Value}
-use Rattle.program_desc.specs.Values.{has_only}
+use Rattle.program_desc.specs.TomlValues.{has_only}
 use Rattle.program_desc.specs.Described.{InlineFile, has_file, names_differ}
 use Rattle.program_desc.specs.Allowed.{allows, item_count}
-use Rattle.program_desc.specs.Keys.{KeyRule, keys_of_set, optional_key, required_key}
+use Rattle.program_desc.specs.KeyRules.{KeyRule, keys_of_set, optional_key, required_key}
 use Rattle.program_desc.specs.internal.BadKeySearch.{all_items, all_pass, array_items, item_passes}
 use Rattle.program_desc.specs.internal.BadKeySearch.{passes}
 use Rattle.program_desc.specs.declared.allowed.Allowed.TheVariants.{Number}

@@ -5,10 +5,10 @@ use Rattle.std.specs.Option.{IsSomeAnd}
 use Rattle.toml.specs.Data.{Data, table, Items, Members, get_member, get, get_item, at}
 use Rattle.bl_plan.specs.declared.protocol.Protocol.{Protocol}
 use Rattle.bl_plan.specs.declared.protocol.Protocol.TheVariants.{Multiboot2, Linux, Linux64}
-use Rattle.program_desc.specs.Values.{◌>>=◌, has_only}
+use Rattle.program_desc.specs.TomlValues.{◌>>=◌, has_only}
 use Rattle.program_desc.specs.Entries.{toml_protocol}
-use Rattle.program_desc.specs.Keys.{KeyRule, keys_of_set, optional_key, required_key}
-use Rattle.program_desc.specs.Keys.{set_of_protocol}
+use Rattle.program_desc.specs.KeyRules.{KeyRule, keys_of_set, optional_key, required_key}
+use Rattle.program_desc.specs.KeyRules.{set_of_protocol}
 use Rattle.program_desc.specs.BadKeys.{BreaksAnyOf, BreaksRule, entry_set, IsItemFault, IsKeyFault}
 use Rattle.program_desc.specs.internal.BadKeySearch.{all_items, all_pass, array_items, item_passes}
 use Rattle.program_desc.specs.internal.BadKeySearch.{passes}

@@ -4,7 +4,7 @@ ghost use Rattle.std.specs.List.{list_all};
 ghost use Rattle.hex.specs.Hex.{decode_of, is_hex_digit};
 ghost use Rattle.toml.specs.Data.{as_str};
 ghost use Rattle.toml.specs.View.{view};
-ghost use Rattle.program_desc.specs.Values.{bytes_from, toml_index};
+ghost use Rattle.program_desc.specs.TomlValues.{bytes_from, toml_index};
 ghost use Rattle.program_desc.specs.Allowed as spec;
 ghost use Rattle.program_desc.specs.internal.BadKeySearch as kept;
 

@@ -3,7 +3,7 @@ ghost use Rattle.std.specs.Prelude.{◌≡◌};
 ghost use Rattle.toml.specs.Data.{get_member};
 ghost use Rattle.toml.specs.View.{view, table_view, items_view};
 ghost use Rattle.program_desc.specs.Allowed.{allows as allowed_of};
-ghost use Rattle.program_desc.specs.Keys.{key_rules};
+ghost use Rattle.program_desc.specs.KeyRules.{key_rules};
 ghost use Rattle.program_desc.specs.BadKeys.{BreaksAnyOf, IsItemFault, IsKeyFault};
 ghost use Rattle.program_desc.specs.internal.BadKeySearch as kept;
 

@@ -1,8 +1,8 @@
 //! The keys of one table, rule by rule.
 ghost use Rattle.std.specs.Prelude.{ℕ, map};
 ghost use Rattle.toml.specs.View.{table_view};
-ghost use Rattle.program_desc.specs.Values.{has_only};
-ghost use Rattle.program_desc.specs.Keys.{keys_of_set};
+ghost use Rattle.program_desc.specs.TomlValues.{has_only};
+ghost use Rattle.program_desc.specs.KeyRules.{keys_of_set};
 ghost use Rattle.program_desc.specs.BadKeys.{BreaksAnyOf, BreaksRule, IsKeyFault};
 ghost use Rattle.program_desc.specs.internal.BadKeySearch.{FindsFault, all_pass, passes, rule_view};
 

@@ -6,7 +6,7 @@ use Rattle.bl_map.specs.Kinds.{kind_name}
 use Rattle.bl_map.specs.declared.kind.Kind.TheVariants.{Usable, Reserved, Acpi, Nvs, Bad}
 use Rattle.bl_plan.specs.Protocols.{protocol_name}
 use Rattle.bl_plan.specs.declared.protocol.Protocol.TheVariants.{Multiboot2, Linux, Linux64}
-use Rattle.program_desc.specs.Keys.{keys_of_set}
+use Rattle.program_desc.specs.KeyRules.{keys_of_set}
 use Rattle.program_desc.specs.declared.allowed.Allowed.{Allowed}
 use Rattle.program_desc.specs.declared.allowed.Allowed.TheVariants.{KindName, ProtocolName}
 use Rattle.program_desc.specs.declared.bad_key.KeyFault.{KeyFault}

@@ -41,7 +41,10 @@ fn map_fault_meaning(fault: MapFault) -> &'static str
 }
 
 /// Appends what a machine's fault tells beside its name: the index of a region.
-fn say_told<A: Allocator + Copy>(out: &mut Vec<u8, A>, fault: MapFault) -> Result<(), AllocError>
+fn say_region_index<A: Allocator + Copy>(
+    out: &mut Vec<u8, A>,
+    fault: MapFault,
+) -> Result<(), AllocError>
     ensures { OnOk result (out.new.items ≡ out.old.items ++ blames.map_fault_told fault) }
 {
     match fault {
@@ -58,7 +61,7 @@ fn say_map_fault<A: Allocator + Copy>(
     ensures { OnOk result (out.new.items ≡ out.old.items ++ blames.map_fault_words fault) }
 {
     say!(out, "{} {}", fault.number(), map_fault_name(fault))?;
-    say_told(out, fault)?;
+    say_region_index(out, fault)?;
     say!(out, ": {}", map_fault_meaning(fault))
 }
 

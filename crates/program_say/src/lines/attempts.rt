@@ -5,7 +5,7 @@ ghost use Rattle.program_say.specs.AttemptLines.{attempt_lines, refused_attempt_
 ghost use Rattle.program_say.specs.AttemptLines.{told_refusal_lines};
 ghost use Rattle.program_desc.specs.Views.{view};
 
-use crate::lines::refusal::say_refusal;
+use crate::lines::refusal::say_explained_refusal;
 use crate::lines::refusal_detail::say_detail;
 use crate::lines::sought::say_entry_files;
 use crate::say;
@@ -34,7 +34,7 @@ pub fn say_attempt<A: Allocator + Copy, B: Allocator>(
 }
 
 /// Appends the line of a refusal, and what is told beside it.
-fn say_told<A: Allocator + Copy, B: Allocator>(
+fn say_refusal_and_detail<A: Allocator + Copy, B: Allocator>(
     out: &mut Vec<u8, A>,
     machine: &Machine<B>,
     description: &Description<B>,
@@ -45,7 +45,7 @@ fn say_told<A: Allocator + Copy, B: Allocator>(
         (view description.now).entries machine.now sought.now told.now) }
 {
     let entry = told.refused.entry;
-    say_refusal(out, told.refused.refusal)?;
+    say_explained_refusal(out, told.refused.refusal)?;
     say_detail(out, machine, description, sought, entry, told.detail)
 }
 
@@ -60,7 +60,7 @@ fn say_refused_attempt<A: Allocator + Copy, B: Allocator>(
         (view description.now).entries machine.now sought.now told.now) }
 {
     say_attempt(out, description, sought, told.refused.entry)?;
-    say_told(out, machine, description, sought, told)
+    say_refusal_and_detail(out, machine, description, sought, told)
 }
 
 /// Appends the lines of the attempts that were refused, each with its refusal and what is told

@@ -9,7 +9,10 @@ use std::alloc::{AllocError, Allocator};
 
 /// Appends what a refusal tells beside its name: the place of a file in its entry, the offset of a
 /// tag in the kernel's file, the type of a tag, or the indices of program headers.
-fn say_told<A: Allocator + Copy>(out: &mut Vec<u8, A>, refusal: Refusal) -> Result<(), AllocError>
+fn say_parameters<A: Allocator + Copy>(
+    out: &mut Vec<u8, A>,
+    refusal: Refusal,
+) -> Result<(), AllocError>
     ensures { OnOk result (out.new.items ≡ out.old.items ++ words.refusal_told refusal) }
 {
     match refusal {
@@ -27,7 +30,7 @@ fn say_told<A: Allocator + Copy>(out: &mut Vec<u8, A>, refusal: Refusal) -> Resu
 }
 
 /// Appends the line of a refusal.
-pub fn say_refusal<A: Allocator + Copy>(
+pub fn say_explained_refusal<A: Allocator + Copy>(
     out: &mut Vec<u8, A>,
     refusal: Refusal,
 ) -> Result<(), AllocError>
@@ -39,6 +42,6 @@ pub fn say_refusal<A: Allocator + Copy>(
         refusal.number(),
         refusal_name(refusal)
     )?;
-    say_told(out, refusal)?;
+    say_parameters(out, refusal)?;
     say!(out, ": {}\n", refusal_meaning(refusal))
 }

@@ -1,7 +1,7 @@
 use Rattle.std.proofs.Common.{◌≡◌, ◌<◌, ◌^◌, take, All}
 use Rattle.std.specs.List.{flat_map}
 use Rattle.bl_mem.specs.LittleEndian.{u32_bytes}
-use Rattle.bl_image.specs.Source.{Comes}
+use Rattle.bl_image.specs.SourceFacts.{Comes}
 use Rattle.bl_image.proofs.field_reader.read_u32s.Given as goal
 
 -- the first numbers came

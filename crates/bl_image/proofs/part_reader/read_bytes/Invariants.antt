@@ -1,5 +1,5 @@
 use Rattle.std.proofs.Common.{◌≡◌, ◌-◌, ◌≤◌, length}
-use Rattle.bl_image.specs.Source.{Comes}
+use Rattle.bl_image.specs.SourceFacts.{Comes}
 use Rattle.bl_image.proofs.part_reader.read_bytes.Given as goal
 
 -- what came is kept

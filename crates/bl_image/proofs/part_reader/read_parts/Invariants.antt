@@ -2,7 +2,7 @@ use Rattle.std.proofs.Common.{◌≡◌, take, map}
 use Rattle.std.specs.List.{flat_map}
 use Rattle.bl_load.specs.Handover.{Part}
 use Rattle.bl_image.specs.ImageHandover.{part_place}
-use Rattle.bl_image.specs.Source.{Comes}
+use Rattle.bl_image.specs.SourceFacts.{Comes}
 use Rattle.bl_image.proofs.part_reader.read_parts.Given as goal
 
 -- the first parts came

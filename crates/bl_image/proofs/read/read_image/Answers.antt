@@ -3,7 +3,7 @@ use Rattle.std.proofs.lemmas.Result.{err_from_is_err_and}
 use Rattle.bl_image.specs.Image.{head, spelling}
 use Rattle.bl_image.specs.ImageHandover.{IsKeptByImages}
 use Rattle.bl_image.specs.ImageFaults.{image_fault, parts_fault, no_records, end_fault}
-use Rattle.bl_image.specs.internal.PlaceRecords.{total_length}
+use Rattle.bl_image.specs.internal.KeptRecords.{total_length}
 use Rattle.bl_plan.specs.declared.part.Place.{Place}
 use Rattle.bl_plan.specs.declared.protocol.Protocol.{Protocol}
 use Rattle.bl_load.specs.declared.registers.Registers.{Registers}
@@ -12,7 +12,7 @@ use Rattle.bl_load.specs.HandoffFacts.{IsRoleAllowed}
 use Rattle.bl_load.specs.Protocols.{is_wide}
 use Rattle.bl_image.specs.declared.version.Version.{Version}
 use Rattle.bl_image.specs.Layouts.{max_role}
-use Rattle.bl_image.specs.Source.{SourceFacts, Comes}
+use Rattle.bl_image.specs.SourceFacts.{SourceFacts, Comes}
 use Rattle.bl_image.specs.Spellable.{AreRegistersOf}
 use Rattle.bl_image.specs.Versions.{HasProtocol}
 use Rattle.bl_image.proofs.Inputs.{comes_more, comes_as}

@@ -10,7 +10,7 @@ use Rattle.bl_load.specs.declared.registers.Registers.TheVariants.{Bits32}
 use Rattle.bl_image.specs.Fields.{Field, zero_extended_field, absent_field}
 use Rattle.bl_image.specs.Image.{narrow_values, wide_values}
 use Rattle.bl_image.specs.Layouts.{registers_2_narrow}
-use Rattle.bl_image.specs.Source.{SourceFacts}
+use Rattle.bl_image.specs.SourceFacts.{SourceFacts}
 use Rattle.bl_image.specs.internal.SourceReading.{PassAll}
 use Rattle.bl_image.proofs.FieldRows.{pass_as, pass_both, refused_before, refused_behind}
 use Rattle.bl_image.proofs.WideLemmas.{wide_by, wide_spelling, spelled_wide}

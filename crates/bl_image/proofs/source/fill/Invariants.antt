@@ -1,5 +1,5 @@
 use Rattle.std.proofs.Common.{length, ◌-◌, ◌≡◌, ◌≤◌, take}
-use Rattle.bl_image.specs.Source.{Comes}
+use Rattle.bl_image.specs.SourceFacts.{Comes}
 use Rattle.bl_image.proofs.source.fill.Given as goal
 
 -- what came stands at the front

@@ -3,7 +3,7 @@ use Rattle.bl_load.specs.declared.refusal.PrepFault.{PrepFault}
 use Rattle.bl_load.specs.declared.refusal.PrepFault.TheVariants.{Refused}
 use Rattle.bl_stage.specs.Staged.{Staging}
 use Rattle.bl_session.specs.attempt.AttemptResult.{size_refusal}
-use Rattle.bl_session.specs.internal.session.SessionPhases.{IsSizeFault}
+use Rattle.bl_session.specs.internal.session.KeptPhases.{IsSizeFault}
 use Rattle.bl_session.specs.menu.Menu.{facts_of, files_of}
 use Rattle.bl_session.proofs.attempt_lemmas.AttemptLemmas.{begun_staged, staged_lengths}
 use Rattle.bl_session.proofs.attempt_lemmas.EarlyReturnLemmas.{no_value, on_error, keeps_same}

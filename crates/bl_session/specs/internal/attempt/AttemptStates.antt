@@ -21,8 +21,8 @@ use Rattle.bl_session.specs.attempt.AttemptResult.{known_lengths}
 use Rattle.bl_session.specs.menu.Menu.{EntryFacts, files_of, value_with}
 use Rattle.bl_session.specs.attempt.AwaitedPieces.{are_whole, waiting_files}
 use Rattle.bl_session.specs.session.Phases.{handover_held, LiesWithin}
-use Rattle.bl_session.specs.internal.session.SessionPhases.{HasSmallFiles, LacksPiece}
-use Rattle.bl_session.specs.internal.session.SessionPhases.{sizes_in}
+use Rattle.bl_session.specs.internal.session.KeptPhases.{HasSmallFiles, LacksPiece}
+use Rattle.bl_session.specs.internal.session.KeptPhases.{sizes_in}
 
 -- an attempt with this stage, unless it has ended
 abbrev pub attempt_with : {A : Type 0} → Staging → Option (AttemptEnd A) → Attempt A

@@ -4,7 +4,7 @@ use Rattle.bl_stage.specs.Staged.{Staging}
 use Rattle.bl_stage.specs.Pieces.{is_missing}
 use Rattle.bl_stage.specs.PieceStates.{PieceState}
 use Rattle.bl_session.specs.declared.attempt.ticket.Ticket.{Ticket}
-use Rattle.bl_session.specs.attempt.Tickets.{first_awaited_piece, first_ticket, ticket_or}
+use Rattle.bl_session.specs.attempt.AwaitedTickets.{first_awaited_piece, first_ticket, ticket_or}
 
 -- none is missing of the files before this one, nor in it before this piece
 pub record NoneMissingBelow (stage : Staging) (file piece : ℕ) : Type 0 where

@@ -5,7 +5,7 @@ use Rattle.bl_stage.specs.Pieces.{is_missing}
 use Rattle.bl_stage.specs.PieceStates.{PieceState, piece_states}
 use Rattle.bl_session.specs.declared.attempt.ticket.Ticket.{Ticket}
 use Rattle.bl_session.specs.internal.attempt.Cursors.{NoneMissingBelow}
-use Rattle.bl_session.specs.internal.session.SessionPhases.{HasSmallFiles}
+use Rattle.bl_session.specs.internal.session.KeptPhases.{HasSmallFiles}
 
 -- files and their pieces are counted in 32 bits
 pub record HasCountablePieces (stage : Staging) : Type 0 where

@@ -7,7 +7,7 @@ use Rattle.bl_stage.specs.Files.{File, missing, size_of}
 use Rattle.bl_session.specs.declared.attempt.ticket.Ticket.{Ticket}
 use Rattle.bl_session.specs.session.BootSteps.{BootFacts, State, on_running}
 use Rattle.bl_session.specs.store.History.{HistoryItem}
-use Rattle.bl_session.specs.attempt.Tickets.{first_ticket}
+use Rattle.bl_session.specs.attempt.AwaitedTickets.{first_ticket}
 use Rattle.bl_session.specs.store.Submissions.{new_submissions}
 use Rattle.bl_session.specs.runs.Run.{RunState, Delivers}
 

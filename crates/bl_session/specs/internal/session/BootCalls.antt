@@ -18,9 +18,9 @@ use Rattle.bl_session.specs.session.BootSteps.{attempt_number}
 use Rattle.bl_session.specs.session.BootSteps as steps
 use Rattle.bl_session.specs.session.Phases.{phase_facts, is_waiting, not_started}
 use Rattle.bl_session.specs.session.BootMemory.{IsMemoryAt}
-use Rattle.bl_session.specs.internal.session.SessionPhases.{facts_of_boot, running_in, state_in}
-use Rattle.bl_session.specs.internal.session.SessionPhases.{phase_by}
-use Rattle.bl_session.specs.internal.session.SessionPhases.{IsPhaseKept}
+use Rattle.bl_session.specs.internal.session.KeptPhases.{facts_of_boot, running_in, state_in}
+use Rattle.bl_session.specs.internal.session.KeptPhases.{phase_by}
+use Rattle.bl_session.specs.internal.session.KeptPhases.{IsPhaseKept}
 
 -- memory has the machine's size, and the pool its room
 pub record HasPoolRoom (machine : MachineFacts) (bytes : List ℕ) (has_room : ℕ → Type 0)

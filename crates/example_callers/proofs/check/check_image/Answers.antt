@@ -1,5 +1,5 @@
 use Rattle.std.proofs.Common.{Some, ap, drop}
-use Rattle.bl_image.specs.Sources.{MemSourceFacts}
+use Rattle.bl_image.specs.SourceFacts.{MemSourceFacts}
 use Rattle.example_callers.proofs.check.check_image.Goals as goal
 
 pub returns : goal.returns

@@ -1,12 +1,12 @@
 use Rattle.std.proofs.Common.{List, ℕ, Err, inr, refl}
 use Rattle.std.proofs.lemmas.Result.{err_from_is_err_and}
 use Rattle.bl_load.specs.Handover.{Handover}
-use Rattle.bl_image.specs.Source.{SourceFacts}
+use Rattle.bl_image.specs.SourceFacts.{SourceFacts}
 use Rattle.bl_walk.specs.Faults.{HasWalkFault}
 use Rattle.bl_walk.specs.declared.fault.WalkFault.{WalkFault}
 use Rattle.bl_walk.specs.declared.fault.WalkFault.TheVariants.{OutsideImage, BadInfo, BadState}
 use Rattle.bl_walk.specs.declared.fault.WalkFault.TheVariants.{NoMemory}
-use Rattle.program_commands.specs.Walked.{ReadsImage}
+use Rattle.program_commands.specs.ReadImage.{ReadsImage}
 use Rattle.program_commands.specs.internal.WalkEnds.{WalkEnds, end_of_walk_fault}
 use Rattle.program_commands.proofs.image_walk.run_walk.Goals as goal
 

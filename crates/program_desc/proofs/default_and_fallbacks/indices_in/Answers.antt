@@ -1,7 +1,7 @@
 use Rattle.std.proofs.Common.{◌<◌, ◌∙◌, All}
 use Rattle.std.proofs.lemmas.List.Elements.{All-push}
 use Rattle.std.proofs.lemmas.Result.{err_from_is_err_and}
-use Rattle.program_desc.specs.Values.{toml_index}
+use Rattle.program_desc.specs.TomlValues.{toml_index}
 use Rattle.program_desc.proofs.ItemLemmas.{one_read, all_read, one_fails}
 use Rattle.program_desc.proofs.default_and_fallbacks.indices_in.Goals as goal
 

@@ -1,6 +1,6 @@
 use Rattle.std.proofs.Common.{◌≡◌, ◌<◌, drop, All}
 use Rattle.toml.specs.View.{items_view}
-use Rattle.program_desc.specs.Values.{each_item, toml_index}
+use Rattle.program_desc.specs.TomlValues.{each_item, toml_index}
 use Rattle.program_desc.proofs.ItemLemmas.{with_front}
 use Rattle.program_desc.proofs.default_and_fallbacks.indices_in.Given as goal
 

@@ -1,6 +1,6 @@
 use Rattle.std.proofs.Common.{◌≡◌, drop, map}
 use Rattle.toml.specs.View.{items_view}
-use Rattle.program_desc.specs.Values.{each_item, in_table}
+use Rattle.program_desc.specs.TomlValues.{each_item, in_table}
 use Rattle.program_desc.specs.Described.{file_in}
 use Rattle.program_desc.specs.Views.{file_view}
 use Rattle.program_desc.proofs.ItemLemmas.{with_front}

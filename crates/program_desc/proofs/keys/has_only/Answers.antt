@@ -6,7 +6,7 @@ use Rattle.std.specs.Str.{bytes_eq}
 use Rattle.std.proofs.lemmas.Iterator.Consumers.{YieldsList-from_rest}
 use Rattle.std.proofs.lemmas.Iterator.Search.{all_from_yields_List}
 use borrow.Author.Tests.{tests}
-use Rattle.program_desc.specs.Keys.{keys_of_set}
+use Rattle.program_desc.specs.KeyRules.{keys_of_set}
 use Rattle.program_desc.proofs.KeyLemmas.{has_only-members}
 use Rattle.program_desc.proofs.keys.has_only.Goals as goal
 

@@ -1,6 +1,6 @@
 use Rattle.std.proofs.Common.{◌∙◌, map}
 use Rattle.std.proofs.lemmas.Result.{err_from_is_err_and}
-use Rattle.program_desc.specs.Values.{in_table}
+use Rattle.program_desc.specs.TomlValues.{in_table}
 use Rattle.program_desc.specs.Entries.{module_in}
 use Rattle.program_desc.specs.Views.{module_view}
 use Rattle.program_desc.proofs.ItemLemmas.{front_none, one_more, all_read, one_fails}

@@ -1,6 +1,6 @@
 use Rattle.std.proofs.Common.{◌∙◌}
 use Rattle.std.proofs.lemmas.Result.{err_from_is_err_and}
-use Rattle.program_desc.specs.Values.{in_table}
+use Rattle.program_desc.specs.TomlValues.{in_table}
 use Rattle.program_desc.specs.Described.{region_in}
 use Rattle.program_desc.proofs.ItemLemmas.{front_none, one_read, all_read, one_fails}
 use Rattle.program_desc.proofs.regions.regions_in.Goals as goal

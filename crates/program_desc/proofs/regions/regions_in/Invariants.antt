@@ -1,6 +1,6 @@
 use Rattle.std.proofs.Common.{◌≡◌, drop}
 use Rattle.toml.specs.View.{items_view}
-use Rattle.program_desc.specs.Values.{each_item, in_table}
+use Rattle.program_desc.specs.TomlValues.{each_item, in_table}
 use Rattle.program_desc.specs.Described.{region_in}
 use Rattle.program_desc.proofs.ItemLemmas.{with_front}
 use Rattle.program_desc.proofs.regions.regions_in.Given as goal

@@ -1,6 +1,6 @@
 use Rattle.std.proofs.Common.{◌≡◌, ℕ, List, [], drop, slice_index_or}
 use Rattle.bl_stage.specs.PieceStates.{piece_states}
-use Rattle.bl_session.specs.attempt.Tickets.{first_awaited_piece}
+use Rattle.bl_session.specs.attempt.AwaitedTickets.{first_awaited_piece}
 use Rattle.bl_session.proofs.attempt.missing_pieces.piece_from.Given as goal
 
 -- the first is none of those before this one

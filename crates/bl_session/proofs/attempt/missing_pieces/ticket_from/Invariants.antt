@@ -1,6 +1,6 @@
 use Rattle.std.proofs.Common.{◌≡◌, ℕ, List, drop}
 use Rattle.bl_stage.specs.PieceStates.{piece_states}
-use Rattle.bl_session.specs.attempt.Tickets.{first_ticket}
+use Rattle.bl_session.specs.attempt.AwaitedTickets.{first_ticket}
 use Rattle.bl_session.proofs.attempt.missing_pieces.ticket_from.Given as goal
 
 -- the first is of no file before this one

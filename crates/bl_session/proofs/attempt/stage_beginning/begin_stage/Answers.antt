@@ -2,7 +2,7 @@ use Rattle.std.proofs.lemmas.Grind.{common_steps}
 use Rattle.bl_session.proofs.menu_lemmas.MenuLemmas.{few_files}
 use Rattle.std.proofs.Common.{arith, ap, rules, ◌∙◌}
 use Rattle.bl_stage.specs.Staged.{Staging}
-use Rattle.bl_session.specs.internal.session.SessionPhases.{sizes_in}
+use Rattle.bl_session.specs.internal.session.KeptPhases.{sizes_in}
 use Rattle.bl_session.proofs.attempt_lemmas.SizeLemmas.{stage_small}
 use Rattle.bl_session.proofs.attempt.stage_beginning.begin_stage.Goals as goal
 

@@ -4,8 +4,8 @@ use Rattle.bl_stage.specs.PieceStates.{piece_states}
 use Rattle.bl_stage.specs.Staged.{Staging}
 use Rattle.bl_session.specs.session.BootSteps.{piece, is_wanted}
 use Rattle.bl_session.specs.session.Phases.{boot_facts}
-use Rattle.bl_session.specs.internal.session.SessionPhases.{state_of, phase_by, HasSmallFiles}
-use Rattle.bl_session.specs.internal.session.SessionPhases.{IsPhaseKept}
+use Rattle.bl_session.specs.internal.session.KeptPhases.{state_of, phase_by, HasSmallFiles}
+use Rattle.bl_session.specs.internal.session.KeptPhases.{IsPhaseKept}
 use Rattle.bl_session.proofs.attempt_lemmas.CursorLemmas.{none_below_later}
 use Rattle.bl_session.specs.declared.session.phase.Phase.TheVariants.{Waits}
 use Rattle.bl_session.proofs.session_lemmas.StepLemmas.{wanted_not, steps_unchanged, wanted_stored}

@@ -4,7 +4,7 @@ use Rattle.bl_session.specs.internal.attempt.AttemptStates.{IsMemoryAfterAttempt
 use Rattle.bl_session.specs.menu.Menu.{EntryFacts, facts_of}
 use Rattle.bl_session.specs.session.BootSteps.{unstarted, handed_over}
 use Rattle.bl_session.specs.session.Phases.{handover_held}
-use Rattle.bl_session.specs.internal.session.SessionPhases.{facts_of_boot}
+use Rattle.bl_session.specs.internal.session.KeptPhases.{facts_of_boot}
 use Rattle.bl_session.specs.declared.attempt.Attempt.{Attempt}
 use Rattle.bl_session.specs.declared.attempt.Attempt.TheVariants.{Waits, Ended}
 use Rattle.bl_session.specs.declared.attempt.AttemptEnd.TheVariants.{HandedOver, Refused}

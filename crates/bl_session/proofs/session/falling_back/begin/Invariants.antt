@@ -2,7 +2,7 @@ use Rattle.std.proofs.Common.{◌≤◌, ◌-◌, length, drop}
 use Rattle.bl_mem.specs.Memory.{KeepsSizeAndRoom}
 use Rattle.bl_stage.specs.Ranges.{IsSameOutside}
 use Rattle.bl_session.specs.session.BootSteps.{State, Begins}
-use Rattle.bl_session.specs.internal.session.SessionPhases.{facts_of_boot}
+use Rattle.bl_session.specs.internal.session.KeptPhases.{facts_of_boot}
 use Rattle.bl_session.proofs.session.falling_back.begin.Given as goal
 
 -- where the attempts that are left lead, after the refusals so far, all lead

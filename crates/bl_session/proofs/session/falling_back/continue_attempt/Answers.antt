@@ -9,8 +9,8 @@ use Rattle.bl_session.specs.internal.attempt.AttemptStates.{attempt_with}
 use Rattle.bl_stage.specs.PieceStates.{piece_states}
 use Rattle.bl_stage.specs.Staged.{Staging}
 use Rattle.bl_session.specs.declared.attempt.Attempt.{Attempt}
-use Rattle.bl_session.specs.internal.session.SessionPhases.{HasSmallFiles, facts_of_boot, state_of}
-use Rattle.bl_session.specs.internal.session.SessionPhases.{phase_by}
+use Rattle.bl_session.specs.internal.session.KeptPhases.{HasSmallFiles, facts_of_boot, state_of}
+use Rattle.bl_session.specs.internal.session.KeptPhases.{phase_by}
 use Rattle.bl_session.specs.declared.attempt.Attempt.TheVariants.{Waits, Ended}
 use Rattle.bl_session.specs.declared.attempt.AttemptEnd.TheVariants.{HandedOver, Refused}
 use Rattle.bl_session.specs.session.Phases.{handover_held}

@@ -1,7 +1,7 @@
 use Rattle.std.proofs.Common.{◌≡◌, ◌++◌, ◌∷◌, [], List, drop, refl, rules, subst}
 use Rattle.bl_load.specs.declared.refused_entry.RefusedEntry.{RefusedEntry}
 use Rattle.bl_session.specs.session.BootSteps.{Begins}
-use Rattle.bl_session.specs.internal.session.SessionPhases.{facts_of_boot, state_in}
+use Rattle.bl_session.specs.internal.session.KeptPhases.{facts_of_boot, state_in}
 use Rattle.bl_session.proofs.attempt_lemmas.EarlyReturnLemmas.{keeps_same}
 use Rattle.bl_session.proofs.session_lemmas.BootCallLemmas.{lacks_memory}
 use Rattle.bl_session.proofs.session.falling_back.refuse.Goals as goal

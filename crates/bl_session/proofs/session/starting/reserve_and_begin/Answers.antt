@@ -1,7 +1,7 @@
 use Rattle.std.proofs.Common.{◌≡◌, List, [], ℕ, ap, rules, slice_index, subst}
 use Rattle.bl_load.specs.declared.refused_entry.RefusedEntry.{RefusedEntry}
 use Rattle.bl_session.specs.session.BootSteps.{Begins}
-use Rattle.bl_session.specs.internal.session.SessionPhases.{facts_of_boot}
+use Rattle.bl_session.specs.internal.session.KeptPhases.{facts_of_boot}
 use Rattle.bl_session.specs.internal.session.BootCalls.{LeadsToPhase}
 use Rattle.bl_session.proofs.session_lemmas.BootCallLemmas.{lacks_memory}
 use Rattle.bl_session.proofs.session.starting.reserve_and_begin.Goals as goal

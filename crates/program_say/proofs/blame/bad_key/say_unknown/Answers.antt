@@ -1,6 +1,6 @@
 use Rattle.std.proofs.Common.{◌++◌, ◌∙◌, ℕ, List, ap, codes}
 use Rattle.std.proofs.lemmas.Result.{on_ok_weaker}
-use Rattle.program_desc.specs.Keys.{keys_of_set}
+use Rattle.program_desc.specs.KeyRules.{keys_of_set}
 use Rattle.program_say.specs.blame.BadKeyWords.{listed_words, unknown_words}
 use Rattle.program_say.proofs.blame_lemmas.KeyLemmas.{two_said}
 use Rattle.program_say.proofs.blame.bad_key.say_unknown.Goals as goal

@@ -2,7 +2,7 @@ use Rattle.std.proofs.Common.{◌≡◌, arith, drop, length, rules, ap}
 use Rattle.std.proofs.lemmas.Grind.{common_steps}
 use Rattle.bl_session.specs.menu.Menu.{EntryFacts, files_of}
 use Rattle.bl_session.specs.session.Phases.{phase_facts}
-use Rattle.bl_session.specs.internal.session.SessionPhases.{facts_of_boot}
+use Rattle.bl_session.specs.internal.session.KeptPhases.{facts_of_boot}
 use Rattle.bl_session.proofs.menu_lemmas.MenuLemmas.{few_files}
 use Rattle.bl_session.proofs.attempt_lemmas.RequestLemmas.{request_after_is}
 use Rattle.bl_session.proofs.session.phase.BootContext.missing_after.Goals as goal

@@ -4,7 +4,7 @@ use Rattle.bl_session.proofs.menu_lemmas.MenuLemmas.{few_files}
 use Rattle.std.proofs.Common.{◌≡◌, drop, length, rules, ap}
 use Rattle.bl_session.specs.menu.Menu.{EntryFacts, files_of}
 use Rattle.bl_session.specs.session.Phases.{phase_facts}
-use Rattle.bl_session.specs.internal.session.SessionPhases.{facts_of_boot}
+use Rattle.bl_session.specs.internal.session.KeptPhases.{facts_of_boot}
 use Rattle.bl_session.proofs.run_lemmas.AskFileLemmas.{asked_in}
 use Rattle.bl_session.proofs.session.phase.BootContext.submit_pieces.Goals as goal
 

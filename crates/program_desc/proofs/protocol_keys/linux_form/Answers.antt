@@ -1,7 +1,7 @@
 use Rattle.std.proofs.Common.{refl}
 use Rattle.std.proofs.lemmas.Result.{err_from_is_err_and}
 use Rattle.program_desc.proofs.ItemLemmas.{fails_on}
-use Rattle.program_desc.proofs.protocols.linux_form.Goals as goal
+use Rattle.program_desc.proofs.protocol_keys.linux_form.Goals as goal
 
 pub returns-in_err-initrd-clause-given : goal.returns-in_err-initrd-clause-given
 returns-in_err-initrd-clause-given g c =

@@ -2,7 +2,7 @@ use Rattle.std.proofs.Common.{◌<◌, ◌≤◌, length, arith, ap, ◌∙◌}
 use Rattle.std.proofs.lemmas.List.{take_all}
 use Rattle.bl_image.specs.ImageLength.{image_length}
 use Rattle.bl_image.proofs.LengthLemmas.{one_more, short_at, image_size}
-use Rattle.bl_image.proofs.lengths.image_len.Goals as goal
+use Rattle.bl_image.proofs.image_length.image_len.Goals as goal
 
 pub loop-i-preserved : goal.loop-i-preserved
 loop-i-preserved g c =

@@ -1,6 +1,6 @@
 use Rattle.std.proofs.Common.{◌≡◌, ◌+◌, ◌*◌, ◌≤◌, ◌^◌, take}
 use Rattle.bl_image.specs.ImageLength.{image_length}
-use Rattle.bl_image.proofs.lengths.image_len.Given as goal
+use Rattle.bl_image.proofs.image_length.image_len.Given as goal
 
 -- the head, the records and the bytes of the first places
 abbrev pub invariant-loop-i : goal.invariant-loop-i

@@ -1,4 +1,4 @@
--- What a session keeps of its phase, and of the stage of an attempt that waits.
+-- What a session keeps of its phase, and of the stage of an attempt that waits. Own.
 use Rattle.std.specs.Prelude.{◌≡◌, ℕ, ◌<◌, ◌≤◌, List, length, All, Option, None, Some, Result}
 use Rattle.std.specs.Prelude.{map, slice_index_or}
 use Rattle.std.specs.Prelude.{Ok, Err}

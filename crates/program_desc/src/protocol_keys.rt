@@ -2,9 +2,9 @@
 ghost use Rattle.std.specs.Prelude.{◌≡◌, codes, option_map, None, Some, IfOk, IfSome};
 ghost use Rattle.toml.specs.View.{table_view};
 ghost use Rattle.bl_plan.specs.Protocols.{of_linux};
-ghost use Rattle.program_desc.specs.Values as values;
+ghost use Rattle.program_desc.specs.TomlValues as values;
 ghost use Rattle.program_desc.specs.Entries as spec;
-ghost use Rattle.program_desc.specs.Keys.{keys_of_set, set_of_protocol};
+ghost use Rattle.program_desc.specs.KeyRules.{keys_of_set, set_of_protocol};
 ghost use Rattle.program_desc.specs.EntryFormViews.{HasCopyLength};
 ghost use Rattle.program_desc.specs.Views.{AnswersAs, form_view};
 
