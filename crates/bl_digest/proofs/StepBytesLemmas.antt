@@ -5,7 +5,7 @@ use Rattle.std.proofs.Common.{◌∙◌, replicate, append_assoc, subst, slice_r
 use Rattle.std.proofs.Common.{add-zero}
 use Rattle.std.proofs.lemmas.List.{append-nil, nil_from_length, drop-drop, drop_at, take_at}
 use Rattle.bl_mem.specs.declared.segment.Segment.{Segment}
-use Rattle.bl_mem.specs.HeldAddresses.{nth_file}
+use Rattle.bl_mem.specs.FileSet.{nth_file}
 use Rattle.bl_mem.specs.SegmentContents.{file_part, contents_of}
 use Rattle.bl_plan.specs.declared.part.Place.{Place}
 use Rattle.bl_load.specs.declared.plan.Content.{Content}

@@ -24,9 +24,9 @@ program_header_size Elf32 = 32
 program_header_size Elf64 = 56
 
 -- EM_386 and EM_X86_64
-abbrev pub machine_of : Class → ℕ
-machine_of Elf32 = 3
-machine_of Elf64 = 62
+abbrev pub required_machine : Class → ℕ
+required_machine Elf32 = 3
+required_machine Elf64 = 62
 
 -- the fields of Elf32_Ehdr and of Elf64_Ehdr, each at its offset
 abbrev pub header_in : Class → List ℕ → Header
@@ -82,7 +82,7 @@ has_table size header =
 unfoldable pub field_fault : ℕ → Header → Option ElfFault
 field_fault size header =
     if not (is_executable header) then Some BadElf else
-    if not (header.e_machine == machine_of header.class) then Some BadElf else
+    if not (header.e_machine == required_machine header.class) then Some BadElf else
     if not (header.e_version == 1) then Some BadElf else
     if nat_lt 128 header.e_phnum then Some BadElf else
     if not (has_table size header) then Some BadElf else

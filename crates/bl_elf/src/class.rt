@@ -33,8 +33,8 @@ impl Class {
     }
 
     /// The number of the machine that a file of this class has to name: an i386 or an x86-64.
-    pub fn machine(self) -> u16
-        ensures { result ≡ spec.machine_of self }
+    pub fn required_machine(self) -> u16
+        ensures { result ≡ spec.required_machine self }
     {
         match self {
             Class::Elf32 => EM_386,

@@ -129,7 +129,7 @@ fn check_fields(size: u64, header: Header) -> Result<(), ElfFault>
     if header.e_type != ET_EXEC && header.e_type != ET_DYN {
         return Err(ElfFault::BadElf);
     }
-    if header.e_machine != header.class.machine() {
+    if header.e_machine != header.class.required_machine() {
         return Err(ElfFault::BadElf);
     }
     if header.e_version != EV_CURRENT {

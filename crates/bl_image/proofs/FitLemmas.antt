@@ -12,7 +12,7 @@ use Rattle.bl_load.specs.Registers.{are_wide}
 use Rattle.bl_load.specs.PlanContents.{part_in, handover_in}
 use Rattle.bl_image.specs.ImageHandover.{IsKeptByImages}
 use Rattle.bl_image.specs.Spellable.{FitsRecord, IsSpellable, AreFit}
-use Rattle.bl_image.specs.internal.KeptRecords.{PlaceFits, AreSpellable}
+use Rattle.bl_image.specs.internal.PlaceRecords.{PlaceFits, AreSpellable}
 use Rattle.bl_image.proofs.PartLemmas.{memory_kept}
 use Rattle.bl_image.proofs.Spelled.{EndsIn, length-place_bytes}
 

@@ -14,7 +14,7 @@ use Rattle.bl_load.specs.HandoffFacts.{IsRoleAllowed}
 use Rattle.bl_image.specs.Image.{magic, head, spelled_registers}
 use Rattle.bl_image.specs.Layouts.{max_role}
 use Rattle.bl_image.specs.Spellable.{AreRegistersOf}
-use Rattle.bl_image.specs.internal.KeptRecords.{place_record, IsNext}
+use Rattle.bl_image.specs.internal.PlaceRecords.{place_record, IsNext}
 use Rattle.bl_image.specs.declared.version.Version.{Version}
 use Rattle.bl_image.specs.Versions.{version_number, max_protocol, HasProtocol}
 use Rattle.bl_image.specs.Fields.{Field, fields_fault, magic_field, version_field, protocol_field}

@@ -24,7 +24,7 @@ use Rattle.bl_image.specs.ImageFaults.{RecordsBefore, with_record, parts_fault, 
 use Rattle.bl_image.specs.ImageFaults.{no_records}
 use Rattle.bl_image.specs.ImageFaults.{image_fault}
 use Rattle.bl_image.specs.ImageHandover.{part_place, PartAscends, IsKeptByImages, IsImage}
-use Rattle.bl_image.specs.internal.KeptRecords.{IsNext}
+use Rattle.bl_image.specs.internal.PlaceRecords.{IsNext}
 use Rattle.bl_image.specs.SourceFacts.{IsBytesFault, SourceFacts, IsTransient, IsInputFault}
 use Rattle.bl_image.proofs.FrontLemmas.{head_front}
 use Rattle.bl_image.proofs.KnownLemmas.{fails_known}

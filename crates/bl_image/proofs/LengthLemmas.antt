@@ -13,7 +13,7 @@ use Rattle.bl_load.specs.declared.registers.Registers.TheVariants.{Bits32, Bits6
 use Rattle.bl_load.specs.PlanContents.{handover_in}
 use Rattle.bl_image.specs.Image.{head, spelling}
 use Rattle.bl_image.specs.ImageLength.{image_length}
-use Rattle.bl_image.specs.internal.KeptRecords.{place_record, place_bytes}
+use Rattle.bl_image.specs.internal.PlaceRecords.{place_record, place_bytes}
 use Rattle.bl_image.specs.Versions.{written_version}
 use Rattle.bl_image.proofs.Spelled.{EndsIn, length-place_bytes, image_in}
 

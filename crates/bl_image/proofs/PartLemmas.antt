@@ -20,8 +20,8 @@ use Rattle.bl_image.specs.declared.fault.ImageFault.TheVariants.{WrongLength}
 use Rattle.bl_image.specs.declared.version.Version.{Version}
 use Rattle.bl_image.specs.Front.{front_of}
 use Rattle.bl_image.specs.Image.{head, part_record, spelling}
-use Rattle.bl_image.specs.internal.KeptRecords.{place_record, total_length, PlaceFits, image_front}
-use Rattle.bl_image.specs.internal.KeptRecords.{AreSpellable}
+use Rattle.bl_image.specs.internal.PlaceRecords.{place_record, total_length, PlaceFits, image_front}
+use Rattle.bl_image.specs.internal.PlaceRecords.{AreSpellable}
 use Rattle.bl_image.specs.ImageFaults.{end_fault}
 use Rattle.bl_image.specs.ImageHandover.{part_place, handoff_of, PartAscends, IsKeptByImages}
 use Rattle.bl_image.specs.SourceFacts.{SourceFacts, Comes}

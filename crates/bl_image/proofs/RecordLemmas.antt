@@ -14,7 +14,7 @@ use Rattle.bl_image.specs.declared.fault.ImageFault.TheVariants.{BadPart, WrongL
 use Rattle.bl_image.specs.declared.fault.ImageFault.TheVariants.{NoMemory}
 use Rattle.bl_load.specs.HandoffFacts.{IsRoleAllowed}
 use Rattle.bl_image.specs.Layouts.{max_role}
-use Rattle.bl_image.specs.internal.KeptRecords.{place_record, IsNext}
+use Rattle.bl_image.specs.internal.PlaceRecords.{place_record, IsNext}
 use Rattle.bl_image.specs.Fields.{Field, fields_fault, record_fields, role_field, index_field}
 use Rattle.bl_image.specs.Fields.{address_field, length_field}
 use Rattle.bl_image.specs.ImageFaults.{fault_or, record_fault, RecordsBefore, with_record}

@@ -15,8 +15,8 @@ use Rattle.bl_load.specs.HandoffFacts.{Ascends, IsWellFormedHandoff, IsRoleAllow
 use Rattle.bl_load.specs.Protocols.{is_wide}
 use Rattle.bl_load.specs.Registers.{are_wide}
 use Rattle.bl_image.specs.Layouts.{max_role}
-use Rattle.bl_image.specs.internal.KeptRecords.{place_record, IsNext, AreSound, total_length}
-use Rattle.bl_image.specs.internal.KeptRecords.{PlaceFits}
+use Rattle.bl_image.specs.internal.PlaceRecords.{place_record, IsNext, AreSound, total_length}
+use Rattle.bl_image.specs.internal.PlaceRecords.{PlaceFits}
 use Rattle.bl_image.specs.ImageFaults.{RecordsBefore, parts_fault, no_records}
 use Rattle.bl_image.proofs.RecordLemmas.{parts_step}
 

@@ -16,7 +16,7 @@ use Rattle.bl_load.specs.Handover.{Part}
 use Rattle.bl_load.specs.PlanContents.{part_in, handover_in}
 use Rattle.bl_image.specs.declared.version.Version.{Version}
 use Rattle.bl_image.specs.Image.{head, record_of, part_record, spelling}
-use Rattle.bl_image.specs.internal.KeptRecords.{place_record, place_bytes}
+use Rattle.bl_image.specs.internal.PlaceRecords.{place_record, place_bytes}
 
 -- the place ends inside memory
 abbrev pub EndsIn : List ℕ → Place → Type 0

@@ -18,7 +18,7 @@ use Rattle.bl_image.specs.Layouts.{max_role}
 use Rattle.bl_image.specs.declared.fault.ImageFault.TheVariants.{WrongLength}
 use Rattle.bl_image.specs.declared.version.Version.{Version}
 use Rattle.bl_image.specs.Image.{head}
-use Rattle.bl_image.specs.internal.KeptRecords.{place_record, total_length, PlaceFits}
+use Rattle.bl_image.specs.internal.PlaceRecords.{place_record, total_length, PlaceFits}
 use Rattle.bl_image.specs.ImageFaults.{head_fault, image_fault, parts_fault, RecordsBefore}
 use Rattle.bl_image.specs.ImageFaults.{with_record}
 use Rattle.bl_image.specs.ImageFaults.{no_records, end_fault}

@@ -1,3 +1,3 @@
-pub mod KeptRecords
+pub mod PlaceRecords
 pub mod SinkWriting
 pub mod SourceReading

@@ -2,7 +2,7 @@
 ghost use Rattle.std.specs.Prelude.{◌≡◌, ◌≤◌, ◌<◌, ◌^◌, length, map, All, IfOk};
 ghost use Rattle.std.specs.List.{flat_map};
 ghost use Rattle.bl_image.specs.ImageHandover.{part_place};
-ghost use Rattle.bl_image.specs.internal.KeptRecords.{total_length};
+ghost use Rattle.bl_image.specs.internal.PlaceRecords.{total_length};
 ghost use Rattle.bl_image.specs.internal.SourceReading.{ReadsBytes, AppendsBytes};
 
 use crate::fault::ImageFault;

@@ -3,7 +3,7 @@ ghost use Rattle.std.specs.Prelude.{◌≡◌, ◌+◌, ◌≤◌, ◌<◌, ◌^
 ghost use Rattle.std.specs.Prelude.{OnErr, IfOk};
 ghost use Rattle.std.specs.List.{flat_map};
 ghost use Rattle.bl_image.specs.SinkFacts.{TookBeginning};
-ghost use Rattle.bl_image.specs.internal.KeptRecords.{place_bytes};
+ghost use Rattle.bl_image.specs.internal.PlaceRecords.{place_bytes};
 ghost use Rattle.bl_image.specs.internal.SinkWriting.{Writes};
 
 use crate::sink::{DeviceFault, Sink, write_all};

@@ -6,7 +6,7 @@ ghost use Rattle.bl_plan.specs.RoleNumbers as roles;
 ghost use Rattle.bl_load.specs.HandoffFacts.{max_parts, IsRoleAllowed};
 ghost use Rattle.bl_image.specs.Fields as fields;
 ghost use Rattle.bl_image.specs.Layouts.{max_role};
-ghost use Rattle.bl_image.specs.internal.KeptRecords.{place_record, IsNext, AreRecords};
+ghost use Rattle.bl_image.specs.internal.PlaceRecords.{place_record, IsNext, AreRecords};
 ghost use Rattle.bl_image.specs.ImageFaults.{record_fault, parts_fault, no_records};
 ghost use Rattle.bl_image.specs.internal.SourceReading.{ReadsField, ReadsOrRefuses};
 ghost use Rattle.bl_image.specs.internal.SourceReading.{IsFoundByNumber};

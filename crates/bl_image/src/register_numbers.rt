@@ -12,7 +12,7 @@ pub(crate) const WIDE: usize = 31;
 
 /// The numbers of the registers of 32 bits, in the order of those of 64; what they do not give is
 /// 0.
-fn narrow_numbers(r: &Registers32) -> [u64; WIDE]
+fn zero_extended_numbers(r: &Registers32) -> [u64; WIDE]
     ensures wide { result ≡ image.wide_values (Bits32 r.now) }
     ensures fit { All (λ n. n < 2 ^ 32) (narrow_values r.now) }
 {
@@ -52,7 +52,7 @@ fn narrow_numbers(r: &Registers32) -> [u64; WIDE]
 }
 
 /// The numbers of the registers of 64 bits, in their order.
-fn wide_values(r: Registers64) -> [u64; WIDE]
+fn wide_numbers(r: Registers64) -> [u64; WIDE]
     ensures wide { result ≡ image.wide_values (Bits64 r) }
     ensures fit { All (λ n. n < 2 ^ 64) (image.wide_values (Bits64 r)) }
 {
@@ -97,14 +97,14 @@ pub(crate) fn numbers_of(r: &Registers) -> [u64; WIDE]
     ensures fit { AreFit r.now }
 {
     match r {
-        Registers::Bits32(r) => narrow_numbers(r),
-        Registers::Bits64(r) => wide_values(*r),
+        Registers::Bits32(r) => zero_extended_numbers(r),
+        Registers::Bits64(r) => wide_numbers(*r),
     }
 }
 
 /// The registers that have these numbers, in their order: 9 from the address where the kernel is
 /// entered on, the flags and the control register, and 9 from the code segment on.
-pub(crate) fn registers_of(first: &[u32], flags: &[u32], last: &[u32]) -> Registers32
+pub(crate) fn narrow_registers_of(first: &[u32], flags: &[u32], last: &[u32]) -> Registers32
     requires first { length first.now ≡ 9 }
     requires flags { length flags.now ≡ 2 }
     requires last { length last.now ≡ 9 }

@@ -15,7 +15,7 @@ ghost use Rattle.bl_image.specs.declared.version.Version.TheVariants as version;
 
 use crate::fault::ImageFault;
 use crate::field_reader::{read_u32s, read_u64, read_u64s};
-use crate::register_numbers::{WIDE, registers_of, wide_registers_of};
+use crate::register_numbers::{WIDE, narrow_registers_of, wide_registers_of};
 use crate::source::Source;
 use crate::version::Version;
 use bl_load::{Protocol, Registers, Registers32, Registers64};
@@ -46,7 +46,7 @@ fn read_any_registers<S: Source>(source: &mut S) -> Result<Registers32, ImageFau
 {
     let mut numbers = [0u32; REGISTERS];
     read_u32s(source, &mut numbers)?;
-    Ok(registers_of(
+    Ok(narrow_registers_of(
         &numbers[..LOW],
         &numbers[LOW..LOW + FLAGS],
         &numbers[LOW + FLAGS..],
@@ -120,7 +120,7 @@ fn read_narrow_registers<S: Source>(source: &mut S) -> Result<Registers32, Image
     read_absents(source, PAGING)?;
     let mut last = [0u32; HIGH];
     read_narrows(source, &mut last)?;
-    Ok(registers_of(&first, &flags, &last))
+    Ok(narrow_registers_of(&first, &flags, &last))
 }
 
 /// Reads the registers of version 2 under a protocol of 64 bits, of which each may be anything.

@@ -5,7 +5,7 @@ use Rattle.std.proofs.Common.{length-append, drop, rules}
 use Rattle.std.proofs.lemmas.List.{same_lists, length-replicate, drop_all, places}
 use Rattle.std.proofs.lemmas.List.Elements.{All-cons}
 use Rattle.bl_mem.specs.Memory.{overwrite}
-use Rattle.bl_mem.specs.HeldAddresses.{IsApartFrom, Agree}
+use Rattle.bl_mem.specs.FileSet.{IsApartFrom, Agree}
 use Rattle.bl_mem.proofs.Overwrites.{overwrite_more, beside_zeros}
 use Rattle.bl_mem.specs.declared.segment.Segment.{Segment}
 use Rattle.bl_mem.specs.SegmentContents.{contents_of, segment_holds}

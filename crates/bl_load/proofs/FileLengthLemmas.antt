@@ -10,7 +10,7 @@ use Rattle.bl_map.specs.NormalMap.{low_kib, high_kib}
 use Rattle.bl_map.specs.PoolFrames.{round_up_to_frames}
 use Rattle.bl_mb2head.specs.declared.relocation.Relocation.{Relocation}
 use Rattle.bl_mbi.specs.InfoToWriteFacts.{ModuleInfo, InfoToWriteFacts, info_size}
-use Rattle.bl_mem.specs.HeldAddresses.{nth_file}
+use Rattle.bl_mem.specs.FileSet.{nth_file}
 use Rattle.bl_params.specs.ParamsToWriteFacts.{ParamsToWriteFacts}
 use Rattle.bl_plan.specs.declared.part.Choice.TheVariants.{Lowest, Highest}
 use Rattle.bl_plan.specs.declared.part.Place.{Place}

@@ -9,7 +9,7 @@ use Rattle.std.proofs.lemmas.List.Elements.{All-map}
 use Rattle.std.proofs.lemmas.Bool.{cases_lt}
 use Rattle.std.proofs.lemmas.Simd.{map-map}
 use Rattle.std.specs.declared.ops.Range.{Range}
-use Rattle.bl_mem.specs.HeldAddresses.{AllApartFrom, IsApartFrom, nth_file}
+use Rattle.bl_mem.specs.FileSet.{AllApartFrom, IsApartFrom, nth_file}
 use Rattle.bl_mem.specs.Memory.{AllHaveRoom, HasRoom}
 use Rattle.bl_plan.specs.declared.part.Place.{Place}
 use Rattle.bl_plan.specs.Placed.{Covers, place_range}

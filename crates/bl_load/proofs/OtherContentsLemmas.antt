@@ -7,7 +7,7 @@ use Rattle.bl_map.specs.MachineFacts.{MachineFacts}
 use Rattle.bl_mb2head.specs.declared.relocation.Relocation.{Relocation}
 use Rattle.bl_mbi.specs.InfoToWriteFacts.{InfoToWriteFacts}
 use Rattle.bl_mbi.specs.Spelling.{info_spelling}
-use Rattle.bl_mem.specs.HeldAddresses.{nth_file}
+use Rattle.bl_mem.specs.FileSet.{nth_file}
 use Rattle.bl_mem.specs.declared.segment.Segment.{Segment}
 use Rattle.bl_params.specs.BootParams.{boot_params}
 use Rattle.bl_params.specs.ParamsToWriteFacts.{ParamsToWriteFacts}

@@ -6,7 +6,7 @@ use Rattle.std.specs.Prelude.{codes}
 use Rattle.bl_map.specs.MachineFacts.{MachineFacts}
 use Rattle.bl_mbi.specs.InfoToWriteFacts.{InfoToWriteFacts}
 use Rattle.bl_mbi.specs.Spelling.{info_spelling}
-use Rattle.bl_mem.specs.HeldAddresses.{nth_file}
+use Rattle.bl_mem.specs.FileSet.{nth_file}
 use Rattle.bl_params.specs.BootParams.{boot_params}
 use Rattle.bl_params.specs.ParamsToWriteFacts.{ParamsToWriteFacts}
 use Rattle.bl_plan.specs.AddressOrder.{places_in_order}

@@ -17,7 +17,7 @@ use Rattle.bl_load.specs.KernelReading.{KernelReading, IsKernelReading}
 use Rattle.bl_load.specs.Rows.{rows_of}
 use Rattle.bl_load.specs.Parts.{IsHandover, IsPrepFault}
 use Rattle.bl_load.specs.internal.Placing.{IsPlaceFault, IsPlacedHandover}
-use Rattle.bl_mem.specs.HeldAddresses.{nth_file}
+use Rattle.bl_mem.specs.FileSet.{nth_file}
 
 -- the kernel's file is the first
 pub first_text : {V : Type 0} (bytes : V → List ℕ) (files : List V) (file : V) → 1 ≤ length files

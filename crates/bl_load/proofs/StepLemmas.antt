@@ -5,7 +5,7 @@ use Rattle.std.proofs.Common.{All, AllPairs, slice_range, add-zero, zero-add, su
 use Rattle.std.proofs.lemmas.List.{length-replicate, append-nil, take-append-drop, take_at, drop_at}
 use Rattle.std.proofs.lemmas.List.{nil_from_length, drop-drop}
 use Rattle.bl_mem.specs.declared.segment.Segment.{Segment}
-use Rattle.bl_mem.specs.HeldAddresses.{nth_file}
+use Rattle.bl_mem.specs.FileSet.{nth_file}
 use Rattle.bl_mem.specs.Memory.{overwrite}
 use Rattle.bl_mem.specs.SegmentContents.{file_part, contents_of}
 use Rattle.bl_mem.proofs.Overwrites.{length-overwrite, overwrite_more}

@@ -34,7 +34,7 @@ use Rattle.bl_load.specs.internal.ReadKernels.{IsLinuxFault}
 use Rattle.bl_load.specs.Protocols.{has_params}
 use Rattle.bl_load.specs.declared.refusal.PrepFault.{PrepFault}
 use Rattle.bl_load.specs.declared.refusal.PrepFault.TheVariants as prep
-use Rattle.bl_mem.specs.HeldAddresses.{nth_file}
+use Rattle.bl_mem.specs.FileSet.{nth_file}
 use Rattle.bl_load.proofs.NoRoomLemmas as modules
 use Rattle.bl_load.proofs.LinuxToldLemmas as initrds
 use Rattle.bl_load.proofs.ReadingLemmas.{told_placed}

@@ -1,6 +1,6 @@
 -- What a plan holds, where the files hold these texts.
 use Rattle.std.specs.Prelude.{ℕ, ◌+◌, List, map, slice_range}
-use Rattle.bl_mem.specs.HeldAddresses.{nth_file}
+use Rattle.bl_mem.specs.FileSet.{nth_file}
 use Rattle.bl_plan.specs.declared.part.Place.{Place}
 use Rattle.bl_load.specs.declared.plan.Content.{Content}
 use Rattle.bl_load.specs.declared.plan.Content.TheVariants.{Own, File, Block}

@@ -1,7 +1,7 @@
 -- Memory once the steps of a plan are carried out, and which steps can be. Own.
 use Rattle.std.specs.Prelude.{ℕ, ◌+◌, ◌<◌, ◌≤◌, List, [], ◌∷◌, length, replicate}
 use Rattle.std.specs.Prelude.{slice_index, slice_range}
-use Rattle.bl_mem.specs.HeldAddresses.{nth_file}
+use Rattle.bl_mem.specs.FileSet.{nth_file}
 use Rattle.bl_mem.specs.Memory.{overwrite}
 use Rattle.bl_load.specs.declared.plan.Plan.{Plan}
 use Rattle.bl_load.specs.declared.step.Step.{Step}

@@ -1,6 +1,6 @@
 //! The parts of a plan come into memory.
 ghost use Rattle.std.specs.Prelude.{◌≡◌, ℕ, ◌+◌, ◌-◌, ◌<◌, ◌≤◌, length, map, slice_index, All};
-ghost use Rattle.bl_mem.specs.HeldAddresses.{AreAddressesBelow, AllApartFrom};
+ghost use Rattle.bl_mem.specs.FileSet.{AreAddressesBelow, AllApartFrom};
 ghost use Rattle.bl_mem.specs.Memory.{AllHaveRoom, KeepsSizeAndRoom};
 ghost use Rattle.bl_load.specs.internal.Copying.{IsVacant, IsPutBesideFiles, ArePutBesideFiles};
 ghost use Rattle.bl_plan.specs.Placed.{Covers, place_range};

@@ -8,12 +8,11 @@ ghost use Rattle.bl_mb2head.specs.Header.{SegmentFitsFile};
 use crate::address::address_segment;
 use crate::fault::HeadFault;
 use crate::fields::{
-    ALIGN, ARCHITECTURE, ENTRY_ADDR, ENTRY_SIZE, HEADER_LENGTH, I386, MAX_ADDR, MIN_ADDR,
-    MIN_LENGTH, PREFERENCE, RELOCATABLE_SIZE, SEARCH_END, TAGS,
+    ARCHITECTURE, ENTRY_ADDR, ENTRY_SIZE, HEADER_LENGTH, I386, MIN_LENGTH, SEARCH_END, TAGS,
 };
 use crate::header_place::find_header_place;
 use crate::last_of_type::last_tags;
-use crate::relocation::Relocation;
+use crate::relocation::{Relocation, relocation_of};
 use crate::tag::Tag;
 use bl_mem::{ByteView, Segment, u32_at};
 
@@ -67,21 +66,6 @@ fn entry_address_of<V: ByteView>(view: &V, tag: Option<Tag>) -> Option<u64>
 {
     let tag = tag?;
     Some(u32_at(view, tag.place + ENTRY_ADDR) as u64)
-}
-
-/// What the relocatable tag that counts says.
-fn relocation_of<V: ByteView>(view: &V, tag: Option<Tag>) -> Option<Relocation>
-    requires in_file { IfSome tag (λ t. t.place + RELOCATABLE_SIZE ≤ length (V.bytes view.now)) }
-    requires in_front { IfSome tag (λ t. t.place + RELOCATABLE_SIZE ≤ SEARCH_END) }
-    ensures { result ≡ header.relocation_of (V.bytes view.now) tag }
-{
-    let tag = tag?;
-    Some(Relocation {
-        min_addr: u32_at(view, tag.place + MIN_ADDR),
-        max_addr: u32_at(view, tag.place + MAX_ADDR),
-        align: u32_at(view, tag.place + ALIGN),
-        preference: u32_at(view, tag.place + PREFERENCE),
-    })
 }
 
 /// The header of a file of any length, or the file's first fault (Multiboot2 2.0, "3.1 OS image

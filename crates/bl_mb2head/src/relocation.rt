@@ -1,4 +1,10 @@
 //! The relocatable tag: where the image may be moved to.
+ghost use Rattle.std.specs.Prelude.{◌≡◌, ◌+◌, ◌≤◌, length, IfSome};
+ghost use Rattle.bl_mb2head.specs.Header as header;
+
+use crate::fields::{ALIGN, MAX_ADDR, MIN_ADDR, PREFERENCE, RELOCATABLE_SIZE, SEARCH_END};
+use crate::tag::Tag;
+use bl_mem::{ByteView, u32_at};
 
 /// The fields of a relocatable tag as they stand in the file (Multiboot2 2.0, "3.1.13 Relocatable
 /// header tag"). The first three count bytes of physical memory, and are not judged here.
@@ -14,4 +20,19 @@ pub struct Relocation {
     pub max_addr: u32,
     pub align: u32,
     pub preference: u32,
+}
+
+/// What the relocatable tag that counts says.
+pub fn relocation_of<V: ByteView>(view: &V, tag: Option<Tag>) -> Option<Relocation>
+    requires in_file { IfSome tag (λ t. t.place + RELOCATABLE_SIZE ≤ length (V.bytes view.now)) }
+    requires in_front { IfSome tag (λ t. t.place + RELOCATABLE_SIZE ≤ SEARCH_END) }
+    ensures { result ≡ header.relocation_of (V.bytes view.now) tag }
+{
+    let tag = tag?;
+    Some(Relocation {
+        min_addr: u32_at(view, tag.place + MIN_ADDR),
+        max_addr: u32_at(view, tag.place + MAX_ADDR),
+        align: u32_at(view, tag.place + ALIGN),
+        preference: u32_at(view, tag.place + PREFERENCE),
+    })
 }

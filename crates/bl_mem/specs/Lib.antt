@@ -6,4 +6,4 @@ pub mod FrameState
 pub mod SparseFrames
 pub mod internal
 pub mod Sparse
-pub mod HeldAddresses
+pub mod FileSet

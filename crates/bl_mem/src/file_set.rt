@@ -1,7 +1,7 @@
 //! Files that memory may hold.
 ghost use Rattle.std.specs.Prelude.{◌≡◌, ℕ, ◌+◌, ◌<◌, ◌≤◌, List, length, map, slice_range, refl};
 ghost use Rattle.std.specs.Prelude.{IfSome};
-ghost use Rattle.bl_mem.specs.HeldAddresses.{nth_file, AreAddressesBelow, Agree};
+ghost use Rattle.bl_mem.specs.FileSet.{nth_file, AreAddressesBelow, Agree};
 
 use crate::byte_view::ByteView;
 use crate::memory::PhysMem;

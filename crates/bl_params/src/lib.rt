@@ -1,11 +1,11 @@
 //! What a Linux kernel is handed: its boot parameters, and the descriptors of its segments.
 #![tactic(auto)]
 
-mod checks;
 mod descriptors;
 mod fault;
 mod field_writer;
 mod fields;
+mod form_checks;
 mod laws;
 mod little_endian_slice;
 mod map_reader;

@@ -8,9 +8,9 @@ ghost use Rattle.bl_params.specs.ParamsToWriteFacts.{max_e820_entries};
 ghost use Rattle.bl_params.specs.internal.CheckedForm.{HasFormBelow};
 ghost use Rattle.bl_params.specs.SizesAndOffsets.{e820_table_at, params_size};
 
-use crate::checks::check_field;
 use crate::fault::ParamFault;
 use crate::fields::{E820_ENTRIES, E820_TABLE, ENTRY_LENGTH, ENTRY_SIZE, ENTRY_TYPE};
+use crate::form_checks::check_field;
 use crate::little_endian_slice::{u32_in, u64_in};
 use bl_map::{Kind, MAX_REGION_END, Region};
 use std::alloc::Allocator;

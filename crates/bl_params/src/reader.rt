@@ -2,13 +2,13 @@
 ghost use Rattle.std.specs.Prelude.{◌+◌, ◌*◌, IfOk, IfErr};
 ghost use Rattle.bl_params.specs.Reading.{IsParams, HasFirstParamFault};
 
-use crate::checks::{end_of_header, pass_front, pass_header, pass_zeros};
 use crate::fault::ParamFault;
 use crate::fields::{
     CMD_LINE_PTR, CMDLINE_SIZE, CODE32_START, E820_ENTRIES, E820_TABLE, ENTRY_SIZE, INIT_SIZE,
     INITRD_ADDR_MAX, KERNEL_ALIGNMENT, LOADFLAGS, PARAMS_SIZE, PREF_ADDRESS, RAMDISK_IMAGE,
     RAMDISK_SIZE, RELOCATABLE_KERNEL, VERSION, XLOADFLAGS,
 };
+use crate::form_checks::{end_of_header, pass_before_header, pass_header, pass_zeros};
 use crate::little_endian_slice::{u16_in, u32_in, u64_in};
 use crate::map_reader::entries;
 use crate::params::Params;
@@ -23,7 +23,7 @@ pub fn read_params<A: Allocator + Copy>(alloc: A, bytes: &[u8]) -> Result<Params
     if bytes.len() != PARAMS_SIZE {
         return Err(ParamFault::WrongLength);
     }
-    pass_front(bytes)?;
+    pass_before_header(bytes)?;
     pass_header(bytes)?;
     pass_zeros(bytes, end_of_header(bytes), E820_TABLE)?;
     let runs = entries(alloc, bytes)?;

@@ -5,7 +5,7 @@ ghost use Rattle.bl_load.specs.EntryValue.{IsWithinLimits};
 ghost use Rattle.bl_session.specs.menu.Menu.{facts_of};
 ghost use Rattle.bl_session.specs.internal.attempt.AttemptStates.{HasAttemptStage, EndsOrWaits};
 ghost use Rattle.bl_session.specs.internal.attempt.AttemptStates.{BeginsOrEnds, attempt_with};
-ghost use Rattle.bl_session.specs.internal.session.BootCalls.{HasPoolRoom};
+ghost use Rattle.bl_session.specs.internal.attempt.AttemptStates.{HasPoolRoom};
 
 use crate::attempt::stage_beginning::begin_stage;
 use bl_load::{Entry, Handoff, PrepFault, Refusal};
@@ -15,15 +15,19 @@ use bl_stage::Stage;
 use std::alloc::{AllocError, Allocator};
 
 pub(crate) mod cursor;
+pub(crate) mod event;
 mod frames_needed;
 mod handing_over;
 pub(crate) mod missing_pieces;
+pub(crate) mod request;
 mod stage_beginning;
 pub(crate) mod ticket;
 
+pub use event::Event;
 pub use frames_needed::frames_for;
 pub use handing_over::finish_attempt;
-pub use ticket::{Event, Request, Ticket};
+pub use request::Request;
+pub use ticket::Ticket;
 
 /// How an attempt ended: its entry is handed over, or refused.
 #[derive(Drop)]

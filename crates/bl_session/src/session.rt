@@ -11,7 +11,7 @@ ghost use Rattle.bl_session.specs.session.Phases.{phase_facts, end_facts, told_e
 ghost use Rattle.bl_session.specs.session.Phases.{LiesWithin};
 ghost use Rattle.bl_session.specs.runs.Run.{final_phase};
 
-use crate::attempt::ticket::Event;
+use crate::attempt::event::Event;
 use crate::menu::Menu;
 use crate::session::boot_end::{boot_end, into_boot_end};
 use crate::session::event_taking::take_event;

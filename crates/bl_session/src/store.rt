@@ -4,7 +4,8 @@ ghost use Rattle.std.specs.Prelude.{IfSome, IsNone, slice_index_or};
 ghost use Rattle.bl_stage.specs.Files.{File, missing, size_of};
 ghost use Rattle.bl_session.specs.store.History.{HistoryItem, submitted, IsItemOfAnswer};
 
-use crate::attempt::ticket::{Event, Ticket};
+use crate::attempt::event::Event;
+use crate::attempt::ticket::Ticket;
 use std::alloc::{AllocError, Allocator};
 
 mod fetched_files;

@@ -3,7 +3,7 @@ use Rattle.std.proofs.Common.{◌≡◌, ℕ, ◌+◌, ◌*◌, ◌<◌, List, [
 use Rattle.std.proofs.lemmas.List.{places}
 use Rattle.std.proofs.lemmas.List.FromFn.{length-map-range_with_len, get_or-map-range_with_len}
 use Rattle.bl_map.specs.PoolFrames.{frames_of}
-use Rattle.bl_mem.specs.HeldAddresses.{AreAddressesBelow, nth_file}
+use Rattle.bl_mem.specs.FileSet.{AreAddressesBelow, nth_file}
 use Rattle.bl_stage.specs.Staged.{AreInside, Staging, AreStaged, HasPool, staged_file}
 use Rattle.bl_stage.specs.Staged.{frames_of_file}
 use Rattle.bl_stage.specs.Staged.{frames_before, staged_texts, IsStagedOn}

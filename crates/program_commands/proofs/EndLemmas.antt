@@ -24,7 +24,8 @@ use Rattle.program_commands.specs.declared.booting.end_fault.EndFault.TheVariant
 use Rattle.program_commands.specs.declared.booting.end_fault.EndFault.TheVariants.{Device}
 use Rattle.program_commands.specs.declared.booting.end_fault.EndFault.TheVariants.{NoMemory}
 use Rattle.program_commands.specs.described.FoundFiles.{AreFound}
-use Rattle.program_commands.specs.described.DescribedMenu.{attempted_file_names, menu_of, boot_of}
+use Rattle.program_commands.specs.described.BootCases.{boot_of}
+use Rattle.program_commands.specs.described.DescribedMenu.{attempted_file_names, menu_of}
 use Rattle.program_commands.specs.described.DescribedMachine.{IsMachineFault, IsMachineOf}
 use Rattle.program_commands.specs.described.BootCases.{BootCase}
 use Rattle.program_commands.specs.Ends.{Surroundings}

@@ -16,7 +16,7 @@ use Rattle.bl_walk.specs.State.{IsEntered}
 use Rattle.bl_walk.proofs.LegalLaws.{images_show, images_are_entered, images_are_sound}
 use Rattle.bl_session.specs.session.Schedules.{no_fault}
 use Rattle.bl_session.proofs.session_lemmas.OutcomeLaws.{is_handover}
-use Rattle.program_commands.specs.described.DescribedMenu.{boot_of}
+use Rattle.program_commands.specs.described.BootCases.{boot_of}
 use Rattle.program_commands.specs.described.BootCases.{entry_value_at}
 use Rattle.program_commands.specs.Ends.{IsBooted, Surroundings}
 use Rattle.program_commands.proofs.RunLemmas.{machine_facts}

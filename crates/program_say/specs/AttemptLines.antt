@@ -4,7 +4,7 @@ use Rattle.bl_map.specs.MachineFacts.{MachineFacts}
 use Rattle.program_desc.specs.Entries.{Entry}
 use Rattle.program_say.specs.DetailLines.{detail_lines}
 use Rattle.program_desc.specs.EntryNames.{file_names}
-use Rattle.program_say.specs.RefusalWords.{refusal_line}
+use Rattle.program_say.specs.RefusalLine.{refusal_line}
 use Rattle.program_say.specs.Sought.{SoughtFacts, sought_lines}
 use Rattle.program_say.specs.declared.subjects.refusal_detail.ToldRefusal.{ToldRefusal}
 
@@ -24,7 +24,7 @@ entry_lines_if sought index (Some entry) = entry_lines sought index entry
 abbrev pub attempt_lines : List Entry → SoughtFacts → ℕ → List ℕ
 attempt_lines entries sought index = entry_lines_if sought index (slice_get entries index)
 
--- a refusal, and what is told beside it
+-- a refusal, and its detail
 abbrev pub told_refusal_lines : List Entry → MachineFacts → SoughtFacts → ToldRefusal → List ℕ
 told_refusal_lines entries facts sought told =
     refusal_line told.refused.refusal

@@ -1,4 +1,4 @@
--- The lines of what is told of a refusal beside its number and its name. Own.
+-- The lines of a refusal's detail. Own.
 use Rattle.std.specs.Prelude.{ℕ, List, [], ◌++◌, codes, decimal, Option, Some, None}
 use Rattle.bl_map.specs.Kinds.{kind_of}
 use Rattle.bl_map.specs.NormalMap.{kind_at}

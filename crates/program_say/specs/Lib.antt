@@ -5,6 +5,7 @@ pub mod Sought
 pub mod Frames
 pub mod Hints
 pub mod PartSources
+pub mod RefusalLine
 pub mod RefusalWords
 pub mod HandoffLines
 pub mod DetailLines

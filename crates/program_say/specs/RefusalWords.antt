@@ -1,7 +1,5 @@
--- The names and the meanings of refusals, and what each one tells beside. Own.
-use Rattle.std.specs.Prelude.{ℕ, false, List, [], ◌++◌, codes, decimal}
-use Rattle.std.specs.Fmt.{digits}
-use Rattle.bl_load.specs.RefusalNumbers.{refusal_number}
+-- The names and the meanings of refusals. Own.
+use Rattle.std.specs.Prelude.{ℕ, List, codes}
 use Rattle.bl_load.specs.declared.refusal.Refusal.{Refusal}
 use Rattle.bl_load.specs.declared.refusal.Refusal.TheVariants.{NoFile, FileFault, FileTooLong}
 use Rattle.bl_load.specs.declared.refusal.Refusal.TheVariants.{NoHeader, HeaderCut, BadArchitecture}
@@ -14,7 +12,6 @@ use Rattle.bl_load.specs.declared.refusal.Refusal.TheVariants.{NotUsable, NoRoom
 use Rattle.bl_load.specs.declared.refusal.Refusal.TheVariants.{NotBzImage, OldProtocol, NotHigh}
 use Rattle.bl_load.specs.declared.refusal.Refusal.TheVariants.{SetupCut, BadPreferred, LineTooLong}
 use Rattle.bl_load.specs.declared.refusal.Refusal.TheVariants.{LineHasNul, MapTooLong, No64Entry}
-use Rattle.program_say.specs.blame.BracketedNumber.{number_told}
 
 abbrev pub refusal_name : Refusal → List ℕ
 refusal_name (NoFile file) = codes "NoFile"
@@ -96,35 +93,3 @@ refusal_meaning MapTooLong =
     codes "the memory map has too many runs for a Linux kernel: more than 128"
 refusal_meaning No64Entry =
     codes "no 64-bit entry: the boot protocol is older than 2.12, or xloadflags has bit 0 clear"
-
--- ---- what it tells beside, in brackets
-
-abbrev pub offset_told : ℕ → List ℕ
-offset_told offset = codes "(0x" ++ digits 16 false offset ++ codes ")"
-
-abbrev pub pair_told : ℕ → ℕ → List ℕ
-pair_told i j = codes "(" ++ decimal i ++ codes ", " ++ decimal j ++ codes ")"
-
--- the place of a file in its entry, the offset of a tag in the kernel's file, the type of a tag, or
--- the indices of program headers
-abbrev pub refusal_told : Refusal → List ℕ
-refusal_told (NoFile file) = number_told file
-refusal_told (FileFault file) = number_told file
-refusal_told (FileTooLong file) = number_told file
-refusal_told (BadTag offset) = offset_told offset
-refusal_told (UnsupportedTag type) = number_told type
-refusal_told (UnsupportedRequest type) = number_told type
-refusal_told (SegmentCut i) = number_told i
-refusal_told (AddressTooHigh i) = number_told i
-refusal_told (SegmentsOverlap i j) = pair_told i j
-refusal_told _ = []
-
--- a refusal: its number and its name, then what it tells, its meaning
-abbrev pub refusal_front : Refusal → List ℕ
-refusal_front refusal =
-    codes "refused " ++ decimal (refusal_number refusal) ++ codes " " ++ refusal_name refusal
-
-abbrev pub refusal_line : Refusal → List ℕ
-refusal_line refusal =
-    refusal_front refusal ++ refusal_told refusal ++ codes ": " ++ refusal_meaning refusal
-    ++ codes "\n"

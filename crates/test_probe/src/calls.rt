@@ -1,6 +1,6 @@
 //! All calls that a row can name: those of the core, and those of the program.
 
-use crate::{boots, command_line};
+use crate::{command_line, commands};
 use test_rows::calls;
 use test_rows::calls::Calls;
 use test_rows::row::Row;
@@ -22,7 +22,7 @@ impl Calls for AllCalls {
 
     fn make_over(&self, row: &mut Row<'_>) {
         let name = row.word();
-        if !boots::make_over(row, name) {
+        if !commands::make_over(row, name) {
             calls::make_over(row, name);
         }
     }

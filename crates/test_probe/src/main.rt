@@ -5,9 +5,9 @@
 //! is the input and the wanted output at once. The language of rows stands in README.md.
 #![tactic(auto)]
 
-mod boots;
 mod calls;
 mod command_line;
+mod commands;
 
 use calls::AllCalls;
 use std::io;

@@ -1,6 +1,6 @@
 -- What the code keeps as it reads ranges out of files. Own.
 use Rattle.std.specs.Prelude.{◌≡◌, ℕ, ◌+◌, ◌<◌, ◌≤◌, List, [], ◌∷◌, length, take}
-use Rattle.bl_mem.specs.HeldAddresses.{nth_file}
+use Rattle.bl_mem.specs.FileSet.{nth_file}
 use Rattle.bl_digest.specs.declared.file_range.FileRange.{FileRange}
 use Rattle.bl_digest.specs.Ranges.{bytes_of_ranges}
 

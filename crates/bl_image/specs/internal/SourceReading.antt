@@ -4,7 +4,8 @@ use Rattle.std.specs.Prelude.{MatchOption, MatchResult, IfOk, OnOk, IfErr}
 use Rattle.bl_image.specs.declared.fault.ImageFault.{ImageFault}
 use Rattle.bl_image.specs.declared.fault.ImageFault.TheVariants.{WrongLength, DeviceFault, NoMemory}
 use Rattle.bl_image.specs.Fields.{Field, fields_fault}
-use Rattle.bl_image.specs.SourceFacts.{SourceFacts, FaultIn, Comes, IsEnded, IsInputFault, faults_met}
+use Rattle.bl_image.specs.SourceFacts.{SourceFacts, FaultIn, Comes, IsEnded, IsInputFault}
+use Rattle.bl_image.specs.SourceFacts.{faults_met}
 
 -- fewer bytes came than so many, and then the input ended
 pub record EndsEarly (old new : SourceFacts) (count : ℕ) : Type 0 where

@@ -4,7 +4,7 @@ use Rattle.bl_mem.specs.declared.byte_view.ByteView.{Ghosts}
 use Rattle.bl_plan.specs.declared.part.Place.{Place}
 use Rattle.bl_plan.specs.declared.part.Role.{Role}
 use Rattle.bl_plan.specs.declared.part.Role.TheVariants.{Kernel, Module}
-use Rattle.bl_mem.specs.HeldAddresses.{nth_file}
+use Rattle.bl_mem.specs.FileSet.{nth_file}
 use Rattle.bl_load.specs.declared.checked_entry.CheckedEntry.{CheckedEntry}
 use Rattle.bl_load.specs.declared.plan.Content.{Content}
 use Rattle.bl_load.specs.declared.plan.PlannedPart.{PlannedPart}

@@ -2,7 +2,7 @@
 -- in that memory.
 use Rattle.std.specs.Prelude.{◌≡◌, ℕ, ◌+◌, ◌<◌, ◌≤◌, List, length, slice_range, All, AllPairs}
 use Rattle.bl_mem.specs.declared.segment.Segment.{Segment}
-use Rattle.bl_mem.specs.HeldAddresses.{nth_file, AreAddressesBelow, IsApartFrom}
+use Rattle.bl_mem.specs.FileSet.{nth_file, AreAddressesBelow, IsApartFrom}
 use Rattle.bl_mem.specs.Memory.{overwrite, HasRoom, KeepsSizeAndRoom}
 use Rattle.bl_load.specs.Handover.{Part, overwrite_parts}
 use Rattle.bl_load.specs.Loadable.{IsCopyable, SegmentsAscend}

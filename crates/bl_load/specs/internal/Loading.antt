@@ -1,6 +1,6 @@
 -- What the code keeps of a plan. It speaks of the files' lengths alone, and not of their bytes.
 use Rattle.std.specs.Prelude.{◌≡◌, ℕ, ◌+◌, ◌≤◌, List, length, map, IfSome}
-use Rattle.bl_mem.specs.HeldAddresses.{IsApartFrom}
+use Rattle.bl_mem.specs.FileSet.{IsApartFrom}
 use Rattle.bl_mem.specs.Memory.{HasRoom}
 use Rattle.bl_load.specs.declared.plan.PlannedPart.{PlannedPart}
 use Rattle.bl_load.specs.declared.entry.Module.{Module}

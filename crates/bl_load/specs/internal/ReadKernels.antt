@@ -15,7 +15,7 @@ use Rattle.bl_load.specs.LinuxKernel.{HasLinuxFault}
 use Rattle.bl_load.specs.Parts.{entered_at}
 use Rattle.bl_load.specs.Protocols.{has_params}
 use Rattle.bl_load.specs.internal.Placing.{ModulesEndLow}
-use Rattle.bl_mem.specs.HeldAddresses.{nth_file}
+use Rattle.bl_mem.specs.FileSet.{nth_file}
 use Rattle.bl_load.specs.KernelReading.{KernelReading, multiboot2, linux}
 use Rattle.bl_load.specs.EntryValue.{EntryValue, initrd_file}
 use Rattle.bl_params.specs.SizesAndOffsets.{page_tables_size}

@@ -11,7 +11,7 @@ use Rattle.bl_stage.specs.Staged.{Staging, staged_file}
 use Rattle.bl_stage.specs.Pieces.{is_missing, slot_in}
 use Rattle.bl_stage.specs.PieceStates as stage
 use Rattle.bl_stage.specs.PieceStates.{PieceState, piece_states, piece_of}
-use Rattle.bl_session.specs.declared.attempt.ticket.Request.{Request}
+use Rattle.bl_session.specs.declared.attempt.request.Request.{Request}
 use Rattle.bl_session.specs.declared.attempt.ticket.Ticket.{Ticket}
 use Rattle.bl_session.specs.session.BootSteps.{BootFacts}
 use Rattle.bl_session.specs.menu.Menu.{entry_at}

@@ -10,7 +10,7 @@ use Rattle.std.proofs.lemmas.List.FromFn.{length-map-range_with_len, get_or-map-
 use Rattle.std.proofs.lemmas.List.{ext_get_or}
 use Rattle.std.proofs.lemmas.Simd.{map-map}
 use Rattle.bl_map.specs.PoolFrames.{frames_of, misses_frame, is_open, frames_for}
-use Rattle.bl_mem.specs.HeldAddresses.{AreAddressesBelow, AllApartFrom}
+use Rattle.bl_mem.specs.FileSet.{AreAddressesBelow, AllApartFrom}
 use Rattle.bl_mem.specs.Memory.{IsIn}
 use Rattle.bl_stage.specs.Ranges.{meets}
 use Rattle.bl_stage.specs.Staged.{Staging, AreStaged, HasPool, IsStagedOn, staged_file}

@@ -2,7 +2,7 @@
 use Rattle.std.specs.Prelude.{ℕ, ◌+◌, List, [], ◌∷◌, drop, slice_index_or, Option, None, Some}
 use Rattle.bl_stage.specs.PieceStates.{PieceState, lacks, has}
 use Rattle.bl_session.specs.declared.attempt.ticket.Ticket.{Ticket}
-use Rattle.bl_session.specs.declared.attempt.ticket.Request.{Request}
+use Rattle.bl_session.specs.declared.attempt.request.Request.{Request}
 use Rattle.bl_session.specs.attempt.AwaitedPieces.{piece_state_of}
 
 -- the ticket of a piece of the file at this place of an entry

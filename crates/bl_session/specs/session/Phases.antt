@@ -12,8 +12,8 @@ use Rattle.bl_stage.specs.PieceStates.{piece_states}
 use Rattle.bl_session.specs.declared.session.outcome.BootFault.{BootFault}
 use Rattle.bl_session.specs.declared.session.outcome.BootFault.TheVariants.{NoEntryLeft, NoMemory}
 use Rattle.bl_session.specs.declared.session.outcome.Outcome.{Outcome}
-use Rattle.bl_session.specs.declared.attempt.ticket.Event.{Event}
-use Rattle.bl_session.specs.declared.attempt.ticket.Event.TheVariants.{Piece, Fault}
+use Rattle.bl_session.specs.declared.attempt.event.Event.{Event}
+use Rattle.bl_session.specs.declared.attempt.event.Event.TheVariants.{Piece, Fault}
 use Rattle.bl_session.specs.declared.session.phase.Running.{Running}
 use Rattle.bl_session.specs.declared.session.phase.Phase.{Phase}
 use Rattle.bl_session.specs.declared.session.phase.Phase.TheVariants.{Unstarted, Waits, HandedOver}

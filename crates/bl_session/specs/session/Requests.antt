@@ -3,7 +3,7 @@
 use Rattle.std.specs.Prelude.{length, Option, None}
 use Rattle.std.specs.Prelude.{option_map}
 use Rattle.bl_session.specs.declared.attempt.ticket.Ticket.{Ticket}
-use Rattle.bl_session.specs.declared.attempt.ticket.Request.{Request}
+use Rattle.bl_session.specs.declared.attempt.request.Request.{Request}
 use Rattle.bl_session.specs.menu.Menu.{entry_at}
 use Rattle.bl_session.specs.session.BootSteps.{BootFacts, State, on_running}
 use Rattle.bl_session.specs.attempt.AwaitedTickets.{first_ticket, request_for, ticket_after}

@@ -10,9 +10,11 @@ ghost use Rattle.bl_session.specs.internal.session.KeptPhases.{HasSmallFiles};
 ghost use Rattle.bl_session.specs.internal.attempt.Cursors.{first_ticket_from};
 ghost use Rattle.bl_session.specs.internal.attempt.MissingPieces.{HasCountablePieces, FindsMissing};
 ghost use Rattle.bl_session.specs.attempt.AwaitedPieces.{piece_state_of};
-ghost use Rattle.bl_session.specs.attempt.AwaitedTickets.{length_awaited, request_for, ticket_after};
+ghost use Rattle.bl_session.specs.attempt.AwaitedTickets.{length_awaited, request_for};
+ghost use Rattle.bl_session.specs.attempt.AwaitedTickets.{ticket_after};
 
-use crate::attempt::ticket::{Request, Ticket};
+use crate::attempt::request::Request;
+use crate::attempt::ticket::Ticket;
 use crate::menu::entry_files::file_at;
 use bl_load::Entry;
 use bl_map::frames_of;

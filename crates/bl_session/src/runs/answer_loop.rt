@@ -5,7 +5,7 @@ ghost use Rattle.bl_session.specs.internal.runs.AnswerSteps.{WaitsInMemory, Goes
 ghost use Rattle.bl_session.specs.internal.runs.AnswerSteps.{TakesAnswer, EndsOrStops};
 ghost use Rattle.bl_session.specs.internal.runs.AnswerSteps.{EndsAllOrStops};
 
-use crate::attempt::ticket::Event;
+use crate::attempt::event::Event;
 use crate::session::Session;
 use crate::session::outcome::Progress;
 use crate::store::Store;

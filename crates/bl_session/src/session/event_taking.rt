@@ -6,10 +6,12 @@ ghost use Rattle.bl_session.specs.session.BootSteps.{fault, is_wanted};
 ghost use Rattle.bl_session.specs.session.Phases.{event_facts};
 ghost use Rattle.bl_session.specs.declared.session.phase.Phase.TheVariants.{Waits};
 ghost use Rattle.bl_session.specs.internal.session.KeptPhases.{IsPhaseKept};
-ghost use Rattle.bl_session.specs.internal.session.BootCalls.{HasPoolRoom, TakesEventOn};
+ghost use Rattle.bl_session.specs.internal.attempt.AttemptStates.{HasPoolRoom};
+ghost use Rattle.bl_session.specs.internal.session.BootCalls.{TakesEventOn};
 ghost use Rattle.bl_session.specs.internal.session.BootCalls.{HasRoomWhileWaiting, HasTakenEvent};
 
-use crate::attempt::ticket::{Event, Ticket};
+use crate::attempt::event::Event;
+use crate::attempt::ticket::Ticket;
 use crate::session::falling_back::{continue_attempt, refuse};
 use crate::session::outcome::{BootFault, Progress};
 use crate::session::phase::{BootContext, Phase, Running, number_of, progress_of};

@@ -4,7 +4,8 @@ ghost use Rattle.bl_mem.specs.Memory.{KeepsSizeAndRoom};
 ghost use Rattle.bl_stage.specs.PieceStates.{piece_states};
 ghost use Rattle.bl_session.specs.attempt.AwaitedPieces.{are_whole};
 ghost use Rattle.bl_session.specs.internal.session.KeptPhases.{IsWaiting, phase_by};
-ghost use Rattle.bl_session.specs.internal.session.BootCalls.{HasPoolRoom, LeadsToPhase, GoesFrom};
+ghost use Rattle.bl_session.specs.internal.attempt.AttemptStates.{HasPoolRoom};
+ghost use Rattle.bl_session.specs.internal.session.BootCalls.{LeadsToPhase, GoesFrom};
 ghost use Rattle.bl_session.specs.internal.session.BootCalls.{FallsBack, GoesOnOrEnds};
 
 use crate::attempt::cursor::{Cursor, advanced};

@@ -10,7 +10,9 @@ ghost use Rattle.bl_session.specs.session.Phases.{end_facts, told_end, not_start
 ghost use Rattle.bl_session.specs.session.Requests.{first_request, request_after};
 ghost use Rattle.bl_session.specs.runs.Run.{final_phase};
 
-use crate::attempt::ticket::{Event, Request, Ticket};
+use crate::attempt::event::Event;
+use crate::attempt::request::Request;
+use crate::attempt::ticket::Ticket;
 use crate::menu::Menu;
 use crate::session::boot_end::{boot_end, into_boot_end};
 use crate::session::event_taking::take_event;

@@ -5,7 +5,8 @@ ghost use Rattle.bl_session.specs.session.Phases.{state_at, is_waiting};
 ghost use Rattle.bl_session.specs.session.Requests.{first_request, request_after};
 ghost use Rattle.bl_session.specs.internal.runs.RunParts.{AreSubmitted, first_awaited_ticket};
 
-use crate::attempt::ticket::{Request, Ticket};
+use crate::attempt::request::Request;
+use crate::attempt::ticket::Ticket;
 use crate::session::Session;
 use crate::session::phase::{BootContext, awaits_pieces};
 use crate::store::Store;

@@ -9,7 +9,8 @@ ghost use Rattle.bl_session.specs.internal.runs.RunParts.{AreSubmitted, first_aw
 
 use crate::attempt::cursor::first_missing;
 use crate::attempt::missing_pieces::{next_missing, request_of};
-use crate::attempt::ticket::{Request, Ticket};
+use crate::attempt::request::Request;
+use crate::attempt::ticket::Ticket;
 use crate::runs::attempt_submissions::submit_files;
 use crate::session::phase::{BootContext, Phase};
 use crate::store::Store;

@@ -2,7 +2,8 @@
 ghost use Rattle.std.specs.Prelude.{◌≡◌, [], OnOk, length};
 ghost use Rattle.bl_mem.specs.Memory.{KeepsSizeAndRoom};
 ghost use Rattle.bl_session.specs.internal.session.KeptPhases.{IsPhaseKept};
-ghost use Rattle.bl_session.specs.internal.session.BootCalls.{HasPoolRoom, GoesFrom, LeadsToPhase};
+ghost use Rattle.bl_session.specs.internal.attempt.AttemptStates.{HasPoolRoom};
+ghost use Rattle.bl_session.specs.internal.session.BootCalls.{GoesFrom, LeadsToPhase};
 ghost use Rattle.bl_session.specs.internal.session.BootCalls.{HasStarted};
 
 use crate::session::falling_back::begin;

@@ -4,7 +4,7 @@ use Rattle.std.proofs.Common.{arith, sym, ◌∙◌}
 use Rattle.std.specs.List.{range_with_len}
 use Rattle.std.proofs.lemmas.List.{ext_get_or}
 use Rattle.std.proofs.lemmas.List.FromFn.{length-map-range_with_len, get_or-map-range_with_len}
-use Rattle.bl_mem.specs.HeldAddresses.{Agree}
+use Rattle.bl_mem.specs.FileSet.{Agree}
 use Rattle.bl_stage.specs.Staged.{Staging, staged_file, frames_of_file, staged_texts, place_of}
 use Rattle.bl_stage.specs.Staged.{IsStagedOn}
 

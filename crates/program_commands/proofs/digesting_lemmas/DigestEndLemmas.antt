@@ -13,7 +13,8 @@ use Rattle.program_desc.specs.declared.fault.DescFault.{DescFault}
 use Rattle.program_desc.specs.declared.fault.DescFault.TheVariants.{BadDescription, NoMemory}
 use Rattle.program_commands.specs.described.BootCases.{BootCase}
 use Rattle.program_commands.specs.described.DescribedMachine.{IsMachineFault, IsMachineOf}
-use Rattle.program_commands.specs.described.DescribedMenu.{attempted_file_names, boot_of, menu_of}
+use Rattle.program_commands.specs.described.BootCases.{boot_of}
+use Rattle.program_commands.specs.described.DescribedMenu.{attempted_file_names, menu_of}
 use Rattle.program_commands.specs.described.FoundFiles.{AreFound}
 use Rattle.program_commands.specs.declared.described.boot_end.End.{End}
 use Rattle.program_commands.specs.declared.described.boot_end.End.TheVariants.{Booted, NoEntryLeft}

@@ -17,7 +17,8 @@ use Rattle.program_commands.specs.Ends.{IsBooted, Surroundings}
 use Rattle.program_commands.specs.ReadImage.{ReadsImage}
 use Rattle.program_commands.proofs.ConvertLaws.{one_handover}
 use Rattle.program_commands.specs.described.BootCases.{entry_value_at}
-use Rattle.program_commands.specs.described.DescribedMenu.{boot_of, described_entry}
+use Rattle.program_commands.specs.described.BootCases.{boot_of}
+use Rattle.program_commands.specs.described.DescribedMenu.{described_entry}
 use Rattle.program_say.specs.DigestLines.{digest_lines}
 use Rattle.program_commands.specs.digesting.Digested.{boot_lines, IsDigested}
 use Rattle.program_commands.specs.digesting.ImageDigested.{IsImageDigested, HasDigestLines}

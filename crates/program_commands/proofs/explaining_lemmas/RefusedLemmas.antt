@@ -28,7 +28,8 @@ use Rattle.bl_session.specs.session.Phases.{boot_facts}
 use Rattle.bl_session.specs.attempt.AwaitedPieces.{are_whole}
 use Rattle.program_desc.specs.Described.{DescriptionFacts}
 use Rattle.program_desc.specs.Entries.{Entry}
-use Rattle.program_commands.specs.described.DescribedMenu.{boot_of, entry_facts, menu_of}
+use Rattle.program_commands.specs.described.BootCases.{boot_of}
+use Rattle.program_commands.specs.described.DescribedMenu.{entry_facts, menu_of}
 use Rattle.program_commands.specs.described.DescribedMenu.{attempted_file_names}
 use Rattle.program_desc.specs.EntryNames.{file_names, file_index}
 use Rattle.program_commands.specs.explaining.Details.{value_sought}

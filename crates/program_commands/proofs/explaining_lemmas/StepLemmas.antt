@@ -13,7 +13,8 @@ use Rattle.bl_session.specs.session.Outcome.{IsOutcome}
 use Rattle.bl_session.specs.session.Phases.{boot_facts}
 use Rattle.bl_session.proofs.session_lemmas.OutcomeLaws.{is_handover}
 use Rattle.program_desc.specs.Described.{DescriptionFacts}
-use Rattle.program_commands.specs.described.DescribedMenu.{boot_of, menu_of}
+use Rattle.program_commands.specs.described.BootCases.{boot_of}
+use Rattle.program_commands.specs.described.DescribedMenu.{menu_of}
 use Rattle.program_commands.specs.internal.explaining.ExplanationEnds.{HasHandoverAt}
 use Rattle.program_say.specs.Sought.{SoughtFacts}
 use Rattle.program_commands.specs.explaining.ExplanationLines.{sought_in}

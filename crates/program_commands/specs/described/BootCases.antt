@@ -1,17 +1,26 @@
 -- What is booted of a description, and which files are looked for. Own.
-use Rattle.std.specs.Prelude.{◌≡◌, ℕ, List, [], Option, Some, None, IsSome, All}
+use Rattle.std.specs.Prelude.{◌≡◌, ℕ, List, [], map, Option, Some, None, IsSome, All}
 use Rattle.bl_map.specs.MachineFacts.{MachineFacts}
 use Rattle.bl_load.specs.EntryValue.{EntryValue}
-use Rattle.bl_stage.specs.Files.{File}
+use Rattle.bl_stage.specs.Files.{File, size_of}
 use Rattle.bl_session.specs.attempt.AttemptResult.{AttemptResult}
-use Rattle.bl_session.specs.session.BootSteps.{State, sizes_of}
+use Rattle.bl_session.specs.session.BootSteps.{BootFacts, State, sizes_of}
 use Rattle.bl_session.specs.menu.EntryContents.{entry_value_in}
 use Rattle.bl_session.specs.session.Schedules.{no_fault}
 use Rattle.bl_session.specs.session.Outcome.{IsOutcome, EntryHasResult}
 use Rattle.program_desc.specs.Described.{DescriptionFacts, described, file_named}
-use Rattle.program_commands.specs.described.DescribedMenu.{attempted_file_names, boot_of}
+use Rattle.program_commands.specs.described.DescribedMenu.{attempted_file_names, menu_of}
 use Rattle.program_commands.specs.described.DescribedMachine.{IsMachineOf}
 use Rattle.program_commands.specs.described.FoundFiles.{AreFound, names_to_ask}
+
+-- what does not change in the boot of a description's menu on a machine of these facts, with these
+-- files for the names
+abbrev pub boot_of : DescriptionFacts → MachineFacts → List File → BootFacts
+boot_of description facts files = record {
+  machine = facts;
+  menu = menu_of description;
+  sizes = map size_of files;
+}
 
 -- with files of a type F: what they may answer for a name, and how many faults they had
 module _ {F : Type 0} (answers : F → List ℕ → File → Type 0) (faults : F → ℕ) where

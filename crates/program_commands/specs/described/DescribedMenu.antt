@@ -2,13 +2,10 @@
 use Rattle.std.specs.Prelude.{ℕ, ◌*◌, List, [], map, slice_index_or}
 use Rattle.std.specs.Str.{bytes_eq}
 use Rattle.std.specs.List.{flat_map}
-use Rattle.bl_map.specs.MachineFacts.{MachineFacts}
 use Rattle.bl_plan.specs.declared.protocol.Protocol.TheVariants.{Multiboot2}
 use Rattle.bl_load.specs.EntryValue.{EntryValue}
-use Rattle.bl_stage.specs.Files.{File, size_of}
 use Rattle.bl_session.specs.menu.Menu.{EntryFacts, MenuFacts}
 use Rattle.bl_session.specs.menu.AttemptOrder.{without_repeats_by, attempt_order}
-use Rattle.bl_session.specs.session.BootSteps.{BootFacts}
 use Rattle.program_desc.specs.Described.{DescriptionFacts}
 use Rattle.program_desc.specs.Entries.{Entry, bare_form}
 use Rattle.program_desc.specs.EntryNames.{file_names, file_index}
@@ -66,15 +63,4 @@ abbrev pub menu_of : DescriptionFacts → MenuFacts
 menu_of description = record {
   entries = map (entry_facts (attempted_file_names description)) description.entries;
   attempts = attempted description;
-}
-
--- ---- the boot
-
--- what does not change in the boot of a description's menu on a machine of these facts, with these
--- files for the names
-abbrev pub boot_of : DescriptionFacts → MachineFacts → List File → BootFacts
-boot_of description facts files = record {
-  machine = facts;
-  menu = menu_of description;
-  sizes = map size_of files;
 }

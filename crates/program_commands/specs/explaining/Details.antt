@@ -1,4 +1,4 @@
--- What is told of a refusal beside its number and its name. Own.
+-- The detail of a refusal: what is told of it in lines of their own. Own.
 use Rattle.std.specs.Prelude.{◌≡◌, ◌+◌, ◌<◌, ℕ, List, map, slice_get, All, Option, Some, None}
 use Rattle.std.specs.Prelude.{MatchOption}
 use Rattle.bl_mem.specs.Least.{IsLeast}
@@ -84,7 +84,7 @@ HasDetail facts entries sought told =
     IsRefusalDetailOrNothing facts sought (slice_get entries told.refused.entry)
     told.refused.refusal told.detail
 
--- these refusals are told, each with what is told beside it
+-- these refusals are told, each with its detail
 pub record AreToldRefusals (facts : MachineFacts) (entries : List Entry) (sought : SoughtFacts)
     (refused : List RefusedEntry) (told : List ToldRefusal) : Type 0 where
   pub each : map (λ t. t.refused) told ≡ refused

@@ -20,8 +20,8 @@ use Rattle.program_say.specs.declared.subjects.refusal_detail.ToldRefusal.{ToldR
 -- with files of a type F: what they may answer for a name, and how many faults they had; and with
 -- memory from an A
 module _ (A : Type 0) {F : Type 0} (answers : F → List ℕ → File → Type 0) (faults : F → ℕ) where
-  -- the boot that is described comes to this, and what is said tells it, with what is told beside
-  -- each refusal, and the steps of the entry that is handed over
+  -- the boot that is described comes to this, and what is said tells it, with each refusal's
+  -- detail, and the steps of the entry that is handed over
   pub record IsExplained (desc : List ℕ) (before after : F) (old new : List ℕ)
       (state : State) : Type 0 where
     pub case : BootCase answers faults desc before after

@@ -1,4 +1,4 @@
-//! What is told of an entry that finds no place or no room.
+//! What is told of an entry that finds no place, or too few frames.
 ghost use Rattle.std.specs.Prelude.{◌+◌, ◌<◌, IfOk, MatchOption};
 ghost use Rattle.bl_mem.specs.Least.{IsLeast};
 ghost use Rattle.bl_map.specs.MachineFacts.{AllUsable};

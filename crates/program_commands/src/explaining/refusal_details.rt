@@ -1,4 +1,4 @@
-//! Finds what is told of refusals beside their numbers and names.
+//! Finds the details of refusals, which are told in lines of their own.
 ghost use Rattle.std.specs.Prelude.{◌≡◌, All, IfOk, slice_get, true};
 ghost use Rattle.bl_load.specs.Parts.{IsRefusal};
 ghost use Rattle.program_commands.specs.explaining.Details.{AreToldRefusals, IsRefusalDetail};

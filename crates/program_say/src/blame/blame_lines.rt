@@ -40,7 +40,7 @@ fn map_fault_meaning(fault: MapFault) -> &'static str
     }
 }
 
-/// Appends what a machine's fault tells beside its name: the index of a region.
+/// Appends what a machine's fault carries, in brackets: the index of a region.
 fn say_region_index<A: Allocator + Copy>(
     out: &mut Vec<u8, A>,
     fault: MapFault,

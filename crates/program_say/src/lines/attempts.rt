@@ -33,7 +33,7 @@ pub fn say_attempt<A: Allocator + Copy, B: Allocator>(
     }
 }
 
-/// Appends the line of a refusal, and what is told beside it.
+/// Appends the line of a refusal, and those of its detail.
 fn say_refusal_and_detail<A: Allocator + Copy, B: Allocator>(
     out: &mut Vec<u8, A>,
     machine: &Machine<B>,
@@ -63,8 +63,8 @@ fn say_refused_attempt<A: Allocator + Copy, B: Allocator>(
     say_refusal_and_detail(out, machine, description, sought, told)
 }
 
-/// Appends the lines of the attempts that were refused, each with its refusal and what is told
-/// beside it, in order.
+/// Appends the lines of the attempts that were refused, each with its refusal and the detail, in
+/// order.
 pub fn say_refused_attempts<A: Allocator + Copy, B: Allocator>(
     out: &mut Vec<u8, A>,
     machine: &Machine<B>,

@@ -1,19 +1,19 @@
 //! A refusal, told by its number, its name and its meaning.
 ghost use Rattle.std.specs.Prelude.{◌≡◌, ◌++◌, OnOk};
-ghost use Rattle.program_say.specs.RefusalWords as words;
+ghost use Rattle.program_say.specs.RefusalLine.{refusal_told, refusal_line};
 
 use crate::lines::refusal_words::{refusal_meaning, refusal_name};
 use crate::say;
 use bl_load::Refusal;
 use std::alloc::{AllocError, Allocator};
 
-/// Appends what a refusal tells beside its name: the place of a file in its entry, the offset of a
+/// Appends what a refusal carries, in brackets: the place of a file in its entry, the offset of a
 /// tag in the kernel's file, the type of a tag, or the indices of program headers.
-fn say_parameters<A: Allocator + Copy>(
+fn say_carried<A: Allocator + Copy>(
     out: &mut Vec<u8, A>,
     refusal: Refusal,
 ) -> Result<(), AllocError>
-    ensures { OnOk result (out.new.items ≡ out.old.items ++ words.refusal_told refusal) }
+    ensures { OnOk result (out.new.items ≡ out.old.items ++ refusal_told refusal) }
 {
     match refusal {
         Refusal::NoFile(n)
@@ -34,7 +34,7 @@ pub fn say_explained_refusal<A: Allocator + Copy>(
     out: &mut Vec<u8, A>,
     refusal: Refusal,
 ) -> Result<(), AllocError>
-    ensures { OnOk result (out.new.items ≡ out.old.items ++ words.refusal_line refusal) }
+    ensures { OnOk result (out.new.items ≡ out.old.items ++ refusal_line refusal) }
 {
     say!(
         out,
@@ -42,6 +42,6 @@ pub fn say_explained_refusal<A: Allocator + Copy>(
         refusal.number(),
         refusal_name(refusal)
     )?;
-    say_parameters(out, refusal)?;
+    say_carried(out, refusal)?;
     say!(out, ": {}\n", refusal_meaning(refusal))
 }

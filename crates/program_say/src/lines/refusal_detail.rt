@@ -1,4 +1,4 @@
-//! What is told of a refusal beside its number and its name, line by line.
+//! The detail of a refusal, line by line.
 ghost use Rattle.std.specs.Prelude.{◌≡◌, ◌++◌, OnOk};
 ghost use Rattle.bl_map.specs.Kinds.{kind_of};
 ghost use Rattle.bl_map.specs.NormalMap.{kind_at};

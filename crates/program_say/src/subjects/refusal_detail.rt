@@ -1,7 +1,7 @@
-//! What is told of a refusal beside its number and its name.
+//! The detail of a refusal: what is told of it in a line of its own.
 use bl_load::{RefusedEntry, Row};
 
-/// What is told of a refusal beside its number and its name.
+/// What is told of a refusal in a line of its own.
 #[derive(Clone, Copy, Debug, PartialEq, Eq)]
 pub enum RefusalDetail {
     Nothing,
@@ -14,7 +14,7 @@ pub enum RefusalDetail {
     Frames { beside: Option<u64> },
 }
 
-/// A refusal with what is told beside it.
+/// A refusal with its detail.
 #[derive(Clone, Copy, Debug, PartialEq, Eq)]
 pub struct ToldRefusal {
     pub refused: RefusedEntry,

@@ -1,7 +1,7 @@
 use Rattle.std.proofs.Common.{◌≡◌, ◌+◌, ◌<◌, ◌≤◌, ◌^◌, ℕ, length, map, take, ap, ◌∙◌}
 use Rattle.std.proofs.Common.{arith, length-take, slice_range}
 use Rattle.std.proofs.lemmas.List.{length-map}
-use Rattle.bl_mem.specs.HeldAddresses.{nth_file}
+use Rattle.bl_mem.specs.FileSet.{nth_file}
 use Rattle.bl_digest.specs.PlanInSteps.{DigestingFacts}
 use Rattle.bl_digest.specs.Ranges.{ranges_of}
 use Rattle.bl_digest.proofs.RangeLemmas.{wanted_is_next, view_is, next_inside, comes_more}

@@ -1,6 +1,6 @@
 use Rattle.std.proofs.Common.{sym, ap, ◌∙◌}
 use Rattle.bl_load.specs.HandoffFacts.{HandoffFacts}
-use Rattle.bl_image.specs.internal.KeptRecords.{image_front}
+use Rattle.bl_image.specs.internal.PlaceRecords.{image_front}
 use Rattle.bl_image.proofs.PartLemmas.{front_by_places}
 use Rattle.bl_image.proofs.front.front_bytes.Goals as goal
 

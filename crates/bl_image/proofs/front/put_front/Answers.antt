@@ -5,7 +5,7 @@ use Rattle.std.proofs.lemmas.List.{append-nil}
 use Rattle.std.proofs.lemmas.List.Elements.{All-more, All-nil}
 use Rattle.bl_plan.specs.declared.part.Place.{Place}
 use Rattle.bl_image.specs.Image.{head}
-use Rattle.bl_image.specs.internal.KeptRecords.{place_record}
+use Rattle.bl_image.specs.internal.PlaceRecords.{place_record}
 use Rattle.bl_image.specs.Versions.{written_version}
 use Rattle.bl_image.proofs.Spelled.{records_more, records_all}
 use Rattle.bl_image.proofs.FitLemmas.{records_fit}

@@ -2,7 +2,7 @@ use Rattle.std.proofs.Common.{◌≡◌, ◌+◌, ◌*◌, ◌<◌, ◌^◌, ◌
 use Rattle.std.specs.List.{flat_map}
 use Rattle.bl_plan.specs.declared.part.Place.{Place}
 use Rattle.bl_image.specs.Image.{head}
-use Rattle.bl_image.specs.internal.KeptRecords.{place_record}
+use Rattle.bl_image.specs.internal.PlaceRecords.{place_record}
 use Rattle.bl_image.specs.Versions.{written_version}
 use Rattle.bl_image.proofs.front.put_front.Given as goal
 

@@ -1,6 +1,6 @@
 use Rattle.std.proofs.Common.{◌≡◌, ◌+◌, ◌-◌, ◌≤◌, slice_range}
 use Rattle.bl_image.proofs.Ways.{IsOnWay}
-use Rattle.bl_image.specs.internal.KeptRecords.{place_bytes}
+use Rattle.bl_image.specs.internal.PlaceRecords.{place_bytes}
 use Rattle.bl_image.proofs.part_writer.write_part.Given as goal
 
 -- the bytes of the place from done on are left

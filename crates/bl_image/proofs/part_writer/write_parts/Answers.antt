@@ -1,5 +1,5 @@
 use Rattle.std.proofs.Common.{◌∙◌, arith}
-use Rattle.bl_image.specs.internal.KeptRecords.{place_bytes}
+use Rattle.bl_image.specs.internal.PlaceRecords.{place_bytes}
 use Rattle.std.proofs.lemmas.Result.{err_from_is_err_and}
 use Rattle.bl_image.proofs.Ways.{way_as, way_goes_on, way_stops}
 use Rattle.bl_image.proofs.Spelled.{flat_map-drop}

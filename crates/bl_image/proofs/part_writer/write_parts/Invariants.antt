@@ -1,7 +1,7 @@
 use Rattle.std.proofs.Common.{◌≡◌, drop}
 use Rattle.std.specs.List.{flat_map}
 use Rattle.bl_image.proofs.Ways.{IsOnWay}
-use Rattle.bl_image.specs.internal.KeptRecords.{place_bytes}
+use Rattle.bl_image.specs.internal.PlaceRecords.{place_bytes}
 use Rattle.bl_image.proofs.part_writer.write_parts.Given as goal
 
 -- the bytes of the places from the i-th on are left

@@ -3,7 +3,7 @@ use Rattle.std.proofs.lemmas.Result.{err_from_is_err_and}
 use Rattle.bl_image.specs.Image.{head, spelling}
 use Rattle.bl_image.specs.ImageHandover.{IsKeptByImages}
 use Rattle.bl_image.specs.ImageFaults.{image_fault, parts_fault, no_records, end_fault}
-use Rattle.bl_image.specs.internal.KeptRecords.{total_length}
+use Rattle.bl_image.specs.internal.PlaceRecords.{total_length}
 use Rattle.bl_plan.specs.declared.part.Place.{Place}
 use Rattle.bl_plan.specs.declared.protocol.Protocol.{Protocol}
 use Rattle.bl_load.specs.declared.registers.Registers.{Registers}

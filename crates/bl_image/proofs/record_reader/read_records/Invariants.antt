@@ -3,7 +3,7 @@ use Rattle.std.specs.List.{flat_map}
 use Rattle.bl_plan.specs.declared.part.Place.{Place}
 use Rattle.bl_load.specs.HandoffFacts.{IsRoleAllowed}
 use Rattle.bl_image.specs.Layouts.{max_role}
-use Rattle.bl_image.specs.internal.KeptRecords.{place_record, AreSound, total_length}
+use Rattle.bl_image.specs.internal.PlaceRecords.{place_record, AreSound, total_length}
 use Rattle.bl_image.specs.ImageFaults.{parts_fault, no_records}
 use Rattle.bl_image.specs.SourceFacts.{Comes}
 use Rattle.bl_image.proofs.record_reader.read_records.Given as goal

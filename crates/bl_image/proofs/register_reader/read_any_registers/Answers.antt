@@ -29,11 +29,11 @@ returns-in_err-read_u32s-clause-read g c =
 pub returns-clause-read : goal.returns-clause-read
 returns-clause-read g c =
     let size : length c.read_u32s.new.out ≡ 20 = search (rules, places) in
-    let numbers = c.registers_of.ensures ∙ three_parts c.read_u32s.new.out size in
+    let numbers = c.narrow_registers_of.ensures ∙ three_parts c.read_u32s.new.out size in
     record {
       fields = record {
         comes = comes_as (ap (flat_map u32_bytes) (sym numbers)) c.in_ok-read_u32s.ensures.read.ok;
-        on = narrow_pass c.registers_of.result;
+        on = narrow_pass c.narrow_registers_of.result;
       };
       faults = c.in_ok-read_u32s.ensures.read.faults;
     }
@@ -41,5 +41,5 @@ returns-clause-read g c =
 pub returns-clause-fit : goal.returns-clause-fit
 returns-clause-fit g c =
     let size : length c.read_u32s.new.out ≡ 20 = search (rules, places) in
-    let numbers = c.registers_of.ensures ∙ three_parts c.read_u32s.new.out size in
+    let numbers = c.narrow_registers_of.ensures ∙ three_parts c.read_u32s.new.out size in
     all_fit c.in_ok-read_u32s.ensures.fit (sym numbers)

@@ -61,7 +61,7 @@ returns-in_err-read_narrows-clause-read g c =
 pub returns-clause-fit : goal.returns-clause-fit
 returns-clause-fit g c =
     let fits : ℕ → Type 0 = λ n. n < 2 ^ 32 in
-    subst (All fits) (sym c.registers_of.ensures)
+    subst (All fits) (sym c.narrow_registers_of.ensures)
     (All-append fits _ _ c.in_ok-read_narrows.ensures.fit
     (All-append fits _ _ c.in_ok-read_narrows-2.ensures.fit c.in_ok-read_narrows-3.ensures.fit))
 
@@ -81,7 +81,7 @@ returns-clause-read g c =
     (pass_both (absent 3) (narrow 9) _ _ c.in_ok-read_absents-2.ensures.fields
     (sized last 9 others c.in_ok-read_narrows-3.ensures.read.fields)))) in
     record {
-      fields = pass_as registers_2_narrow _ _ (same_bytes c.registers_of.result first flags last nine two c.registers_of.ensures) all;
+      fields = pass_as registers_2_narrow _ _ (same_bytes c.narrow_registers_of.result first flags last nine two c.narrow_registers_of.ensures) all;
       faults = omega (arith, c.in_ok-read_narrows.ensures.read.faults, c.in_ok-read_absents.ensures.faults, c.in_ok-read_narrows-2.ensures.read.faults, c.in_ok-read_absents-2.ensures.faults, c.in_ok-read_narrows-3.ensures.read.faults);
     }
 

@@ -1,7 +1,7 @@
 use Rattle.std.proofs.Common.{sym}
 use Rattle.std.proofs.lemmas.List.{append-nil}
 use Rattle.std.specs.List.{flat_map}
-use Rattle.bl_image.specs.internal.KeptRecords.{place_bytes}
+use Rattle.bl_image.specs.internal.PlaceRecords.{place_bytes}
 use Rattle.bl_image.specs.Versions.{written_version}
 use Rattle.bl_image.proofs.Ways.{way_begins, way_goes_on, way_stops, way_ends, way_as, on_err}
 use Rattle.bl_image.proofs.Spelled.{image_in}

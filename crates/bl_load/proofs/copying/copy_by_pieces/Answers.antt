@@ -1,5 +1,5 @@
 use Rattle.std.proofs.Common.{◌∙◌, arith}
-use Rattle.bl_mem.specs.HeldAddresses.{nth_file}
+use Rattle.bl_mem.specs.FileSet.{nth_file}
 use Rattle.bl_mem.proofs.Overwrites.{copy_more}
 use Rattle.bl_load.proofs.MemoryLemmas.{keeps_on}
 use Rattle.bl_load.proofs.copying.copy_by_pieces.Goals as goal

@@ -1,5 +1,5 @@
 use Rattle.std.proofs.Common.{◌≡◌, ◌-◌, ◌+◌, ◌≤◌, slice_range}
-use Rattle.bl_mem.specs.HeldAddresses.{nth_file}
+use Rattle.bl_mem.specs.FileSet.{nth_file}
 use Rattle.bl_mem.specs.Memory.{overwrite, KeepsSizeAndRoom}
 use Rattle.bl_load.proofs.copying.copy_by_pieces.Given as goal
 

@@ -1,6 +1,6 @@
 use Rattle.std.proofs.Common.{◌≡◌, ◌+◌, ◌≤◌, ◌<◌, ℕ, length, drop, get_or}
 use Rattle.bl_mem.specs.declared.segment.Segment.{Segment}
-use Rattle.bl_mem.specs.HeldAddresses.{nth_file}
+use Rattle.bl_mem.specs.FileSet.{nth_file}
 use Rattle.bl_mem.specs.Memory.{overwrite, KeepsSizeAndRoom}
 use Rattle.bl_load.specs.KernelBlock.{span_of, block_of}
 use Rattle.bl_load.proofs.BlockLemmas.{block_from}

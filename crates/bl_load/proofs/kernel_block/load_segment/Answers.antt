@@ -1,5 +1,5 @@
 use Rattle.std.proofs.Common.{◌≡◌, ◌+◌, length, arith, slice_range, ◌∙◌}
-use Rattle.bl_mem.specs.HeldAddresses.{nth_file}
+use Rattle.bl_mem.specs.FileSet.{nth_file}
 use Rattle.bl_mem.proofs.Overwrites.{beside_zeros}
 use Rattle.bl_load.proofs.BlockLemmas.{length-filed}
 use Rattle.bl_load.proofs.MemoryLemmas.{keeps_on}

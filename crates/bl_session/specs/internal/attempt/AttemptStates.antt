@@ -24,6 +24,12 @@ use Rattle.bl_session.specs.session.Phases.{handover_held, LiesWithin}
 use Rattle.bl_session.specs.internal.session.KeptPhases.{HasSmallFiles, LacksPiece}
 use Rattle.bl_session.specs.internal.session.KeptPhases.{sizes_in}
 
+-- memory has the machine's size, and the pool its room
+pub record HasPoolRoom (machine : MachineFacts) (bytes : List ℕ) (has_room : ℕ → Type 0)
+    : Type 0 where
+  pub size : length bytes ≡ machine.size
+  pub room : HasRoom has_room machine.pool.start machine.pool.end
+
 -- an attempt with this stage, unless it has ended
 abbrev pub attempt_with : {A : Type 0} → Staging → Option (AttemptEnd A) → Attempt A
 attempt_with stage None = Waits stage

@@ -1,7 +1,7 @@
 -- What the steps of a handover need and leave: whole files, a plan, its parts in memory.
 use Rattle.std.specs.Prelude.{◌≡◌, ◌<◌, ◌^◌, ℕ, List, length, map}
 use Rattle.bl_map.specs.MachineFacts.{MachineFacts}
-use Rattle.bl_mem.specs.HeldAddresses.{AreAddressesBelow, AllApartFrom}
+use Rattle.bl_mem.specs.FileSet.{AreAddressesBelow, AllApartFrom}
 use Rattle.bl_mem.specs.Memory.{HasRoom, AllHaveRoom}
 use Rattle.bl_plan.specs.Placed.{place_range}
 use Rattle.bl_stage.specs.Staged.{Staging, AllCame, HasPool, IsStagedOn, staged_texts}

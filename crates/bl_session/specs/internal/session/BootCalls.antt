@@ -1,9 +1,8 @@
--- What the calls of a boot share: the memory that they need, and where they lead.
+-- What the calls of a boot share: where they lead.
 use Rattle.std.specs.Prelude.{◌≡◌, ◌≢◌, ℕ, List, [], ◌∷◌, ◌++◌, length, drop, true, false}
 use Rattle.std.specs.Prelude.{MatchBool}
 use Rattle.std.specs.Prelude.{Option, None, Result, Ok, IfOk, OnErr}
 use Rattle.bl_map.specs.MachineFacts.{MachineFacts}
-use Rattle.bl_mem.specs.Memory.{HasRoom}
 use Rattle.bl_load.specs.declared.refusal.Refusal.{Refusal}
 use Rattle.bl_load.specs.declared.refused_entry.RefusedEntry.{RefusedEntry}
 use Rattle.bl_stage.specs.Ranges.{IsSameOutside}
@@ -21,12 +20,6 @@ use Rattle.bl_session.specs.session.BootMemory.{IsMemoryAt}
 use Rattle.bl_session.specs.internal.session.KeptPhases.{facts_of_boot, running_in, state_in}
 use Rattle.bl_session.specs.internal.session.KeptPhases.{phase_by}
 use Rattle.bl_session.specs.internal.session.KeptPhases.{IsPhaseKept}
-
--- memory has the machine's size, and the pool its room
-pub record HasPoolRoom (machine : MachineFacts) (bytes : List ℕ) (has_room : ℕ → Type 0)
-    : Type 0 where
-  pub size : length bytes ≡ machine.size
-  pub room : HasRoom has_room machine.pool.start machine.pool.end
 
 -- a call led to a phase: its state is one that the definition leads to, and memory is as it is
 -- then; or memory ran out, and no byte outside the pool changed

@@ -6,7 +6,8 @@ use Rattle.bl_session.specs.menu.Menu.{MenuFacts}
 use Rattle.bl_session.proofs.menu_lemmas.MenuLemmas.{offered_values}
 use Rattle.program_desc.specs.Described.{described}
 use Rattle.program_desc.specs.Views.{view}
-use Rattle.program_commands.specs.described.DescribedMenu.{boot_of, max_names}
+use Rattle.program_commands.specs.described.BootCases.{boot_of}
+use Rattle.program_commands.specs.described.DescribedMenu.{max_names}
 use Rattle.program_commands.specs.described.BootCases.{names_fetched, names_sought}
 use Rattle.program_commands.proofs.described_lemmas.AskedLemmas.{fetched, inline_in, none_asked}
 use Rattle.program_commands.proofs.described_lemmas.AskedLemmas.{none_missing, sought}

@@ -1,7 +1,7 @@
 use Rattle.std.proofs.Common.{◌≡◌, ℕ, true, List, length, arith, ap, subst, rules, refl}
 use Rattle.std.proofs.lemmas.List.{length-map}
 use Rattle.bl_bzimage.proofs.SetupLaws.{payload_is_tail}
-use Rattle.bl_mem.specs.HeldAddresses.{nth_file}
+use Rattle.bl_mem.specs.FileSet.{nth_file}
 use Rattle.bl_plan.specs.declared.part.Role.{Role}
 use Rattle.bl_params.proofs.Lengths.{length-boot_params}
 use Rattle.bl_params.proofs.PagingLemmas.{length-paging}

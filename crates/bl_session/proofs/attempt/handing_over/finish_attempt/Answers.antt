@@ -8,7 +8,7 @@ use Rattle.std.specs.declared.ops.Range.{Range}
 use Rattle.bl_map.proofs.PoolLemmas.{pool_in_memory}
 use Rattle.bl_plan.specs.Placed.{place_range}
 use Rattle.bl_map.specs.PoolFrames.{HasFramesFor, open_frames, frames_for}
-use Rattle.bl_mem.specs.HeldAddresses.{AreAddressesBelow, AllApartFrom}
+use Rattle.bl_mem.specs.FileSet.{AreAddressesBelow, AllApartFrom}
 use Rattle.bl_stage.specs.Staged.{Staging, HasPool, AreStaged, IsStagedOn, staged_file, staged_texts}
 use Rattle.bl_stage.specs.Staged.{with_frames}
 use Rattle.bl_stage.specs.Ranges.{meets}

@@ -1,7 +1,7 @@
 //! `explain FIELD .. of DESCRIPTION`: the boot of a description, told for a person.
 
-use crate::boots::beside::{Beside, read_beside};
-use crate::boots::boot::say_status;
+use crate::commands::beside::{Beside, read_beside};
+use crate::commands::boot::say_status;
 use program_commands::{Files, MemFiles, explain_to};
 use test_rows::row::Row;
 

@@ -1,6 +1,6 @@
 use Rattle.std.proofs.Common.{sym}
 use Rattle.bl_params.proofs.FormLemmas.{front_is, count_is, gap_is}
-use Rattle.bl_params.proofs.checks.pass_front.Goals as goal
+use Rattle.bl_params.proofs.form_checks.pass_before_header.Goals as goal
 
 pub pass_zeros-requires-clause-plain : goal.pass_zeros-requires-clause-plain
 pass_zeros-requires-clause-plain c = λ k from below. front_is _ k below

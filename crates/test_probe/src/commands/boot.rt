@@ -1,7 +1,7 @@
 //! `boot FIELD .. of DESCRIPTION`, `map FIELD .. of DESCRIPTION`.
 ghost use Rattle.std.specs.Prelude.{◌≡◌};
 
-use crate::boots::beside::{Beside, read_beside};
+use crate::commands::beside::{Beside, read_beside};
 use bl_image::{MemSink, Sink};
 use program_commands::{Files, MemFiles, boot, map_to};
 use program_line::Order;

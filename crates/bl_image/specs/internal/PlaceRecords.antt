@@ -1,4 +1,4 @@
--- What the code keeps as it writes and reads records. Own.
+-- Places and their records, as the writer puts them and the reader checks them. Own.
 use Rattle.std.specs.Prelude.{◌≡◌, ℕ, ◌+◌, ◌<◌, ◌≤◌, ◌^◌, Bool, List, [], ◌∷◌, ◌++◌, length}
 use Rattle.std.specs.Prelude.{All, AllPairs, slice_range}
 use Rattle.std.specs.List.{flat_map}

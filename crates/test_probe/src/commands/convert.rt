@@ -2,7 +2,7 @@
 //! of the source, `limit=N` and `takes=N` those of the sink: its room, and how many bytes it takes
 //! at most at a write.
 
-use crate::boots::boot::say_said;
+use crate::commands::boot::say_said;
 use bl_image::{Sink, Source};
 use program_commands::convert;
 use test_rows::images::memory_sink::sink_over;

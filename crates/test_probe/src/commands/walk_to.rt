@@ -1,6 +1,6 @@
 //! `walk_to said=B blamed=B FIELD .. of BYTES`: what is said of an image.
 
-use crate::boots::boot::say_said;
+use crate::commands::boot::say_said;
 use bl_image::Source;
 use program_commands::walk_to;
 use test_rows::images::source::read_source;

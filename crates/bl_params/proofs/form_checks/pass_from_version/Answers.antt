@@ -1,6 +1,6 @@
 use Rattle.bl_params.proofs.HeaderFormLemmas.{quiet_207, quiet_211, quiet_251, version_is}
 use Rattle.bl_params.proofs.HeaderFormLemmas.{loader_is, setup_data_is}
-use Rattle.bl_params.proofs.checks.pass_loader.Goals as goal
+use Rattle.bl_params.proofs.form_checks.pass_from_version.Goals as goal
 
 pub check_field-requires-clause-here : goal.check_field-requires-clause-here
 check_field-requires-clause-here c = version_is _ _ c.requires.long c.u16_in.ensures

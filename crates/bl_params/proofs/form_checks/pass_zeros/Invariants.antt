@@ -1,5 +1,5 @@
 use Rattle.bl_params.specs.internal.CheckedForm.{HasFormBelow}
-use Rattle.bl_params.proofs.checks.pass_zeros.Given as goal
+use Rattle.bl_params.proofs.form_checks.pass_zeros.Given as goal
 
 -- nothing so far breaks the form
 abbrev pub invariant-loop-at : goal.invariant-loop-at

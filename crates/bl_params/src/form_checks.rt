@@ -1,4 +1,4 @@
-//! The form of boot parameters, from the first offset to the last.
+//! Checks of the form of boot parameters, from the first offset to where the header ends.
 ghost use Rattle.std.specs.Prelude.{◌≡◌, ◌≤◌, ◌<◌, ◌+◌, ℕ, false, length};
 ghost use Rattle.std.specs.Prelude.{MatchResult};
 ghost use Rattle.bl_bzimage.specs.Setup.{header_end};
@@ -58,7 +58,7 @@ pub fn end_of_header(bytes: &[u8]) -> usize
 }
 
 /// The bytes before the header.
-pub fn pass_front(bytes: &[u8]) -> Result<(), ParamFault>
+pub fn pass_before_header(bytes: &[u8]) -> Result<(), ParamFault>
     requires { length bytes.now ≡ params_size }
     ensures { GoesOnTo bytes.now 0x1F1 (e820_entry_count bytes.now ≤ max_e820_entries) result }
 {
@@ -74,7 +74,7 @@ pub fn pass_front(bytes: &[u8]) -> Result<(), ParamFault>
 }
 
 /// The fields of the header that precede its version.
-fn pass_magic(bytes: &[u8]) -> Result<(), ParamFault>
+fn pass_before_version(bytes: &[u8]) -> Result<(), ParamFault>
     requires whole { length bytes.now ≡ params_size }
     requires upto { HasFormBelow bytes.now 0x1F1 }
     ensures { GoesOnTo bytes.now 0x206 (0x264 ≤ header_end bytes.now) result }
@@ -107,7 +107,7 @@ fn pass_magic(bytes: &[u8]) -> Result<(), ParamFault>
 }
 
 /// The fields of the header from its version on.
-fn pass_loader(bytes: &[u8]) -> Result<(), ParamFault>
+fn pass_from_version(bytes: &[u8]) -> Result<(), ParamFault>
     requires whole { length bytes.now ≡ params_size }
     requires long { 0x264 ≤ header_end bytes.now }
     requires upto { HasFormBelow bytes.now 0x206 }
@@ -137,7 +137,7 @@ pub fn pass_header(bytes: &[u8]) -> Result<(), ParamFault>
     requires upto { HasFormBelow bytes.now 0x1F1 }
     ensures { GoesOnTo bytes.now (header_end bytes.now) (0x264 ≤ header_end bytes.now) result }
 {
-    pass_magic(bytes)?;
-    pass_loader(bytes)?;
+    pass_before_version(bytes)?;
+    pass_from_version(bytes)?;
     Ok(())
 }

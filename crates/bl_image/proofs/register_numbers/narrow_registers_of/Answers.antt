@@ -1,5 +1,5 @@
 use Rattle.bl_image.proofs.Listed.{listed_parts}
-use Rattle.bl_image.proofs.register_numbers.registers_of.Goals as goal
+use Rattle.bl_image.proofs.register_numbers.narrow_registers_of.Goals as goal
 
 pub returns : goal.returns
 returns c =

@@ -2,7 +2,7 @@ use Rattle.bl_params.proofs.HeaderFormLemmas.{quiet_1F1, quiet_1FB, quiet_1FF, q
 use Rattle.bl_params.proofs.HeaderFormLemmas.{vid_mode_is, boot_flag_is, jump_is, long_from}
 use Rattle.bl_params.proofs.HeaderFormLemmas.{magic_is}
 use Rattle.bl_params.proofs.FormLemmas.{sound_more}
-use Rattle.bl_params.proofs.checks.pass_magic.Goals as goal
+use Rattle.bl_params.proofs.form_checks.pass_before_version.Goals as goal
 
 pub check_field-requires-clause-upto : goal.check_field-requires-clause-upto
 check_field-requires-clause-upto c = sound_more _ _ _ c.requires.upto (quiet_1F1 _)
