@@ -1,5 +1,5 @@
 -- The names and the meanings of refusals. Own.
-use Rattle.std.specs.Prelude.{ℕ, List, codes}
+use Rattle.std.specs.Prelude.{ℕ, List, ◌++◌, codes}
 use Rattle.bl_load.specs.declared.refusal.Refusal.{Refusal}
 use Rattle.bl_load.specs.declared.refusal.Refusal.TheVariants.{NoFile, FileFault, FileTooLong}
 use Rattle.bl_load.specs.declared.refusal.Refusal.TheVariants.{NoHeader, HeaderCut, BadArchitecture}
