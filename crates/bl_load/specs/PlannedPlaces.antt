@@ -1,4 +1,4 @@
--- The place of what is planned.
+-- The place of what is planned. Own.
 use Rattle.bl_plan.specs.declared.part.Place.{Place}
 use Rattle.bl_load.specs.declared.plan.PlannedPart.{PlannedPart}
 

@@ -1,4 +1,4 @@
-//! One boot.
+//! The command `boot`: from a description's bytes to a status.
 ghost use Rattle.std.specs.Prelude.{◌≡◌, ◌≢◌, ℕ, List, ◌+◌, ◌<◌, ◌≤◌, ◌^◌, ◌++◌, length};
 ghost use Rattle.bl_stage.specs.Files.{File};
 ghost use Rattle.program_commands.specs.described.BootCases.{HasInlineFiles, names_sought};

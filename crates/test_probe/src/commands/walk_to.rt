@@ -1,4 +1,4 @@
-//! `walk_to said=B blamed=B FIELD .. of BYTES`: what is said of an image.
+//! `walk_to said=B blamed=B step=N fail=N of BYTES`: what is said of an image.
 
 use crate::commands::boot::say_said;
 use bl_image::Source;
