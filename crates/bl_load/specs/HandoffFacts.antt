@@ -1,4 +1,4 @@
--- What a handoff says. Own.
+-- What a handoff says.
 use Rattle.std.specs.Prelude.{◌≡◌, ℕ, Bool, true, ◌+◌, ◌≤◌, ◌^◌, List, length, All, AllPairs}
 use Rattle.bl_plan.specs.declared.part.Place.{Place}
 use Rattle.bl_plan.specs.declared.protocol.Protocol.{Protocol}

@@ -1,4 +1,4 @@
--- What is read of an entry's kernel: one case for each kind of file; or its first fault. Own.
+-- What is read of an entry's kernel: one case for each kind of file; or its first fault.
 use Rattle.std.specs.Prelude.{◌≡◌, ◌⊎◌, true}
 use Rattle.bl_map.specs.MachineFacts.{MachineFacts}
 use Rattle.bl_bzimage.specs.declared.setup.Setup.{Setup}

@@ -1,4 +1,4 @@
--- The place of what is planned. Own.
+-- The place of what is planned.
 use Rattle.bl_plan.specs.declared.part.Place.{Place}
 use Rattle.bl_load.specs.declared.plan.PlannedPart.{PlannedPart}
 

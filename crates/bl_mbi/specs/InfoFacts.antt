@@ -1,4 +1,4 @@
--- What boot information says to its reader: the facts, and the loader's name too. Own.
+-- What boot information says to its reader: the facts, and the loader's name too.
 use Rattle.std.specs.Prelude.{◌≡◌, ◌<◌, ◌^◌, ℕ, List, length}
 use Rattle.bl_mbi.specs.InfoToWriteFacts.{InfoToWriteFacts, IsText, FitsInfoFields}
 use Rattle.bl_mbi.specs.Spelling.{info_spelling}

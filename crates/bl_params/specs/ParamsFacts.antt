@@ -1,4 +1,4 @@
--- What boot parameters tell to their reader: numbers of the header too. Own.
+-- What boot parameters tell to their reader: numbers of the header too.
 use Rattle.std.specs.Prelude.{ℕ, List}
 use Rattle.bl_map.specs.declared.region.Region.{Region}
 

@@ -1,4 +1,4 @@
--- What a kernel sees in an image. Own.
+-- What a kernel sees in an image.
 use Rattle.std.specs.Prelude.{ℕ, List, Option}
 use Rattle.bl_map.specs.declared.region.Region.{Region}
 use Rattle.bl_plan.specs.declared.protocol.Protocol.{Protocol}

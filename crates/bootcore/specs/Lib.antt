@@ -1,4 +1,3 @@
 pub mod ImageFileFacts
 pub mod StatusMessages
 pub mod PathFilesFacts
-pub mod internal

@@ -1,3 +1,4 @@
 pub mod DistinctNames
 pub mod MenuRows
 pub mod SoughtFiles
+pub mod WholeReads
