@@ -2,7 +2,6 @@
 use Rattle.std.specs.Prelude.{◌≡◌, ◌≢◌, ℕ, List, [], ◌∷◌, ◌++◌, length, drop, true, false}
 use Rattle.std.specs.Prelude.{MatchBool}
 use Rattle.std.specs.Prelude.{Option, None, Result, Ok, IfOk, OnErr}
-use Rattle.bl_map.specs.MachineFacts.{MachineFacts}
 use Rattle.bl_mem.specs.Memory.{HasRoom}
 use Rattle.bl_load.specs.declared.refusal.Refusal.{Refusal}
 use Rattle.bl_load.specs.declared.refused_entry.RefusedEntry.{RefusedEntry}
