@@ -1,7 +1,7 @@
-//! The detail of a refusal: what is told of it in a line of its own.
+//! The detail of a refusal: what is told of it in lines of their own.
 use bl_load::{RefusedEntry, Row};
 
-/// What is told of a refusal in a line of its own.
+/// What is told of a refusal in lines of their own.
 #[derive(Clone, Copy, Debug, PartialEq, Eq)]
 pub enum RefusalDetail {
     Nothing,
