@@ -127,12 +127,15 @@ class Gate(Checks):
 
     @staticmethod
     def tell_cost(before: float, beside: List[float], seconds: float) -> None:
-        """The gate's cost in units of rt selftest; of a run that ends within 25 minutes the unit is the one before it."""
+        """The gate's cost in units of rt selftest; of a run that ends within 25 minutes the unit is the one before it.
+
+        rt selftest takes a job for each processor, and each loads the libraries: on two a unit is a fifth smaller than on four.
+        """
         unit = statistics.mean(beside) if beside else before
         which = "beside it" if beside else "before it"
         measured = " ".join(f"{it:.0f}" for it in beside) or "none"
         print(
             f"rt ci took {seconds:.0f} processor seconds, {seconds / unit:.1f} times what rt selftest took {which}:"
-            f" before it {before:.0f}, {measured} beside it",
+            f" before it {before:.0f}, {measured} beside it, on {len(os.sched_getaffinity(0))} processors",
             flush=True,
         )
