@@ -12,7 +12,7 @@ use Rattle.bl_load.specs.declared.refusal.Refusal.TheVariants.{LineHasNul, LineT
 use Rattle.std.specs.Option.{option_or}
 use Rattle.std.proofs.lemmas.List.Elements.{All-nil, All-cons}
 use Rattle.bl_load.specs.declared.entry.Module.{Module}
-use Rattle.bl_load.specs.internal.Loading.{lines_by}
+use Rattle.bl_load.specs.internal.Multiboot2Entries.{lines_of_modules}
 use Rattle.bl_load.specs.EntryValue.{line_fault, lines_fault}
 
 sound_parts : (a b : Bool) (x y : Refusal) → cond a (Some x) (cond b (Some y) None) ≡ None
@@ -53,11 +53,11 @@ pub first_sound : (first rest : Option Refusal) → option_or first rest ≡ Non
 first_sound None rest h = (refl, h)
 first_sound (Some r) rest h = absurd cc
 
-pub all_sound : {A : Type 0} (modules : List (Module A)) → lines_fault (lines_by modules) ≡ None
+pub all_sound : {A : Type 0} (modules : List (Module A)) → lines_fault (lines_of_modules modules) ≡ None
     → All (λ m. line_fault m.line ≡ None) modules
 all_sound {A = A} [] h = All-nil (λ (m : Module A). line_fault m.line ≡ None)
 all_sound {A = A} (m ∷ modules) h =
-    let parts = first_sound (line_fault m.line) (lines_fault (lines_by modules)) h in
+    let parts = first_sound (line_fault m.line) (lines_fault (lines_of_modules modules)) h in
     All-cons (λ (n : Module A). line_fault n.line ≡ None) m modules parts.0
     (all_sound modules parts.1)
 

@@ -7,7 +7,7 @@ use Rattle.bl_plan.specs.declared.fault.PlanFault.{PlanFault}
 use Rattle.bl_plan.specs.declared.fault.PlanFault.TheVariants.{NotUsable, Overlap, NoRoom, NoMemory}
 use Rattle.bl_plan.specs.declared.part.Place.{Place}
 use Rattle.bl_load.specs.declared.entry.Module.{Module}
-use Rattle.bl_load.specs.internal.Loading.{lines_by}
+use Rattle.bl_load.specs.internal.Multiboot2Entries.{lines_of_modules}
 use Rattle.bl_load.specs.internal.Placing.{EndsLow, HasRowLength, ModulesEndLow, capped_rows_of}
 use Rattle.bl_load.specs.KernelReading.{KernelReading, multiboot2, linux, IsKernelReading}
 use Rattle.bl_load.specs.Rows.{rows_of}
@@ -83,7 +83,7 @@ module _ (facts : MachineFacts) (value : EntryValue) where
 
 -- there are as many lines as modules
 pub modules_fit : {A : Type 0} (modules : List (Module A)) (texts : List (List ℕ))
-    (places : List Place) → ModulesEndLow texts places (length (lines_by modules))
+    (places : List Place) → ModulesEndLow texts places (length (lines_of_modules modules))
     → ModulesEndLow texts places (length modules)
 modules_fit {A = A} modules texts places ends =
     let count = length-map modules (λ (m : Module A). m.line) in

@@ -1,5 +1,6 @@
-pub mod Copying
+pub mod BesideFiles
 pub mod Loading
+pub mod Multiboot2Entries
 pub mod ReadMultiboot2Kernels
 pub mod Placing
 pub mod ReadKernels

@@ -3,9 +3,9 @@
 //! They are copied through no buffer where the files lend them, or where they lie in memory and
 //! memory moves bytes by itself; else through one of 4096 bytes.
 ghost use Rattle.std.specs.Prelude.{◌+◌, ◌≤◌, length, slice_range};
-ghost use Rattle.bl_load.specs.internal.Copying.{IsVacant, IsPutBesideFiles};
-ghost use Rattle.bl_load.specs.internal.Copying.{IsCopiedBesideFiles};
-ghost use Rattle.bl_load.specs.internal.Copying.{IsRangeOfFile, IsSmallRangeOfFile};
+ghost use Rattle.bl_load.specs.internal.BesideFiles.{IsVacant, IsPutBesideFiles};
+ghost use Rattle.bl_load.specs.internal.BesideFiles.{IsCopiedBesideFiles};
+ghost use Rattle.bl_load.specs.internal.BesideFiles.{IsRangeOfFile, IsSmallRangeOfFile};
 
 use bl_map::FRAME_SIZE;
 use bl_mem::{FileSet, PhysMem};

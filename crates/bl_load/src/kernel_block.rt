@@ -2,7 +2,7 @@
 ghost use Rattle.std.specs.Prelude.{◌≡◌, ◌<◌, length};
 ghost use Rattle.bl_mem.specs.SegmentContents.{contents_of};
 ghost use Rattle.bl_mem.specs.FileSet.{nth_file};
-ghost use Rattle.bl_load.specs.internal.Copying.{IsVacant, IsPutBesideFiles, IsBlockOfFile};
+ghost use Rattle.bl_load.specs.internal.BesideFiles.{IsVacant, IsPutBesideFiles, IsBlockOfFile};
 ghost use Rattle.bl_load.specs.KernelBlock.{span_of, block_of};
 ghost use Rattle.bl_load.specs.Loadable.{IsCopyable};
 

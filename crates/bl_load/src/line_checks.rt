@@ -3,7 +3,7 @@ ghost use Rattle.std.specs.Prelude.{◌≡◌, ◌==◌, ◌∷◌};
 ghost use Rattle.std.specs.List.{list_any};
 ghost use Rattle.bl_load.specs.EntryValue.{line_fault, lines_fault};
 ghost use Rattle.bl_load.specs.internal.Checks.{Tells};
-ghost use Rattle.bl_load.specs.internal.Loading.{lines_by};
+ghost use Rattle.bl_load.specs.internal.Multiboot2Entries.{lines_of_modules};
 
 use crate::entry::Module;
 use crate::refusal::Refusal;
@@ -33,7 +33,7 @@ pub fn check_line(line: &[u8]) -> Result<(), Refusal>
 
 /// Checks the lines of modules, one after the other.
 fn check_module_lines<A: Allocator>(modules: &[Module<A>]) -> Result<(), Refusal>
-    ensures { Tells result (lines_fault (lines_by modules.now)) }
+    ensures { Tells result (lines_fault (lines_of_modules modules.now)) }
 {
     for module in modules {
         check_line(module.line.as_slice())?;
@@ -43,7 +43,7 @@ fn check_module_lines<A: Allocator>(modules: &[Module<A>]) -> Result<(), Refusal
 
 /// Checks the lines of an entry: the kernel's, and then those of its modules.
 pub fn check_lines<A: Allocator>(line: &[u8], modules: &[Module<A>]) -> Result<(), Refusal>
-    ensures { Tells result (lines_fault (line.now ∷ lines_by modules.now)) }
+    ensures { Tells result (lines_fault (line.now ∷ lines_of_modules modules.now)) }
 {
     check_line(line)?;
     check_module_lines(modules)

@@ -2,7 +2,7 @@
 ghost use Rattle.std.specs.Prelude.{◌≡◌, ℕ, ◌+◌, ◌-◌, ◌<◌, ◌≤◌, length, map, slice_index, All};
 ghost use Rattle.bl_mem.specs.FileSet.{AreAddressesBelow, AllApartFrom};
 ghost use Rattle.bl_mem.specs.Memory.{AllHaveRoom, KeepsSizeAndRoom};
-ghost use Rattle.bl_load.specs.internal.Copying.{IsVacant, IsPutBesideFiles, ArePutBesideFiles};
+ghost use Rattle.bl_load.specs.internal.BesideFiles.{IsVacant, IsPutBesideFiles, ArePutBesideFiles};
 ghost use Rattle.bl_plan.specs.Placed.{Covers, place_range};
 ghost use Rattle.bl_load.specs.Handover.{overwrite_parts};
 ghost use Rattle.bl_load.specs.PlanContents.{content_by, bytes_by, part_by, handover_by};

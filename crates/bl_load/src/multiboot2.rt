@@ -5,7 +5,7 @@ ghost use Rattle.bl_load.specs.internal.ReadMultiboot2Kernels.{kernel_by};
 ghost use Rattle.bl_load.specs.KernelReading.{multiboot2};
 ghost use Rattle.bl_load.specs.Parts as parts;
 ghost use Rattle.bl_load.specs.Parts.{IsPrepFault};
-ghost use Rattle.bl_load.specs.internal.Loading.{value_by, AreOfMultiboot2};
+ghost use Rattle.bl_load.specs.internal.Multiboot2Entries.{value_with_modules, IsMultiboot2Entry};
 ghost use Rattle.bl_load.specs.internal.Plans.{IsPlanOfValue};
 ghost use Rattle.bl_load.specs.Unplaced.{IsUnplaced, IsFaultBeforePlacing};
 
@@ -84,11 +84,11 @@ pub fn prepare<A: Allocator + Copy, V: ByteView>(
     rsdps: &Rsdps<'_, A>,
     files: &[V],
 ) -> Result<Plan<A>, PrepFault>
-    requires { AreOfMultiboot2 files.now modules.now rsdps.now }
+    requires { IsMultiboot2Entry files.now modules.now rsdps.now }
     ensures ok { IfOk result (IsPlanOfValue machine.now
-        (value_by (map V.bytes files.now) line.now modules.now rsdps.now)) }
+        (value_with_modules (map V.bytes files.now) line.now modules.now rsdps.now)) }
     ensures fault { IfErr result (IsPrepFault machine.now
-        (value_by (map V.bytes files.now) line.now modules.now rsdps.now)) }
+        (value_with_modules (map V.bytes files.now) line.now modules.now rsdps.now)) }
 {
     check_lines(line, modules)?;
     let kernel = read_kernel(alloc, &files[0])?;
@@ -114,11 +114,11 @@ pub(crate) fn unplaced<A: Allocator + Copy, V: ByteView>(
     rsdps: &Rsdps<'_, A>,
     files: &[V],
 ) -> Result<Option<Row>, PrepFault>
-    requires { AreOfMultiboot2 files.now modules.now rsdps.now }
+    requires { IsMultiboot2Entry files.now modules.now rsdps.now }
     ensures which { IfOk result (IsUnplaced machine.now
-        (value_by (map V.bytes files.now) line.now modules.now rsdps.now)) }
+        (value_with_modules (map V.bytes files.now) line.now modules.now rsdps.now)) }
     ensures fault { IfErr result (IsFaultBeforePlacing machine.now
-        (value_by (map V.bytes files.now) line.now modules.now rsdps.now)) }
+        (value_with_modules (map V.bytes files.now) line.now modules.now rsdps.now)) }
 {
     check_lines(line, modules)?;
     let kernel = read_kernel(alloc, &files[0])?;

@@ -22,14 +22,14 @@ use bl_mem::PhysMem;
 use std::alloc::{AllocError, Allocator};
 use std::marker::Model;
 
+mod awaiting;
+mod awaiting_by_phase;
 mod boot_end;
 mod event_taking;
 mod falling_back;
 pub(crate) mod outcome;
 mod owned_session;
 mod phase;
-mod requests;
-mod requests_by_phase;
 mod starting;
 
 pub use outcome::{BootFault, Outcome, Progress};

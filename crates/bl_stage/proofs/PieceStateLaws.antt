@@ -20,7 +20,7 @@ use Rattle.bl_stage.specs.PieceStates.{waiting_pieces, came_bytes}
 use Rattle.bl_stage.proofs.FrameLemmas.{staged_length}
 use Rattle.bl_stage.proofs.FileLemmas.{file_within}
 use Rattle.bl_stage.proofs.PieceLemmas.{file_evacuated}
-use Rattle.bl_stage.specs.internal.StagedFileLaws.{same_firsts}
+use Rattle.bl_stage.specs.internal.FileSetLaws.{same_firsts}
 use Rattle.bl_stage.proofs.PieceStateLemmas.{piece_long}
 
 -- a stage to which no piece came waits for each

@@ -13,7 +13,7 @@ use Rattle.bl_mem.proofs.Overwrites.{length-overwrite, get_or-overwrite_in, get_
 use Rattle.bl_mem.proofs.Overwrites.{get_or-overwrite_above}
 use Rattle.bl_stage.specs.Staged.{Staging, AreStaged, staged_file, frames_of_file, with_frames}
 use Rattle.bl_stage.specs.Pieces.{is_piece, slot_in, stage_with}
-use Rattle.bl_stage.specs.internal.StagedFileLaws.{same_firsts}
+use Rattle.bl_stage.specs.internal.FileSetLaws.{same_firsts}
 use Rattle.bl_stage.specs.PieceStates.{PieceState, has, piece_state_if_came, piece_state_at}
 use Rattle.bl_stage.specs.PieceStates.{piece_states_of, piece_states, piece_of}
 use Rattle.bl_stage.specs.PieceStates.{piece_states_after_put}

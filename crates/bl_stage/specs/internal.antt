@@ -1,4 +1,4 @@
 pub mod Cells
 pub mod PackedCells
 pub mod StageTables
-pub mod StagedFileLaws
+pub mod FileSetLaws

@@ -1,6 +1,6 @@
 //! The files of a stage, for what is loaded into the memory that holds them.
 ghost use Rattle.bl_stage.specs.Staged.{staged_texts, IsStagedOn};
-ghost use Rattle.bl_stage.specs.internal.StagedFileLaws.{same_texts};
+ghost use Rattle.bl_stage.specs.internal.FileSetLaws.{same_texts};
 
 use crate::stage::Stage;
 use bl_mem::{ByteView, FileSet, PhysMem};

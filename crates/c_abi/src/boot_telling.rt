@@ -12,7 +12,7 @@ ghost use Rattle.c_abi.specs.declared.end_records.PlaceRecord.{PlaceRecord};
 use crate::end_records::{HandoffRecord, PlaceRecord, RefusalRecord};
 use crate::given_fault::GivenFault;
 use crate::handoff_telling::{handoff_told, tell_places};
-use crate::refusal_telling::refusal_record;
+use crate::refusal_record::refusal_record;
 use bl_session::{BootFault, Outcome, RefusedEntry};
 use std::alloc::Allocator;
 

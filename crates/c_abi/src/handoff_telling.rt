@@ -7,8 +7,8 @@ ghost use Rattle.c_abi.specs.LoadTold as spec;
 
 use crate::end_records::{HandoffRecord, PlaceRecord, RefusalRecord};
 use crate::load_fault::LoadFault;
-use crate::refusal_telling::refusal_record;
-use crate::register_telling::registers_told;
+use crate::refusal_record::refusal_record;
+use crate::registers_record::registers_told;
 use bl_load::{Handoff, Place, Plan, PlannedPart};
 use std::alloc::Allocator;
 

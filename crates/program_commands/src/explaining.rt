@@ -1,12 +1,12 @@
 //! A boot, told for a person.
 
-mod description_blame;
 mod entry_steps;
 mod explained_boot;
 mod explanation;
 mod fault;
 mod found_entry;
 mod placing_details;
+mod read_or_blame;
 mod refusal_details;
 mod text_place;
 

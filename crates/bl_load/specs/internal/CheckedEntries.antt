@@ -2,7 +2,7 @@
 use Rattle.std.specs.Prelude.{ℕ, List, length, map}
 use Rattle.bl_mem.specs.declared.byte_view.ByteView.{Ghosts}
 use Rattle.bl_load.specs.declared.checked_entry.CheckedEntry.{CheckedEntry}
-use Rattle.bl_load.specs.internal.Loading.{lines_by}
+use Rattle.bl_load.specs.internal.Multiboot2Entries.{lines_of_modules}
 use Rattle.bl_load.specs.internal.ReadKernels.{HasFiles}
 use Rattle.bl_load.specs.KernelReading.{KernelReading, IsKernelReading}
 use Rattle.bl_load.specs.EntryValue.{EntryValue}
@@ -19,7 +19,7 @@ value_of_files entry = record {
   protocol = entry.protocol;
   line = entry.line.now;
   files = texts_in entry;
-  module_lines = lines_by entry.modules.now;
+  module_lines = lines_of_modules entry.modules.now;
   rsdp_old = entry.rsdp_old.now;
   rsdp_new = entry.rsdp_new.now;
 }

@@ -8,7 +8,7 @@ ghost use Rattle.bl_plan.specs.declared.part.Role.TheVariants as role;
 ghost use Rattle.bl_load.specs.Addresses.{address_of};
 ghost use Rattle.bl_load.specs.EntryValue.{line_fault};
 ghost use Rattle.bl_load.specs.Rows.{told_modules, information_of};
-ghost use Rattle.bl_load.specs.internal.Loading.{lines_by};
+ghost use Rattle.bl_load.specs.internal.Multiboot2Entries.{lines_of_modules};
 ghost use Rattle.bl_load.specs.internal.Placing.{EndsLow};
 ghost use Rattle.bl_load.specs.internal.Told.{info_with, module_info, HasModulesAt};
 ghost use Rattle.bl_load.specs.internal.CheckedEntries.{texts_in, value_of_files};
@@ -56,7 +56,7 @@ fn modules_at<'a, A: Allocator, V: ByteView>(
 ) -> Result<Vec<ModuleToWrite<'a>, A>, AllocError>
     requires { HasModulesAt entry.now places.now }
     ensures told { IfOk result (λ told. told.items
-        ≡ told_modules (texts_in entry.now) places.now 0 (lines_by entry.now.modules.now)) }
+        ≡ told_modules (texts_in entry.now) places.now 0 (lines_of_modules entry.now.modules.now)) }
     ensures fits { IfOk result (λ told. All IsModule told.items) }
 {
     let mut told = Vec::with_capacity(alloc, entry.modules.len())?;

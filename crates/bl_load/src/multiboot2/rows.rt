@@ -3,7 +3,7 @@ ghost use Rattle.std.specs.Prelude.{◌≡◌, ◌≤◌, ◌<◌, ◌+◌, ◌^
 ghost use Rattle.std.specs.Prelude.{option_map, IfOk};
 ghost use Rattle.bl_load.specs.KernelBlock as blocks;
 ghost use Rattle.bl_load.specs.Rows as table;
-ghost use Rattle.bl_load.specs.internal.Loading.{lines_by};
+ghost use Rattle.bl_load.specs.internal.Multiboot2Entries.{lines_of_modules};
 ghost use Rattle.bl_load.specs.internal.Placing as kept;
 ghost use Rattle.bl_load.specs.internal.ReadMultiboot2Kernels.{kernel_by, max_segments};
 ghost use Rattle.bl_load.specs.internal.CheckedEntries.{value_of_files};
@@ -34,7 +34,7 @@ fn push_module_rows<A: Allocator, B: Allocator, V: ByteView>(
     requires files { length files.now ≡ 1 + length modules.now }
     ensures { IfOk result (λ _. rows.new.items
         ≡ rows.old.items
-        ++ kept.capped_module_rows (map V.bytes files.now) 0 (lines_by modules.now)) }
+        ++ kept.capped_module_rows (map V.bytes files.now) 0 (lines_of_modules modules.now)) }
 {
     for (index, _) in modules.iter().enumerate() {
         rows.push(Row {
@@ -55,7 +55,7 @@ fn push_module_rows<A: Allocator, B: Allocator, V: ByteView>(
 fn module_tags_size<A: Allocator>(modules: &[Module<A>]) -> u64
     requires short { All (λ m. length m.line ≤ max_line) modules.now }
     requires few { length modules.now ≤ max_modules }
-    ensures value { result ≡ kept.module_tags_size (lines_by modules.now) }
+    ensures value { result ≡ kept.module_tags_size (lines_of_modules modules.now) }
     ensures small { result ≤ 4120 * length modules.now }
 {
     let mut size = 0;

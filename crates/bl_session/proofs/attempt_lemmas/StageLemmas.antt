@@ -16,7 +16,7 @@ use Rattle.bl_stage.specs.Ranges.{meets}
 use Rattle.bl_stage.specs.Staged.{Staging, AreStaged, HasPool, IsStagedOn, staged_file}
 use Rattle.bl_stage.specs.Staged.{frames_of_file}
 use Rattle.bl_stage.specs.Staged.{frames_before, staged_texts, with_frames}
-use Rattle.bl_stage.specs.internal.StagedFileLaws.{same_firsts}
+use Rattle.bl_stage.specs.internal.FileSetLaws.{same_firsts}
 use Rattle.bl_stage.proofs.FileLemmas.{file_within, read_part}
 use Rattle.bl_stage.proofs.FrameLemmas.{staged_length}
 

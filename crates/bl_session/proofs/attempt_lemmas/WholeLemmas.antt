@@ -16,7 +16,7 @@ use Rattle.bl_stage.specs.Pieces.{slot_in}
 use Rattle.bl_stage.specs.PieceStates as stage
 use Rattle.bl_stage.specs.PieceStates.{PieceState, piece_states, piece_states_of, piece_state_at}
 use Rattle.bl_stage.specs.PieceStates.{piece_of, waiting_pieces, came_bytes}
-use Rattle.bl_stage.specs.internal.StagedFileLaws.{same_firsts}
+use Rattle.bl_stage.specs.internal.FileSetLaws.{same_firsts}
 use Rattle.bl_stage.proofs.FileLemmas.{file_within}
 use Rattle.bl_stage.proofs.PieceStateLaws.{complete_piece_states, fresh_piece_states}
 use Rattle.bl_session.specs.attempt.AwaitedPieces.{is_awaited, are_whole, waiting_files}

@@ -13,9 +13,9 @@ ghost use Rattle.program_commands.specs.internal.described.SoughtFiles.{SeeksNam
 ghost use Rattle.program_desc.specs.Described.{described};
 
 use crate::described::{DescribedBoot, End, Files, ReadyBoot, order_of, ready_boot};
-use crate::explaining::description_blame::{machine_or_blame, read_or_blame};
 use crate::explaining::explained_boot::explain_found;
 use crate::explaining::fault::ExplainFault;
+use crate::explaining::read_or_blame::{machine_or_blame, read_or_blame};
 use program_line::Order;
 use std::alloc::{Allocator, Global};
 

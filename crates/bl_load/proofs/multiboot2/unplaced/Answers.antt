@@ -3,7 +3,7 @@ use Rattle.std.proofs.lemmas.List.{length-map}
 use Rattle.std.proofs.lemmas.Result.{IfOk-weaker, IfErr-weaker, err_from_is_err_and}
 use Rattle.bl_load.specs.internal.ReadMultiboot2Kernels.{kernel_by, AreLoadable, IsMultiboot2Fault}
 use Rattle.bl_load.specs.Multiboot2Kernel.{IsMultiboot2Kernel}
-use Rattle.bl_load.specs.internal.Loading.{lines_by}
+use Rattle.bl_load.specs.internal.Multiboot2Entries.{lines_of_modules}
 use Rattle.bl_load.specs.KernelReading.{multiboot2}
 use Rattle.bl_load.specs.EntryValue.{multiboot2_value, line_fault, lines_fault}
 use Rattle.bl_load.proofs.LineLemmas.{sound_short, first_sound, all_sound}
@@ -14,7 +14,7 @@ use Rattle.bl_load.proofs.multiboot2.unplaced.Goals as goal
 pub invariant_of-entry : goal.invariant_of-entry
 invariant_of-entry g c =
     let sound =
-    first_sound (line_fault c.args.line.now) (lines_fault (lines_by c.args.modules.now))
+    first_sound (line_fault c.args.line.now) (lines_fault (lines_of_modules c.args.modules.now))
     c.in_ok-check_lines.ensures in
     record {
       sound = sound.0;
@@ -54,7 +54,7 @@ returns-in_err-kernel-clause-fault g c =
     first_text g.V.ByteView.bytes c.args.files.now c.index-files-0.result some
     c.index-files-0.is in
     rw (p.1, p.2)
-    (reading_multiboot2 c.args.machine.now texts c.args.line.now (lines_by c.args.modules.now)
+    (reading_multiboot2 c.args.machine.now texts c.args.line.now (lines_of_modules c.args.modules.now)
     c.args.rsdps.now.old.now c.args.rsdps.now.new.now c.in_ok-check_lines.ensures fault
     (subst (λ (f : List ℕ). IsMultiboot2Fault f fault) file c.in_err-kernel.ensures.fault))
 
@@ -62,7 +62,7 @@ pub returns-clause-which : goal.returns-clause-which
 returns-clause-which g c =
     let facts = c.args.machine.now in
     let texts = map g.V.ByteView.bytes c.args.files.now in
-    let value = multiboot2_value texts c.args.line.now (lines_by c.args.modules.now)
+    let value = multiboot2_value texts c.args.line.now (lines_of_modules c.args.modules.now)
     c.args.rsdps.now.old.now c.args.rsdps.now.new.now in
     let kernel = kernel_by c.in_ok-kernel.kernel in
     let some : 1 ≤ length c.args.files.now = omega (arith, c.requires.files) in
@@ -78,7 +78,7 @@ returns-clause-which g c =
 pub returns-clause-fault : goal.returns-clause-fault
 returns-clause-fault g c =
     let texts = map g.V.ByteView.bytes c.args.files.now in
-    let value = multiboot2_value texts c.args.line.now (lines_by c.args.modules.now)
+    let value = multiboot2_value texts c.args.line.now (lines_of_modules c.args.modules.now)
     c.args.rsdps.now.old.now c.args.rsdps.now.new.now in
     IfErr-weaker c.unplaced_part.result
     _ _ (λ fault h. reading_no_memory c.args.machine.now value fault h)

@@ -1,7 +1,7 @@
 use Rattle.std.proofs.Common.{◌≤◌, ℕ, List, length, arith}
 use Rattle.std.proofs.lemmas.List.{length-map}
 use Rattle.std.proofs.lemmas.List.Elements.{All-map}
-use Rattle.bl_load.specs.internal.Loading.{lines_by}
+use Rattle.bl_load.specs.internal.Multiboot2Entries.{lines_of_modules}
 use Rattle.bl_load.specs.internal.CheckedEntries.{texts_in}
 use Rattle.bl_load.proofs.LineLemmas.{all_short}
 use Rattle.bl_load.proofs.InformationLemmas.{tags_size_is, tags_small}
@@ -14,9 +14,9 @@ facts_of-facts-requires-clause-small g c =
     let files = texts_in entry in
     let short = all_short modules entry.sound_modules in
     let small =
-    tags_small (lines_by modules)
+    tags_small (lines_of_modules modules)
     (All-map (λ (line : List ℕ). length line ≤ 4095) (λ m. m.line) modules short) in
     let count = length-map modules (λ m. m.line) in
     let few = entry.few in
-    let is = tags_size_is files c.args.places.now 0 (lines_by modules) in
+    let is = tags_size_is files c.args.places.now 0 (lines_of_modules modules) in
     rw (c.as_slice.ensures.value, c.in_ok-told.ensures.told) (omega (arith, small, count, few, is))

@@ -6,7 +6,7 @@ use Rattle.bl_plan.specs.declared.part.Role.TheVariants as role
 use Rattle.bl_load.specs.declared.entry.Module.{Module}
 use Rattle.bl_load.specs.Addresses.{address_of}
 use Rattle.bl_mbi.specs.InfoToWriteFacts.{IsModule}
-use Rattle.bl_load.specs.internal.Loading.{lines_by}
+use Rattle.bl_load.specs.internal.Multiboot2Entries.{lines_of_modules}
 use Rattle.bl_load.specs.Rows.{told_modules}
 use Rattle.bl_load.proofs.ModuleLemmas.{told_by, told_module, told_more, view_length_at}
 use Rattle.bl_load.proofs.multiboot2.information.modules_at.Goals as goal
@@ -36,8 +36,8 @@ loop-index-preserved g c =
     let m = get_or modules k c.module-item.result in
     let rest = drop (k + 1) modules in
     let new = c.module_at.result in
-    let left : lines_by (drop k modules) ≡ m.line ∷ lines_by rest =
-    ap lines_by (drop_more modules k c.module-item.result c.loop-index-test.true) in
+    let left : lines_of_modules (drop k modules) ≡ m.line ∷ lines_of_modules rest =
+    ap lines_of_modules (drop_more modules k c.module-item.result c.loop-index-test.true) in
     let size =
     c.len-size.ensures
     ∙ ap (λ (v : g.row.V.Denot). length (g.V.ByteView.bytes v)) (sym c.index-entry-index.is)
@@ -50,15 +50,15 @@ loop-index-preserved g c =
     c.module_at.ensures.told
     ∙ ap (λ (n : ℕ). told_by (address_of role.Module k places) n c.as_slice-line.result.now) size
     ∙ ap (told_module texts places k) line in
-    let all : c.loop-index.told.items ++ told_modules texts places k (m.line ∷ lines_by rest)
-    ≡ told_modules texts places 0 (lines_by modules) =
+    let all : c.loop-index.told.items ++ told_modules texts places k (m.line ∷ lines_of_modules rest)
+    ≡ told_modules texts places 0 (lines_of_modules modules) =
     ap (λ (ls : List (List ℕ)). c.loop-index.told.items ++ told_modules texts places k ls) (sym left)
     ∙ i.told in
     record {
       told =
           rw c.in_ok-push.ensures.items
-          (told_more texts places k c.loop-index.told.items new m.line (lines_by rest)
-          (told_modules texts places 0 (lines_by modules)) is all);
+          (told_more texts places k c.loop-index.told.items new m.line (lines_of_modules rest)
+          (told_modules texts places 0 (lines_of_modules modules)) is all);
       fits =
           rw c.in_ok-push.ensures.items
           (All-push IsModule c.loop-index.told.items new i.fits c.module_at.ensures.fits);

@@ -1,4 +1,4 @@
-//! A description is read, or blamed.
+//! A description is read and its machine made, or it is said why not.
 ghost use Rattle.std.specs.Prelude.{◌≡◌, true, None, option_map};
 ghost use Rattle.std.specs.Str.{is_utf8};
 ghost use Rattle.toml.specs.Errors.{IsMemory, IsWithin};
@@ -36,7 +36,7 @@ fn blamed<'a, A: Allocator + Copy, B: Allocator>(
 }
 
 /// Says what an error of toml's tells of a text that is UTF-8.
-fn toml_fault<A: Allocator + Copy, B: Allocator>(
+fn say_toml_blame<A: Allocator + Copy, B: Allocator>(
     alloc: A,
     text: &str,
     error: &toml::de::Error,
@@ -58,7 +58,7 @@ fn toml_fault<A: Allocator + Copy, B: Allocator>(
 }
 
 /// Says what is wrong with a text that describes nothing.
-fn blame_of_text<A: Allocator + Copy, B: Allocator>(
+fn say_blame_of_text<A: Allocator + Copy, B: Allocator>(
     alloc: A,
     global: Global,
     text: &str,
@@ -70,7 +70,7 @@ fn blame_of_text<A: Allocator + Copy, B: Allocator>(
 {
     let table = match toml::table_from_str(global, text) {
         Ok(table) => table,
-        Err(error) => return toml_fault(alloc, text, &error, say),
+        Err(error) => return say_toml_blame(alloc, text, &error, say),
     };
     match first_bad_key(global, &table) {
         Ok(Some(bad)) => blamed(alloc, &Blame::BadKey(bad), None, say),
@@ -80,7 +80,7 @@ fn blame_of_text<A: Allocator + Copy, B: Allocator>(
 }
 
 /// Says what is wrong with bytes that describe nothing.
-fn blame_of<A: Allocator + Copy, B: Allocator>(
+fn say_blame_of<A: Allocator + Copy, B: Allocator>(
     alloc: A,
     global: Global,
     desc: &[u8],
@@ -90,7 +90,7 @@ fn blame_of<A: Allocator + Copy, B: Allocator>(
     ensures { IsReadBlame desc.now say.old.items say.new.items result }
 {
     match std::str::from_utf8(desc) {
-        Ok(text) => blame_of_text(alloc, global, text, say),
+        Ok(text) => say_blame_of_text(alloc, global, text, say),
         Err(_) => blamed(alloc, &Blame::NotUtf8, None, say),
     }
 }
@@ -106,7 +106,7 @@ pub fn read_or_blame<A: Allocator + Copy, B: Allocator>(
 {
     match read_description(alloc, global, desc) {
         Ok(description) => Ok(description),
-        Err(DescFault::BadDescription) => Err(blame_of(alloc, global, desc, say)),
+        Err(DescFault::BadDescription) => Err(say_blame_of(alloc, global, desc, say)),
         Err(DescFault::NoMemory) => Err(ExplainFault::NoMemory),
     }
 }

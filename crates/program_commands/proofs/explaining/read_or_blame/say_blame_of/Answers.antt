@@ -2,10 +2,10 @@ use Rattle.std.proofs.lemmas.Str.{is_utf8-from_IsUtf8}
 use Rattle.program_say.specs.declared.subjects.blame.Blame.TheVariants as blames
 use Rattle.program_commands.proofs.explaining_lemmas.ExplainEnds.{blamed_for}
 use Rattle.program_commands.proofs.explaining_lemmas.ExplainLemmas.{no_text}
-use Rattle.program_commands.proofs.explaining.description_blame.blame_of.Goals as goal
+use Rattle.program_commands.proofs.explaining.read_or_blame.say_blame_of.Goals as goal
 
-pub blame_of_text-requires-clause-text : goal.blame_of_text-requires-clause-text
-blame_of_text-requires-clause-text g c =
+pub say_blame_of_text-requires-clause-text : goal.say_blame_of_text-requires-clause-text
+say_blame_of_text-requires-clause-text g c =
     rw c.in-Ok.ensures.cases.0 (is_utf8-from_IsUtf8 c.args.desc.now c.in-Ok.ensures.cases.1)
 
 pub returns-in-Err : goal.returns-in-Err
