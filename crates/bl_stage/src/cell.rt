@@ -4,7 +4,7 @@ ghost use Rattle.bl_stage.specs.internal.Cells.{is_spare_cell};
 
 /// One frame of the pool: which place of the list of all files' frames it has, and whether it is
 /// to be left.
-#[derive(Clone, Copy, Debug, PartialEq, Eq)]
+#[derive(Clone, Copy)]
 pub struct Cell {
     pub holder: Option<u32>,
     pub shut: bool,

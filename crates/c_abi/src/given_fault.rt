@@ -4,14 +4,11 @@ ghost use Rattle.c_abi.specs.declared.given_fault.GivenFault.TheVariants.{Misuse
 
 use crate::misuse::Misuse;
 use std::alloc::AllocError;
-use thiserror::Error;
 
 /// Why what C gives is not taken: its caller broke a condition, or memory ran out.
-#[derive(Clone, Copy, Debug, PartialEq, Eq, Error)]
+#[derive(Clone, Copy)]
 pub enum GivenFault {
-    #[error("{0}")]
     Misused(Misuse),
-    #[error("no memory")]
     NoMemory,
 }
 

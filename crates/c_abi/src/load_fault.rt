@@ -7,19 +7,15 @@ use crate::given_fault::GivenFault;
 use crate::misuse::Misuse;
 use bl_load::{PrepFault, Refusal};
 use std::alloc::AllocError;
-use thiserror::Error;
 
 /// Why an entry is not loaded: its caller broke a condition, or the entry is refused, or memory ran
 /// out, or a part would begin below the memory that is given.
-#[derive(Clone, Copy, Debug, PartialEq, Eq, Error)]
+#[derive(Clone, Copy)]
 pub enum LoadFault {
-    #[error("{0}")]
     Misused(Misuse),
-    #[error("{0}")]
     Refused(Refusal),
-    #[error("no memory")]
     NoMemory,
-    #[error("a part begins below the memory that is given")]
+    /// A part begins below the memory that is given.
     Outside,
 }
 

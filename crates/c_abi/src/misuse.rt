@@ -2,30 +2,28 @@
 ghost use Rattle.std.specs.Prelude.{◌≡◌};
 ghost use Rattle.c_abi.specs.Status.{misuse_status};
 
-use thiserror::Error;
-
 /// A condition of a call that its caller broke, found before any memory was changed.
-#[derive(Clone, Copy, Debug, PartialEq, Eq, Error)]
+#[derive(Clone, Copy)]
 pub enum Misuse {
-    #[error("an array has too little room")]
+    /// An array has too little room.
     SmallRoom,
-    #[error("a region's kind is none")]
+    /// A region's kind is none.
     BadKind,
-    #[error("bad size")]
+    /// The machine's size is a bad one.
     BadSize,
-    #[error("too many regions")]
+    /// There are too many regions.
     TooManyRegions,
-    #[error("a region ends too high")]
+    /// A region ends too high.
     BadRegion,
-    #[error("bad pool")]
+    /// The pool is a bad one.
     BadPool,
-    #[error("memory does not cover the machine")]
+    /// Memory does not cover the machine.
     BadMemory,
-    #[error("no such protocol")]
+    /// There is no such protocol.
     BadProtocol,
-    #[error("too many entries or modules, or a copy is too long")]
+    /// There are too many entries or modules, or a copy of the RSDP is too long.
     TooMany,
-    #[error("no such entry")]
+    /// There is no such entry.
     BadIndex,
 }
 

@@ -1,7 +1,7 @@
 //! Why a call through a handle is not made.
 
 /// Why a call through a handle is not made. It has changed nothing.
-#[derive(Clone, Copy, Debug, PartialEq, Eq)]
+#[derive(Clone, Copy)]
 pub enum HandleFault {
     /// The handle keeps no session.
     NoSession,

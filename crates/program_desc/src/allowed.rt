@@ -1,7 +1,7 @@
 //! What stands at a key, if it is as it must be.
 
 /// What a key of a description may hold.
-#[derive(Clone, Copy, Debug, PartialEq, Eq)]
+#[derive(Clone, Copy)]
 pub enum Allowed {
     /// A number of 0 or more.
     Number,

@@ -4,7 +4,7 @@ use crate::key_set::KeySet;
 use toml::Value;
 
 /// A table of a description. Indices count from 0.
-#[derive(Clone, Copy, Debug, PartialEq, Eq)]
+#[derive(Clone, Copy)]
 pub enum TablePlace {
     /// The whole.
     Description,
@@ -19,7 +19,7 @@ pub enum TablePlace {
 }
 
 /// What is wrong with a table of a description, or with one of its keys.
-#[derive(Clone, Copy, Debug)]
+#[derive(Clone, Copy)]
 pub enum KeyFault<'a> {
     /// It is no table but this value.
     NoTable(&'a Value),
@@ -36,7 +36,7 @@ pub enum KeyFault<'a> {
 }
 
 /// A key of a description that is not as it must be: in which table, and what is wrong with it.
-#[derive(Clone, Copy, Debug)]
+#[derive(Clone, Copy)]
 pub struct BadKey<'a> {
     pub table: TablePlace,
     pub fault: KeyFault<'a>,

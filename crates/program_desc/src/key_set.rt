@@ -1,7 +1,7 @@
 //! The sets of keys, one for each kind of table.
 
 /// The keys that a table may have.
-#[derive(Clone, Copy, Debug, PartialEq, Eq)]
+#[derive(Clone, Copy)]
 pub enum KeySet {
     Description,
     Region,

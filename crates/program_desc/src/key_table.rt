@@ -9,7 +9,7 @@ use crate::allowed::Allowed;
 use crate::key_set::KeySet;
 
 /// A key of a table: whether it must stand, and what it may hold.
-#[derive(Clone, Copy, Debug)]
+#[derive(Clone, Copy)]
 pub struct Key {
     pub name: &'static str,
     pub required: bool,

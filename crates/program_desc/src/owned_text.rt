@@ -6,7 +6,7 @@ use std::marker::Model;
 
 /// Text of one's own, which contracts see as the list of its bytes. It is made from a `String`, and
 /// gives it back, without taking memory.
-#[derive(Debug, Drop)]
+#[derive(Drop)]
 pub struct Text<A: Allocator> {
     held: String<A>,
 }

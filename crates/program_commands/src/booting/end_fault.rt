@@ -5,17 +5,13 @@ ghost use Rattle.program_commands.specs.internal.CallEnds.{end_fault_of_desc_fau
 
 use program_desc::DescFault;
 use std::alloc::{AllocError, AllocFailed};
-use thiserror::Error;
 
 /// Why a boot, or a map, is not told to its end: the description breaks a rule of its form or one
 /// of machines, the sink had a fault, or memory ran out.
-#[derive(Clone, Copy, Debug, PartialEq, Eq, Error)]
+#[derive(Clone, Copy)]
 pub enum EndFault {
-    #[error("bad description")]
     BadDescription,
-    #[error("device fault")]
     Device,
-    #[error("no memory")]
     NoMemory,
 }
 

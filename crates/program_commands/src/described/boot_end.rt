@@ -1,7 +1,7 @@
 //! How a boot ends.
 
 /// How a boot ends that nothing stopped.
-#[derive(Clone, Copy, Debug, PartialEq, Eq)]
+#[derive(Clone, Copy)]
 pub enum End {
     /// An entry was handed over.
     Booted,

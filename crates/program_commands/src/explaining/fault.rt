@@ -6,7 +6,7 @@ use std::alloc::{AllocError, AllocFailed};
 
 /// Why a boot is not explained to its end: its description is a bad one, for what was said, or
 /// memory ran out.
-#[derive(Clone, Copy, Debug, PartialEq, Eq)]
+#[derive(Clone, Copy)]
 pub enum ExplainFault {
     Blamed,
     NoMemory,

@@ -6,17 +6,13 @@ ghost use Rattle.program_commands.specs.internal.WalkEnds.{end_of_image_fault, e
 use bl_image::ImageFault;
 use bl_walk::WalkFault;
 use std::alloc::{AllocError, AllocFailed};
-use thiserror::Error;
 
 /// Why a walk is not told to its end: the image is refused, with a number; the source had a fault;
 /// or memory ran out.
-#[derive(Clone, Copy, Debug, PartialEq, Eq, Error)]
+#[derive(Clone, Copy)]
 pub enum WalkEnd {
-    #[error("bad image {0}")]
     BadImage(u32),
-    #[error("device fault")]
     Device,
-    #[error("no memory")]
     NoMemory,
 }
 

@@ -3,14 +3,14 @@ use bl_map::MapFault;
 use program_desc::BadKey;
 
 /// A place in a text, by its line and its column, which is a character's. Both count from 1.
-#[derive(Clone, Copy, Debug, PartialEq, Eq)]
+#[derive(Clone, Copy)]
 pub struct TextPlace {
     pub line: u64,
     pub column: u64,
 }
 
 /// Why a description is a bad one.
-#[derive(Clone, Copy, Debug)]
+#[derive(Clone, Copy)]
 pub enum Blame<'a> {
     /// It is not UTF-8.
     NotUtf8,

@@ -2,7 +2,7 @@
 use bl_load::{RefusedEntry, Row};
 
 /// What is told of a refusal in lines of their own.
-#[derive(Clone, Copy, Debug, PartialEq, Eq)]
+#[derive(Clone, Copy)]
 pub enum RefusalDetail {
     Nothing,
 
@@ -15,7 +15,7 @@ pub enum RefusalDetail {
 }
 
 /// A refusal with its detail.
-#[derive(Clone, Copy, Debug, PartialEq, Eq)]
+#[derive(Clone, Copy)]
 pub struct ToldRefusal {
     pub refused: RefusedEntry,
     pub detail: RefusalDetail,
