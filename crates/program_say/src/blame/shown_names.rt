@@ -2,6 +2,7 @@
 ghost use Rattle.std.specs.Prelude.{◌≡◌, ◌++◌, OnOk};
 ghost use Rattle.program_say.specs.blame.ShownNames.{shown_byte, shown_name};
 
+use crate::formatted::say_digits;
 use std::alloc::{AllocError, Allocator};
 
 /// Appends a byte of a name, a control character or a backslash by its number.
@@ -10,10 +11,8 @@ fn say_byte<A: Allocator + Copy>(out: &mut Vec<u8, A>, byte: u8) -> Result<(), A
     ensures { OnOk result (out.new.items ≡ out.old.items ++ shown_byte byte) }
 {
     if byte < 0x20 || byte == 0x7F || byte == b'\\' {
-        let alloc = *out.allocator();
-        let digits = hex::encode(alloc, &[byte])?;
         out.extend_from_slice(b"\\x")?;
-        return out.extend_from_slice(digits.as_bytes());
+        return say_digits(out, &[byte]);
     }
     out.extend_from_slice(&[byte])
 }

@@ -1,10 +1,11 @@
 //! The digests of an image and of its parts, line by line.
-ghost use Rattle.std.specs.Prelude.{◌≡◌, ◌++◌, OnOk, IfOk, string_bytes};
+ghost use Rattle.std.specs.Prelude.{◌≡◌, ◌++◌, OnOk, IfOk, decimal, string_bytes};
 ghost use Rattle.std.specs.List.{flat_map};
 ghost use Rattle.program_say.specs.blame.Addresses.{hex8};
 ghost use Rattle.program_say.specs.DigestLines as says;
-ghost use Rattle.program_say.specs.DigestLines.{part_digest_line};
+ghost use Rattle.program_say.specs.DigestLines.{at_right, part_digest_line};
 
+use crate::formatted::say_digits;
 use crate::lines::fields::{say_at_left, say_at_right};
 use bl_digest::{Digests, PartDigest};
 use bl_load::Role;
@@ -26,6 +27,14 @@ fn part_name(role: Role) -> &'static str
     }
 }
 
+/// Appends a number at the right of a field of ten.
+fn say_count<A: Allocator + Copy>(out: &mut Vec<u8, A>, count: u64) -> Result<(), AllocError>
+    ensures { OnOk result (out.new.items ≡ out.old.items ++ at_right 10 (decimal count)) }
+{
+    let count = format!(in *out.allocator(); "{count}")?;
+    say_at_right(out, 10, count.as_bytes())
+}
+
 /// Appends the fields of a number of bytes and of their digest, and the line's end.
 #[tactic(auto, unfolding(crate::specs::DigestLines::bytes_words))]
 fn say_bytes<A: Allocator + Copy>(
@@ -35,12 +44,9 @@ fn say_bytes<A: Allocator + Copy>(
 ) -> Result<(), AllocError>
     ensures { OnOk result (out.new.items ≡ out.old.items ++ says.bytes_words count digest.now) }
 {
-    let alloc = *out.allocator();
-    let count = format!(in alloc; "{count}")?;
-    let digits = hex::encode(alloc, digest)?;
-    say_at_right(out, 10, count.as_bytes())?;
+    say_count(out, count)?;
     out.extend_from_slice(b" ")?;
-    out.extend_from_slice(digits.as_bytes())?;
+    say_digits(out, digest)?;
     out.extend_from_slice(b"\n")
 }
 

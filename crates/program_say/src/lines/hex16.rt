@@ -2,6 +2,7 @@
 ghost use Rattle.std.specs.Prelude.{◌≡◌, ◌++◌, OnOk};
 ghost use Rattle.program_say.specs.BootAndMapLines.{hex16_between};
 
+use crate::say;
 use std::alloc::{AllocError, Allocator};
 
 /// Appends a number of sixteen digits between two texts.
@@ -14,7 +15,5 @@ pub fn say_hex16<A: Allocator + Copy>(
     ensures { OnOk result (out.new.items ≡ out.old.items
         ++ hex16_between before.now number behind.now) }
 {
-    let alloc = *out.allocator();
-    let line = format!(in alloc; "{before}{number:016x}{behind}")?;
-    out.extend_from_slice(line.as_bytes())
+    say!(out, "{before}{number:016x}{behind}")
 }

@@ -46,7 +46,7 @@ pub fn say_map<A: Allocator + Copy, B: Allocator>(
 {
     let mut lines = Vec::new(alloc);
     say_runs(&mut lines, runs)?;
-    say!(lines, "low {low}\nhigh {high}\n")?;
+    say!(&mut lines, "low {low}\nhigh {high}\n")?;
     say_hex16(&mut lines, "pool ", pool.start, " ")?;
     say_hex16(&mut lines, "", pool.end, "\n")?;
     out.extend_from_slice(&lines)

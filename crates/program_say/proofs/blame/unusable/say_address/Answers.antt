@@ -1,4 +1,4 @@
-use Rattle.std.proofs.Common.{rules, arith, ◌≡◌, ◌++◌, ◌^◌, ◌-◌}
+use Rattle.std.proofs.Common.{arith, ◌≡◌, ◌++◌, ◌^◌, ◌-◌, OnOk}
 use Rattle.std.proofs.lemmas.Grind.{common_steps}
 use Rattle.program_say.proofs.blame_lemmas.AddressLemmas.{hex8_hole, hex8_is}
 use Rattle.program_say.specs.blame.UnusableAddress.{address_words}
@@ -9,8 +9,8 @@ unfolding address_words
 returns g c =
     let a = c.args.address in
     let limit = 2 ^ 64 - 1 in
-    let holes : c.as_bytes.result.now
-    ≡ c.args.before.now ++ hex8_hole limit a ++ c.args.behind.now = grind (arith, common_steps) in
-    let line : c.as_bytes.result.now ≡ address_words c.args.before.now a c.args.behind.now =
-    rw (← hex8_is limit a) holes in
-    search rules
+    let shown : OnOk c.say_shown.result
+    (c.say_shown.new.out.items
+    ≡ c.args.out.now.items ++ (c.args.before.now ++ hex8_hole limit a ++ c.args.behind.now)) =
+    grind (arith, common_steps) in
+    rw (hex8_is limit a) at shown

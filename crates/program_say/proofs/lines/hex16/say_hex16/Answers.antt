@@ -1,4 +1,4 @@
-use Rattle.std.proofs.Common.{rules, arith, ◌≡◌, ◌++◌}
+use Rattle.std.proofs.Common.{arith, ◌≡◌, ◌++◌, OnOk}
 use Rattle.std.proofs.lemmas.Grind.{common_steps}
 use Rattle.program_say.proofs.HexLemmas.{hex_hole, hex16_hole}
 use Rattle.program_say.specs.BootAndMapLines.{hex16_between}
@@ -8,8 +8,8 @@ pub returns : goal.returns
 unfolding hex16_between
 returns g c =
     let n = c.args.number in
-    let holes : c.as_bytes.result.now ≡ c.args.before.now ++ hex_hole n ++ c.args.behind.now =
+    let shown : OnOk c.say_shown.result
+    (c.say_shown.new.out.items
+    ≡ c.args.out.now.items ++ (c.args.before.now ++ hex_hole n ++ c.args.behind.now)) =
     grind (arith, common_steps) in
-    let line : c.as_bytes.result.now ≡ hex16_between c.args.before.now n c.args.behind.now =
-    rw (← hex16_hole n) holes in
-    search rules
+    rw (hex16_hole n) at shown
