@@ -10,7 +10,6 @@ ghost use Rattle.program_say.specs.WalkLines as says;
 ghost use Rattle.program_say.specs.WalkLines.{kernel_line, module_line, seen_run_line};
 
 use crate::blame::say_address;
-use crate::formatted::say_digits;
 use crate::lines::hex16::say_hex16;
 use crate::say;
 use bl_load::Protocol;
@@ -29,9 +28,8 @@ fn say_text<A: Allocator + Copy>(out: &mut Vec<u8, A>, text: &[u8]) -> Result<()
     if count == 0 {
         return out.extend_from_slice(b"0\n");
     }
-    say!(out, "{count} ")?;
-    say_digits(out, text)?;
-    out.extend_from_slice(b"\n")
+    let digits = hex::encode(*out.allocator(), text)?;
+    say!(out, "{count} {digits}\n")
 }
 
 pub(crate) fn say_protocol<A: Allocator + Copy>(
