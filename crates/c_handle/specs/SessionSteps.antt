@@ -9,7 +9,7 @@ use Rattle.bl_session.specs.session.BootSteps as steps
 use Rattle.bl_session.specs.session.BootMemory.{IsMemoryAt}
 use Rattle.bl_session.specs.session.Phases.{SessionFacts, state_at, not_started}
 use Rattle.c_handle.specs.declared.handle_fault.HandleFault.{HandleFault}
-use Rattle.c_handle.specs.Faults.{IsHandleFault}
+use Rattle.c_handle.specs.Faults.{IsHandleFault, IsMachineMemory}
 use Rattle.c_handle.specs.Handles.{RelatesKept}
 
 -- the start of what a handle keeps, over memory from `base` on that held `before` and holds `after`
@@ -17,6 +17,8 @@ pub record IsStarted (old new : Option SessionFacts) (base : ℕ) (before after 
     (told : Result Progress HandleFault) : Type 0 where
   pub err : IfErr told (IsHandleFault old base (length before))
   pub unchanged : OnErr told ((new ≡ old) × (after ≡ before))
+  pub fits : OnOk told (RelatesKept old new ⊥
+      (λ one other. IsMachineMemory one.boot.machine base (length before)))
   pub boot : OnOk told (RelatesKept old new ⊥ (λ one other. other.boot ≡ one.boot))
   pub step : OnOk told (RelatesKept old new ⊥ (λ one other. StartsOrFails one.boot
       (state_at (memory_from base before) one.phase)
@@ -35,6 +37,8 @@ pub record IsStepped (old new : Option SessionFacts) (base : ℕ) (before after 
     (event : EventFacts) (told : Result Progress HandleFault) : Type 0 where
   pub err : IfErr told (IsHandleFault old base (length before))
   pub unchanged : OnErr told ((new ≡ old) × (after ≡ before))
+  pub fits : OnOk told (RelatesKept old new ⊥
+      (λ one other. IsMachineMemory one.boot.machine base (length before)))
   pub boot : OnOk told (RelatesKept old new ⊥ (λ one other. other.boot ≡ one.boot))
   pub step : OnOk told (RelatesKept old new ⊥ (λ one other. StepsToOrFails one.boot
       (state_at (memory_from base before) one.phase) event

@@ -6,7 +6,7 @@ ghost use Rattle.bl_session.specs.session.BootSteps.{attempt_number};
 ghost use Rattle.bl_session.specs.session.BootSteps as boot;
 ghost use Rattle.bl_session.specs.session.BootMemory.{IsMemoryAt};
 ghost use Rattle.bl_session.specs.session.Phases.{event_facts, state_at, not_started};
-ghost use Rattle.c_handle.specs.Faults.{IsHandleFault};
+ghost use Rattle.c_handle.specs.Faults.{IsHandleFault, IsMachineMemory};
 ghost use Rattle.c_handle.specs.Handles.{RelatesKept};
 
 use crate::handle::Handle;
@@ -26,6 +26,8 @@ impl Handle {
         ensures err { IfErr result (IsHandleFault self.old.kept base (length bytes.old)) }
         ensures unchanged { OnErr result
             ((self.new.kept ≡ self.old.kept) × (bytes.new ≡ bytes.old)) }
+        ensures fits { OnOk result (RelatesKept self.old.kept self.new.kept ⊥
+            (λ old new. IsMachineMemory old.boot.machine base (length bytes.old))) }
         ensures boot { OnOk result (RelatesKept self.old.kept self.new.kept ⊥
             (λ old new. new.boot ≡ old.boot)) }
         ensures step { OnOk result (RelatesKept self.old.kept self.new.kept ⊥
@@ -66,6 +68,8 @@ impl Handle {
         ensures err { IfErr result (IsHandleFault self.old.kept base (length bytes.old)) }
         ensures unchanged { OnErr result
             ((self.new.kept ≡ self.old.kept) × (bytes.new ≡ bytes.old)) }
+        ensures fits { OnOk result (RelatesKept self.old.kept self.new.kept ⊥
+            (λ old new. IsMachineMemory old.boot.machine base (length bytes.old))) }
         ensures boot { OnOk result (RelatesKept self.old.kept self.new.kept ⊥
             (λ old new. new.boot ≡ old.boot)) }
         ensures step { OnOk result (RelatesKept self.old.kept self.new.kept ⊥
