@@ -40,7 +40,8 @@
  *
  * Versions. BOOTCORE_VERSION is this file's, bootcore_version() the archive's. Within 1.x a
  * function keeps its name and arguments, a struct its size and fields, a number its meaning. A
- * reserved word must be 0; others may get a meaning. New functions, statuses, refusals may come. */
+ * reserved word must be 0; others may get a meaning. New functions, statuses, refusals, protocols,
+ * kinds of memory and roles may come. */
 #ifndef BOOTCORE_H
 #define BOOTCORE_H
 
@@ -77,14 +78,16 @@ enum {
 };
 
 /* What a call answers. A misuse, from 101 on, has changed nothing; only BOOTCORE_SMALL_ROOM of a
- * plan or a walk may tell how much is wanted. Of several the first in this order is told. */
+ * plan or a walk may tell how much is wanted. Of several the first in this order is told; of
+ * bootcore_carry_out see there. */
 enum {
     BOOTCORE_DONE = 0,
     BOOTCORE_REFUSED = 1,   /* the entry is refused; a boot: no entry is left; a walk: the image */
     BOOTCORE_WAITING = 2,   /* a session awaits pieces, or was not started; a digest wants bytes */
     BOOTCORE_NEXT = 3,      /* a session: entries were refused, pieces of another are awaited */
-    BOOTCORE_NO_MEMORY = 4, /* malloc or realloc gave none. BOOTCORE_NULL, BAD_RESERVED, BAD_FILE
-                             * and too few places are told before it; it may replace the others */
+    BOOTCORE_NO_MEMORY = 4, /* malloc or realloc gave none; or a part of a boot would begin below
+                             * its memory. BOOTCORE_NULL, BAD_RESERVED, BAD_FILE and too few places
+                             * are told before it; it may replace the others */
     BOOTCORE_FAILED = 5,    /* a session: no entry is left, or memory ran out; see its outcome */
     BOOTCORE_OUTSIDE = 6,   /* a load: a part begins below the memory that is given; of
                              * bootcore_carry_out: not all of a step lies in it */
@@ -140,9 +143,9 @@ typedef struct bootcore_region {
 /* A machine. Its size is where its memory below 4 GiB ends: no part lies above. Regions come in any
  * order, may overlap, and may lie above the size, as a guest's memory above 4 GiB does; the kernel
  * is told the runs of memory that they make, all of them. The pool is where a boot or a session
- * keeps what it has read of files: usable whole frames, as many as the files of one entry have
- * together. A load or a plan needs none: leave both words 0. Of length 0 it may begin at any
- * frame. */
+ * keeps what it has read of files: usable whole frames. Each file fills frames of its own, and as
+ * many must lie beside the entry's parts (else 21). A load or a plan needs none: leave both words
+ * 0. Of length 0 it may begin at any frame. */
 typedef struct bootcore_machine {
     uint64_t size, pool_base, pool_length;
     const bootcore_region *regions;
@@ -325,11 +328,11 @@ BOOTCORE_CALL uint32_t bootcore_plan(const bootcore_machine *machine, const boot
  * layout. Files are in memory; the machine's memory is in one piece or more, which may lie anywhere
  * and in any order, and may have holes where no part goes. `files` are the entry's: the kernel,
  * then the modules or the initial ramdisk, of at least the lengths that were planned for. Either
- * all steps are carried out (BOOTCORE_DONE), or nothing is written: BOOTCORE_NULL;
- * BOOTCORE_BAD_FILE if a file is unreadable, or a step's source is none or has no such bytes;
- * BOOTCORE_SMALL_ROOM if the layout holds no whole plan: it has no steps, or wants more room than
- * it has; or BOOTCORE_OUTSIDE if a byte of a step lies in no piece. A step may go over several
- * pieces; a byte that is in two goes to the first. */
+ * all steps are carried out (BOOTCORE_DONE), or nothing is written, for the first of these that
+ * stands: BOOTCORE_NULL; BOOTCORE_BAD_FILE if a file is unreadable; BOOTCORE_SMALL_ROOM if the
+ * layout holds no whole plan: it has no steps, or wants more room than it has; BOOTCORE_BAD_FILE if
+ * a step's source is none or has no such bytes; BOOTCORE_OUTSIDE if a byte of a step lies in no
+ * piece. A step may go over several pieces; a byte that is in two goes to the first. */
 BOOTCORE_CALL uint32_t bootcore_carry_out(const bootcore_layout *layout,
     const bootcore_bytes *files, size_t file_count, const bootcore_memory *memory,
     size_t memory_count);
@@ -393,8 +396,9 @@ BOOTCORE_CALL uint32_t bootcore_session_make(bootcore_session *session,
 /* Starts a session: the first attempt begins. One that was started before stays as it is. `memory`
  * is as for bootcore_boot. The pieces that came lie in the pool: hand the same memory to each call
  * of a session, and don't write to its pool before the boot ended. The call that begins an attempt
- * refuses an entry for its files' lengths (1, 3, 21); else the one that brings the last piece of
- * all its files judges it. This call and the next two answer:
+ * refuses an entry for its files' lengths (1, 3, 21), and judges one whose files are all empty;
+ * else the call that brings the last piece of all its files judges it. This call and the next two
+ * answer:
  * - BOOTCORE_WAITING: pieces are awaited. No byte outside the pool changed.
  * - BOOTCORE_NEXT: the same, after one refusal or more. Ask again what is missing.
  * - BOOTCORE_DONE: an entry is handed over. Memory is as after bootcore_boot.
