@@ -40,8 +40,7 @@
  *
  * Versions. BOOTCORE_VERSION is this file's, bootcore_version() the archive's. Within 1.x a
  * function keeps its name and arguments, a struct its size and fields, a number its meaning. A
- * reserved word must be 0; others may get a meaning. New functions, statuses, refusals, protocols,
- * kinds of memory and roles may come. */
+ * reserved word must be 0; others may get a meaning. New functions and new numbers may come. */
 #ifndef BOOTCORE_H
 #define BOOTCORE_H
 
@@ -78,16 +77,14 @@ enum {
 };
 
 /* What a call answers. A misuse, from 101 on, has changed nothing; only BOOTCORE_SMALL_ROOM of a
- * plan or a walk may tell how much is wanted. Of several the first in this order is told; of
- * bootcore_carry_out see there. */
+ * plan or a walk may tell how much is wanted. Of several the first is told (carry_out: there). */
 enum {
     BOOTCORE_DONE = 0,
     BOOTCORE_REFUSED = 1,   /* the entry is refused; a boot: no entry is left; a walk: the image */
     BOOTCORE_WAITING = 2,   /* a session awaits pieces, or was not started; a digest wants bytes */
     BOOTCORE_NEXT = 3,      /* a session: entries were refused, pieces of another are awaited */
-    BOOTCORE_NO_MEMORY = 4, /* malloc or realloc gave none; or a part of a boot would begin below
-                             * its memory. BOOTCORE_NULL, BAD_RESERVED, BAD_FILE and too few places
-                             * are told before it; it may replace the others */
+    BOOTCORE_NO_MEMORY = 4, /* malloc or realloc gave none. BOOTCORE_NULL, BAD_RESERVED, BAD_FILE
+                             * and too few places are told before it; it may replace the others */
     BOOTCORE_FAILED = 5,    /* a session: no entry is left, or memory ran out; see its outcome */
     BOOTCORE_OUTSIDE = 6,   /* a load: a part begins below the memory that is given; of
                              * bootcore_carry_out: not all of a step lies in it */
@@ -396,9 +393,8 @@ BOOTCORE_CALL uint32_t bootcore_session_make(bootcore_session *session,
 /* Starts a session: the first attempt begins. One that was started before stays as it is. `memory`
  * is as for bootcore_boot. The pieces that came lie in the pool: hand the same memory to each call
  * of a session, and don't write to its pool before the boot ended. The call that begins an attempt
- * refuses an entry for its files' lengths (1, 3, 21), and judges one whose files are all empty;
- * else the call that brings the last piece of all its files judges it. This call and the next two
- * answer:
+ * refuses an entry for its files' lengths (1, 3, 21), and judges one of empty files; else the one
+ * that brings the last piece of all its files judges it. This call and the next two answer:
  * - BOOTCORE_WAITING: pieces are awaited. No byte outside the pool changed.
  * - BOOTCORE_NEXT: the same, after one refusal or more. Ask again what is missing.
  * - BOOTCORE_DONE: an entry is handed over. Memory is as after bootcore_boot.
