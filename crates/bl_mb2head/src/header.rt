@@ -11,7 +11,7 @@ use crate::fields::{
     ARCHITECTURE, ENTRY_ADDR, ENTRY_SIZE, HEADER_LENGTH, I386, MIN_LENGTH, SEARCH_END, TAGS,
 };
 use crate::header_place::find_header_place;
-use crate::last_of_type::last_tags;
+use crate::last_tags::last_tags;
 use crate::relocation::{Relocation, relocation_of};
 use crate::tag::Tag;
 use bl_mem::{ByteView, Segment, u32_at};

@@ -6,7 +6,7 @@ mod fault;
 mod fields;
 mod header;
 mod header_place;
-mod last_of_type;
+mod last_tags;
 mod laws;
 mod relocation;
 mod tag;

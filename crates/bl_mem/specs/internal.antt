@@ -1,4 +1,4 @@
 pub mod FrameRoom
 pub mod FrameSlots
-pub mod SliceWrites
+pub mod SliceMemoryWrites
 pub mod SparseWrites

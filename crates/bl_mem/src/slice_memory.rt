@@ -1,7 +1,7 @@
 //! Memory in a slice that the caller keeps.
 ghost use Rattle.std.specs.Prelude.{◌≡◌, ◌+◌, ◌-◌, ◌≤◌, ◌++◌, length, replicate, slice_range};
 ghost use Rattle.bl_mem.specs.Memory.{memory_from};
-ghost use Rattle.bl_mem.specs.internal.SliceWrites.{IsPutInSlice};
+ghost use Rattle.bl_mem.specs.internal.SliceMemoryWrites.{IsPutInSlice};
 
 use crate::memory::PhysMem;
 use std::alloc::{AllocError, Allocator};

@@ -2,7 +2,7 @@
 #![tactic(auto)]
 
 mod address_order;
-mod blocked_stretches;
+mod blocked_stretch;
 mod fault;
 mod laws;
 mod menu_limits;

@@ -1,6 +1,6 @@
 //! A planner.
 use crate::address_order::position_for;
-use crate::blocked_stretches::taken_stretch;
+use crate::blocked_stretch::taken_stretch;
 use crate::fault::PlanFault;
 use bl_map::Machine;
 use std::alloc::{AllocError, Allocator};

@@ -5,7 +5,7 @@ ghost use Rattle.bl_mem.specs.Least.{IsLeast, IsGreatest};
 ghost use Rattle.bl_plan.specs.Permitted.{IsAtSide};
 ghost use Rattle.bl_plan.specs.internal.FreeBytes.{IsPermittedIn, CanSearch, Finds};
 
-use crate::blocked_stretches::{blocked_stretch, taken_stretch};
+use crate::blocked_stretch::{blocked_stretch, taken_stretch};
 use crate::part::{Side, Window};
 use crate::rounding::{round_down, round_up};
 use bl_map::{FIRST_USABLE, Machine, USABLE_LIMIT};

@@ -1,8 +1,8 @@
--- What the scan of the tags keeps: words for the clauses of src/last_of_type.rt alone. What a
+-- What the scan of the tags keeps: words for the clauses of src/last_tags.rt alone. What a
 -- header says is defined without them.
 use Rattle.std.specs.Prelude.{◌≤◌, ◌+◌, ℕ, List, IfSome}
 use Rattle.bl_mb2head.specs.declared.tag.Tag.{Tag}
-use Rattle.bl_mb2head.specs.declared.last_of_type.LastTags.{LastTags}
+use Rattle.bl_mb2head.specs.declared.last_tags.LastTags.{LastTags}
 use Rattle.bl_mb2head.specs.Tags.{last_of, address_type, entry_type, relocatable_type}
 
 -- the last tags of the kinds that count

@@ -2,7 +2,7 @@ use Rattle.std.proofs.Common.{◌≡◌, ◌+◌, ℕ, List, Some, arith, subst,
 use Rattle.std.proofs.lemmas.Result.{err_from_is_err_and}
 use Rattle.bl_mem.specs.LittleEndian.{u32_at}
 use Rattle.bl_mb2head.specs.declared.fault.HeadFault.{HeadFault}
-use Rattle.bl_mb2head.specs.declared.last_of_type.LastTags.{LastTags}
+use Rattle.bl_mb2head.specs.declared.last_tags.LastTags.{LastTags}
 use Rattle.bl_mb2head.specs.declared.tag.Tag.{Tag}
 use Rattle.bl_mb2head.specs.Address.{address_fault}
 use Rattle.bl_mb2head.specs.Header.{BeginsAt, HasFirstHeadFault}

@@ -1,9 +1,9 @@
 use Rattle.std.proofs.Common.{arith}
 use Rattle.bl_plan.proofs.KindLemmas.{gap_blocks, last_blocks, usable_more, ends_more}
-use Rattle.bl_plan.proofs.blocked_stretches.unusable_stretch.Goals.{else-from-run-via-then-from-run+then-start-run+else-from-end}
-use Rattle.bl_plan.proofs.blocked_stretches.unusable_stretch.Goals.{else-from-run-via-then-from-run+else-start-run}
-use Rattle.bl_plan.proofs.blocked_stretches.unusable_stretch.Goals.{else-from-run-via-else-from-run}
-use Rattle.bl_plan.proofs.blocked_stretches.unusable_stretch.Goals as goal
+use Rattle.bl_plan.proofs.blocked_stretch.unusable_stretch.Goals.{else-from-run-via-then-from-run+then-start-run+else-from-end}
+use Rattle.bl_plan.proofs.blocked_stretch.unusable_stretch.Goals.{else-from-run-via-then-from-run+else-start-run}
+use Rattle.bl_plan.proofs.blocked_stretch.unusable_stretch.Goals.{else-from-run-via-else-from-run}
+use Rattle.bl_plan.proofs.blocked_stretch.unusable_stretch.Goals as goal
 
 pub returns-then-from-end : goal.returns-then-from-end
 returns-then-from-end c =

@@ -2,7 +2,7 @@ use Rattle.std.proofs.Common.{◌+◌, ◌-◌, ◌≡◌, ◌≤◌, List}
 use Rattle.bl_mb2head.specs.declared.tag.Tag.{Tag}
 use Rattle.bl_mb2head.specs.Tags.{AreTags}
 use Rattle.bl_mb2head.specs.internal.LastTags.{last_tags, LieBefore}
-use Rattle.bl_mb2head.proofs.last_of_type.last_tags.Given as goal
+use Rattle.bl_mb2head.proofs.last_tags.last_tags.Given as goal
 
 -- some tags stand before the place, the last of them are kept, and these have their fields
 abbrev pub invariant-loop-tag : goal.invariant-loop-tag

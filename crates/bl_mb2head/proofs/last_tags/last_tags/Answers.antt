@@ -1,6 +1,6 @@
 use Rattle.std.proofs.Common.{arith, ◌++◌, ◌∷◌, []}
 use Rattle.bl_mb2head.proofs.TagLemmas.{AreTags-push}
-use Rattle.bl_mb2head.proofs.last_of_type.last_tags.Goals as goal
+use Rattle.bl_mb2head.proofs.last_tags.last_tags.Goals as goal
 
 pub loop-tag-preserved : goal.loop-tag-preserved
 loop-tag-preserved g c =

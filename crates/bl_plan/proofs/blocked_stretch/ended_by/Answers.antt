@@ -1,7 +1,7 @@
 use Rattle.std.proofs.Common.{leb, leb-true, leb-false, rules}
 use Rattle.std.proofs.lemmas.List.Sorted.{IsPartitionPoint-from_clause, IsPartitionedBy-leb}
 use Rattle.bl_plan.proofs.ApartLemmas.{ends_ascend}
-use Rattle.bl_plan.proofs.blocked_stretches.ended_by.Goals as goal
+use Rattle.bl_plan.proofs.blocked_stretch.ended_by.Goals as goal
 
 pub returns-clause-before : goal.returns-clause-before
 returns-clause-before c =

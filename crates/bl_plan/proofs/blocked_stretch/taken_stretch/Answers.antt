@@ -2,7 +2,7 @@ use Rattle.std.proofs.Common.{arith, ℕ, ap}
 use Rattle.std.proofs.lemmas.List.{get_or_default}
 use Rattle.std.specs.declared.ops.Range.{Range}
 use Rattle.bl_plan.proofs.ApartLemmas.{open_where}
-use Rattle.bl_plan.proofs.blocked_stretches.taken_stretch.Goals as goal
+use Rattle.bl_plan.proofs.blocked_stretch.taken_stretch.Goals as goal
 
 pub returns-else-range-end : goal.returns-else-range-end
 returns-else-range-end c =
