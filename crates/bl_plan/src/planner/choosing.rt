@@ -89,7 +89,7 @@ impl<'m, A: Allocator> Planner<'m, A> {
 
     /// Takes the place of a row, and answers its address. A fixed row has the faults of
     /// `take_fixed`, each other one those of `place`; a refusal leaves the planner as it was.
-    pub(crate) fn place_row(&mut self, row: &Row) -> Result<u64, PlanFault>
+    pub fn place_row(&mut self, row: &Row) -> Result<u64, PlanFault>
         requires row { IsWellFormedRow row.now }
         ensures chosen { IfOk result (λ a.
             IsChosen self.old.facts self.old.taken row.now.length row.now.choice a) }
