@@ -1,5 +1,7 @@
 -- What a command says after one more argument or subcommand.
-use Rattle.std.proofs.Common.{◌≡◌, false, Some, Bor, refl, ap, ◌∙◌}
+use Rattle.std.proofs.Common.{◌≡◌, false, Some, Result, Bor, refl, ap, ◌∙◌}
+use Rattle.std.specs.Prelude.{IfOk}
+use Rattle.std.proofs.lemmas.Result.{IfOk-weaker}
 use Rattle.clap.specs.Words.{AddsArg, AddsSubcommand, App, Rule, Text, app_of, new_rule, rule_of}
 use Rattle.clap.specs.Words.{with_rule, with_subcommand}
 use Rattle.clap.specs.declared.builder.arg.Arg.{Arg}
@@ -25,6 +27,16 @@ pub subcommand_added : (old sub new : Command) (app sub_app : App)
 subcommand_added old sub new app sub_app same is local adds =
     adds.shape local ∙ ap (λ (a : App). with_subcommand a (app_of sub).top) same
     ∙ ap (λ (a : App). with_subcommand app a.top) is
+
+-- the same, of what a call of `subcommand` gives
+pub subcommand_given : {E : Type 0} (old sub : Command) (made : Result Command E) (sub_app : App)
+    → app_of sub ≡ sub_app → (fields_of sub).has_globals ≡ false
+    → IfOk made (AddsSubcommand old sub)
+    → IfOk made (λ c. app_of c ≡ with_subcommand (app_of old) sub_app.top)
+subcommand_given old sub made sub_app is local adds =
+    IfOk-weaker made (AddsSubcommand old sub)
+    (λ c. app_of c ≡ with_subcommand (app_of old) sub_app.top)
+    (λ c added. subcommand_added old sub c (app_of old) sub_app refl is local added) adds
 
 -- an argument that is new but for its name and its parser
 pub rule_with : (new long made : Arg) (id : Text) (name : Bor Text)
