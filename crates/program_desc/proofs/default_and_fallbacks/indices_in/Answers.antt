@@ -1,7 +1,8 @@
 use Rattle.std.proofs.Common.{◌<◌, ◌∙◌, All}
 use Rattle.std.proofs.lemmas.List.Elements.{All-push}
 use Rattle.std.proofs.lemmas.Result.{err_from_is_err_and}
-use Rattle.program_desc.specs.TomlValues.{toml_index}
+use Rattle.toml.specs.View.{items_view}
+use Rattle.program_desc.specs.TomlValues.{each_item, toml_index}
 use Rattle.program_desc.proofs.ItemLemmas.{one_read, all_read, one_fails}
 use Rattle.program_desc.proofs.default_and_fallbacks.indices_in.Goals as goal
 
@@ -15,7 +16,8 @@ loop-item-preserved g c =
     rw c.in_ok-push.ensures.items
     (All-push (λ index. index < c.args.count) _ _ c.loop-item.invariant.inside
     c.in_ok-index.ensures.inside) in
-    record { read = one ∙ c.loop-item.invariant.read; inside = inside }
+    let all = each_item (toml_index c.args.count) (items_view c.args.items.now) in
+    record { read = ◌∙◌ {c = all} one c.loop-item.invariant.read; inside = inside }
 
 pub returns-clause-given : goal.returns-clause-given
 returns-clause-given g c =
