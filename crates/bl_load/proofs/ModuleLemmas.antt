@@ -5,9 +5,8 @@ use Rattle.std.specs.Prelude.{max, ◌&&◌, map}
 use Rattle.std.proofs.lemmas.List.{append_assoc, get_or-map}
 use Rattle.std.proofs.lemmas.List.Elements.{All-head, All-tail}
 use Rattle.bl_mbi.specs.InfoToWriteFacts.{ModuleInfo}
-use Rattle.std.proofs.lemmas.Bool.{cond_both, cases_lt}
-use Rattle.std.proofs.lemmas.Bool.Decides.{nat_tests}
-use Rattle.std.proofs.lemmas.Grind.{common_steps}
+use Rattle.std.proofs.lemmas.Bool.{cond_both, cases_lt, and_parts, and_from, eqb-true, eq-eqb}
+use Rattle.std.proofs.lemmas.Bool.{false≢true}
 use Rattle.std.specs.declared.ops.Range.{Range}
 use Rattle.bl_map.specs.MachineFacts.{MachineFacts}
 use Rattle.bl_map.specs.PoolFrames.{round_up_to_frames}
@@ -73,15 +72,20 @@ found : (role : Role) (i count n : ℕ) (places : List Place) → All (EndsBy ro
     → HasPlace role i places → address_of role i places + count ≤ n
 found role i count n [] each has = absurd has
 found role i count n (p ∷ places) each has =
-    let test : Bool = nat_eq (role_number p.role) (role_number role) && nat_eq p.index i in
+    let same : Bool = nat_eq (role_number p.role) (role_number role) in
+    let there : Bool = nat_eq p.index i in
     let first = All-head (EndsBy role i count n) p places each in
-    cond_both test p.address (address_of role i places) (λ a. a + count ≤ n)
-    (λ is. first (grind (arith, nat_tests, common_steps)) (grind (arith, nat_tests, common_steps)))
+    cond_both (same && there) p.address (address_of role i places) (λ a. a + count ≤ n)
+    (λ is. let both = and_parts same there is in
+    first (eqb-true (role_number p.role) (role_number role) both.0) (eqb-true p.index i both.1))
     (λ not. elim has [
       | inl here ↦
           absurd
-          (let r = ap role_number here.0 in
-          let j = here.1 in grind (arith, nat_tests, common_steps))
+          (false≢true
+          (sym not
+          ∙ and_from same there
+          (eq-eqb (role_number p.role) (role_number role) (ap role_number here.0))
+          (eq-eqb p.index i here.1)))
       | inr later ↦
           found role i count n places (All-tail (EndsBy role i count n) p places each) later
     ])

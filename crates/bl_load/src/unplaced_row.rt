@@ -1,8 +1,6 @@
 //! Which part of an entry finds no place.
-ghost use Rattle.std.specs.Prelude.{◌≡◌, ◌+◌, All, [], IfOk, IfErr, length, map};
-ghost use Rattle.bl_plan.specs.Permitted.{OrNoMemory};
-ghost use Rattle.bl_plan.specs.Placed.{IsWellFormedRow, IsChosen, HasChoiceFault};
-ghost use Rattle.bl_plan.specs.PlannerFacts.{with_taken};
+ghost use Rattle.std.specs.Prelude.{◌≡◌, All, [], IfOk, IfErr, length, map};
+ghost use Rattle.bl_plan.specs.Placed.{IsWellFormedRow};
 ghost use Rattle.bl_load.specs.internal.CheckedEntries.{value_of_files, IsReadWithFiles};
 ghost use Rattle.bl_load.specs.Rows as table;
 ghost use Rattle.bl_load.specs.Unplaced.{IsUnplacedOf, IsUnplaced, IsFaultBeforePlacing};
@@ -16,41 +14,8 @@ use crate::refusal::PrepFault;
 use crate::{linux, multiboot2};
 use bl_map::Machine;
 use bl_mem::ByteView;
-use bl_plan::{Choice, PlanFault, Planner, Protocol, Row, Side};
+use bl_plan::{PlanFault, Planner, Protocol, Row};
 use std::alloc::Allocator;
-
-/// Takes the place of a row, and answers its address; as `place_rows` of bl_plan places it.
-fn take_row<A: Allocator>(planner: &mut Planner<'_, A>, row: &Row) -> Result<u64, PlanFault>
-    requires { IsWellFormedRow row.now }
-    ensures chosen { IfOk result (λ a.
-        IsChosen planner.old.facts planner.old.taken row.now.length row.now.choice a) }
-    ensures taken { IfOk result (λ a.
-        planner.new ≡ with_taken planner.old (record { start = a; end = a + row.now.length })) }
-    ensures fault { IfErr result (OrNoMemory
-        (HasChoiceFault planner.old.facts planner.old.taken row.now.length row.now.choice)) }
-{
-    match row.choice {
-        Choice::Fixed(at) => {
-            let Some(end) = at.checked_add(row.length) else {
-                return Err(PlanFault::NotUsable);
-            };
-            planner.take_fixed(at..end)?;
-            Ok(at)
-        }
-        Choice::Lowest { align, low, high } => {
-            planner.place(row.length, align, low, high, Side::Lowest)
-        }
-        Choice::Highest { align, low, high } => {
-            planner.place(row.length, align, low, high, Side::Highest)
-        }
-        Choice::Preferred {
-            at,
-            align,
-            low,
-            high,
-        } => planner.prefer(at, row.length, align, low, high),
-    }
-}
 
 /// The first of these rows that has no place, or none.
 fn first_unplaced<A: Allocator + Copy>(
@@ -64,7 +29,7 @@ fn first_unplaced<A: Allocator + Copy>(
 {
     let mut planner = Planner::new(alloc, machine)?;
     for row in rows {
-        match take_row(&mut planner, row) {
+        match planner.place_row(row) {
             Ok(_) => {}
             Err(PlanFault::NoMemory) => return Err(PrepFault::NoMemory),
             Err(PlanFault::NotUsable) => return Ok(Some(*row)),
