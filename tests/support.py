@@ -9,6 +9,7 @@ import shutil
 import signal
 import subprocess
 import tempfile
+import time
 import unittest
 from pathlib import Path
 from typing import Iterator, NamedTuple, Optional, Sequence, Union
@@ -17,6 +18,7 @@ TOP = Path(__file__).resolve().parent.parent
 PROGRAM = TOP / "crates/bootcore/out/bootcore"
 PROBE = TOP / "crates/test_probe/out/test_probe"
 C_ARCHIVE = TOP / "crates/bootcore_c/out/libbootcore_c.a"
+STARTED = time.monotonic()  # when ./test began, which imports this first
 
 Text = Union[str, bytes]
 
