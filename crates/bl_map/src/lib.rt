@@ -19,5 +19,5 @@ pub use limits::{
     MAX_REGIONS, MAX_SIZE, MIN_SIZE, USABLE_LIMIT,
 };
 pub use machine::Machine;
-pub use pool_frames::{frames_in, frames_of, open_frames, round_up_to_frames};
+pub use pool_frames::{frames_for, frames_in, frames_of, open_frames, round_up_to_frames};
 pub use region::Region;

@@ -1,5 +1,5 @@
 //! Whether the pool has frames enough beside the parts.
-ghost use Rattle.std.specs.Prelude.{◌≡◌, ◌≤◌, ◌<◌, ◌+◌, ◌*◌, ◌^◌, length};
+ghost use Rattle.std.specs.Prelude.{◌≡◌, ◌≤◌, ◌<◌, ◌+◌, ◌*◌, ◌^◌, ◌↔◌, IfSome, IsNone, length};
 ghost use Rattle.bl_map.specs.internal.MetFrames.{AreFramesMet};
 ghost use Rattle.bl_map.specs.PoolFrames as spec;
 
@@ -19,6 +19,19 @@ pub fn round_up_to_frames(length: u64) -> u64
     ensures { result ≡ spec.round_up_to_frames length }
 {
     frames_of(length) * FRAME_SIZE
+}
+
+/// How many frames of a pool files of these lengths in bytes take, each in frames of its own, an
+/// empty one none; `None` if they are 2^64 or more.
+pub fn frames_for(sizes: &[u64]) -> Option<u64>
+    ensures none { IsNone result ↔ (2 ^ 64 ≤ spec.frames_for sizes.now) }
+    ensures some { IfSome result (λ all. all ≡ spec.frames_for sizes.now) }
+{
+    let mut all: u64 = 0;
+    for size in sizes {
+        all = all.checked_add(frames_of(*size))?;
+    }
+    Some(all)
 }
 
 /// How many whole frames a pool has.

@@ -16,7 +16,6 @@ use std::alloc::{AllocError, Allocator};
 
 pub(crate) mod cursor;
 pub(crate) mod event;
-mod frames_needed;
 mod handing_over;
 pub(crate) mod missing_pieces;
 pub(crate) mod request;
@@ -24,7 +23,6 @@ mod stage_beginning;
 pub(crate) mod ticket;
 
 pub use event::Event;
-pub use frames_needed::frames_for;
 pub use handing_over::finish_attempt;
 pub use request::Request;
 pub use ticket::Ticket;

@@ -8,8 +8,9 @@ mod runs;
 mod session;
 mod store;
 
-pub use attempt::{Event, Request, Ticket, finish_attempt, frames_for};
+pub use attempt::{Event, Request, Ticket, finish_attempt};
 pub use bl_load::RefusedEntry;
+pub use bl_map::frames_for;
 pub use bl_plan::{MAX_ENTRIES, MAX_MODULES};
 pub use bl_stage::{FILE_LIMIT, Fetched};
 pub use laws::{

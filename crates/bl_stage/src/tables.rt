@@ -1,5 +1,5 @@
 //! The tables that a stage keeps.
-ghost use Rattle.std.specs.Prelude.{◌≡◌, ◌+◌, ◌/◌, ◌<◌, ◌^◌, ◌↔◌, IfOk, IfSome, IsNone};
+ghost use Rattle.std.specs.Prelude.{◌≡◌, ◌+◌, ◌/◌, ◌<◌, ◌^◌, IfOk};
 ghost use Rattle.std.specs.Prelude.{length, map};
 ghost use Rattle.bl_stage.specs.internal.Cells.{AreHeld, CanHold};
 ghost use Rattle.bl_stage.specs.internal.StageTables.{AreStarts, AreNumbersFrom};
@@ -9,22 +9,6 @@ use crate::cell::Cell;
 use crate::cells::Cells;
 use bl_map::{FRAME_SIZE, frames_of};
 use std::alloc::{AllocError, Allocator};
-
-/// How many frames these files need, unless more than `most`.
-pub fn frames_within(sizes: &[u64], most: u64) -> Option<u64>
-    ensures none { IsNone result ↔ (most < frames_for sizes.now) }
-    ensures some { IfSome result (λ all. all ≡ frames_for sizes.now) }
-{
-    let mut all = 0;
-    for size in sizes {
-        let more = frames_of(*size);
-        if most - all < more {
-            return None;
-        }
-        all += more;
-    }
-    Some(all)
-}
 
 /// How many frames stand before each file's own.
 pub fn starts_of<A: Allocator>(alloc: A, sizes: &[u64]) -> Result<Vec<u64, A>, AllocError>

@@ -9,8 +9,8 @@ ghost use Rattle.bl_map.specs.PoolFrames.{frames_for};
 use crate::cells::Cells;
 use crate::fault::StageFault;
 use crate::stage::Stage;
-use crate::tables::{first_frames, frames_within, hold_all, numbers_of, starts_of};
-use bl_map::{FRAME_SIZE, Machine, frames_in};
+use crate::tables::{first_frames, hold_all, numbers_of, starts_of};
+use bl_map::{FRAME_SIZE, Machine, frames_for, frames_in};
 use std::alloc::Allocator;
 use std::ops::Range;
 
@@ -81,8 +81,9 @@ impl<A: Allocator + Copy> Stage<A> {
         ensures staged { IfOk result AreStaged }
     {
         let pool = machine.pool();
-        let Some(all) = frames_within(sizes, frames_in(&pool)) else {
-            return Err(StageFault::NoPool);
+        let all = match frames_for(sizes) {
+            Some(all) if all <= frames_in(&pool) => all,
+            _ => return Err(StageFault::NoPool),
         };
         let frames = first_frames(alloc, pool.start / FRAME_SIZE, all)?;
         Stage::begin_in(alloc, pool, sizes, frames)

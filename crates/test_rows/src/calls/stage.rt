@@ -8,7 +8,7 @@ ghost use Rattle.bl_map.specs.PoolFrames.{frames_for};
 
 use crate::calls::staging::{fault_text, make_steps};
 use crate::row::Row;
-use bl_map::{FRAME_SIZE, Machine, frames_of};
+use bl_map::{FRAME_SIZE, Machine, frames_for};
 use bl_mem::{Flat, PhysMem, Sparse};
 use bl_stage::{Stage, StageFault};
 use std::ops::Range;
@@ -35,15 +35,7 @@ fn are_apart(frames: &[u64]) -> bool
 fn are_enough(sizes: &[u64], frames: &[u64]) -> bool
     ensures { IsTrue result → length frames.now ≡ frames_for sizes.now }
 {
-    let mut rest = frames.len() as u64;
-    for size in sizes {
-        let more = frames_of(*size);
-        if rest < more {
-            return false;
-        }
-        rest -= more;
-    }
-    rest == 0
+    frames_for(sizes) == Some(frames.len() as u64)
 }
 
 /// Whether these are whole frames of the pool.

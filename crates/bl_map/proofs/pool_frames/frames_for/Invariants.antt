@@ -1,9 +1,9 @@
-use Rattle.std.proofs.Common.{◌≡◌, ◌≤◌, take}
+use Rattle.std.proofs.Common.{◌≡◌, ◌<◌, ◌^◌, take}
 use Rattle.bl_map.specs.PoolFrames.{frames_for}
-use Rattle.bl_session.proofs.attempt.frames_needed.frames_within.Given as goal
+use Rattle.bl_map.proofs.pool_frames.frames_for.Given as goal
 
 abbrev pub invariant-loop-size : goal.invariant-loop-size
 invariant-loop-size l = record {
   all : l.all ≡ frames_for (take l.size-index l.sizes);
-  within : l.all ≤ l.most;
+  fits : l.all < 2 ^ 64;
 }

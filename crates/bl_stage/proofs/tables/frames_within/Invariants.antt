@@ -1,9 +1,0 @@
-use Rattle.std.proofs.Common.{◌≡◌, ◌≤◌, take}
-use Rattle.bl_map.specs.PoolFrames.{frames_for}
-use Rattle.bl_stage.proofs.tables.frames_within.Given as goal
-
-abbrev pub invariant-loop-size : goal.invariant-loop-size
-invariant-loop-size l = record {
-  all : l.all ≡ frames_for (take l.size-index l.sizes);
-  within : l.all ≤ l.most;
-}
