@@ -15,10 +15,14 @@ pub struct NamedRegister {
     pub value: u64,
 }
 
-fn named(name: &'static str, value: u64) -> NamedRegister
-    ensures { names.named result ≡ (name.now, value) }
-{
-    NamedRegister { name, value }
+/// The registers of these fields, each by the field's name.
+macro_rules! registers_of {
+    ($registers:expr, $($name:ident)*) => {
+        [$(NamedRegister {
+            name: stringify!($name),
+            value: $registers.$name as u64,
+        }),*]
+    };
 }
 
 impl Registers32 {
@@ -29,28 +33,11 @@ impl Registers32 {
     pub fn named(self) -> [NamedRegister; 20]
         ensures { map named result ≡ narrow_named self }
     {
-        [
-            named("eip", self.eip as u64),
-            named("eax", self.eax as u64),
-            named("ebx", self.ebx as u64),
-            named("ecx", self.ecx as u64),
-            named("edx", self.edx as u64),
-            named("esi", self.esi as u64),
-            named("edi", self.edi as u64),
-            named("ebp", self.ebp as u64),
-            named("esp", self.esp as u64),
-            named("eflags", self.eflags as u64),
-            named("cr0", self.cr0 as u64),
-            named("cs", self.cs as u64),
-            named("ds", self.ds as u64),
-            named("es", self.es as u64),
-            named("fs", self.fs as u64),
-            named("gs", self.gs as u64),
-            named("ss", self.ss as u64),
-            named("gdt_base", self.gdt_base as u64),
-            named("gdt_limit", self.gdt_limit as u64),
-            named("a20", self.a20 as u64),
-        ]
+        registers_of!(
+            self,
+            eip eax ebx ecx edx esi edi ebp esp eflags cr0 cs ds es fs gs ss gdt_base gdt_limit
+            a20
+        )
     }
 }
 
@@ -62,39 +49,11 @@ impl Registers64 {
     pub fn named(self) -> [NamedRegister; 31]
         ensures { map named result ≡ wide_named self }
     {
-        [
-            named("rip", self.rip),
-            named("rax", self.rax),
-            named("rbx", self.rbx),
-            named("rcx", self.rcx),
-            named("rdx", self.rdx),
-            named("rsi", self.rsi),
-            named("rdi", self.rdi),
-            named("rbp", self.rbp),
-            named("rsp", self.rsp),
-            named("r8", self.r8),
-            named("r9", self.r9),
-            named("r10", self.r10),
-            named("r11", self.r11),
-            named("r12", self.r12),
-            named("r13", self.r13),
-            named("r14", self.r14),
-            named("r15", self.r15),
-            named("rflags", self.rflags),
-            named("cr0", self.cr0),
-            named("cr3", self.cr3),
-            named("cr4", self.cr4),
-            named("efer", self.efer),
-            named("cs", self.cs),
-            named("ds", self.ds),
-            named("es", self.es),
-            named("fs", self.fs),
-            named("gs", self.gs),
-            named("ss", self.ss),
-            named("gdt_base", self.gdt_base),
-            named("gdt_limit", self.gdt_limit),
-            named("a20", self.a20),
-        ]
+        registers_of!(
+            self,
+            rip rax rbx rcx rdx rsi rdi rbp rsp r8 r9 r10 r11 r12 r13 r14 r15 rflags cr0 cr3 cr4
+            efer cs ds es fs gs ss gdt_base gdt_limit a20
+        )
     }
 }
 
