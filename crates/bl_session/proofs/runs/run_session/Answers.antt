@@ -10,7 +10,7 @@ use Rattle.bl_session.specs.runs.Run.{run_state_of}
 use Rattle.bl_session.specs.internal.runs.RunParts.{asked_sizes}
 use Rattle.bl_session.proofs.run_lemmas.RunLemmas.{unbegun, has_started, run_started}
 use Rattle.bl_session.proofs.session_lemmas.KeptMemoryLemmas.{keeps_on}
-use Rattle.bl_session.proofs.attempt_lemmas.EarlyReturnLemmas.{no_value, on_error, keeps_same}
+use Rattle.bl_session.proofs.attempt_lemmas.EarlyReturnLemmas.{keeps_same}
 use Rattle.bl_session.proofs.runs.run_session.Goals as goal
 
 pub returns-in_err-sizes-clause-files : goal.returns-in_err-sizes-clause-files
