@@ -4,75 +4,99 @@ ghost use Rattle.bl_load.specs.RefusalNumbers as numbers;
 ghost use Rattle.bl_load.specs.declared.refusal.PrepFault.TheVariants.{Refused, NoMemory};
 
 use std::alloc::{AllocError, AllocFailed};
+use std::fmt;
 use thiserror::Error;
 
 /// Why an entry is refused: the first refusal in the order of the checks. A file is told by its
 /// place in the entry, the kernel being 0.
 #[derive(Clone, Copy, Debug, PartialEq, Eq, Error)]
 pub enum Refusal {
-    #[error("file {0} can't be read")]
     NoFile(u32),
-    #[error("file {0} did not come")]
     FileFault(u32),
-    #[error("file {0} is too long")]
     FileTooLong(u32),
-    #[error("no Multiboot2 header")]
     NoHeader,
-    #[error("the Multiboot2 header is cut")]
     HeaderCut,
-    #[error("a header for another architecture")]
     BadArchitecture,
-    #[error("a bad header tag at {0}")]
     BadTag(u64),
-    #[error("a header tag of type {0} is required")]
     UnsupportedTag(u16),
-    #[error("information of type {0} is required")]
     UnsupportedRequest(u32),
-    #[error("a console is required")]
     NoConsole,
-    #[error("not an ELF file")]
     NotElf,
-    #[error("a bad ELF file")]
     BadElf,
-    #[error("segment {0} is cut")]
     SegmentCut(u32),
-    #[error("segment {0} lies too high")]
     AddressTooHigh(u32),
-    #[error("segments {0} and {1} overlap")]
     SegmentsOverlap(u32, u32),
-    #[error("no entry address")]
     NoEntry,
-    #[error("the entry lies in no segment")]
     EntryOutside,
-    #[error("the alignment is no power of two")]
     BadAlign,
-    #[error("a fixed part is not usable memory")]
     NotUsable,
-    #[error("no address is permitted for a part")]
     NoRoom,
-    #[error("the pool is too small")]
     NoPool,
-    #[error("not a bzImage")]
     NotBzImage,
-    #[error("the boot protocol is older than 2.10")]
     OldProtocol,
-    #[error("the kernel is not loaded high")]
     NotHigh,
-    #[error("the setup is cut")]
     SetupCut,
-    #[error("no preferred address from 1 MiB to 4 GiB")]
     BadPreferred,
-    #[error("a line is too long")]
     LineTooLong,
-    #[error("a line has a zero byte")]
     LineHasNul,
-    #[error("the memory map has too many runs")]
     MapTooLong,
-    #[error("no 64-bit entry")]
     No64Entry,
 }
 
 impl Refusal {
+    /// What the refusal means, without what it carries.
+    fn meaning(self) -> &'static str {
+        match self {
+            Refusal::NoFile(_) => "a file can't be read",
+            Refusal::FileFault(_) => "a file did not come",
+            Refusal::FileTooLong(_) => "a file is too long",
+            Refusal::NoHeader => "no Multiboot2 header",
+            Refusal::HeaderCut => "the Multiboot2 header is cut",
+            Refusal::BadArchitecture => "a header for another architecture",
+            Refusal::BadTag(_) => "a bad header tag",
+            Refusal::UnsupportedTag(_) => "a header tag of this type is required",
+            Refusal::UnsupportedRequest(_) => "information of this type is required",
+            Refusal::NoConsole => "a console is required",
+            Refusal::NotElf => "not an ELF file",
+            Refusal::BadElf => "a bad ELF file",
+            Refusal::SegmentCut(_) => "a segment is cut",
+            Refusal::AddressTooHigh(_) => "a segment lies too high",
+            Refusal::SegmentsOverlap(_, _) => "segments overlap",
+            Refusal::NoEntry => "no entry address",
+            Refusal::EntryOutside => "the entry lies in no segment",
+            Refusal::BadAlign => "the alignment is no power of two",
+            Refusal::NotUsable => "a fixed part is not usable memory",
+            Refusal::NoRoom => "no address is permitted for a part",
+            Refusal::NoPool => "the pool is too small",
+            Refusal::NotBzImage => "not a bzImage",
+            Refusal::OldProtocol => "the boot protocol is older than 2.10",
+            Refusal::NotHigh => "the kernel is not loaded high",
+            Refusal::SetupCut => "the setup is cut",
+            Refusal::BadPreferred => "no preferred address from 1 MiB to 4 GiB",
+            Refusal::LineTooLong => "a line is too long",
+            Refusal::LineHasNul => "a line has a zero byte",
+            Refusal::MapTooLong => "the memory map has too many runs",
+            Refusal::No64Entry => "no 64-bit entry",
+        }
+    }
+
+    /// The file, the segment, or the tag's place or type that the refusal carries; of two segments
+    /// the first.
+    fn carried(self) -> Option<u64> {
+        match self {
+            Refusal::NoFile(number) => Some(number as u64),
+            Refusal::FileFault(number) => Some(number as u64),
+            Refusal::FileTooLong(number) => Some(number as u64),
+            Refusal::BadTag(place) => Some(place),
+            Refusal::UnsupportedTag(kind) => Some(kind as u64),
+            Refusal::UnsupportedRequest(kind) => Some(kind as u64),
+            Refusal::SegmentCut(number) => Some(number as u64),
+            Refusal::AddressTooHigh(number) => Some(number as u64),
+            Refusal::SegmentsOverlap(number, _) => Some(number as u64),
+            _ => None,
+        }
+    }
+
     /// The refusal's number.
     pub fn number(self) -> u32
         ensures { result ≡ numbers.refusal_number self }
@@ -109,6 +133,21 @@ impl Refusal {
             Refusal::MapTooLong => 29,
             Refusal::No64Entry => 30,
         }
+    }
+}
+
+/// By hand, since a derived one is walked as a whole for each of its 30 texts, and took a twelfth of
+/// the crate's proof.
+impl fmt::Display for Refusal {
+    fn fmt<W: fmt::Write>(&self, f: &mut fmt::Formatter<W>) -> fmt::Result {
+        f.write_str(self.meaning())?;
+        if let Some(number) = self.carried() {
+            write!(f, ": {number}")?;
+        }
+        if let Refusal::SegmentsOverlap(_, other) = *self {
+            write!(f, ", {other}")?;
+        }
+        Ok(())
     }
 }
 
