@@ -1,9 +1,10 @@
 -- What a parse by the program's command tells.
 use Rattle.std.proofs.Common.{◌≡◌, Bool, true, false, List, [], ◌∷◌, Option, Some, None, Bor, Box}
-use Rattle.std.proofs.Common.{map, codes, option_map, refl, sym, ap, ◌∙◌, inl, inr}
+use Rattle.std.proofs.Common.{map, codes, is_some, option_map, refl, sym, ap, ◌∙◌, inl, inr, rules}
 use Rattle.std.specs.Box.{box_value}
 use Rattle.std.specs.List.{list_any}
-use Rattle.std.specs.Prelude.{find}
+use Rattle.std.specs.Option.{ok_or}
+use Rattle.std.specs.Prelude.{find, IfOk, IfErr, MatchOption, Result}
 use Rattle.std.specs.Str.{bytes_eq}
 use Rattle.std.proofs.Math.Bool.{or-true, true≢false}
 use Rattle.std.proofs.lemmas.Bool.{cases_Bool}
@@ -11,7 +12,8 @@ use Rattle.std.proofs.lemmas.Option.{same_Some}
 use Rattle.std.proofs.lemmas.Slice.Eq.{bytes_eq-Decides}
 use Rattle.clap.specs.Words.{Kinds, HasKind, kind_of, fault_of, first_value, first_of, rows_of, App}
 use Rattle.clap.specs.Words.{Shape, Text, Row, is_simple, is_simple_and_free, built, HasMatchesOf}
-use Rattle.clap.specs.Words.{subcommand_name_of, subcommand_of, subcommand_rows}
+use Rattle.clap.specs.Words.{IsParsedFrom, app_of, shape_of, subcommand_name_of, subcommand_of}
+use Rattle.clap.specs.Words.{subcommand_rows, subcommand_rows_of}
 use Rattle.clap.specs.Simple.{argument_words, entered, names_of, rows_at}
 use Rattle.clap.specs.Walk.{stop_after}
 use Rattle.clap.specs.declared.parser.matches.ArgMatches.{ArgMatches}
@@ -19,13 +21,19 @@ use Rattle.clap.specs.declared.builder.value_parser.ValueParser.{ValueParser}
 use Rattle.clap.specs.declared.parser.matches.ArgMatches.TheViews.{out-ArgMatches, out-SubCommand}
 use Rattle.clap.specs.declared.parser.matches.Found.{Found}
 use Rattle.clap.specs.declared.parser.matches.SubCommand.{SubCommand}
+use Rattle.clap.specs.declared.builder.command.Command.{Command}
+use Rattle.clap.specs.declared.builder.command.Command.TheViews.{out-Command as fields_of}
+use Rattle.clap.proofs.CallerLemmas.{subcommand_required}
 use Rattle.clap.proofs.OnLiterals.{clap_on_literals}
 use Rattle.clap.proofs.WalkLemmas.{first_value-rows}
 use Rattle.clap.specs.declared.error.Error.{Error}
 use Rattle.clap.specs.declared.error.kind.ErrorKind.{ErrorKind}
 use Rattle.program_line.specs.declared.fault.LineFault.{LineFault}
 use Rattle.program_line.specs.CommandLineJobs.{IsOrderParser, RefusesLine, fault_of_kind, line_app}
-use Rattle.program_line.specs.CommandLineJobs.{argument_text}
+use Rattle.program_line.specs.CommandLineJobs.{IsJobOf, IsJobOfWords, argument_text}
+use Rattle.program_line.specs.declared.fault.LineFault.TheVariants.{Refused}
+use Rattle.program_line.specs.declared.job.Job.{Job}
+use Rattle.program_line.specs.internal.ChosenNames.{HasJob, IsOfNone}
 
 -- clap's definition gives the matches of this command
 pub line_is_simple : (parser : ValueParser) → is_simple (line_app parser) ≡ true
@@ -67,15 +75,13 @@ subcommand_is (Some b) name rows name_is rows_are =
     rw (same_Some _ _ name_is, same_Some _ _ rows_are) refl
 
 -- the same as the words of a command say it that is the program's
-pub chosen_by : (words : List Text) (parser : ValueParser) (a : App) (m : ArgMatches) (name : Text)
-    (rows : List Row)
-    → a ≡ line_app parser → HasMatchesOf a words m → Some name ≡ subcommand_name_of m
-    → Some rows ≡ option_map (λ chosen. chosen.1) (subcommand_rows (out-ArgMatches m).subcommand)
-    → subcommand_of (line_app parser) words ≡ Some (name, rows)
-chosen_by words parser a m name rows same told name_is rows_are =
+pub chosen_by : (words : List Text) (parser : ValueParser) (a : App) (m : ArgMatches)
+    (chosen : Text × List Row)
+    → a ≡ line_app parser → HasMatchesOf a words m → subcommand_rows_of m ≡ Some chosen
+    → subcommand_of (line_app parser) words ≡ Some chosen
+chosen_by words parser a m chosen same told is =
     ap (λ (b : App). subcommand_of b words) (sym same)
-    ∙ sym (told (ap is_simple same ∙ line_is_simple parser)).1
-    ∙ subcommand_is (out-ArgMatches m).subcommand name rows name_is rows_are
+    ∙ sym (told (ap is_simple same ∙ line_is_simple parser)).1 ∙ is
 
 -- what is found among some commands has the name of one
 found_name : (test : Shape → Bool) (rest : List Text) (subs : List Shape) (chosen : Text × List Row)
@@ -107,11 +113,7 @@ six_names =
 one_of_six : (a : App) (stop : Option (Text × List Text)) (chosen : Text × List Row)
     → map (λ s. s.name) a.subs ≡ six_names
     → entered a stop ≡ Some chosen
-    → (bytes_eq chosen.0 (codes "boot") ≡ false) × (bytes_eq chosen.0 (codes "map") ≡ false)
-    × (bytes_eq chosen.0 (codes "walk") ≡ false)
-    × (bytes_eq chosen.0 (codes "convert") ≡ false)
-    × (bytes_eq chosen.0 (codes "explain") ≡ false)
-    × (bytes_eq chosen.0 (codes "digest") ≡ false) → ⊥
+    → IsOfNone chosen.0 → ⊥
 one_of_six a stop chosen names is others =
     let found = entered_name a stop chosen is in
     let among : list_any (bytes_eq chosen.0) six_names ≡ true = rw names at found in
@@ -127,15 +129,78 @@ names_are parser = refl
 -- a subcommand that the words name is one of the program's six
 pub no_other_name : (words : List Text) (parser : ValueParser) (chosen : Text × List Row)
     → subcommand_of (line_app parser) words ≡ Some chosen
-    → (bytes_eq chosen.0 (codes "boot") ≡ false) × (bytes_eq chosen.0 (codes "map") ≡ false)
-    × (bytes_eq chosen.0 (codes "walk") ≡ false)
-    × (bytes_eq chosen.0 (codes "convert") ≡ false)
-    × (bytes_eq chosen.0 (codes "explain") ≡ false)
-    × (bytes_eq chosen.0 (codes "digest") ≡ false) → ⊥
+    → IsOfNone chosen.0 → ⊥
 no_other_name words parser chosen is others =
     let a = built (line_app parser) in
     one_of_six a (stop_after a.top.rules (names_of a) (argument_words (line_app parser) words))
     chosen (names_are parser) is others
+
+-- the program's command has no argument for all of its subcommands
+is_local : (c : Command) → (shape_of c).is_plain ≡ true → (fields_of c).has_globals ≡ false
+is_local c plain = search rules
+
+-- a subcommand was met
+some_rows : {Z : Type 0} (met : Option (Box SubCommand Z)) → is_some met ≡ true
+    → (chosen : Text × List Row) × (subcommand_rows met ≡ Some chosen)
+some_rows None is = absurd cc
+some_rows (Some b) is = (_, refl)
+
+-- the matches of the program's command have the job of one of its subcommands
+pub no_job_missing : (words : List Text) (parser : ValueParser) (c : Command) (m : ArgMatches)
+    → app_of c ≡ line_app parser → IsParsedFrom c m → HasMatchesOf (app_of c) words m
+    → HasJob m None → ⊥
+no_job_missing words parser c m same parsed told none =
+    let local = is_local c (ap (λ (a : App). a.top.is_plain) same) in
+    let needs = ap (λ (a : App). a.top.subcommand_required) same in
+    let met = subcommand_required c m parsed local needs in
+    let chosen = some_rows (out-ArgMatches m).subcommand met in
+    no_other_name words parser chosen.0
+    (chosen_by words parser (app_of c) m chosen.0 same told chosen.1) (none chosen.0 chosen.1)
+
+-- the job of a subcommand that was met is that of the matches
+pub has_job : (m : ArgMatches) (name : Text) (rows : List Row) (got : Option Job)
+    → Some name ≡ subcommand_name_of m
+    → Some rows ≡ option_map (λ chosen. chosen.1) (subcommand_rows_of m)
+    → MatchOption got (IsOfNone name) (IsJobOf (name, rows)) → HasJob m got
+has_job m name rows None name_is rows_are none =
+    λ chosen is.
+    let same : (name, rows) ≡ chosen =
+    same_Some _ _ (sym (subcommand_is (out-ArgMatches m).subcommand name rows name_is rows_are) ∙ is)
+    in
+    rw (← same) none
+has_job m name rows (Some job) name_is rows_are is =
+    ((name, rows), subcommand_is (out-ArgMatches m).subcommand name rows name_is rows_are, is)
+
+-- without a subcommand there is no job
+pub has_no_job : {Z : Type 0} (met : Option (Box SubCommand Z)) (chosen : Text × List Row)
+    → false ≡ is_some met → subcommand_rows met ≡ Some chosen → ⊥
+has_no_job None chosen none is = cc
+has_no_job (Some b) chosen none is = cc
+
+-- the job of the matches is that of the words
+pub job_read : (words : List Text) (parser : ValueParser) (a : App) (m : ArgMatches)
+    (got : Option Job) (made : Result Job LineFault)
+    → IsOrderParser parser → a ≡ line_app parser → fault_of a words ≡ [] → HasMatchesOf a words m
+    → HasJob m got → made ≡ ok_or got Refused → IfOk made (IsJobOfWords words)
+job_read words parser a m None made orders same free told job is = rw is tt
+job_read words parser a m (Some it) made orders same free told job is =
+    let free_line : fault_of (line_app parser) words ≡ [] =
+    ap (λ (b : App). fault_of b words) (sym same) ∙ free in
+    rw is (
+      parser,
+      orders,
+      (
+        free_line,
+        (job.0, chosen_by words parser a m job.0 same told job.1, job.2),
+      ),
+    )
+
+-- where the matches have a job, no fault is read
+pub no_fault_read : (m : ArgMatches) (got : Option Job) (made : Result Job LineFault)
+    (P : LineFault → Type 0)
+    → (HasJob m None → ⊥) → HasJob m got → made ≡ ok_or got Refused → IfErr made P
+no_fault_read m None made P some job is = absurd (some job)
+no_fault_read m (Some it) made P some job is = rw is tt
 
 -- the fault of an error is one that clap's definition has for the words, unless memory ran out
 pub refused_for : (words : List Text) (parser : ValueParser) (kinds : Kinds) (error : Error)

@@ -1,10 +1,10 @@
 //! The job of a command line.
-ghost use Rattle.std.specs.Prelude.{◌≡◌, false, map, codes, IfOk, IfErr, MatchOption};
-ghost use Rattle.std.specs.Str.{bytes_eq};
+ghost use Rattle.std.specs.Prelude.{◌≡◌, map, IfOk, IfErr, MatchOption};
 ghost use Rattle.clap.specs.Words.{found_of, rows_of};
 ghost use Rattle.program_line.specs.CommandLineJobs as lines;
 ghost use Rattle.program_line.specs.CommandLineJobs.{IsJobOf, AreTakenByClap, IsJobOfWords};
 ghost use Rattle.program_line.specs.CommandLineJobs.{RefusesLine};
+ghost use Rattle.program_line.specs.internal.ChosenNames.{HasJob, IsOfNone};
 
 use crate::command::line_command;
 use crate::fault::LineFault;
@@ -43,12 +43,7 @@ fn order_named(text: &str) -> Order
 
 /// The job of a subcommand with its matches, if the program has one of that name.
 fn job_of<'a>(name: &str, matches: &ArgMatches<'a>) -> Option<Job<'a>>
-    ensures { MatchOption result
-        ((bytes_eq name.now (codes "boot") ≡ false) × (bytes_eq name.now (codes "map") ≡ false)
-        × (bytes_eq name.now (codes "walk") ≡ false)
-        × (bytes_eq name.now (codes "convert") ≡ false)
-        × (bytes_eq name.now (codes "explain") ≡ false)
-        × (bytes_eq name.now (codes "digest") ≡ false))
+    ensures { MatchOption result (IsOfNone name.now)
         (IsJobOf (name.now, rows_of (found_of matches.now))) }
 {
     match name {
@@ -92,6 +87,16 @@ fn fault_of(kind: ErrorKind) -> LineFault
     }
 }
 
+/// The job of a command line's matches, if they have a subcommand that the program has.
+fn job_in<'a>(matches: &ArgMatches<'a>) -> Option<Job<'a>>
+    ensures { HasJob matches.now result }
+{
+    match matches.subcommand() {
+        Some((name, inner)) => job_of(name, inner),
+        None => None,
+    }
+}
+
 /// The job that a command line asks for; its first word is the program's name. No words at all are
 /// refused, and words that ask for help are a fault of their own.
 pub fn read_line<'a>(global: Global, words: &'a [&'a str]) -> Result<Job<'a>, LineFault>
@@ -101,15 +106,8 @@ pub fn read_line<'a>(global: Global, words: &'a [&'a str]) -> Result<Job<'a>, Li
         AreTakenByClap (map (λ word. word.now) words.entry.now) → fault ≡ LineFault.NoMemory) }
 {
     let command = line_command(global)?;
-    let matches = match command.try_get_matches_from(words) {
-        Ok(matches) => matches,
-        Err(error) => return Err(fault_of(error.kind())),
-    };
-    let Some((name, inner)) = matches.subcommand() else {
-        return Err(LineFault::Refused);
-    };
-    match job_of(name, inner) {
-        Some(job) => Ok(job),
-        None => Err(LineFault::Refused),
+    match command.try_get_matches_from(words) {
+        Ok(matches) => job_in(&matches).ok_or(LineFault::Refused),
+        Err(error) => Err(fault_of(error.kind())),
     }
 }

@@ -1,0 +1,2 @@
+pub mod CommandParts
+pub mod ChosenNames
