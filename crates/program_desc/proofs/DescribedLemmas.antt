@@ -23,3 +23,13 @@ described-no_text bytes h =
       | inl is ↦ absurd (h (IsUtf8-from_is_utf8 bytes is))
       | inr other ↦ rw other
     ]
+
+pub described-no_table : (bytes text : List ℕ)
+    → text ≡ bytes → parse_document text ≡ None → described bytes ≡ None
+unfolding described
+described-no_table bytes text same none =
+    let from_bytes : parse_document bytes ≡ None = rw same at none in
+    elim (cases_Bool (is_utf8 bytes)) [
+      | inl is ↦ rw (is, from_bytes)
+      | inr other ↦ rw other
+    ]

@@ -1,8 +1,9 @@
 -- Arrays of tables, by what a value is as an array.
 use Rattle.std.proofs.Common.{◌≡◌, Option, Some, None, refl}
 use Rattle.toml.specs.Data.{Data, string, integer, float, boolean, datetime, array, table, Items}
-use Rattle.toml.specs.Data.{Members, as_array}
+use Rattle.toml.specs.Data.{Members, as_array, as_table, no_items}
 use Rattle.program_desc.specs.TomlValues.{each_item, in_table, in_tables}
+use Rattle.program_desc.specs.internal.BadKeySearch.{array_items}
 
 -- the items of an array are read one by one
 pub tables_read : {A : Type 0} (read : Members → Option A) (d : Data) (items : Items)
@@ -25,3 +26,45 @@ no_tables read (float x) h = refl
 no_tables read (boolean b) h = refl
 no_tables read (datetime dt) h = refl
 no_tables read (table ms) h = refl
+
+-- a table is read by its keys
+pub table_read : {A : Type 0} (read : Members → Option A) (d : Data) (ms : Members)
+    → Some ms ≡ as_table d → in_table read d ≡ read ms
+table_read read (table ns) ms h = cc
+table_read read (string s) ms h = absurd (cc h)
+table_read read (integer z) ms h = absurd (cc h)
+table_read read (float x) ms h = absurd (cc h)
+table_read read (boolean b) ms h = absurd (cc h)
+table_read read (datetime dt) ms h = absurd (cc h)
+table_read read (array ds) ms h = absurd (cc h)
+
+-- what is no table cannot be read
+pub no_table : {A : Type 0} (read : Members → Option A) (d : Data)
+    → None ≡ as_table d → in_table read d ≡ None
+no_table read (table ms) h = absurd (cc h)
+no_table read (string s) h = refl
+no_table read (integer z) h = refl
+no_table read (float x) h = refl
+no_table read (boolean b) h = refl
+no_table read (datetime dt) h = refl
+no_table read (array ds) h = refl
+
+-- the items of an array are those that are looked through
+pub items_in : (d : Data) (items : Items) → Some items ≡ as_array d → items ≡ array_items (Some d)
+items_in (array ds) items h = cc
+items_in (string s) items h = absurd (cc h)
+items_in (integer z) items h = absurd (cc h)
+items_in (float x) items h = absurd (cc h)
+items_in (boolean b) items h = absurd (cc h)
+items_in (datetime dt) items h = absurd (cc h)
+items_in (table ms) items h = absurd (cc h)
+
+-- what is no array has none
+pub no_items_in : (d : Data) → None ≡ as_array d → no_items ≡ array_items (Some d)
+no_items_in (array ds) h = absurd (cc h)
+no_items_in (string s) h = refl
+no_items_in (integer z) h = refl
+no_items_in (float x) h = refl
+no_items_in (boolean b) h = refl
+no_items_in (datetime dt) h = refl
+no_items_in (table ms) h = refl

@@ -37,8 +37,8 @@ use Rattle.program_desc.specs.internal.EntrySearch.{modules_pass, multiboot2_pas
 use Rattle.program_desc.specs.internal.EntrySearch.{protocol_in}
 use Rattle.program_desc.specs.internal.DescriptionSearch.{regions_pass}
 use Rattle.program_desc.specs.declared.allowed.Allowed.TheVariants.{Number, Byte, IndexBelow}
-use Rattle.program_desc.specs.declared.allowed.Allowed.TheVariants.{TwoNumbers, Indices, Tables}
-use Rattle.program_desc.specs.declared.allowed.Allowed.TheVariants.{EntryTables, ModuleTables}
+use Rattle.program_desc.specs.declared.allowed.Allowed.TheVariants.{TwoNumbers, Indices}
+use Rattle.program_desc.specs.declared.allowed.Allowed.TheVariants.{EntryTables}
 use Rattle.program_desc.specs.declared.allowed.Allowed.TheVariants.{AnyText}
 use Rattle.program_desc.specs.declared.allowed.Allowed.TheVariants.{Title, ProtocolName, CopyText}
 use Rattle.program_desc.specs.declared.key_set.KeySet.TheVariants as keys

@@ -1,4 +1,7 @@
+use Rattle.std.proofs.Common.{◌∙◌, sym}
+use Rattle.std.proofs.Math.Bool.{true≢false}
 use Rattle.program_desc.proofs.DescribedLemmas.{described-table, described-no_text}
+use Rattle.program_desc.proofs.DescribedLemmas.{described-no_table}
 use Rattle.program_desc.proofs.document.read_description.Goals as goal
 
 pub returns-in_default-clause-given : goal.returns-in_default-clause-given
@@ -12,3 +15,10 @@ returns-in-Ok-table_from_str-clause-given g c =
     described-table c.args.bytes.now c.in-Ok.text.now _ text.0 text.1
     c.in-Ok-table_from_str.ensures.ok in
     rw is c.described_in.ensures.given
+
+pub returns-else-is_memory-clause-given : goal.returns-else-is_memory-clause-given
+returns-else-is_memory-clause-given g c =
+    let none =
+    c.in-Err.ensures.refused
+    (λ memory. true≢false (sym (c.is_memory.ensures.1 memory) ∙ c.if-is_memory.false)) in
+    described-no_table c.args.bytes.now c.in-Ok.text.now c.in-Ok.ensures.cases.0 none
