@@ -1,4 +1,4 @@
-use Rattle.std.proofs.Common.{List, ℕ, ◌++◌, ◌∙◌, ap}
+use Rattle.std.proofs.Common.{rules, List, ℕ, ◌++◌, ◌∙◌, ap}
 use Rattle.bl_mem.specs.LittleEndian.{u32_bytes}
 use Rattle.bl_mbi.proofs.GroupLemmas.{spelled}
 use Rattle.bl_mbi.proofs.write.write_info.Goals as goal
@@ -11,3 +11,6 @@ returns-clause-ok g c =
     ∙ ap (λ (x : List ℕ). x ++ u32_bytes c.info_size-total_size.result)
     c.reserve.ensures.items) c.put_u32-2.ensures.items c.put_texts.ensures.items
     c.put_map_tags.ensures.items c.put_last.ensures
+
+pub returns-in_err-reserve-clause-err : goal.returns-in_err-reserve-clause-err
+returns-in_err-reserve-clause-err g c = search rules

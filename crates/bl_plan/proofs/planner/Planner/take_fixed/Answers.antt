@@ -1,4 +1,4 @@
-use Rattle.std.proofs.Common.{ℕ, List, ap, subst, ◌∙◌}
+use Rattle.std.proofs.Common.{rules, ℕ, List, ap, subst, ◌∙◌}
 use Rattle.std.specs.declared.ops.Range.{Range}
 use Rattle.bl_map.specs.MachineFacts.{AllUsable}
 use Rattle.bl_plan.specs.Permitted.{AreUntaken}
@@ -29,3 +29,6 @@ returns-clause-free g c = (
       (c.as_slice.ensures.value
       ∙ ap (λ (p : PlannerFacts). p.taken) c.self.view_is) c.in_default.ensures,
 )
+
+pub returns-clause-taken : goal.returns-clause-taken
+returns-clause-taken g c = search rules

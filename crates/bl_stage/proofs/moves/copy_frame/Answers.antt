@@ -1,0 +1,5 @@
+use Rattle.std.proofs.Common.{rules}
+use Rattle.bl_stage.proofs.moves.copy_frame.Goals as goal
+
+pub returns-clause-after : goal.returns-clause-after
+returns-clause-after g c = c.copy.ensures.after
