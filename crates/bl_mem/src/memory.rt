@@ -70,8 +70,9 @@ pub trait PhysMem {
         ensures kept { KeepsSizeAndRoom lender bytes room self.old self.new }
     {
         let mut buffer = [0; 4096];
-        self.read(from, &mut buffer[..count]);
-        self.write(to, &buffer[..count]);
+        let part = &mut buffer[..count];
+        self.read(from, part);
+        self.write(to, part);
     }
 
     /// Clears the addresses of the range to 0. All other bytes stay.

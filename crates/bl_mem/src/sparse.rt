@@ -2,7 +2,7 @@
 ghost use Rattle.std.specs.Prelude.{◌≡◌, ◌+◌, ◌%◌, ◌≤◌, length, replicate, slice_range};
 ghost use Rattle.std.specs.Prelude.{true, false};
 ghost use Rattle.std.specs.Prelude.{IfOk, OnOk, IsOk};
-ghost use Rattle.bl_mem.specs.Memory.{HasRoom};
+ghost use Rattle.bl_mem.specs.Memory.{overwrite, HasRoom, KeepsRoom};
 ghost use Rattle.bl_mem.specs.SparseFrames.{HasRoomAt};
 ghost use Rattle.bl_mem.specs.Sparse.{bytes_of};
 ghost use Rattle.bl_mem.specs.internal.SparseWrites.{CanWriteFrame, IsWrittenOver};
@@ -96,6 +96,26 @@ impl<A: Allocator + Copy> Sparse<A> {
         self.frames.share(from / FRAME_SIZE, to / FRAME_SIZE)
     }
 
+    /// Copies bytes by a buffer on the stack, for which it is never inlined.
+    #[inline(never)]
+    fn copy_by_buffer(&mut self, from: u64, to: u64, count: usize)
+        requires few { count ≤ 4096 }
+        requires source { from + count ≤ length (bytes_of self.old.frames self.old.size) }
+        requires inside { to + count ≤ length (bytes_of self.old.frames self.old.size) }
+        requires room { HasRoom (HasRoomAt self.old.frames) to (to + count) }
+        ensures after { bytes_of self.new.frames self.new.size
+            ≡ overwrite (bytes_of self.old.frames self.old.size) to
+            (slice_range (bytes_of self.old.frames self.old.size) from (from + count)) }
+        ensures size { length (bytes_of self.new.frames self.new.size)
+            ≡ length (bytes_of self.old.frames self.old.size) }
+        ensures room { KeepsRoom (HasRoomAt self.old.frames) (HasRoomAt self.new.frames) }
+    {
+        let mut buffer = [0; 4096];
+        let part = &mut buffer[..count];
+        self.read(from, part);
+        self.write(to, part);
+    }
+
     /// Clears `count` bytes of one frame.
     fn zero_frame(&mut self, at: u64, count: usize)
         requires { CanWriteFrame self.old at count }
@@ -154,18 +174,12 @@ impl<A: Allocator + Copy> PhysMem for Sparse<A> {
         }
     }
 
-    // never inlined, for its buffer
-    #[inline(never)]
     fn copy(&mut self, from: u64, to: u64, count: usize) {
-        // For the proof: the size is below 2^64.
-        let _size = self.size;
         let are_frames = from % FRAME_SIZE == 0 && to % FRAME_SIZE == 0 && count == 4096;
         if are_frames && self.share_frame(from, to) {
             return;
         }
-        let mut buffer = [0; 4096];
-        self.read(from, &mut buffer[..count]);
-        self.write(to, &buffer[..count]);
+        self.copy_by_buffer(from, to, count);
     }
 
     fn zero(&mut self, range: Range<u64>) {
