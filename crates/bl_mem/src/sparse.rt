@@ -60,11 +60,11 @@ impl<A: Allocator + Copy> Sparse<A> {
         ensures kept { KeepsBytesAndRoom self.old self.new }
         ensures made { OnOk result (HasRoom (HasRoomAt self.new.frames) start end) }
     {
-        if start < end {
-            self.frames
-                .hold(start / FRAME_SIZE, (end - 1) / FRAME_SIZE + 1)?;
+        if end <= start {
+            return Ok(());
         }
-        Ok(())
+        self.frames
+            .hold(start / FRAME_SIZE, (end - 1) / FRAME_SIZE + 1)
     }
 
     /// Reads bytes of one frame.

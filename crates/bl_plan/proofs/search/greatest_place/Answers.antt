@@ -1,3 +1,4 @@
+use Rattle.std.proofs.lemmas.Grind.{common_steps}
 use Rattle.std.proofs.Common.{arith, inl, inr, ◌+◌}
 use Rattle.std.proofs.lemmas.Bool.{cases_lt}
 use Rattle.bl_plan.proofs.BlockLemmas.{none_down_to_start}
@@ -43,3 +44,33 @@ loop-at-preserved g c =
         | inr before ↦ r.greatest a p.aligned (omega arith)
       ];
     }
+
+pub max-first-requires : goal.max-first-requires
+max-first-requires g c = grind (arith, common_steps)
+
+pub end_of_room-end-requires : goal.end_of_room-end-requires
+end_of_room-end-requires g c κs = grind (arith, common_steps)
+
+pub round_down-at-requires : goal.round_down-at-requires
+round_down-at-requires g c = grind (arith, common_steps)
+
+pub blocked_stretch-requires-clause-apart : goal.blocked_stretch-requires-clause-apart
+blocked_stretch-requires-clause-apart g c = grind (arith, common_steps)
+
+pub blocked_stretch-requires-clause-forward : goal.blocked_stretch-requires-clause-forward
+blocked_stretch-requires-clause-forward g c = grind (arith, common_steps)
+
+pub blocked_stretch-requires-clause-above : goal.blocked_stretch-requires-clause-above
+blocked_stretch-requires-clause-above g c = grind (arith, common_steps)
+
+pub blocked_stretch-requires-clause-in_size : goal.blocked_stretch-requires-clause-in_size
+blocked_stretch-requires-clause-in_size g c = grind (arith, common_steps)
+
+pub blocked_stretch-requires-clause-below : goal.blocked_stretch-requires-clause-below
+blocked_stretch-requires-clause-below g c = grind (arith, common_steps)
+
+pub returns-in_default : goal.returns-in_default
+returns-in_default g c = grind (arith, common_steps)
+
+pub returns : goal.returns
+returns g c = grind (arith, common_steps)

@@ -1,3 +1,4 @@
+use Rattle.std.proofs.lemmas.Grind.{common_steps}
 use Rattle.std.proofs.Common.{◌≡◌, ◌+◌, ◌*◌, ◌/◌, ap, arith, sym, subst}
 use Rattle.std.proofs.Common.{None, get_or, length, rules}
 use Rattle.std.proofs.lemmas.List.{get_or_append_left}
@@ -43,3 +44,12 @@ returns-clause-after g c =
     let fits = reads_inside table _ _ _ j s c.self.invariant is in
     rw c.put_bytes.ensures.items
     (get_or_append_left kept c.args.part.now 0 (4096 * s + place) (omega (arith, fits)))))
+
+pub put_bytes-requires : goal.put_bytes-requires
+put_bytes-requires g c = grind (arith, common_steps)
+
+pub index_mut-requires : goal.index_mut-requires
+index_mut-requires g c = grind (arith, common_steps)
+
+pub returns-clause-bytes : goal.returns-clause-bytes
+returns-clause-bytes g c = grind (arith, common_steps)

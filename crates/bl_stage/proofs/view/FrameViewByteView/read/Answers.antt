@@ -17,6 +17,7 @@ loop-done-preserved g c =
     let kept : length piece ≡ done + next - done = search (rules, places) in
     record {
       within = search (rules, places);
+      inside = search (rules, places);
       after =
           read_on text c.loop-done.out _ piece c.args.at done next (omega arith) (omega arith)
           c.loop-done.invariant.after

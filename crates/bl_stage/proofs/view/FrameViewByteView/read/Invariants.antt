@@ -7,6 +7,7 @@ abbrev pub invariant-loop-done : goal.invariant-loop-done
 invariant-loop-done g l =
     record {
       within : l.done ≤ length l.out;
+      inside : l.at + length l.out ≤ l.self.size;
       after : take l.done l.out
           ≡ slice_range (staged (g.M.PhysMem.bytes l.self.memory.now) l.self.frames.now l.self.size)
           l.at (l.at + l.done);
