@@ -1,3 +1,4 @@
+use Rattle.std.proofs.lemmas.List.{take_all}
 use Rattle.std.proofs.Common.{◌≡◌, ◌<◌, [], ◌∷◌, ◌++◌, length, map, sym, ap, ◌∙◌, arith}
 use Rattle.std.proofs.lemmas.Result.{err_from_is_err_and}
 use Rattle.bl_image.specs.ImageHandover.{part_place}
@@ -32,3 +33,27 @@ loop-i-preserved g c =
           inside c.in_ok-part.ensures.place;
       faults = omega (arith, c.in_ok-part.ensures.read.faults, c.loop-i.invariant.faults);
     }
+
+pub read_part-requires-clause-few : goal.read_part-requires-clause-few
+read_part-requires-clause-few g c = c.requires.few c.loop-i.i _ (omega arith)
+
+pub returns-in_err-part-clause-places : goal.returns-in_err-part-clause-places
+returns-in_err-part-clause-places g c =
+    let p = err_from_is_err_and c.from_residual.result c.from_residual.ensures.1 in
+    rw p.1 tt
+
+pub returns-in_err-push-clause-read : goal.returns-in_err-push-clause-read
+returns-in_err-push-clause-read g c =
+    let p =
+    err_from_is_err_and c.from_residual-in_err-push.result
+    c.from_residual-in_err-push.ensures.1 in
+    rw (p.1, p.2)
+    (record {
+      ok = tt;
+      cut = tt;
+      faults = omega (arith, c.in_ok-part.ensures.read.faults, c.loop-i.invariant.faults);
+    })
+
+pub returns-clause-places : goal.returns-clause-places
+returns-clause-places g c =
+    c.loop-i.invariant.are ∙ take_all c.loop-i.i c.args.places.now (omega arith)

@@ -1,3 +1,6 @@
+use Rattle.std.specs.List.{flat_map}
+use Rattle.std.proofs.lemmas.List.{at_drop_all}
+use Rattle.bl_image.proofs.Ways.{way_ends}
 use Rattle.std.proofs.Common.{◌∙◌, arith}
 use Rattle.bl_image.specs.internal.PlaceRecords.{place_bytes}
 use Rattle.std.proofs.lemmas.Result.{err_from_is_err_and}
@@ -29,4 +32,17 @@ loop-i-preserved g c =
     record {
       way = way_goes_on _ (way_as next c.loop-i.invariant.way) c.in_ok-write_part.ensures.ok;
       sound = c.in_ok-write_part.ensures.sound ∙ c.loop-i.invariant.sound;
+    }
+
+pub returns : goal.returns
+returns g c =
+    let none =
+    at_drop_all (flat_map (place_bytes (g.M.PhysMem.bytes c.args.memory.now)))
+    c.args.handoff.now.places c.loop-i.i
+    (omega (arith, c.loop-i-test.false, c.len-i-end.ensures.len)) in
+    record {
+      ok = way_ends (way_as none c.loop-i.invariant.way);
+      sound = c.loop-i.invariant.sound;
+      begun = tt;
+      fault = tt;
     }

@@ -1,3 +1,5 @@
+use Rattle.std.proofs.lemmas.List.{drop_all}
+use Rattle.bl_image.proofs.Ways.{way_ends}
 use Rattle.std.proofs.Common.{◌≡◌, ◌+◌, ◌-◌, ◌≤◌, ◌++◌, ℕ, List, take, drop, length, ◌∙◌, arith}
 use Rattle.std.proofs.Common.{rules}
 use Rattle.std.proofs.lemmas.List.{places, same_lists}
@@ -31,3 +33,9 @@ loop-done-preserved g c =
           i.way) e.took;
       sound = e.sound ∙ i.sound;
     }
+
+pub returns-clause-ok : goal.returns-clause-ok
+returns-clause-ok g c =
+    way_ends
+    (way_as (drop_all c.loop-done.done c.args.bytes.now c.loop-done-test.false)
+    c.loop-done.invariant.way)

@@ -1,3 +1,4 @@
+use Rattle.std.proofs.Common.{rules}
 use Rattle.std.proofs.Common.{sym}
 use Rattle.std.proofs.lemmas.List.{append-nil}
 use Rattle.std.specs.List.{flat_map}
@@ -57,3 +58,12 @@ returns-clause-kept g c =
     handover_kept (g.M.PhysMem.bytes c.args.memory.now) h.protocol h.registers h.places
     c.requires.inside (rw c.registers.ensures at c.in_ok-write_front.ensures.fit)
     c.len-len.ensures.kept
+
+pub returns-clause-begun : goal.returns-clause-begun
+returns-clause-begun g c = tt
+
+pub returns-clause-fault : goal.returns-clause-fault
+returns-clause-fault g c = tt
+
+pub returns-clause-sound : goal.returns-clause-sound
+returns-clause-sound g c = search rules

@@ -1,3 +1,4 @@
+use Rattle.std.proofs.lemmas.List.{drop_all}
 use Rattle.std.proofs.Common.{◌≡◌, ◌+◌, ◌<◌, ◌≤◌, length, arith, refl, sym, ◌∙◌, get_or, drop, ◌∷◌}
 use Rattle.std.proofs.Common.{add-zero, zero-add}
 use Rattle.std.proofs.lemmas.List.{drop_more, get_or_default}
@@ -155,3 +156,8 @@ returns-clause-put g c =
       texts = c.loop-segment.invariant.same;
       kept = c.loop-segment.invariant.kept;
     }
+
+pub returns-clause-count : goal.returns-clause-count
+returns-clause-count g c =
+    let none = drop_all c.loop-segment.segment-index c.args.segments.now c.loop-segment-test.false in
+    rw (none, add-zero) at c.loop-segment.invariant.count

@@ -1,3 +1,4 @@
+use Rattle.std.proofs.lemmas.List.{drop_all}
 use Rattle.std.proofs.Common.{◌∙◌, refl}
 use Rattle.std.proofs.lemmas.List.{drop_more}
 use Rattle.bl_load.proofs.MemoryLemmas.{keeps_all, keeps_on}
@@ -36,4 +37,13 @@ loop-part-preserved g c =
       same = c.load_part.ensures.texts ∙ before.same;
       rest = rw (c.load_part.ensures.after, before.same) whole;
       kept = keeps_on before.kept c.load_part.ensures.kept;
+    }
+
+pub returns : goal.returns
+returns g c =
+    let before = c.loop-part.invariant in
+    record {
+      after = rw (drop_all c.loop-part.part-index c.args.parts.now c.loop-part-test.false) at before.rest;
+      texts = before.same;
+      kept = before.kept;
     }

@@ -1,3 +1,8 @@
+use Rattle.bl_plan.specs.Placed.{ArePlaced}
+use Rattle.std.proofs.Common.{List, []}
+use Rattle.bl_plan.specs.declared.part.Place.{Place}
+use Rattle.bl_plan.specs.declared.part.Row.{Row}
+use Rattle.std.proofs.lemmas.List.{drop_all}
 use Rattle.std.proofs.Common.{arith, ap, refl, ◌∙◌, ◌<◌, length}
 use Rattle.std.proofs.lemmas.Result.{err_from_is_err_and}
 use Rattle.bl_plan.specs.PlannerFacts.{PlannerFacts}
@@ -82,3 +87,10 @@ returns-in-Err-NoRoom-clause-fault g c = tt
 
 pub returns-clause-fault : goal.returns-clause-fault
 returns-clause-fault g c = tt
+
+pub returns-clause-which : goal.returns-clause-which
+returns-clause-which g c =
+    let placed =
+    rw (drop_all c.loop-row.row-index c.args.rows.now c.loop-row-test.false) at
+    c.loop-row.invariant.placed in
+    placed ([], tt)

@@ -1,3 +1,5 @@
+use Rattle.std.proofs.Common.{Some}
+use Rattle.std.proofs.lemmas.List.{drop_all}
 use Rattle.std.proofs.Common.{◌+◌, ◌≤◌, ℕ, List, length, slice_range, drop, ap, ◌∙◌, arith, rules}
 use Rattle.bl_image.proofs.Inputs.{part_came, came_from}
 use Rattle.bl_image.proofs.mem_source.MemSourceSource.read.Goals as goal
@@ -17,3 +19,9 @@ returns-clause-gave g c =
 
 pub returns-clause-due : goal.returns-clause-due
 returns-clause-due g c = search rules
+
+pub returns-clause-ended : goal.returns-clause-ended
+returns-clause-ended g c none some =
+    ap (λ (l : List ℕ). Some l)
+    (drop_all (c.self.inside.at + c.min-count.result) c.self.inside.held.items
+    (omega (arith, c.min-count.ensures, c.min-most.ensures, c.len.ensures, c.self.invariant)))

@@ -1,3 +1,5 @@
+use Rattle.std.proofs.lemmas.Result.{err_from_is_err_and}
+use Rattle.bl_load.specs.declared.entry.Module.{Module}
 use Rattle.std.proofs.Common.{◌≡◌, ◌⊎◌, ℕ, List, [], length, arith, ap, subst, inl, inr}
 use Rattle.std.proofs.lemmas.List.{length-map}
 use Rattle.bl_mbi.specs.InfoToWriteFacts.{info_size}
@@ -96,3 +98,26 @@ returns-in-BootParams g c =
     absurd
     (no_part entry.machine.now (value_of_files entry) (kernel_by c.args.kernel.now) place.role
     place.index place.length c.requires.rowed c.in-BootParams.is)
+
+pub module_content-requires-clause-within : goal.module_content-requires-clause-within
+module_content-requires-clause-within g c =
+    let entry = c.args.entry.now in
+    let place = c.args.place.now in
+    let has =
+    subst
+    (λ (role : Role).
+    HasLength entry.machine.now (value_of_files entry) (multiboot2 (kernel_by c.args.kernel.now))
+    role place.index place.length)
+    c.in-Module.is c.requires.rowed in
+    omega (
+      arith,
+      has.0,
+      c.requires.ready.files.0,
+      length-map entry.files.now g.V.ByteView.bytes,
+      length-map entry.modules.now (λ (m : Module g.row.A.Denot). m.line),
+    )
+
+pub returns-in_err-bytes-in-Information : goal.returns-in_err-bytes-in-Information
+returns-in_err-bytes-in-Information g c =
+    let p = err_from_is_err_and c.from_residual.result c.from_residual.ensures.1 in
+    rw p.1 tt

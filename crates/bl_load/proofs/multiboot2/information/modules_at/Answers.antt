@@ -1,6 +1,6 @@
 use Rattle.std.proofs.Common.{◌≡◌, ℕ, List, ◌∷◌, ◌++◌, ◌+◌, get_or, map, drop, arith, sym, ap, ◌∙◌}
 use Rattle.std.proofs.Common.{length}
-use Rattle.std.proofs.lemmas.List.{drop_more}
+use Rattle.std.proofs.lemmas.List.{drop_more, at_drop_all, append-nil}
 use Rattle.std.proofs.lemmas.List.Elements.{All-push}
 use Rattle.bl_plan.specs.declared.part.Role.TheVariants as role
 use Rattle.bl_load.specs.declared.entry.Module.{Module}
@@ -63,3 +63,9 @@ loop-index-preserved g c =
           rw c.in_ok-push.ensures.items
           (All-push IsModule c.loop-index.told.items new i.fits c.module_at.ensures.fits);
     }
+
+pub returns-clause-told : goal.returns-clause-told
+returns-clause-told g c =
+    let all = at_drop_all lines_of_modules c.args.entry.now.modules.now c.loop-index.index
+    (omega (arith, c.loop-index-test.false)) in
+    rw (all, append-nil) at c.loop-index.invariant.told
