@@ -1,3 +1,5 @@
+use Rattle.std.proofs.lemmas.List.{places}
+use Rattle.std.proofs.Common.{rules}
 use Rattle.std.proofs.Common.{◌≡◌, length, map, ap, sym, ◌∙◌, subst, arith, All, None}
 use Rattle.bl_digest.specs.Digests.{digests_of}
 use Rattle.bl_digest.specs.PlanInSteps.{PlanInSteps, handover_in_steps}
@@ -27,3 +29,10 @@ returns g c =
     (all_came texts (ranges_of digesting.plan.steps) digesting.fed none c.loop-range.invariant.first)
     ∙ ap (λ (p : PlanInSteps). digests_of (handover_in_steps texts p)) c.loop-range.invariant.plan
     ∙ ap digests_of (steps_hand_over texts c.requires.0 c.args.plan.now c.requires.1)
+
+pub loop-range-preserved : goal.loop-range-preserved
+loop-range-preserved g c = record {
+  plan = c.feed_some.ensures.plan ∙ c.loop-range.invariant.plan;
+  first = rw c.feed_some.ensures.plan c.feed_some.ensures.first;
+  room = search (rules, places);
+}
