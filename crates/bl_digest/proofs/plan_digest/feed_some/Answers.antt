@@ -1,3 +1,4 @@
+use Rattle.std.proofs.Common.{drop, ◌-◌}
 use Rattle.std.proofs.Common.{◌≡◌, ◌+◌, ◌<◌, ◌≤◌, ◌^◌, ℕ, length, map, take, ap, ◌∙◌}
 use Rattle.std.proofs.Common.{arith, length-take, slice_range}
 use Rattle.std.proofs.lemmas.List.{length-map}
@@ -222,3 +223,13 @@ returns-in-None-clause-first g c =
     let are = ap (λ (d : DigestingFacts). d.fed) c.feed-in-None.ensures in
     comes_first texts (ranges_of digesting.plan.steps) digesting.fed c.feed-in-None.new.self.fed
     (g.V.ByteView.bytes view) c.read.new.out range n next text small n_some within piece are c.requires.first
+
+pub feed-requires : goal.feed-requires
+feed-requires g c =
+    let within : c.min-count.result ≤ c.args.range.length = omega (arith, c.min-count.ensures) in
+    let from = c.args.range.offset in
+    let n = c.min-count.result in
+    let lent = ap length c.in-Some.ensures in
+    let few =
+    length-take (from + n - from) (drop from (g.V.ByteView.bytes c.index-files-range.result)) in
+    rw c.requires.wanted (omega (arith, within, lent, few))

@@ -1,3 +1,4 @@
+use Rattle.bl_digest.proofs.HashingLemmas.{same_facts}
 use Rattle.std.proofs.Common.{◌≡◌, ◌<◌, List, length, take, map, ap, ◌∙◌, arith}
 use Rattle.std.proofs.lemmas.List.{take_all}
 use Rattle.bl_plan.specs.declared.part.Place.{Place}
@@ -37,3 +38,10 @@ invariant_of-result g c =
     (c.length_at-left.ensures
     ∙ ap (λ (l : List _). first_length (map told_place l)) c.as_slice.ensures.value)
     (c.loop-i.invariant.room ∙ ap total_of all) c.requires.filled
+
+pub returns : goal.returns
+returns g c =
+    let places = g.P.Places.places c.args.places.now in
+    let all : take c.loop-i.i places ≡ places =
+    take_all c.loop-i.i places (omega (arith, c.loop-i-test.false, c.count-i-end.ensures)) in
+    same_facts _ _ _ _ (c.loop-i.invariant.rows ∙ all) c.empty.ensures

@@ -1,3 +1,5 @@
+use Rattle.std.proofs.Common.{◌<◌}
+use Rattle.bl_digest.proofs.HashingLemmas.{has_row, begun_more}
 use Rattle.std.proofs.Common.{◌≡◌, ◌+◌, ◌-◌, ◌++◌, ℕ, List, length, take, drop, map, ap}
 use Rattle.std.proofs.Common.{◌∙◌, refl, arith, length-take}
 use Rattle.std.proofs.Math.Seq.{map-set_same}
@@ -37,3 +39,34 @@ returns-then-self-eq0-clause-taken g c =
     ∙ ap (λ (f : PartsFacts). f.places) c.self.view_is)
     (c.with_part-self-inside.ensures
     ∙ ap (λ (f : PartsFacts). f.taken ++ take c.min-count.result c.args.bytes.now) c.self.view_is)
+
+pub index_mut-requires : goal.index_mut-requires
+index_mut-requires g c =
+    let i = c.self.inside in
+    let is = c.self.invariant in
+    let room = rw (← c.self.view_is) at c.requires.room in
+    let some = has_left i.rows.items i.index i.part i.left i.room i.taken.bytes is (omega (arith, is.count, room, c.requires.some)) in
+    omega (arith, has_row i.rows.items i.index i.part i.left i.room i.taken.bytes is some, i.rows.ok.0)
+
+pub overflow_add-self : goal.overflow_add-self
+overflow_add-self g c =
+    let i = c.self.inside in
+    let is = c.self.invariant in
+    let room = rw (← c.self.view_is) at c.requires.room in
+    let some = has_left i.rows.items i.index i.part i.left i.room i.taken.bytes is (omega (arith, is.count, room, c.requires.some)) in
+    omega (arith, has_row i.rows.items i.index i.part i.left i.room i.taken.bytes is some, i.rows.ok.0)
+
+pub invariant_of-self-else-self-eq0 : goal.invariant_of-self-else-self-eq0
+invariant_of-self-else-self-eq0 g c =
+    let i = c.self.inside in
+    let is = c.self.invariant in
+    let count = c.min-count.result in
+    let piece : List ℕ = take count c.args.bytes.now in
+    let size : length piece ≡ count =
+    length-take count c.args.bytes.now ∙ omega (arith, c.min-count.ensures) in
+    let short : length piece < i.left =
+    omega (arith, size, c.min-count.ensures, c.if-self-eq0.false) in
+    let more =
+    rw size at
+    (begun_more i.rows.items i.index i.part i.left i.room i.taken.bytes is piece short) in
+    rw (c.give.ensures, c.with_part-self-inside.ensures) more
