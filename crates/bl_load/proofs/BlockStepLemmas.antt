@@ -9,6 +9,7 @@ use Rattle.bl_mem.specs.FileSet.{IsApartFrom, Agree}
 use Rattle.bl_mem.proofs.Overwrites.{overwrite_more, beside_zeros}
 use Rattle.bl_mem.specs.declared.segment.Segment.{Segment}
 use Rattle.bl_mem.specs.SegmentContents.{contents_of, segment_holds}
+use Rattle.bl_load.proofs.MemoryLemmas.{writes_none}
 use Rattle.bl_load.specs.KernelBlock.{low_of, span_of, block_byte, first_values, block_of}
 use Rattle.bl_load.specs.Loadable.{IsCopyable, SegmentsAscend}
 use Rattle.bl_load.proofs.BlockLemmas.{block_from, length-contents_of, length-first_values}
@@ -18,7 +19,7 @@ use Rattle.bl_load.proofs.BlockLemmas.{get_or-first_values, length-block_from, g
 pub none_left : (text m : List ℕ) (at start : ℕ) (segments : List Segment) (i : ℕ)
     → length segments ≤ i → m ≡ overwrite m at (block_from text start (drop i segments))
 none_left text m at start segments i all =
-    rw (drop_all i segments all) (same_lists _ _ (search (rules, places)) (λ k d h. grind (arith, places)))
+    rw (drop_all i segments all) (writes_none m at [] refl)
 
 -- the first segment is the lowest
 pub low_first : (s : Segment) (segments : List Segment) → AllPairs SegmentsAscend (s ∷ segments)

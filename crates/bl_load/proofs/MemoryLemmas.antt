@@ -1,6 +1,12 @@
 -- What calls of memory keep, one after the other.
-use Rattle.std.proofs.Common.{◌∙◌, ℕ, List, refl}
-use Rattle.bl_mem.specs.Memory.{KeepsSizeAndRoom}
+use Rattle.std.proofs.Common.{◌≡◌, ◌∙◌, ℕ, List, length, refl, rules, arith}
+use Rattle.std.proofs.lemmas.List.{same_lists, places}
+use Rattle.bl_mem.specs.Memory.{overwrite, KeepsSizeAndRoom}
+
+-- no byte is written
+pub writes_none : (m : List ℕ) (at : ℕ) (part : List ℕ) → length part ≡ 0 → m ≡ overwrite m at part
+writes_none m at part none =
+    same_lists _ _ (search (rules, places)) (λ k d within. grind (arith, places))
 
 -- no call keeps all
 pub keeps_all : {M : Type 0} {lender : M → ℕ} {bytes : M → List ℕ} {room : M → ℕ → Type 0} {old : M}

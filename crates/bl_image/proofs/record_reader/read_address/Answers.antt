@@ -47,3 +47,6 @@ returns-clause-read g c =
       };
       faults = c.in_ok-address.ensures.read.faults;
     }
+
+pub returns-clause-above : goal.returns-clause-above
+returns-clause-above g c = omega arith

@@ -1,3 +1,5 @@
+use Rattle.std.proofs.Common.{◌+◌, ◌-◌, drop, refl, length-take}
+use Rattle.bl_load.proofs.MemoryLemmas.{keeps_all, writes_none}
 use Rattle.std.proofs.Common.{◌∙◌, arith}
 use Rattle.bl_mem.specs.FileSet.{nth_file}
 use Rattle.bl_mem.proofs.Overwrites.{copy_more}
@@ -41,4 +43,17 @@ loop-done-preserved g c =
           (copy_more old text c.args.at c.args.offset c.loop-done.done next (omega arith)
           (omega arith));
       kept = keeps_on before.kept c.copy_piece.ensures.kept;
+    }
+
+pub loop-done-init : goal.loop-done-init
+loop-done-init g c =
+    let old = g.M.PhysMem.bytes c.args.memory.now in
+    let text = nth_file (g.F.FileSet.texts c.args.files.now old) c.args.file in
+    let from = c.args.offset in
+    let few = length-take (from + 0 - from) (drop from text) in
+    record {
+      within = omega arith;
+      same = refl;
+      after = writes_none old c.args.at _ (omega (arith, few));
+      kept = keeps_all;
     }

@@ -63,3 +63,9 @@ returns-clause-elsewhere g c = λ a out.
     ap (λ m. slice_index m a) (is_written g c)
     ∙ held_elsewhere (g.F.FileSet.texts c.args.files.now (g.M.PhysMem.bytes c.args.memory.now))
     (length old) c.args.plan c.requires.loadable old a refl out
+
+pub returns-clause-after : goal.returns-clause-after
+returns-clause-after g c = is_written g c
+
+pub returns-clause-places : goal.returns-clause-places
+returns-clause-places g c = refl

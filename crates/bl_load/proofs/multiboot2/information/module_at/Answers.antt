@@ -1,3 +1,4 @@
+use Rattle.std.proofs.Common.{refl}
 use Rattle.std.proofs.Common.{arith, sym, subst}
 use Rattle.bl_mbi.specs.InfoToWriteFacts.{IsText}
 use Rattle.bl_load.proofs.multiboot2.information.module_at.Goals as goal
@@ -11,3 +12,6 @@ returns-clause-fits c =
       small = omega (arith, at, end);
       line = subst IsText (sym c.text_of.ensures.same) c.text_of.ensures.text;
     }
+
+pub returns-clause-told : goal.returns-clause-told
+returns-clause-told c = rw (c.address_of-mod_start.ensures, c.text_of.ensures.same) refl
