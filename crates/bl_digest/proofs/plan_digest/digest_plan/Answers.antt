@@ -1,6 +1,5 @@
+use Rattle.std.proofs.Common.{rules, ◌≡◌, length, map, ap, sym, ◌∙◌, subst, arith, All, None}
 use Rattle.std.proofs.lemmas.List.{places}
-use Rattle.std.proofs.Common.{rules}
-use Rattle.std.proofs.Common.{◌≡◌, length, map, ap, sym, ◌∙◌, subst, arith, All, None}
 use Rattle.bl_digest.specs.Digests.{digests_of}
 use Rattle.bl_digest.specs.PlanInSteps.{PlanInSteps, handover_in_steps}
 use Rattle.bl_digest.specs.Ranges.{ranges_of, wanted_after}

@@ -1,5 +1,4 @@
-use Rattle.std.proofs.Common.{drop, ◌-◌}
-use Rattle.std.proofs.Common.{◌≡◌, ◌+◌, ◌<◌, ◌≤◌, ◌^◌, ℕ, length, map, take, ap, ◌∙◌}
+use Rattle.std.proofs.Common.{drop, ◌-◌, ◌≡◌, ◌+◌, ◌<◌, ◌≤◌, ◌^◌, ℕ, length, map, take, ap, ◌∙◌}
 use Rattle.std.proofs.Common.{arith, length-take, slice_range}
 use Rattle.std.proofs.lemmas.List.{length-map}
 use Rattle.bl_mem.specs.FileSet.{nth_file}

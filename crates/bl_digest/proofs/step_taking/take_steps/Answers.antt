@@ -1,15 +1,14 @@
-use Rattle.bl_digest.proofs.FillingLemmas.{StandsAt, stands_more, stops_at_file}
-use Rattle.bl_digest.specs.internal.Hashing.{HashedFacts, total_of}
-use Rattle.bl_digest.specs.internal.Filling.{source_fill, fed_behind}
-use Rattle.bl_digest.specs.Ranges.{source_ranges}
-use Rattle.bl_load.specs.declared.step.StepSource.TheVariants.{Own, Zeros}
-use Rattle.bl_load.specs.declared.step.Step.{Step}
+use Rattle.std.proofs.Common.{ℕ, List, ◌∷◌, ◌++◌, drop, slice_range, replicate, rules, ◌≡◌, ◌+◌}
+use Rattle.std.proofs.Common.{◌<◌, ◌≤◌, length, ap, sym, ◌∙◌, subst, arith}
 use Rattle.std.proofs.lemmas.List.{drop_more, places, length-replicate}
-use Rattle.std.proofs.Common.{ℕ, List, ◌∷◌, ◌++◌, drop, slice_range, replicate, rules}
-use Rattle.std.proofs.Common.{◌≡◌, ◌+◌, ◌<◌, ◌≤◌, length, ap, sym, ◌∙◌, subst, arith}
+use Rattle.bl_load.specs.declared.step.Step.{Step}
 use Rattle.bl_load.specs.declared.step.StepSource.{StepSource}
 use Rattle.bl_digest.specs.declared.file_range.FileRange.{FileRange}
-use Rattle.bl_digest.specs.internal.Filling.{TakesWhatIsThere, HasOwn}
+use Rattle.bl_digest.specs.internal.Filling.{source_fill, fed_behind, TakesWhatIsThere, HasOwn}
+use Rattle.bl_digest.specs.internal.Hashing.{HashedFacts, total_of}
+use Rattle.bl_digest.specs.Ranges.{source_ranges}
+use Rattle.bl_load.specs.declared.step.StepSource.TheVariants.{Own, Zeros}
+use Rattle.bl_digest.proofs.FillingLemmas.{StandsAt, stands_more, stops_at_file}
 use Rattle.bl_digest.proofs.step_taking.take_steps.Goals as goal
 
 pub returns-in-File-clause-last : goal.returns-in-File-clause-last

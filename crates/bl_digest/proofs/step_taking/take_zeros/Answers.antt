@@ -1,7 +1,7 @@
-use Rattle.bl_digest.specs.internal.Hashing.{HashedFacts, total_of}
+use Rattle.std.proofs.Common.{◌≡◌, ◌≤◌, ℕ, List, ◌-◌, length, replicate, take, ap, rules}
+use Rattle.std.proofs.Common.{length-append, ◌∙◌, arith}
 use Rattle.std.proofs.lemmas.List.{places, length-replicate}
-use Rattle.std.proofs.Common.{◌≡◌, ◌≤◌, ℕ, List, ◌-◌, length, replicate, take, ap, rules, length-append}
-use Rattle.std.proofs.Common.{◌∙◌, arith}
+use Rattle.bl_digest.specs.internal.Hashing.{HashedFacts, total_of}
 use Rattle.bl_digest.proofs.FillingLemmas.{zeros_more}
 use Rattle.bl_digest.proofs.step_taking.take_zeros.Goals as goal
 

@@ -1,9 +1,9 @@
-use Rattle.bl_digest.proofs.HashingLemmas.{same_facts}
 use Rattle.std.proofs.Common.{◌≡◌, ◌<◌, List, length, take, map, ap, ◌∙◌, arith}
 use Rattle.std.proofs.lemmas.List.{take_all}
 use Rattle.bl_plan.specs.declared.part.Place.{Place}
 use Rattle.bl_digest.specs.internal.Hashing.{told_place, total_of, first_length}
-use Rattle.bl_digest.proofs.HashingLemmas.{total_upto, total_more, rows_more, begun_first}
+use Rattle.bl_digest.proofs.HashingLemmas.{same_facts, total_upto, total_more, rows_more}
+use Rattle.bl_digest.proofs.HashingLemmas.{begun_first}
 use Rattle.bl_digest.proofs.parts_hasher.PartsHasher.new.Goals as goal
 
 pub overflow_add-room : goal.overflow_add-room

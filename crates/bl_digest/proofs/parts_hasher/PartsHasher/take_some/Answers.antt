@@ -1,12 +1,10 @@
-use Rattle.std.proofs.Common.{◌<◌}
-use Rattle.bl_digest.proofs.HashingLemmas.{has_row, begun_more}
-use Rattle.std.proofs.Common.{◌≡◌, ◌+◌, ◌-◌, ◌++◌, ℕ, List, length, take, drop, map, ap}
-use Rattle.std.proofs.Common.{◌∙◌, refl, arith, length-take}
+use Rattle.std.proofs.Common.{◌<◌, ◌≡◌, ◌+◌, ◌-◌, ◌++◌, ℕ, List, length, take, drop, map, ap, ◌∙◌}
+use Rattle.std.proofs.Common.{refl, arith, length-take}
 use Rattle.std.proofs.Math.Seq.{map-set_same}
 use Rattle.sha2.specs.Sha256.{sha256}
 use Rattle.bl_digest.specs.declared.part_digest.PartDigest.{PartDigest}
 use Rattle.bl_digest.specs.internal.Hashing.{PartsFacts, told_place, first_length}
-use Rattle.bl_digest.proofs.HashingLemmas.{part_ended_as, has_left, same_facts}
+use Rattle.bl_digest.proofs.HashingLemmas.{has_row, begun_more, part_ended_as, has_left, same_facts}
 use Rattle.bl_digest.proofs.parts_hasher.PartsHasher.take_some.Goals as goal
 
 pub invariant_of-self : goal.invariant_of-self
