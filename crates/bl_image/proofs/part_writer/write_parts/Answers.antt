@@ -1,10 +1,9 @@
-use Rattle.std.specs.List.{flat_map}
-use Rattle.std.proofs.lemmas.List.{at_drop_all}
-use Rattle.bl_image.proofs.Ways.{way_ends}
 use Rattle.std.proofs.Common.{◌∙◌, arith}
 use Rattle.bl_image.specs.internal.PlaceRecords.{place_bytes}
 use Rattle.std.proofs.lemmas.Result.{err_from_is_err_and}
-use Rattle.bl_image.proofs.Ways.{way_as, way_goes_on, way_stops}
+use Rattle.std.proofs.lemmas.List.{at_drop_all}
+use Rattle.std.specs.List.{flat_map}
+use Rattle.bl_image.proofs.Ways.{way_ends, way_as, way_goes_on, way_stops}
 use Rattle.bl_image.proofs.Spelled.{flat_map-drop}
 use Rattle.bl_image.proofs.part_writer.write_parts.Goals as goal
 

@@ -1,9 +1,7 @@
-use Rattle.std.proofs.lemmas.List.{drop_all}
-use Rattle.bl_image.proofs.Ways.{way_ends}
 use Rattle.std.proofs.Common.{◌≡◌, ◌+◌, ◌-◌, ◌≤◌, ◌++◌, ℕ, List, take, drop, length, ◌∙◌, arith}
 use Rattle.std.proofs.Common.{rules}
-use Rattle.std.proofs.lemmas.List.{places, same_lists}
-use Rattle.bl_image.proofs.Ways.{way_as, way_goes_on}
+use Rattle.std.proofs.lemmas.List.{drop_all, places, same_lists}
+use Rattle.bl_image.proofs.Ways.{way_ends, way_as, way_goes_on}
 use Rattle.bl_image.proofs.sink.write_all.Goals as goal
 
 -- what is left after the bytes that were taken

@@ -1,12 +1,10 @@
-use Rattle.std.proofs.Common.{◌∙◌}
-use Rattle.bl_image.proofs.PartLemmas.{all_bytes}
-use Rattle.std.proofs.lemmas.List.{at_drop_all}
-use Rattle.bl_image.proofs.Ways.{way_goes_on, way_ends}
-use Rattle.std.proofs.Common.{arith}
+use Rattle.std.proofs.Common.{◌∙◌, arith}
 use Rattle.bl_load.specs.Handover.{Part}
 use Rattle.std.proofs.lemmas.Result.{err_from_is_err_and}
-use Rattle.bl_image.proofs.Ways.{way_as, way_stops}
+use Rattle.std.proofs.lemmas.List.{at_drop_all}
+use Rattle.bl_image.proofs.Ways.{way_goes_on, way_ends, way_as, way_stops}
 use Rattle.bl_image.proofs.Spelled.{flat_map-drop}
+use Rattle.bl_image.proofs.PartLemmas.{all_bytes}
 use Rattle.bl_image.proofs.value_writing.write_bytes.Goals as goal
 
 pub returns-in_err-write_all : goal.returns-in_err-write_all

@@ -1,16 +1,13 @@
-use Rattle.bl_load.specs.declared.registers.Registers.{Registers}
-use Rattle.bl_plan.specs.declared.protocol.Protocol.{Protocol}
-use Rattle.bl_load.specs.Handover.{Handover}
-use Rattle.bl_image.proofs.PartLemmas.{parts_in-more}
-use Rattle.std.proofs.Common.{◌<◌}
-use Rattle.std.proofs.lemmas.Result.{err_from_is_err_and}
-use Rattle.std.proofs.Common.{◌≡◌, ◌≤◌, List, length, take, map, sym, ap, ◌∙◌, arith, subst}
+use Rattle.std.proofs.Common.{◌<◌, ◌≡◌, ◌≤◌, List, length, take, map, sym, ap, ◌∙◌, arith, subst}
 use Rattle.std.proofs.lemmas.List.{take_all}
-use Rattle.bl_load.specs.Handover.{Part}
+use Rattle.std.proofs.lemmas.Result.{err_from_is_err_and}
+use Rattle.bl_load.specs.Handover.{Handover, Part}
 use Rattle.bl_load.specs.HandoffFacts.{IsWellFormedHandoff}
 use Rattle.bl_load.specs.PlanContents.{part_in}
 use Rattle.bl_image.specs.ImageHandover.{handoff_of}
-use Rattle.bl_image.proofs.PartLemmas.{memory_kept}
+use Rattle.bl_load.specs.declared.registers.Registers.{Registers}
+use Rattle.bl_plan.specs.declared.protocol.Protocol.{Protocol}
+use Rattle.bl_image.proofs.PartLemmas.{parts_in-more, memory_kept}
 use Rattle.bl_image.proofs.image.Image.of.Goals as goal
 
 pub new-requires : goal.new-requires

@@ -1,6 +1,6 @@
-use Rattle.std.proofs.Common.{Some}
+use Rattle.std.proofs.Common.{Some, ◌+◌, ◌≤◌, ℕ, List, length, slice_range, drop, ap, ◌∙◌, arith}
+use Rattle.std.proofs.Common.{rules}
 use Rattle.std.proofs.lemmas.List.{drop_all}
-use Rattle.std.proofs.Common.{◌+◌, ◌≤◌, ℕ, List, length, slice_range, drop, ap, ◌∙◌, arith, rules}
 use Rattle.bl_image.proofs.Inputs.{part_came, came_from}
 use Rattle.bl_image.proofs.mem_source.MemSourceSource.read.Goals as goal
 

@@ -1,6 +1,6 @@
 use Rattle.std.proofs.Common.{arith}
-use Rattle.bl_image.specs.ImageHandover.{part_place}
 use Rattle.std.proofs.lemmas.List.{length-map}
+use Rattle.bl_image.specs.ImageHandover.{part_place}
 use Rattle.bl_image.proofs.places.ImagePlaces.place_at.Goals as goal
 
 pub part-part-requires : goal.part-part-requires
