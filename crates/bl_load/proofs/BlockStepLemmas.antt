@@ -1,19 +1,19 @@
 -- A block, segment after segment.
 use Rattle.std.proofs.Common.{◌≡◌, ℕ, ◌+◌, ◌-◌, ◌<◌, ◌≤◌, List, [], ◌∷◌, ◌++◌, length, get_or}
 use Rattle.std.proofs.Common.{replicate, suc, arith, refl, sym, ap, ◌∙◌, All, AllPairs}
-use Rattle.std.proofs.Common.{length-append, drop, rules}
-use Rattle.std.proofs.lemmas.List.{same_lists, length-replicate, drop_all, places}
+use Rattle.std.proofs.Common.{length-append, drop}
+use Rattle.std.proofs.lemmas.List.{same_lists, length-replicate, drop_all}
 use Rattle.std.proofs.lemmas.List.Elements.{All-cons}
 use Rattle.bl_mem.specs.Memory.{overwrite}
 use Rattle.bl_mem.specs.FileSet.{IsApartFrom, Agree}
 use Rattle.bl_mem.proofs.Overwrites.{overwrite_more, beside_zeros}
 use Rattle.bl_mem.specs.declared.segment.Segment.{Segment}
 use Rattle.bl_mem.specs.SegmentContents.{contents_of, segment_holds}
-use Rattle.bl_load.proofs.MemoryLemmas.{writes_none}
 use Rattle.bl_load.specs.KernelBlock.{low_of, span_of, block_byte, first_values, block_of}
 use Rattle.bl_load.specs.Loadable.{IsCopyable, SegmentsAscend}
 use Rattle.bl_load.proofs.BlockLemmas.{block_from, length-contents_of, length-first_values}
 use Rattle.bl_load.proofs.BlockLemmas.{get_or-first_values, length-block_from, get_or-block_from}
+use Rattle.bl_load.proofs.MemoryLemmas.{writes_none}
 
 -- once no segment is left, nothing is left to write
 pub none_left : (text m : List ℕ) (at start : ℕ) (segments : List Segment) (i : ℕ)

@@ -1,4 +1,4 @@
-use Rattle.std.proofs.Common.{◌≡◌, ◌≤◌, ◌+◌, ◌-◌, length, drop, ap, refl, arith, length-take}
+use Rattle.std.proofs.Common.{◌≤◌, ◌+◌, ◌-◌, length, drop, ap, refl, arith, length-take}
 use Rattle.bl_mem.specs.FileSet.{nth_file}
 use Rattle.bl_load.proofs.MemoryLemmas.{keeps_all, writes_none}
 use Rattle.bl_load.proofs.copying.copy.Goals as goal

@@ -1,9 +1,7 @@
-use Rattle.std.proofs.Common.{◌+◌, ◌-◌, drop, refl, length-take}
-use Rattle.bl_load.proofs.MemoryLemmas.{keeps_all, writes_none}
-use Rattle.std.proofs.Common.{◌∙◌, arith}
+use Rattle.std.proofs.Common.{◌+◌, ◌-◌, drop, refl, length-take, ◌∙◌, arith}
 use Rattle.bl_mem.specs.FileSet.{nth_file}
 use Rattle.bl_mem.proofs.Overwrites.{copy_more}
-use Rattle.bl_load.proofs.MemoryLemmas.{keeps_on}
+use Rattle.bl_load.proofs.MemoryLemmas.{keeps_all, writes_none, keeps_on}
 use Rattle.bl_load.proofs.copying.copy_by_pieces.Goals as goal
 
 pub copy_piece-requires-clause-free : goal.copy_piece-requires-clause-free

@@ -1,7 +1,6 @@
-use Rattle.std.proofs.lemmas.List.{drop_all}
 use Rattle.std.proofs.Common.{◌≡◌, ◌+◌, ◌<◌, ◌≤◌, length, arith, refl, sym, ◌∙◌, get_or, drop, ◌∷◌}
 use Rattle.std.proofs.Common.{add-zero, zero-add}
-use Rattle.std.proofs.lemmas.List.{drop_more, get_or_default}
+use Rattle.std.proofs.lemmas.List.{drop_all, drop_more, get_or_default}
 use Rattle.bl_mem.specs.FileSet.{nth_file}
 use Rattle.bl_load.specs.KernelBlock.{span_of}
 use Rattle.bl_load.specs.Parts.{no_segment}

@@ -1,6 +1,5 @@
-use Rattle.std.proofs.lemmas.List.{drop_all}
 use Rattle.std.proofs.Common.{◌∙◌, refl}
-use Rattle.std.proofs.lemmas.List.{drop_more}
+use Rattle.std.proofs.lemmas.List.{drop_all, drop_more}
 use Rattle.bl_load.proofs.MemoryLemmas.{keeps_all, keeps_on}
 use Rattle.bl_load.proofs.loading.load_parts.Goals as goal
 

@@ -1,10 +1,6 @@
-use Rattle.bl_plan.specs.Placed.{ArePlaced}
-use Rattle.std.proofs.Common.{List, []}
-use Rattle.bl_plan.specs.declared.part.Place.{Place}
-use Rattle.bl_plan.specs.declared.part.Row.{Row}
-use Rattle.std.proofs.lemmas.List.{drop_all}
-use Rattle.std.proofs.Common.{arith, ap, refl, ◌∙◌, ◌<◌, length}
+use Rattle.std.proofs.Common.{[], arith, ap, refl, ◌∙◌, ◌<◌, length}
 use Rattle.std.proofs.lemmas.Result.{err_from_is_err_and}
+use Rattle.std.proofs.lemmas.List.{drop_all}
 use Rattle.bl_plan.specs.PlannerFacts.{PlannerFacts}
 use Rattle.bl_plan.specs.declared.fault.PlanFault.TheVariants.{NotUsable, Overlap, NoRoom}
 use Rattle.bl_load.proofs.UnplacedLemmas.{placed_step, unplaced_step, unplaced_here}

@@ -1,11 +1,5 @@
-use Rattle.std.proofs.Common.{List}
-use Rattle.bl_walk.specs.internal.Walking.{IsModuleFollowed}
-use Rattle.bl_mbi.specs.InfoToWriteFacts.{IsModule, ModuleInfo}
-use Rattle.bl_walk.specs.Seen.{AreSeenModules}
-use Rattle.std.proofs.Common.{ap, ◌∙◌}
-use Rattle.std.proofs.lemmas.List.{take_all}
 use Rattle.std.proofs.Common.{take, sym, arith, ◌<◌, length}
-use Rattle.std.proofs.lemmas.List.{take_more}
+use Rattle.std.proofs.lemmas.List.{take_all, take_more}
 use Rattle.bl_walk.proofs.ModuleLemmas.{one_more}
 use Rattle.bl_walk.proofs.seen_modules.modules_at.Goals as goal
 

@@ -1,7 +1,6 @@
-use Rattle.std.proofs.lemmas.Result.{err_from_is_err_and}
-use Rattle.bl_load.specs.declared.entry.Module.{Module}
 use Rattle.std.proofs.Common.{◌≡◌, ◌⊎◌, ℕ, List, [], length, arith, ap, subst, inl, inr}
 use Rattle.std.proofs.lemmas.List.{length-map}
+use Rattle.std.proofs.lemmas.Result.{err_from_is_err_and}
 use Rattle.bl_mbi.specs.InfoToWriteFacts.{info_size}
 use Rattle.bl_map.specs.MachineFacts.{MachineFacts}
 use Rattle.bl_plan.specs.declared.part.Role.{Role}
@@ -16,6 +15,7 @@ use Rattle.bl_load.specs.Origins.{made}
 use Rattle.bl_load.specs.Rows.{information_of}
 use Rattle.bl_load.specs.internal.Placing.{HasLength}
 use Rattle.bl_load.specs.internal.CheckedEntries.{texts_in, value_of_files}
+use Rattle.bl_load.specs.declared.entry.Module.{Module}
 use Rattle.bl_load.proofs.InformationLemmas.{information_short}
 use Rattle.bl_load.proofs.ReadingLemmas.{modules_fit}
 use Rattle.bl_load.proofs.multiboot2.contents.multiboot2_content.Goals as goal

@@ -1,5 +1,4 @@
-use Rattle.std.proofs.Common.{refl}
-use Rattle.std.proofs.Common.{arith, sym, subst}
+use Rattle.std.proofs.Common.{refl, arith, sym, subst}
 use Rattle.bl_mbi.specs.InfoToWriteFacts.{IsText}
 use Rattle.bl_load.proofs.multiboot2.information.module_at.Goals as goal
 
