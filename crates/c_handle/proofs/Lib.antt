@@ -3,3 +3,4 @@ pub mod SessionHandleSteps
 pub mod DigestHandleSteps
 pub mod RawBoxSteps
 pub mod SendSteps
+pub mod SliceSteps
