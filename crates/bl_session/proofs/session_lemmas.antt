@@ -9,3 +9,4 @@ pub mod EndedLemmas
 pub mod LaterLemmas
 pub mod NextLemmas
 pub mod BootCallLemmas
+pub mod TakenLemmas

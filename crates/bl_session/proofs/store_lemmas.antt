@@ -6,3 +6,4 @@ pub mod LedgerLemmas
 pub mod SubmissionRangeLemmas
 pub mod ListedLemmas
 pub mod PendingLemmas
+pub mod FetchedLemmas

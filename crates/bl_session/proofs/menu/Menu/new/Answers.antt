@@ -1,6 +1,7 @@
-use Rattle.std.proofs.Common.{◌≡◌, All, List, ◌≤◌, length, refl, sym, subst, arith, rules}
+use Rattle.std.proofs.Common.{◌≡◌, All, List, ◌≤◌, ℕ, ap, length, map, refl, sym, subst, arith, rules}
 use Rattle.bl_load.specs.WellFormedEntry.{IsWellFormedEntry}
 use Rattle.bl_load.specs.declared.entry.Entry.{Entry}
+use Rattle.bl_session.specs.menu.Menu.{MenuFacts, facts_of}
 use Rattle.bl_session.specs.menu.MenuFaults.{AreEntryIndices, AreWithinLimits}
 use Rattle.bl_session.specs.menu.AttemptOrder.{attempt_order}
 use Rattle.bl_session.proofs.menu_lemmas.MenuLemmas.{offered_entries}
@@ -72,3 +73,17 @@ returns-clause-allowed g c =
           AreEntryIndices (length es) c.args.default c.args.fallbacks.now) same
           (c.if-not-are_entry_indices.ensures.0 refl),
     )
+
+pub returns-then-not-are_within_limits-clause-first_fault :
+    goal.returns-then-not-are_within_limits-clause-first_fault
+returns-then-not-are_within_limits-clause-first_fault g c = λ few.
+    let same = c.as_slice-offered.ensures.value in
+    false≢true (c.if-not-are_within_limits.ensures.1
+    (subst (λ (es : List (Entry g.row.A.Denot)). AreWithinLimits es) (sym same) few))
+
+pub returns-clause-ok : goal.returns-clause-ok
+returns-clause-ok g c =
+    ap (λ (attempts : List ℕ).
+    let menu : MenuFacts =
+    record { entries = map facts_of c.args.entries.items; attempts = attempts } in menu)
+    c.in_ok-attempts.ensures

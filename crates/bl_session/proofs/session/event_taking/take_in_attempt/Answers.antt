@@ -2,7 +2,7 @@ use Rattle.std.proofs.Common.{◌∙◌, ap, drop, arith, length, refl, rules, s
 use Rattle.bl_map.proofs.PoolLemmas.{pool_in_memory}
 use Rattle.bl_stage.specs.PieceStates.{piece_states}
 use Rattle.bl_stage.specs.Staged.{Staging}
-use Rattle.bl_session.specs.session.BootSteps.{piece, is_wanted}
+use Rattle.bl_session.specs.session.BootSteps.{fault, piece, is_wanted}
 use Rattle.bl_session.specs.session.Phases.{boot_facts}
 use Rattle.bl_session.specs.internal.session.KeptPhases.{state_of, phase_by, HasSmallFiles}
 use Rattle.bl_session.specs.internal.session.KeptPhases.{IsPhaseKept}
@@ -11,7 +11,8 @@ use Rattle.bl_session.specs.declared.session.phase.Phase.TheVariants.{Waits}
 use Rattle.bl_session.proofs.session_lemmas.StepLemmas.{wanted_not, steps_unchanged, wanted_stored}
 use Rattle.bl_session.proofs.session_lemmas.StepLemmas.{piece_states_after, steps_piece}
 use Rattle.bl_session.proofs.session_lemmas.StepLemmas.{lacks_piece, memory_taken, memory_same}
-use Rattle.bl_session.proofs.session_lemmas.StepLemmas.{outside_taken}
+use Rattle.bl_session.proofs.session_lemmas.StepLemmas.{other_attempt, outside_taken}
+use Rattle.bl_session.proofs.session_lemmas.TakenLemmas.{fault_taken, not_taken}
 use Rattle.bl_session.proofs.session.event_taking.take_in_attempt.Goals as goal
 
 pub continue_attempt-requires-clause-waiting : goal.continue_attempt-requires-clause-waiting
@@ -154,3 +155,30 @@ continue_attempt-requires-clause-memory g c = record {
   size = c.put-answer.ensures.kept.size ∙ c.requires.memory.size;
   room = λ a from to. c.put-answer.ensures.kept.room a (c.requires.memory.room a from to);
 }
+
+pub returns-then-not-is_of-clause-taken : goal.returns-then-not-is_of-clause-taken
+returns-then-not-is_of-clause-taken g c =
+    let w = c.args.running.now in
+    let old = g.M.PhysMem.bytes c.args.memory.now in
+    let ticket = c.in-Piece.ticket in
+    let bytes = c.in-Piece.bytes.now in
+    rw c.in-Piece.is
+    (not_taken c.args.boot.now (piece ticket bytes) w old
+    (other_attempt w.earlier.items (piece_states old w.stage) ticket bytes c.is_of.result
+    c.is_of.ensures c.if-not-is_of.true)
+    c.requires.kept)
+
+pub returns-then-not-awaits_fault-clause-taken : goal.returns-then-not-awaits_fault-clause-taken
+returns-then-not-awaits_fault-clause-taken g c =
+    let bytes = g.M.PhysMem.bytes c.args.memory.now in
+    rw c.in-Fault.is
+    (not_taken c.args.boot.now (fault c.in-Fault.ticket) c.args.running.now bytes
+    (sym (c.if-not-awaits_fault.ensures bytes)) c.requires.kept)
+
+pub returns-else-not-awaits_fault-clause-taken : goal.returns-else-not-awaits_fault-clause-taken
+returns-else-not-awaits_fault-clause-taken g c =
+    let bytes = g.M.PhysMem.bytes c.args.memory.now in
+    rw c.in-Fault.is
+    (fault_taken c.args.boot.now c.in-Fault.ticket c.args.running.now c.refuse.new.running bytes
+    (g.M.PhysMem.bytes c.refuse.new.memory) c.refuse.result
+    (sym (c.if-not-awaits_fault.ensures bytes)) c.refuse.ensures.phase)
