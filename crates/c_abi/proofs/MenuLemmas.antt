@@ -16,6 +16,7 @@ use Rattle.bl_session.specs.declared.menu.fault.MenuFault.TheVariants as menu_fa
 use Rattle.c_abi.specs.declared.given_fault.GivenFault.{GivenFault}
 use Rattle.c_abi.specs.declared.given_fault.GivenFault.TheVariants.{Misused, NoMemory}
 use Rattle.c_abi.specs.declared.given_records.EntryRecord.{EntryRecord}
+use Rattle.c_abi.specs.declared.given_records.FileRecord.{FileRecord}
 use Rattle.c_abi.specs.Given.{files_given, entry_without_files}
 use Rattle.c_abi.specs.Load.{IsEntrySizeFault}
 use Rattle.c_abi.specs.MenuGiven.{menu_files, entry_facts_given, entries_facts}
@@ -33,6 +34,13 @@ files_more rows i d within =
     ∙ sym (flat_map_more files_given [] (take i rows) (get_or rows i d))
 
 -- so many more than those so far
+pub more_files : (rows : List EntryRecord) (files after : List FileRecord) (i : ℕ) (d : EntryRecord)
+    → i < length rows → after ≡ files ++ files_given (get_or rows i d)
+    → files ≡ menu_files (take i rows) → after ≡ menu_files (take (i + 1) rows)
+more_files rows files after i d within is so =
+    is ∙ ap (λ (fs : List FileRecord). fs ++ files_given (get_or rows i d)) so
+    ∙ sym (files_more rows i d within)
+
 pub count_more : (rows : List EntryRecord) (i n m : ℕ) (d : EntryRecord) → i < length rows
     → n ≡ length (menu_files (take i rows)) → m ≡ length (files_given (get_or rows i d))
     → n + m ≡ length (menu_files (take (i + 1) rows))

@@ -2,9 +2,10 @@
 use Rattle.std.proofs.Common.{◌≡◌, ◌∙◌, ◌+◌, ◌<◌, ℕ, zero, suc, List, [], ◌∷◌, ◌++◌, length}
 use Rattle.std.proofs.Common.{map, take, ap, ap₂, refl, arith, add-one, sym, true, Bool, ◌==◌}
 use Rattle.std.proofs.Common.{if◌then◌else◌}
-use Rattle.std.proofs.lemmas.List.{map_push}
+use Rattle.std.proofs.lemmas.List.{length-map, map_push}
 use Rattle.bl_load.specs.declared.entry.Entry.{Entry}
-use Rattle.bl_load.specs.EntryValue.{EntryValue, value_of}
+use Rattle.bl_load.specs.declared.entry.Entry.TheVariants.{Multiboot2, Linux}
+use Rattle.bl_load.specs.EntryValue.{EntryValue, file_count, value_of}
 use Rattle.bl_session.specs.menu.Menu.{EntryFacts, facts_of, files_of}
 use Rattle.c_abi.specs.declared.given_records.EntryRecord.{EntryRecord}
 use Rattle.c_abi.specs.declared.given_records.FileRecord.{FileRecord}
@@ -60,3 +61,15 @@ multiboot2_facts entry r before is files value =
     ∙ ap (λ (fs : List FileRecord). before ∷ numbered (suc before) fs) (sym beside) in
     ap₂ (λ (ns : List ℕ) (v : EntryValue). let f : EntryFacts = record { files = ns; blank = v } in f)
     numbers value
+
+counted : {A : Type 0} (entry : Entry A) → file_count entry ≡ length (files_of entry)
+counted (Multiboot2 kernel line modules rsdp_old rsdp_new) =
+    omega (arith, length-map modules.items (λ m. m.file))
+counted (Linux kernel line initrd wide) = omega arith
+
+-- an entry has as many files as are given for it
+pub count_by_facts : {A : Type 0} (entry : Entry A) (r : EntryRecord) (before : ℕ)
+    → facts_of entry ≡ entry_facts_given before r → file_count entry ≡ length (files_given r)
+count_by_facts entry r before is =
+    counted entry ∙ ap (λ (facts : EntryFacts). length facts.files) is
+    ∙ length-numbered before (files_given r)

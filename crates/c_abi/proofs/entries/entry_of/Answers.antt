@@ -1,8 +1,8 @@
-use Rattle.std.proofs.Common.{◌≡◌, ◌==◌, true, [], rules, refl}
+use Rattle.std.proofs.Common.{◌≡◌, ◌==◌, true, false, [], rules, refl}
 use Rattle.bl_load.specs.EntryValue.{value_of}
 use Rattle.c_abi.specs.Given.{entry_without_files}
 use Rattle.c_abi.proofs.LoadLemmas.{too_large}
-use Rattle.c_abi.proofs.NumberLemmas.{multiboot2_facts}
+use Rattle.c_abi.proofs.NumberLemmas.{count_by_facts, multiboot2_facts}
 use Rattle.c_abi.proofs.entries.entry_of.Goals as goal
 
 pub returns-then-not-is_within_limits-clause-fault :
@@ -24,3 +24,17 @@ returns-clause-facts g c =
     let is : (c.args.row.now.protocol == 1) ≡ true = search rules in
     multiboot2_facts c.in_ok-entry.entry c.args.row.now c.args.before is
     c.in_ok-entry.ensures.files value
+
+pub returns-then-not-is_of-clause-value : goal.returns-then-not-is_of-clause-value
+returns-then-not-is_of-clause-value g c =
+    let is : (c.args.row.now.protocol == 1) ≡ false = search rules in
+    rw is c.in_ok-linux_of.ensures.value
+
+pub returns-clause-value : goal.returns-clause-value
+returns-clause-value g c =
+    let is : (c.args.row.now.protocol == 1) ≡ true = search rules in
+    rw is c.in_ok-entry.ensures.value
+
+pub returns-clause-count : goal.returns-clause-count
+returns-clause-count g c =
+    count_by_facts c.in_ok-entry.entry c.args.row.now c.args.before (returns-clause-facts g c)
