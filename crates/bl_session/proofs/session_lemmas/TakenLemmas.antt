@@ -1,19 +1,26 @@
 -- What an attempt that waits makes of an event, by whether it waits for it.
-use Rattle.std.proofs.Common.{◌≡◌, ℕ, true, false, List, Option, None, Result, Ok}
-use Rattle.std.proofs.Common.{drop, refl}
+use Rattle.std.proofs.Common.{◌≡◌, ◌≢◌, ℕ, true, false, List, Option, None, Some, Result, Ok, Err}
+use Rattle.std.proofs.Common.{ap, drop, inl, inr, refl}
 use Rattle.bl_load.specs.declared.refusal.Refusal.TheVariants.{FileFault}
 use Rattle.bl_stage.specs.PieceStates.{piece_states}
 use Rattle.bl_session.specs.declared.attempt.ticket.Ticket.{Ticket}
 use Rattle.bl_session.specs.declared.session.phase.BootContext.{BootContext}
 use Rattle.bl_session.specs.declared.session.phase.Running.{Running}
 use Rattle.bl_session.specs.declared.session.phase.Phase.{Phase}
+use Rattle.bl_session.specs.declared.session.phase.Phase.TheVariants.{Failed, HandedOver, Unstarted}
 use Rattle.bl_session.specs.declared.session.phase.Phase.TheVariants.{Waits}
-use Rattle.bl_session.specs.session.BootSteps.{EventFacts, fault, is_taken, is_wanted}
+use Rattle.bl_session.specs.declared.session.outcome.BootFault.TheVariants.{NoEntryLeft, NoMemory}
+use Rattle.bl_session.specs.declared.session.outcome.Progress.{Progress}
+use Rattle.bl_session.specs.session.BootSteps.{EventFacts, attempt_number, fault, is_taken}
+use Rattle.bl_session.specs.session.BootSteps.{is_wanted, progress}
 use Rattle.bl_session.specs.internal.session.KeptPhases.{IsPhaseKept, facts_of_boot, phase_by}
 use Rattle.bl_session.specs.internal.session.KeptPhases.{running_in, state_in}
-use Rattle.bl_session.specs.internal.session.BootCalls.{FallsBack, LeadsToPhase, TakesEventOn}
+use Rattle.bl_session.specs.internal.session.BootCalls.{FallsBack, HasTakenEvent, LeadsToPhase}
+use Rattle.bl_session.specs.internal.session.BootCalls.{TakesEventOn}
+use Rattle.bl_session.specs.internal.session.PhaseMoves.{phase_after}
 use Rattle.bl_session.proofs.session_lemmas.StepLemmas.{by_test, memory_taken}
-use Rattle.bl_session.proofs.session_lemmas.StepFaultLemmas.{lacks_fault, same_itself, steps_fault}
+use Rattle.bl_session.proofs.session_lemmas.StepFaultLemmas.{ends_taken, lacks_fault, same_itself}
+use Rattle.bl_session.proofs.session_lemmas.StepFaultLemmas.{steps_fault}
 
 pub not_taken : {A E : Type 0} (boot : BootContext A) (event : EventFacts) (r : Running A)
     (bytes : List ℕ) → is_taken (running_in boot bytes r) event ≡ false
@@ -49,3 +56,75 @@ fault_taken boot ticket r next old new result wanted leads =
       stands = leads.stands;
       err = leads.err;
     }
+
+-- ---- a session
+
+ended_on : {A E : Type 0} (boot : BootContext A) (event : EventFacts) (r next : Running A)
+    (old new : List ℕ) (result : Result (Option (Phase A)) E) (told : Progress)
+    → TakesEventOn boot event r next old new result
+    → told
+    ≡ progress (attempt_number (running_in boot old r))
+    (state_in boot new (phase_after (Waits next) result))
+    → HasTakenEvent boot event (Waits r) (phase_after (Waits next) result) old new told
+ended_on boot event r next old new (Ok None) told taken is = record {
+  step = inl taken.step;
+  progress = is;
+  memory = taken.memory;
+  unchanged = λ same. ap Waits (taken.unchanged same).1;
+  stands = taken.stands;
+}
+ended_on boot event r next old new (Ok (Some phase)) told taken is = record {
+  step = inl taken.step;
+  progress = is;
+  memory = taken.memory;
+  unchanged = λ same. let runs_on = (taken.unchanged same).0 in absurd cc;
+  stands = taken.stands;
+}
+ended_on boot event r next old new (Err e) told taken is = record {
+  step = inr (refl, taken.lacking);
+  progress = is;
+  memory =
+      by_test true (is_taken (running_in boot old r) event) _ _
+      (ends_taken (running_in boot old r) event taken.lacking) taken.err;
+  unchanged = λ same. let runs_on = (taken.unchanged same).0 in absurd cc;
+  stands = tt;
+}
+
+kept_as_is : {A : Type 0} (boot : BootContext A) (event : EventFacts) (phase : Phase A)
+    (bytes : List ℕ) (told : Progress) → ((r : Running A) → phase ≢ Waits r)
+    → IsPhaseKept boot.machine.now boot.menu.now phase
+    → told ≡ progress (attempt_number (state_in boot bytes phase)) (state_in boot bytes phase)
+    → HasTakenEvent boot event phase phase bytes bytes told
+kept_as_is boot event Unstarted bytes told other kept is =
+    record { step = inl refl; progress = is; memory = refl; unchanged = λ same. refl; stands = kept }
+kept_as_is boot event (Waits r) bytes told other kept is = absurd (other r refl)
+kept_as_is boot event (HandedOver outcome) bytes told other kept is =
+    record { step = inl refl; progress = is; memory = refl; unchanged = λ same. refl; stands = kept }
+kept_as_is boot event (Failed (NoEntryLeft refused)) bytes told other kept is =
+    record { step = inl refl; progress = is; memory = refl; unchanged = λ same. refl; stands = kept }
+kept_as_is boot event (Failed NoMemory) bytes told other kept is =
+    record { step = inl refl; progress = is; memory = refl; unchanged = λ same. refl; stands = kept }
+
+-- one whose attempt waits goes on to the phase after the event
+pub goes_on : {A E : Type 0} (boot : BootContext A) (event : EventFacts) (p q : Phase A)
+    (r next : Running A) (old mid new : List ℕ) (result : Result (Option (Phase A)) E)
+    (number : ℕ) (told : Progress)
+    → p ≡ Waits r → q ≡ phase_after (Waits next) result → new ≡ mid
+    → number ≡ attempt_number (state_in boot old p) → told ≡ progress number (state_in boot new q)
+    → TakesEventOn boot event r next old mid result
+    → HasTakenEvent boot event p q old new told
+goes_on boot event p q r next old mid new result number told waits goes same counts is taken =
+    rw (waits, goes, same)
+    (ended_on boot event r next old mid result told taken
+    (rw (counts, waits, goes, same) at is))
+
+-- one that waits for nothing stays as it is
+pub stays : {A : Type 0} (boot : BootContext A) (event : EventFacts) (p q : Phase A)
+    (old new : List ℕ) (number : ℕ) (told : Progress)
+    → ((r : Running A) → p ≢ Waits r) → q ≡ p → new ≡ old
+    → number ≡ attempt_number (state_in boot old p) → told ≡ progress number (state_in boot new q)
+    → IsPhaseKept boot.machine.now boot.menu.now p
+    → HasTakenEvent boot event p q old new told
+stays boot event p q old new number told other goes same counts is kept =
+    rw (goes, same)
+    (kept_as_is boot event p old told other kept (rw (counts, goes, same) at is))

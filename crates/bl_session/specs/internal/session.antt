@@ -1,2 +1,3 @@
 pub mod KeptPhases
 pub mod BootCalls
+pub mod PhaseMoves

@@ -6,6 +6,7 @@ ghost use Rattle.bl_session.specs.session.BootSteps.{fault, is_wanted};
 ghost use Rattle.bl_session.specs.session.Phases.{event_facts};
 ghost use Rattle.bl_session.specs.declared.session.phase.Phase.TheVariants.{Waits};
 ghost use Rattle.bl_session.specs.internal.session.KeptPhases.{IsPhaseKept};
+ghost use Rattle.bl_session.specs.internal.session.PhaseMoves.{phase_after};
 ghost use Rattle.bl_session.specs.internal.attempt.AttemptStates.{HasPoolRoom};
 ghost use Rattle.bl_session.specs.internal.session.BootCalls.{TakesEventOn};
 ghost use Rattle.bl_session.specs.internal.session.BootCalls.{HasRoomWhileWaiting, HasTakenEvent};
@@ -82,6 +83,18 @@ fn take_in_attempt<M: PhysMem, A: Allocator + Copy>(
     }
 }
 
+/// Goes on to the phase after an attempt that ended. If memory ran out, the boot has failed.
+fn go_on<A: Allocator>(phase: &mut Phase<A>, ended: Result<Option<Phase<A>>, AllocError>)
+    ensures { phase.new ≡ phase_after phase.old ended }
+{
+    let next = match ended {
+        Ok(None) => return,
+        Ok(Some(next)) => next,
+        Err(_) => Phase::Failed(BootFault::NoMemory),
+    };
+    *phase = next;
+}
+
 /// Takes an event. One that no attempt waits for changes nothing.
 pub fn take_event<M: PhysMem, A: Allocator + Copy>(
     boot: &BootContext<A>,
@@ -97,16 +110,9 @@ pub fn take_event<M: PhysMem, A: Allocator + Copy>(
     ensures kept { KeepsSizeAndRoom M.lender M.bytes M.room memory.old memory.new }
 {
     let attempt = number_of(phase);
-    let ended = match phase {
-        Phase::Waits(running) => take_in_attempt(boot, memory, running, event),
-        Phase::Unstarted => Ok(None),
-        Phase::HandedOver(_) => Ok(None),
-        Phase::Failed(_) => Ok(None),
-    };
-    match ended {
-        Ok(None) => {}
-        Ok(Some(next)) => *phase = next,
-        Err(_) => *phase = Phase::Failed(BootFault::NoMemory),
+    if let Phase::Waits(running) = phase {
+        let ended = take_in_attempt(boot, memory, running, event);
+        go_on(phase, ended);
     }
     progress_of(boot.machine, boot.menu, attempt, phase)
 }
