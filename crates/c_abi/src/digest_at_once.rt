@@ -1,10 +1,11 @@
 //! The digests of an entry whose files are all at hand.
-ghost use Rattle.std.specs.Prelude.{IfOk, IfErr, OnOk, Result};
+ghost use Rattle.std.specs.Prelude.{◌≡◌, [], IfOk, IfErr, OnOk, Result, length};
+ghost use Rattle.bl_load.specs.EntryValue.{value_of, file_count, IsWithinLimits};
 ghost use Rattle.bl_digest.specs.DigestsFacts.{DigestsFacts};
 ghost use Rattle.c_abi.specs.Digest.{IsGivenDigestsEnd};
 ghost use Rattle.c_abi.specs.DigestTold.{TellsDigests};
 ghost use Rattle.c_abi.specs.Load.{IsEntryFault, IsEntrySound};
-ghost use Rattle.c_abi.specs.Given.{texts_given};
+ghost use Rattle.c_abi.specs.Given.{entry_without_files, files_given, texts_given};
 ghost use Rattle.c_abi.specs.internal.Digests.{AreDigestsOn};
 ghost use Rattle.c_abi.specs.declared.load_fault.LoadFault.{LoadFault};
 
@@ -18,9 +19,36 @@ use crate::handoff_telling::tell_load_fault;
 use crate::load_fault::{LoadFault, given_fault, load_fault};
 use crate::machines::machine_of;
 use bl_digest::{Digests, digest_plan};
-use bl_load::prepare;
+use bl_load::{Entry, prepare};
 use bl_map::Machine;
 use std::alloc::Allocator;
+
+/// The digests of what an entry that was taken hands over on a machine.
+fn digests_of_entry<A: Allocator + Copy>(
+    alloc: A,
+    machine: &Machine<A>,
+    entry: &Entry<A>,
+    row: &EntryRecord,
+) -> Result<Digests<A>, LoadFault>
+    requires value { value_of [] entry.now ≡ entry_without_files row.now }
+    requires count { file_count entry.now ≡ length (files_given row.now) }
+    requires limits { IsWithinLimits entry.now }
+    requires sound { IsEntrySound row.now }
+    ensures digests { IfOk result (AreDigestsOn machine.now row.now) }
+    ensures fault { IfErr result (IsEntryFault machine.now row.now (texts_given row.now) 0) }
+{
+    let Ok(views) = views_of(alloc, row) else {
+        return Err(LoadFault::NoMemory);
+    };
+    let plan = match prepare(alloc, machine, entry, &views) {
+        Ok(plan) => plan,
+        Err(fault) => return Err(load_fault(fault)),
+    };
+    match digest_plan(alloc, &plan, &views) {
+        Ok(digests) => Ok(digests),
+        Err(_) => Err(LoadFault::NoMemory),
+    }
+}
 
 /// The digests of what an entry hands over on a machine.
 fn digests_on<A: Allocator + Copy>(
@@ -32,20 +60,9 @@ fn digests_on<A: Allocator + Copy>(
     ensures sound { OnOk result (IsEntrySound row.now) }
     ensures fault { IfErr result (IsEntryFault machine.now row.now (texts_given row.now) 0) }
 {
-    let entry = match take_entry(alloc, row) {
-        Ok(entry) => entry,
-        Err(fault) => return Err(given_fault(fault)),
-    };
-    let Ok(views) = views_of(alloc, row) else {
-        return Err(LoadFault::NoMemory);
-    };
-    let plan = match prepare(alloc, machine, &entry, &views) {
-        Ok(plan) => plan,
-        Err(fault) => return Err(load_fault(fault)),
-    };
-    match digest_plan(alloc, &plan, &views) {
-        Ok(digests) => Ok(digests),
-        Err(_) => Err(LoadFault::NoMemory),
+    match take_entry(alloc, row) {
+        Ok(entry) => digests_of_entry(alloc, machine, &entry, row),
+        Err(fault) => Err(given_fault(fault)),
     }
 }
 

@@ -1,6 +1,8 @@
 //! The digest of an entry begins, whose files are fed later.
-ghost use Rattle.std.specs.Prelude.{ℕ, List, IfOk, IfErr, OnOk};
+ghost use Rattle.std.specs.Prelude.{◌≡◌, ℕ, List, [], IfOk, IfErr, OnOk, length};
+ghost use Rattle.bl_load.specs.EntryValue.{value_of, file_count, IsWithinLimits};
 ghost use Rattle.c_abi.specs.Digest.{IsGivenDigestEnd};
+ghost use Rattle.c_abi.specs.Given.{entry_without_files, files_given};
 ghost use Rattle.c_abi.specs.Load.{IsEntryFault, IsEntrySound};
 ghost use Rattle.c_abi.specs.Prepare.{AreFilesOf};
 ghost use Rattle.c_abi.specs.internal.Digests.{IsDigestOn};
@@ -11,8 +13,34 @@ use crate::load_fault::{LoadFault, given_fault, load_fault};
 use crate::machines::machine_of;
 use crate::preparing::prepare_row;
 use bl_digest::Digesting;
+use bl_load::Entry;
 use bl_map::Machine;
 use std::alloc::Allocator;
+
+/// Begins the digest of an entry that was taken on a machine.
+fn digest_of_entry<A: Allocator + Copy>(
+    alloc: A,
+    machine: &Machine<A>,
+    entry: &Entry<A>,
+    row: &EntryRecord,
+) -> Result<Digesting<A>, LoadFault>
+    requires value { value_of [] entry.now ≡ entry_without_files row.now }
+    requires count { file_count entry.now ≡ length (files_given row.now) }
+    requires limits { IsWithinLimits entry.now }
+    requires sound { IsEntrySound row.now }
+    ensures begun { IfOk result (IsDigestOn machine.now row.now) }
+    ensures fault { IfErr result (λ fault. (texts : List (List ℕ)) → AreFilesOf row.now texts
+        → IsEntryFault machine.now row.now texts 0 fault) }
+{
+    let plan = match prepare_row(alloc, machine, entry, row) {
+        Ok(plan) => plan,
+        Err(fault) => return Err(load_fault(fault)),
+    };
+    match Digesting::begin(alloc, &plan) {
+        Ok(digest) => Ok(digest),
+        Err(_) => Err(LoadFault::NoMemory),
+    }
+}
 
 /// Begins the digest of an entry on a machine.
 fn digest_on<A: Allocator + Copy>(
@@ -25,17 +53,9 @@ fn digest_on<A: Allocator + Copy>(
     ensures fault { IfErr result (λ fault. (texts : List (List ℕ)) → AreFilesOf row.now texts
         → IsEntryFault machine.now row.now texts 0 fault) }
 {
-    let entry = match take_entry(alloc, row) {
-        Ok(entry) => entry,
-        Err(fault) => return Err(given_fault(fault)),
-    };
-    let plan = match prepare_row(alloc, machine, &entry, row) {
-        Ok(plan) => plan,
-        Err(fault) => return Err(load_fault(fault)),
-    };
-    match Digesting::begin(alloc, &plan) {
-        Ok(digest) => Ok(digest),
-        Err(_) => Err(LoadFault::NoMemory),
+    match take_entry(alloc, row) {
+        Ok(entry) => digest_of_entry(alloc, machine, &entry, row),
+        Err(fault) => Err(given_fault(fault)),
     }
 }
 
