@@ -141,6 +141,40 @@ fn say_copy<A: Allocator + Copy, B: Allocator>(
     }
 }
 
+/// Appends the lines of how a kernel is entered: its protocol, the address, its line, its parts.
+fn say_entry<A: Allocator + Copy, B: Allocator>(
+    out: &mut Vec<u8, A>,
+    seen: &Seen<'_, B>,
+) -> Result<(), AllocError>
+    ensures { OnOk result (out.new.items ≡ out.old.items ++ says.protocol_line seen.now.protocol
+        ++ says.entry_address_line seen.now.entry ++ says.command_line_line seen.now.line
+        ++ flat_map kernel_line seen.now.kernel) }
+{
+    say_protocol(out, seen.protocol)?;
+    say_address(out, "entry ", seen.entry, "\n")?;
+    say_line(out, seen.line.as_slice())?;
+    say_kernels(out, seen.kernel.as_slice())
+}
+
+/// Appends the lines of what a kernel is told of: the modules, the initial ramdisk, the memory map,
+/// the copies of the RSDP.
+fn say_told<A: Allocator + Copy, B: Allocator>(
+    out: &mut Vec<u8, A>,
+    seen: &Seen<'_, B>,
+) -> Result<(), AllocError>
+    requires { RunsEndLow seen.now }
+    ensures { OnOk result (out.new.items ≡ out.old.items ++ flat_map module_line seen.now.modules
+        ++ says.initrd_line seen.now.initrd ++ flat_map seen_run_line seen.now.map
+        ++ says.rsdp_copy_line (codes "rsdp-old ") seen.now.rsdp_old
+        ++ says.rsdp_copy_line (codes "rsdp-new ") seen.now.rsdp_new) }
+{
+    say_modules(out, seen.modules.as_slice())?;
+    say_initrd(out, &seen.initrd)?;
+    say_runs(out, seen.map.as_slice())?;
+    say_copy(out, b"rsdp-old ", &seen.rsdp_old)?;
+    say_copy(out, b"rsdp-new ", &seen.rsdp_new)
+}
+
 /// Appends the lines of what a kernel sees: its protocol, where it is entered, its line, its parts,
 /// the modules, the initial ramdisk, the memory map, the copies of the RSDP. They are formed in
 /// `alloc` first, so that an error leaves the text as it was.
@@ -154,14 +188,7 @@ pub fn say_walk<A: Allocator + Copy, B: Allocator, C: Allocator>(
     ensures err { OnErr result (out.new.items ≡ out.old.items) }
 {
     let mut lines = Vec::new(alloc);
-    say_protocol(&mut lines, seen.protocol)?;
-    say_address(&mut lines, "entry ", seen.entry, "\n")?;
-    say_line(&mut lines, seen.line.as_slice())?;
-    say_kernels(&mut lines, seen.kernel.as_slice())?;
-    say_modules(&mut lines, seen.modules.as_slice())?;
-    say_initrd(&mut lines, &seen.initrd)?;
-    say_runs(&mut lines, seen.map.as_slice())?;
-    say_copy(&mut lines, b"rsdp-old ", &seen.rsdp_old)?;
-    say_copy(&mut lines, b"rsdp-new ", &seen.rsdp_new)?;
+    say_entry(&mut lines, seen)?;
+    say_told(&mut lines, seen)?;
     out.extend_from_slice(&lines)
 }
