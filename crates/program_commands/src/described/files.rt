@@ -2,8 +2,10 @@
 ghost use Rattle.std.specs.Prelude.{◌≡◌, ℕ, ◌-◌, ◌<◌, ◌^◌, List, [], ◌∷◌, ◌++◌, IfOk, OnErr};
 ghost use Rattle.bl_stage.specs.Files.{File, file_of};
 ghost use Rattle.program_commands.specs.described.Files.{KeepsLimit, TellsLength, CountsFault};
+ghost use Rattle.program_commands.specs.described.Files.{answer_for};
 
-use bl_session::Fetched;
+use bl_mem::Bytes;
+use bl_session::{FILE_LIMIT, Fetched};
 use std::alloc::{AllocError, Allocator};
 
 mod asked_names;
@@ -43,4 +45,18 @@ pub trait Files {
     fn faults(&self) -> u64
         requires { faults self.now < 2 ^ 64 }
         ensures { result ≡ faults self.now };
+}
+
+/// A file of these bytes; or their number, if they are too many.
+pub fn copy_of<A: Allocator>(alloc: A, file: &[u8]) -> Result<Fetched<A>, AllocError>
+    ensures copied { IfOk result (λ copy. file_of copy ≡ answer_for file.now) }
+    ensures limit { IfOk result (λ copy. KeepsLimit (file_of copy)) }
+    ensures too_long { IfOk result TellsLength }
+    ensures present { IfOk result (λ copy. (n : ℕ) → CountsFault n n (file_of copy)) }
+{
+    let length = file.len() as u64;
+    if length > FILE_LIMIT {
+        return Ok(Fetched::TooLong(length));
+    }
+    Ok(Fetched::Bytes(Bytes::copy(alloc, file)?))
 }

@@ -6,25 +6,12 @@ ghost use Rattle.program_commands.specs.described.FoundFiles.{AreFound, AsksPref
 ghost use Rattle.program_commands.specs.described.FoundFiles.{names_to_ask};
 ghost use Rattle.program_desc.specs.Described.{file_named};
 ghost use Rattle.program_desc.specs.Views.{view};
-ghost use Rattle.program_commands.specs.described.Files.{answer_for};
 ghost use Rattle.program_commands.specs.internal.described.SoughtFiles.{SeeksName};
 
-use crate::described::files::Files;
-use bl_mem::Bytes;
-use bl_session::{FILE_LIMIT, Fetched};
+use crate::described::files::{Files, copy_of};
+use bl_session::Fetched;
 use program_desc::Description;
 use std::alloc::{AllocError, Allocator};
-
-/// A file that stands in the description.
-fn copy_of<A: Allocator>(alloc: A, file: &[u8]) -> Result<Fetched<A>, AllocError>
-    ensures { IfOk result (λ copy. file_of copy ≡ answer_for file.now) }
-{
-    let length = file.len() as u64;
-    if length > FILE_LIMIT {
-        return Ok(Fetched::TooLong(length));
-    }
-    Ok(Fetched::Bytes(Bytes::copy(alloc, file)?))
-}
 
 /// What is found for a name: the description's own file, or else what is fetched.
 fn find_file<A: Allocator + Copy, F: Files>(

@@ -1,7 +1,6 @@
 //! Files in memory.
-use crate::described::files::{AskedNames, Files};
-use bl_mem::Bytes;
-use bl_session::{FILE_LIMIT, Fetched};
+use crate::described::files::{AskedNames, Files, copy_of};
+use bl_session::Fetched;
 use program_desc::{FileRow, file_named};
 use std::alloc::{AllocError, Allocator};
 use std::marker::Model;
@@ -56,15 +55,13 @@ impl<A: Allocator> Files for MemFiles<A> {
 
     fn fetch<B: Allocator>(&mut self, alloc: B, name: &str) -> Result<Fetched<B>, AllocError> {
         self.asked = self.asked.with_name(name.as_bytes());
-        let Some(bytes) = file_named(name, &self.rows) else {
-            self.faults += 1;
-            return Ok(Fetched::Missing);
-        };
-        let length = bytes.len() as u64;
-        if length > FILE_LIMIT {
-            return Ok(Fetched::TooLong(length));
+        match file_named(name, &self.rows) {
+            Some(bytes) => copy_of(alloc, bytes),
+            None => {
+                self.faults += 1;
+                Ok(Fetched::Missing)
+            }
         }
-        Ok(Fetched::Bytes(Bytes::from(Vec::from_slice(alloc, bytes)?)))
     }
 
     fn faults(&self) -> u64 {

@@ -15,3 +15,30 @@ returns-in-Err-NoMemory-clause-refused g c = λ other. absurd (omega (arith, oth
 
 pub returns-in-Err-NoMemory-clause-asked : goal.returns-in-Err-NoMemory-clause-asked
 returns-in-Err-NoMemory-clause-asked g c = λ _ other. absurd (other refl)
+
+pub returns-in-Ok-Booted-clause-described : goal.returns-in-Ok-Booted-clause-described
+returns-in-Ok-Booted-clause-described g c = λ other. absurd (omega (arith, other))
+
+pub returns-in-Ok-Booted-clause-memory : goal.returns-in-Ok-Booted-clause-memory
+returns-in-Ok-Booted-clause-memory g c = λ other. absurd (omega (arith, other))
+
+pub returns-in-Ok-NoEntryLeft-clause-booted : goal.returns-in-Ok-NoEntryLeft-clause-booted
+returns-in-Ok-NoEntryLeft-clause-booted g c = λ other. absurd (omega (arith, other))
+
+pub returns-in-Ok-NoEntryLeft-clause-described : goal.returns-in-Ok-NoEntryLeft-clause-described
+returns-in-Ok-NoEntryLeft-clause-described g c = λ other. absurd (omega (arith, other))
+
+pub returns-in-Ok-NoEntryLeft-clause-memory : goal.returns-in-Ok-NoEntryLeft-clause-memory
+returns-in-Ok-NoEntryLeft-clause-memory g c = λ other. absurd (omega (arith, other))
+
+pub returns-in-Err-Blamed-clause-booted : goal.returns-in-Err-Blamed-clause-booted
+returns-in-Err-Blamed-clause-booted g c = λ other. absurd (omega (arith, other))
+
+pub returns-in-Err-Blamed-clause-memory : goal.returns-in-Err-Blamed-clause-memory
+returns-in-Err-Blamed-clause-memory g c = λ other. absurd (omega (arith, other))
+
+pub returns-in-Err-NoMemory-clause-booted : goal.returns-in-Err-NoMemory-clause-booted
+returns-in-Err-NoMemory-clause-booted g c = λ other. absurd (omega (arith, other))
+
+pub returns-in-Err-NoMemory-clause-described : goal.returns-in-Err-NoMemory-clause-described
+returns-in-Err-NoMemory-clause-described g c = λ other. absurd (omega (arith, other))
