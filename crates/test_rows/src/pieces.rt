@@ -116,13 +116,12 @@ impl<'a> Pieces<'a> {
     /// Takes the bytes from an offset on away, to be put over those before them from another one
     /// on, which must end at most where these began.
     fn put_back(&mut self, from: usize, at: usize) {
-        let bytes = self.bytes.as_mut_slice();
-        if from > bytes.len() || at > from || from - at < bytes.len() - from {
+        let end = self.bytes.len();
+        if from > end || at > from || from - at < end - from {
             self.is_bad = true;
             return;
         }
-        let (before, part) = bytes.split_at_mut(from);
-        before[at..at + part.len()].copy_from_slice(part);
+        self.bytes.as_mut_slice().copy_within(from..end, at);
         self.bytes.truncate(from);
     }
 

@@ -1,6 +1,7 @@
 //! How a row is answered.
 
 use crate::answer_runs::AnswerRuns;
+use crate::line::split_or;
 use crate::row::Row;
 use std::alloc::AllocError;
 use std::fmt::{Debug, Display};
@@ -40,11 +41,15 @@ impl Row<'_> {
         self.say_hex(number, 1);
     }
 
-    /// Appends texts and numbers, each text before its number.
-    pub fn say_numbers(&mut self, numbers: &[(&str, u64)]) {
-        for (before, number) in numbers {
+    /// Appends a text in which each `#` stands for the next number, hexadecimal.
+    pub fn say_numbers(&mut self, text: &str, numbers: &[u64]) {
+        let mut text = text;
+        for number in numbers {
+            let (before, rest) = split_or(text, "#", "");
             self.say_number(before, *number);
+            text = rest;
         }
+        self.say(text);
     }
 
     /// Appends a text and a number, decimal.

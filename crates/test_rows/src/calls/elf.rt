@@ -8,12 +8,16 @@ use bl_mem::{Segment, SliceView};
 
 /// A segment as `OFFSET,ADDRESS,FILESZ,MEMSZ`.
 pub fn say_segment(row: &mut Row<'_>, before: &str, segment: &Segment) {
-    row.say_numbers(&[
-        (before, segment.offset),
-        (",", segment.address),
-        (",", segment.filesz),
-        (",", segment.memsz),
-    ]);
+    row.say(before);
+    row.say_numbers(
+        "#,#,#,#",
+        &[
+            segment.offset,
+            segment.address,
+            segment.filesz,
+            segment.memsz,
+        ],
+    );
 }
 
 /// Reads the executable over the heap.
@@ -30,9 +34,8 @@ pub fn answer(row: &mut Row<'_>) {
         say_segment(row, before, segment);
         before = ";";
     }
-    row.say(" entry ");
     match elf.entry() {
-        Ok(entry) => row.say_number("", entry as u64),
-        Err(fault) => say_fault(row, "fault ", PrepFault::from(fault)),
+        Ok(entry) => row.say_number(" entry ", entry as u64),
+        Err(fault) => say_fault(row, " entry fault ", PrepFault::from(fault)),
     }
 }

@@ -34,11 +34,7 @@ pub fn role_name(role: Role) -> &'static str {
 /// A place as `, ROLE INDEX ADDRESS+LENGTH`.
 pub fn say_place(row: &mut Row<'_>, place: &Place) {
     row.say_text(", ", role_name(place.role));
-    row.say_numbers(&[
-        (" ", place.index as u64),
-        (" ", place.address),
-        ("+", place.length),
-    ]);
+    row.say_numbers(" # #+#", &[place.index as u64, place.address, place.length]);
 }
 
 /// Prepares the entry over the heap.

@@ -34,7 +34,7 @@ fn written<'h>(
         Err(fault) => row.say_decimal("fault ", fault.number() as u64),
     }
     let asked = heap.asked().saturating_sub(before);
-    row.say_numbers(&[(", faults ", sink.faults()), (", asked ", asked)]);
+    row.say_numbers(", faults #, asked #", &[sink.faults(), asked]);
     Some(sink)
 }
 
@@ -52,7 +52,7 @@ fn written_to_each<'h>(
 {
     let whole = written(row, heap, loaded, AMPLE, AMPLE)?;
     let whole = whole.contents();
-    let _said = row.take_text();
+    row.text.clear();
     let mut runs = AnswerRuns::new(row.alloc, true);
     for limit in limits {
         let sink = written(row, heap, loaded, limit, step)?;

@@ -8,21 +8,26 @@ use bl_load::PrepFault;
 use bl_mem::SliceView;
 
 fn say_setup(row: &mut Row<'_>, setup: &Setup) {
-    row.say_numbers(&[
-        ("setup_sects=", setup.setup_sects as u64),
-        (" version=", setup.version as u64),
-        (" loadflags=", setup.loadflags as u64),
-        (" initrd_addr_max=", setup.initrd_addr_max as u64),
-        (" kernel_alignment=", setup.kernel_alignment as u64),
-        (" relocatable_kernel=", setup.relocatable_kernel as u64),
-        (" xloadflags=", setup.xloadflags as u64),
-        (" cmdline_size=", setup.cmdline_size as u64),
-        (" pref_address=", setup.pref_address),
-        (" init_size=", setup.init_size as u64),
-        (" header=", setup.header.as_slice().len() as u64),
-        (" payload=", setup.payload_offset),
-        ("+", setup.payload_size),
-    ]);
+    row.say_numbers(
+        "setup_sects=# version=# loadflags=# initrd_addr_max=# kernel_alignment=# \
+         relocatable_kernel=# xloadflags=# cmdline_size=# pref_address=# init_size=# \
+         header=# payload=#+#",
+        &[
+            setup.setup_sects as u64,
+            setup.version as u64,
+            setup.loadflags as u64,
+            setup.initrd_addr_max as u64,
+            setup.kernel_alignment as u64,
+            setup.relocatable_kernel as u64,
+            setup.xloadflags as u64,
+            setup.cmdline_size as u64,
+            setup.pref_address,
+            setup.init_size as u64,
+            setup.header.as_slice().len() as u64,
+            setup.payload_offset,
+            setup.payload_size,
+        ],
+    );
 }
 
 /// Reads a kernel's file.

@@ -23,8 +23,8 @@ impl Row<'_> {
 
     /// Appends a text, and a region as `BASE+LENGTH:KIND`.
     pub fn say_region(&mut self, before: &str, region: &Region) {
-        self.say_numbers(&[(before, region.base), ("+", region.length)]);
-        self.say(":");
+        self.say(before);
+        self.say_numbers("#+#:", &[region.base, region.length]);
         self.say(region.kind.name());
     }
 }

@@ -170,12 +170,10 @@ pub fn answer(row: &mut Row<'_>, is_sparse: bool) {
 
 /// Makes the steps on memory in a slice of so many bytes, and tells what the slice holds then.
 pub fn answer_slice(row: &mut Row<'_>) {
-    let base = row.number_field("base");
+    let base = row.field("base");
+    let base = row.number32_of(base);
     let size = row.number_field("size");
     let fill = row.byte_field("fill");
-    let Ok(base) = u32::try_from(base) else {
-        return row.refuse();
-    };
     let mut held = row.zeros(size);
     held.as_mut_slice().fill(fill);
     let mut memory = SliceMemory::from_base(base, held.as_mut_slice());

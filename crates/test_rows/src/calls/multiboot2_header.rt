@@ -17,12 +17,15 @@ fn say_header(row: &mut Row<'_>, header: &Header) {
         row.say_number(" entry ", entry);
     }
     if let Some(relocation) = &header.relocation {
-        row.say_numbers(&[
-            (" move ", relocation.min_addr as u64),
-            ("..", relocation.max_addr as u64),
-            (" align ", relocation.align as u64),
-            (" preference ", relocation.preference as u64),
-        ]);
+        row.say_numbers(
+            " move #..# align # preference #",
+            &[
+                relocation.min_addr as u64,
+                relocation.max_addr as u64,
+                relocation.align as u64,
+                relocation.preference as u64,
+            ],
+        );
     }
 }
 

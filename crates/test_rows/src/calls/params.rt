@@ -5,21 +5,26 @@ use bl_params::{ParamFault, Params, read_params};
 use test_refusing::Refusing;
 
 fn say_params(row: &mut Row<'_>, params: &Params<&Refusing>) {
-    row.say_numbers(&[
-        ("code32_start=", params.code32_start as u64),
-        (" ramdisk=", params.ramdisk_image as u64),
-        ("+", params.ramdisk_size as u64),
-        (" cmd_line_ptr=", params.cmd_line_ptr as u64),
-        (" version=", params.version as u64),
-        (" loadflags=", params.loadflags as u64),
-        (" initrd_addr_max=", params.initrd_addr_max as u64),
-        (" kernel_alignment=", params.kernel_alignment as u64),
-        (" relocatable_kernel=", params.relocatable_kernel as u64),
-        (" xloadflags=", params.xloadflags as u64),
-        (" cmdline_size=", params.cmdline_size as u64),
-        (" pref_address=", params.pref_address),
-        (" init_size=", params.init_size as u64),
-    ]);
+    row.say_numbers(
+        "code32_start=# ramdisk=#+# cmd_line_ptr=# version=# loadflags=# \
+         initrd_addr_max=# kernel_alignment=# relocatable_kernel=# xloadflags=# \
+         cmdline_size=# pref_address=# init_size=#",
+        &[
+            params.code32_start as u64,
+            params.ramdisk_image as u64,
+            params.ramdisk_size as u64,
+            params.cmd_line_ptr as u64,
+            params.version as u64,
+            params.loadflags as u64,
+            params.initrd_addr_max as u64,
+            params.kernel_alignment as u64,
+            params.relocatable_kernel as u64,
+            params.xloadflags as u64,
+            params.cmdline_size as u64,
+            params.pref_address,
+            params.init_size as u64,
+        ],
+    );
     for run in &params.runs {
         row.say_region(" run=", run);
     }

@@ -60,7 +60,7 @@ fn place(row: &mut Row<'_>, planner: &mut Planner<'_, &Refusing>, at: Option<u64
 fn say_taken(row: &mut Row<'_>, planner: &Planner<'_, &Refusing>) {
     row.say("taken");
     for range in planner.taken() {
-        row.say_numbers(&[(" ", range.start), ("..", range.end)]);
+        row.say_numbers(" #..#", &[range.start, range.end]);
     }
 }
 

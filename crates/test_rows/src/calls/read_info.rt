@@ -16,10 +16,8 @@ fn say_copy(row: &mut Row<'_>, before: &str, copy: &Option<Bytes<&Refusing>>) {
 /// The modules, each as ` module=START..END:LINE`.
 fn say_modules(row: &mut Row<'_>, info: &Info<&Refusing>) {
     for module in &info.modules {
-        row.say_numbers(&[
-            (" module=", module.mod_start as u64),
-            ("..", module.mod_end as u64),
-        ]);
+        let ends = [module.mod_start as u64, module.mod_end as u64];
+        row.say_numbers(" module=#..#", &ends);
         row.say_bytes(":", module.line.as_slice());
     }
 }
@@ -28,10 +26,8 @@ fn say_info(row: &mut Row<'_>, info: &Info<&Refusing>) {
     row.say_bytes("name=", info.name.as_slice());
     row.say_bytes(" line=", info.line.as_slice());
     say_modules(row, info);
-    row.say_numbers(&[
-        (" lower=", info.mem_lower as u64),
-        (" upper=", info.mem_upper as u64),
-    ]);
+    let sizes = [info.mem_lower as u64, info.mem_upper as u64];
+    row.say_numbers(" lower=# upper=#", &sizes);
     for run in &info.runs {
         row.say_region(" run=", run);
     }

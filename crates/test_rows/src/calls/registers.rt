@@ -8,13 +8,16 @@ use bl_load::{SegmentName, SegmentRegister};
 /// A segment register with its name, and the flags that are set, by theirs.
 fn say_segment(row: &mut Row<'_>, name: &str, segment: &SegmentRegister) {
     row.say(name);
-    row.say_numbers(&[
-        (" selector ", segment.selector as u64),
-        (" base ", segment.base),
-        (" limit ", segment.limit as u64),
-        (" type ", segment.segment_type as u64),
-        (" dpl ", segment.dpl as u64),
-    ]);
+    row.say_numbers(
+        " selector # base # limit # type # dpl #",
+        &[
+            segment.selector as u64,
+            segment.base,
+            segment.limit as u64,
+            segment.segment_type as u64,
+            segment.dpl as u64,
+        ],
+    );
     let flags = [
         (" s", segment.s),
         (" p", segment.p),

@@ -32,7 +32,7 @@ fn say_seen(row: &mut Row<'_>, seen: &Seen<'_, &Refusing>) {
     row.say_number(" entry=", seen.entry as u64);
     row.say_bytes(" line=", seen.line.as_slice());
     for part in &seen.kernel {
-        row.say_numbers(&[(" kernel=", part.address), ("+", part.length)]);
+        row.say_numbers(" kernel=#+#", &[part.address, part.length]);
     }
     say_files(row, seen);
     for run in &seen.map {

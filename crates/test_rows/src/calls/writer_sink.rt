@@ -48,11 +48,12 @@ fn say_part<S: Sink>(row: &mut Row<'_>, sink: &mut S, word: &str)
         return row.refuse();
     }
     let (way, bytes) = row.cut(word, "=");
+    let is_all = row.pick(&[("write", false), ("all", true)], way, false);
     let part = row.bytes_of(bytes);
-    let taken = match way {
-        "write" => sink.write(part.as_slice()),
-        "all" => write_all(sink, part.as_slice()).map(|_| part.len()),
-        _ => return row.refuse(),
+    let taken = if is_all {
+        write_all(sink, part.as_slice()).map(|_| part.len())
+    } else {
+        sink.write(part.as_slice())
     };
     match taken {
         Ok(count) => row.say_number("took ", count as u64),

@@ -41,8 +41,7 @@ impl RowEntry {
     fn add(&mut self, row: &mut Row<'_>, word: &str) {
         let (key, value) = word.split_once("=").unwrap_or((word, ""));
         match key {
-            "rsdp_old" => self.entry.add_copy(row, key, value),
-            "rsdp_new" => self.entry.add_copy(row, key, value),
+            "rsdp_old" | "rsdp_new" => self.entry.add_copy(row, key, value),
             _ => self.add_file(row, word),
         }
     }

@@ -109,8 +109,7 @@ impl BootFields {
             }
             "entry" => self.add_entry(row, value),
             "modules" => self.add_modules(row, value),
-            "rsdp_old" => self.add_copy(row, key, value),
-            "rsdp_new" => self.add_copy(row, key, value),
+            "rsdp_old" | "rsdp_new" => self.add_copy(row, key, value),
             "default" => self.default = row.number32_of(value),
             "fallback" => self.fallbacks = row.numbers32_of(value),
             _ => self.store.add(row, key, value),

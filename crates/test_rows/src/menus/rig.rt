@@ -8,7 +8,7 @@ use crate::menus::building::Plan;
 use crate::menus::memory_after::{FILL, say_outside};
 use crate::row::Row;
 use bl_mem::{PhysMem, Sparse};
-use bl_session::{Event, Progress, Session, Ticket};
+use bl_session::{Event, Progress, Request, Session, Ticket};
 use std::marker::Model;
 use std::ops::Range;
 use test_refusing::Refusing;
@@ -52,6 +52,19 @@ fn say_progress(row: &mut Row<'_>, progress: Progress) {
     }
 }
 
+fn say_request(row: &mut Row<'_>, request: &Request) {
+    row.say_numbers(
+        "file # ticket #.#.# length #",
+        &[
+            request.file as u64,
+            request.ticket.attempt as u64,
+            request.ticket.file as u64,
+            request.ticket.piece as u64,
+            request.len as u64,
+        ],
+    );
+}
+
 impl<'a, 'h> Rig<'a, 'h> {
     /// A session that is not started, over memory that reads as a5 everywhere; none if memory ran
     /// out.
@@ -60,14 +73,19 @@ impl<'a, 'h> Rig<'a, 'h> {
         plan: &'a Plan<'h>,
         sizes: &[Option<u64>],
     ) -> Option<Rig<'a, 'h>> {
-        let session = Session::new(heap, &plan.machine, &plan.menu, sizes).ok()?;
-        let memory = Sparse::new(heap, plan.machine.size(), FILL).ok()?;
-        Some(Rig {
-            size: plan.machine.size(),
-            pool: plan.machine.pool(),
-            session,
-            memory,
-        })
+        let Ok(session) = Session::new(heap, &plan.machine, &plan.menu, sizes) else {
+            return None;
+        };
+        let size = plan.machine.size();
+        match Sparse::new(heap, size, FILL) {
+            Ok(memory) => Some(Rig {
+                size,
+                pool: plan.machine.pool(),
+                session,
+                memory,
+            }),
+            Err(_) => None,
+        }
     }
 
     /// Starts the session.
@@ -110,13 +128,7 @@ impl<'a, 'h> Rig<'a, 'h> {
             None => self.session.missing(),
         };
         match request {
-            Some(request) => row.say_numbers(&[
-                ("file ", request.file as u64),
-                (" ticket ", request.ticket.attempt as u64),
-                (".", request.ticket.file as u64),
-                (".", request.ticket.piece as u64),
-                (" length ", request.len as u64),
-            ]),
+            Some(request) => say_request(row, &request),
             None => row.say("none"),
         }
     }

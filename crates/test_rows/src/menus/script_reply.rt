@@ -48,7 +48,7 @@ pub(crate) fn completion_of<F: StoredFiles, A: Allocator + Copy>(
         event_of completion ≡ event_of_reply (F.files files.now) reply.now) }
 {
     match reply {
-        ScriptReply::Answer(submission) => Ok(answer(alloc, files, submission)?),
+        ScriptReply::Answer(submission) => answer(alloc, files, submission),
         ScriptReply::Altered(submission) => match answer(alloc, files, submission)? {
             Completion::Piece(ticket, bytes) => {
                 Ok(Completion::Piece(ticket, alter(alloc, &bytes)?))
@@ -71,14 +71,17 @@ pub(crate) fn push_replies<A: Allocator>(
         (replies.new.items ≡ replies.old.items ++ replies_to twice.now fail.now submission) }
     ensures err { OnErr result (replies.new.items ≡ replies.old.items) }
 {
-    if fail.contains(&submission.ticket) {
-        replies.push(ScriptReply::Fault(submission.ticket))?;
-    } else if twice.contains(&submission.ticket) {
+    let is_fault = fail.contains(&submission.ticket);
+    if !is_fault && twice.contains(&submission.ticket) {
         replies.reserve(2)?;
         replies.push(ScriptReply::Answer(submission))?;
         replies.push(ScriptReply::Altered(submission))?;
-    } else {
-        replies.push(ScriptReply::Answer(submission))?;
+        return Ok(());
     }
+    replies.push(if is_fault {
+        ScriptReply::Fault(submission.ticket)
+    } else {
+        ScriptReply::Answer(submission)
+    })?;
     Ok(())
 }
