@@ -87,8 +87,7 @@ impl<A: Allocator> Digesting<A> {
     /// What is wanted next: what is left of the range of a file whose bytes come now. The ranges
     /// come in the order of the plan's steps. None once all were fed.
     pub fn wanted(&self) -> Option<FileRange>
-        ensures { result
-            ≡ wanted_after (ranges_of self.now.plan.steps) (length self.now.fed) }
+        ensures { result ≡ wanted_after (ranges_of self.now.plan.steps) (length self.now.fed) }
     {
         if self.range.length > 0 {
             Some(self.range)
@@ -101,8 +100,7 @@ impl<A: Allocator> Digesting<A> {
     pub fn feed(&mut self, bytes: &[u8])
         requires { IsWithinWanted (wanted_after (ranges_of self.old.plan.steps)
             (length self.old.fed)) (length bytes.now) }
-        ensures { self.new
-            ≡ record { plan = self.old.plan; fed = self.old.fed ++ bytes.now } }
+        ensures { self.new ≡ record { plan = self.old.plan; fed = self.old.fed ++ bytes.now } }
     {
         let count = bytes.len() as u64;
         self.hasher.take(bytes);

@@ -31,8 +31,7 @@ fn feed_some<A: Allocator, V: ByteView>(
     requires room { 1 ≤ length buffer.old }
     requires wanted { wanted_after (ranges_of digesting.old.plan.steps)
         (length digesting.old.fed) ≡ Some range }
-    requires lie { All (LiesInFiles (map V.bytes files.now))
-        (ranges_of digesting.old.plan.steps) }
+    requires lie { All (LiesInFiles (map V.bytes files.now)) (ranges_of digesting.old.plan.steps) }
     requires first { AreFirstOf (map V.bytes files.now) (ranges_of digesting.old.plan.steps)
         digesting.old.fed }
     ensures plan { digesting.new.plan ≡ digesting.old.plan }
@@ -67,8 +66,7 @@ pub fn digest_plan<A: Allocator + Copy, B: Allocator, V: ByteView>(
     files: &[V],
 ) -> Result<Digests<A>, AllocError>
     requires { CanBeLoadedFrom (lengths_of (map V.bytes files.now)) plan.now }
-    ensures { IfOk result
-        (λ d. d ≡ digests_of (handover_by (map V.bytes files.now) plan.now)) }
+    ensures { IfOk result (λ d. d ≡ digests_of (handover_by (map V.bytes files.now) plan.now)) }
 {
     let mut digesting = Digesting::begin(alloc, plan)?;
     let mut buffer = Vec::from_elem(alloc, 0u8, MAX_COPIED)?;

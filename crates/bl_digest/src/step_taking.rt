@@ -65,8 +65,7 @@ pub(crate) fn take_steps<A: Allocator>(
         hasher.new.taken result.range (drop result.next told.now.steps.items) }
     ensures small { result.range.offset < 2 ^ 64 }
     ensures last { result.range.length ≡ 0 → length told.now.steps.items ≤ result.next }
-    ensures same { (hasher.new.front ≡ hasher.old.front)
-        × (hasher.new.places ≡ hasher.old.places) }
+    ensures same { (hasher.new.front ≡ hasher.old.front) × (hasher.new.places ≡ hasher.old.places) }
 {
     let mut at = from;
     while at < told.steps.len() {

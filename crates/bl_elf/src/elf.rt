@@ -55,8 +55,7 @@ pub fn read_elf<A: Allocator + Copy, V: ByteView>(alloc: A, view: &V) -> Result<
     ensures first_fault { IfErr result (λ fault. HasFirstElfFault (V.bytes view.now) fault) }
 
     // What follows from the first clause alone, for callers that place and copy the segments.
-    ensures segments { IfOk result (λ elf. All (IsSoundSegment
-        (V.bytes view.now)) elf.segments) }
+    ensures segments { IfOk result (λ elf. All (IsSoundSegment (V.bytes view.now)) elf.segments) }
     ensures few { IfOk result (λ elf. length elf.segments ≤ 128) }
     ensures apart { IfOk result (λ elf. AllPairs AreApartSegments elf.segments) }
 {

@@ -39,8 +39,7 @@ pub(crate) fn fill<S: Source>(source: &mut S, out: &mut [u8]) -> Result<usize, D
     ensures within { IfOk result (λ count. count ≤ length out.new) }
     ensures gave { IfOk result
         (λ count. Comes (S.input source.old) (S.input source.new) (take count out.new)) }
-    ensures ended { IfOk result
-        (λ count. count < length out.new → IsEnded (S.input source.new)) }
+    ensures ended { IfOk result (λ count. count < length out.new → IsEnded (S.input source.new)) }
     ensures sound { OnOk result (S.faults source.new ≡ S.faults source.old) }
     ensures fault { OnErr result (S.faults source.new ≡ S.faults source.old + 1) }
 {

@@ -50,8 +50,7 @@ pub fn size_by_lengths(
     requires runs { runs < 2 ^ 32 }
     requires old { IfSome rsdp_old (λ n. n < 2 ^ 31) }
     requires new { IfSome rsdp_new (λ n. n < 2 ^ 31) }
-    ensures { result
-        ≡ spec.size_by_lengths line [] runs rsdp_old rsdp_new load_base + module_tags }
+    ensures { result ≡ spec.size_by_lengths line [] runs rsdp_old rsdp_new load_base + module_tags }
 {
     let texts = tag_len(line + 1) + tag_len(b"bootcore".len() as u64 + 1) + module_tags;
     let map = 16 + 16 + ENTRY_SIZE as u64 * runs;

@@ -63,8 +63,7 @@ fn put_module<A: Allocator>(out: &mut Vec<u8, A>, loaded: &ModuleToWrite<'_>)
 pub(crate) fn put_modules<A: Allocator>(out: &mut Vec<u8, A>, modules: &[ModuleToWrite<'_>])
     requires room { HasRoomFor out.old (modules_size modules.now) }
     requires small { modules_size modules.now < 2 ^ 32 }
-    ensures { Appends out.old out.new (flat_map module_tag modules.now)
-        (modules_size modules.now) }
+    ensures { Appends out.old out.new (flat_map module_tag modules.now) (modules_size modules.now) }
 {
     for module in modules {
         put_module(out, module);

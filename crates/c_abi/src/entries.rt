@@ -66,8 +66,7 @@ fn multiboot2_of<A: Allocator + Copy>(
 ) -> Result<Entry<A>, AllocError>
     requires before { before ≤ 2 ^ 31 }
     requires few { length row.now.modules.now ≤ 64 }
-    ensures value { IfOk result
-        (λ made. value_of [] made ≡ spec.multiboot2_without_files row.now) }
+    ensures value { IfOk result (λ made. value_of [] made ≡ spec.multiboot2_without_files row.now) }
     ensures files { IfOk result
         (λ made. files_of made ≡ before ∷ numbered (before + 1) row.now.modules.now) }
 {

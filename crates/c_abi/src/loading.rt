@@ -1,13 +1,13 @@
 //! One entry comes into memory of the caller's own.
 ghost use Rattle.std.specs.Prelude.{◌≡◌, ◌+◌, ◌≤◌, All, AllPairs, IfOk, IfErr, MatchBool, OnOk};
-ghost use Rattle.std.specs.Prelude.{Result, length, map};
+ghost use Rattle.std.specs.Prelude.{Result, [], length, map};
 ghost use Rattle.bl_mem.specs.Memory.{memory_from};
 ghost use Rattle.bl_load.specs.EntryValue.{value_of, file_count, IsWithinLimits};
 ghost use Rattle.bl_load.specs.HandoffFacts.{Ascends, HandoffFacts};
 ghost use Rattle.bl_load.specs.Loadable.{lengths_of, IsLoadable};
 ghost use Rattle.bl_load.specs.PlanContents.{handover_by, places_of};
 ghost use Rattle.bl_load.specs.PlannedPlaces.{planned_place};
-ghost use Rattle.c_abi.specs.Given.{texts_given};
+ghost use Rattle.c_abi.specs.Given.{entry_without_files, files_given, texts_given};
 ghost use Rattle.c_abi.specs.Load.{IsEntryLoaded, IsEntryFault, IsEntrySound, IsGivenLoadEnd};
 ghost use Rattle.c_abi.specs.LoadTold.{TellsEnd};
 ghost use Rattle.c_abi.specs.internal.LoadEnds.{LoadsHandover, LoadsValue};
@@ -90,6 +90,32 @@ fn load_typed<A: Allocator + Copy>(
     Ok(load_plan(memory, base, plan, files))
 }
 
+/// Loads an entry that was taken on a machine.
+fn load_of_entry<A: Allocator + Copy>(
+    alloc: A,
+    machine: &Machine<A>,
+    memory: &mut [u8],
+    base: u32,
+    entry: &Entry<A>,
+    row: &EntryRecord,
+) -> Result<Handoff<A>, LoadFault>
+    requires size { machine.now.size ≤ base + length memory.old }
+    requires value { value_of [] entry.now ≡ entry_without_files row.now }
+    requires count { file_count entry.now ≡ length (files_given row.now) }
+    requires limits { IsWithinLimits entry.now }
+    requires sound { IsEntrySound row.now }
+    ensures handed { IfOk result (λ handoff. IsEntryLoaded machine.now row.now base
+        (memory_from base memory.old) (memory_from base memory.new) handoff) }
+    ensures fault { IfErr result (IsEntryFault machine.now row.now (texts_given row.now) base) }
+    ensures unchanged { IfErr result (λ _. memory_from base memory.new
+        ≡ memory_from base memory.old) }
+{
+    let Ok(views) = views_of(alloc, row) else {
+        return Err(LoadFault::NoMemory);
+    };
+    load_typed(alloc, machine, memory, base, entry, &views)
+}
+
 /// Loads an entry on a machine.
 fn load_given<A: Allocator + Copy>(
     alloc: A,
@@ -106,14 +132,10 @@ fn load_given<A: Allocator + Copy>(
     ensures unchanged { IfErr result (λ _. memory_from base memory.new
         ≡ memory_from base memory.old) }
 {
-    let entry = match take_entry(alloc, row) {
-        Ok(entry) => entry,
-        Err(fault) => return Err(given_fault(fault)),
-    };
-    let Ok(views) = views_of(alloc, row) else {
-        return Err(LoadFault::NoMemory);
-    };
-    load_typed(alloc, machine, memory, base, &entry, &views)
+    match take_entry(alloc, row) {
+        Ok(entry) => load_of_entry(alloc, machine, memory, base, &entry, row),
+        Err(fault) => Err(given_fault(fault)),
+    }
 }
 
 /// Loads an entry into memory that begins at a base, with room for so many places.

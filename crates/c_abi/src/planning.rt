@@ -1,5 +1,7 @@
 //! The steps that load an entry are told to C, which carries them out itself.
-ghost use Rattle.std.specs.Prelude.{ℕ, ◌≤◌, List, All, IfOk, IfErr, OnOk, Result, length};
+ghost use Rattle.std.specs.Prelude.{◌≡◌, ℕ, ◌≤◌, List, [], All, IfOk, IfErr, OnOk, Result, length};
+ghost use Rattle.bl_load.specs.EntryValue.{value_of, file_count, IsWithinLimits};
+ghost use Rattle.c_abi.specs.Given.{entry_without_files, files_given};
 ghost use Rattle.c_abi.specs.Load.{IsEntryFault, IsEntrySound};
 ghost use Rattle.c_abi.specs.Prepare.{AreFilesOf, IsNotPrepared};
 ghost use Rattle.c_abi.specs.Plan.{PlanFacts, IsPlanned, IsGivenPlanEnd};
@@ -18,9 +20,37 @@ use crate::plan_records::{PlanCountsRecord, StepRecord};
 use crate::plan_steps::SteppedPlan;
 use crate::plan_telling::tell_stepped;
 use crate::preparing::prepare_row;
+use bl_load::Entry;
 use bl_map::Machine;
 use bl_plan::MAX_PARTS;
 use std::alloc::Allocator;
+
+/// Plans an entry that was taken on a machine.
+fn plan_of_entry<A: Allocator + Copy>(
+    alloc: A,
+    machine: &Machine<A>,
+    entry: &Entry<A>,
+    row: &EntryRecord,
+) -> Result<SteppedPlan<A>, LoadFault>
+    requires value { value_of [] entry.now ≡ entry_without_files row.now }
+    requires count { file_count entry.now ≡ length (files_given row.now) }
+    requires limits { IsWithinLimits entry.now }
+    requires sound { IsEntrySound row.now }
+    ensures planned { IfOk result (λ made. IsPlanOn machine.now row.now (plan_facts made)) }
+    ensures few { IfOk result (λ made. length made.plan.parts.items ≤ 256) }
+    ensures files { IfOk result (λ made. All HasSmallFile made.told.steps.items) }
+    ensures fault { IfErr result (λ fault. (texts : List (List ℕ)) → AreFilesOf row.now texts
+        → IsEntryFault machine.now row.now texts 0 fault) }
+{
+    let plan = match prepare_row(alloc, machine, entry, row) {
+        Ok(plan) => plan,
+        Err(fault) => return Err(load_fault(fault)),
+    };
+    match plan.steps(alloc) {
+        Ok(told) => Ok(SteppedPlan { plan, told }),
+        Err(_) => Err(LoadFault::NoMemory),
+    }
+}
 
 /// Plans an entry on a machine.
 fn plan_given<A: Allocator + Copy>(
@@ -35,17 +65,9 @@ fn plan_given<A: Allocator + Copy>(
     ensures fault { IfErr result (λ fault. (texts : List (List ℕ)) → AreFilesOf row.now texts
         → IsEntryFault machine.now row.now texts 0 fault) }
 {
-    let entry = match take_entry(alloc, row) {
-        Ok(entry) => entry,
-        Err(fault) => return Err(given_fault(fault)),
-    };
-    let plan = match prepare_row(alloc, machine, &entry, row) {
-        Ok(plan) => plan,
-        Err(fault) => return Err(load_fault(fault)),
-    };
-    match plan.steps(alloc) {
-        Ok(told) => Ok(SteppedPlan { plan, told }),
-        Err(_) => Err(LoadFault::NoMemory),
+    match take_entry(alloc, row) {
+        Ok(entry) => plan_of_entry(alloc, machine, &entry, row),
+        Err(fault) => Err(given_fault(fault)),
     }
 }
 

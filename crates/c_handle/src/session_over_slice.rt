@@ -42,8 +42,7 @@ pub fn start_in_slice<A: Allocator + Copy>(
 ) -> Result<Progress, HandleFault>
     ensures err { IfErr result (IsMemoryFault session.old.boot.machine base (length bytes.old)) }
     ensures unchanged { OnErr result ((session.new ≡ session.old) × (bytes.new ≡ bytes.old)) }
-    ensures fits { OnOk result
-        (IsMachineMemory session.old.boot.machine base (length bytes.old)) }
+    ensures fits { OnOk result (IsMachineMemory session.old.boot.machine base (length bytes.old)) }
     ensures boot { session.new.boot ≡ session.old.boot }
     ensures step { OnOk result (StartsOrFails session.old.boot
         (state_at (memory_from base bytes.old) session.old.phase)
@@ -72,8 +71,7 @@ pub fn event_in_slice<A: Allocator + Copy>(
 ) -> Result<Progress, HandleFault>
     ensures err { IfErr result (IsMemoryFault session.old.boot.machine base (length bytes.old)) }
     ensures unchanged { OnErr result ((session.new ≡ session.old) × (bytes.new ≡ bytes.old)) }
-    ensures fits { OnOk result
-        (IsMachineMemory session.old.boot.machine base (length bytes.old)) }
+    ensures fits { OnOk result (IsMachineMemory session.old.boot.machine base (length bytes.old)) }
     ensures boot { session.new.boot ≡ session.old.boot }
     ensures step { OnOk result (StepsToOrFails session.old.boot
         (state_at (memory_from base bytes.old) session.old.phase) (event_facts event.entry)

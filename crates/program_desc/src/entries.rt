@@ -52,8 +52,7 @@ fn own_texts<A: Allocator + Copy>(
     kernel: &str,
     line: &str,
 ) -> Result<(Text<A>, Text<A>, Text<A>), AllocError>
-    ensures { IfOk result (λ own.
-        (own.0 ≡ title.now) × (own.1 ≡ kernel.now) × (own.2 ≡ line.now)) }
+    ensures { IfOk result (λ own. (own.0 ≡ title.now) × (own.1 ≡ kernel.now) × (own.2 ≡ line.now)) }
 {
     let title = Text::from_str(alloc, title)?;
     let kernel = Text::from_str(alloc, kernel)?;

@@ -83,8 +83,7 @@ pub fn form_in<A: Allocator + Copy>(
     table: &Table,
     protocol: Protocol,
 ) -> Result<EntryForm<A>, DescFault>
-    ensures given { AnswersAs form_view result
-        (spec.form_in protocol (table_view table.now)) }
+    ensures given { AnswersAs form_view result (spec.form_in protocol (table_view table.now)) }
     ensures old { IfOk result (λ form. IfSome (form_view form).rsdp_old HasCopyLength) }
     ensures new { IfOk result (λ form. IfSome (form_view form).rsdp_new HasCopyLength) }
 {

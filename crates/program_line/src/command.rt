@@ -1,7 +1,8 @@
 //! The command that clap is given. Each of its parts is a function of its own: clap's types are
 //! large, and a proof goes over all that a function holds.
 ghost use Rattle.std.specs.Prelude.{◌≡◌, true, IfOk};
-ghost use Rattle.clap.specs.Words.{App, Rule, app_of, new_app, new_rule, with_rule, with_subcommand};
+ghost use Rattle.clap.specs.Words.{App, Rule, app_of, new_app, new_rule, with_rule};
+ghost use Rattle.clap.specs.Words.{with_subcommand};
 ghost use Rattle.program_line.specs.CommandLineJobs.{HasOrderParser, boot_app, convert_app};
 ghost use Rattle.program_line.specs.CommandLineJobs.{digest_app, explain_app};
 ghost use Rattle.program_line.specs.CommandLineJobs.{top_app};

@@ -37,18 +37,23 @@ pub trait Calls {
     fn make_over(&self, row: &mut Row<'_>);
 }
 
-/// Whether a name is one of these.
-fn is_one_of(name: &str, names: &[&str]) -> bool {
-    names.iter().any(|known| *known == name)
-}
+/// The names after which all words are bytes.
+const OVER_BYTES: [&str; 10] = [
+    "own",
+    "read_params",
+    "elf",
+    "header",
+    "read_setup",
+    "setup_fault",
+    "read_info",
+    "read_image",
+    "image_fault",
+    "walk",
+];
 
 /// Whether the words after this name are bytes, and nothing else.
 pub fn takes_bytes(name: &str) -> bool {
-    let kernels = ["elf", "header", "read_setup", "setup_fault"];
-    let others = ["read_info", "read_image", "image_fault", "walk"];
-    is_one_of(name, &["own", "read_params"])
-        || is_one_of(name, &kernels)
-        || is_one_of(name, &others)
+    OVER_BYTES.iter().any(|known| *known == name)
 }
 
 /// Makes a call on memory, or on files that are staged in it.

@@ -46,8 +46,7 @@ fn set_in(listed: TableArray) -> KeySet
 
 /// The items of the array at a key, none if there is none.
 pub fn items_at<'a>(table: &'a Table, key: &str) -> &'a [Value]
-    ensures { items_view result.now
-        ≡ kept.array_items (get_member key.now (table_view table.now)) }
+    ensures { items_view result.now ≡ kept.array_items (get_member key.now (table_view table.now)) }
 {
     match at_key(table, key) {
         Some(value) => match value.as_array() {

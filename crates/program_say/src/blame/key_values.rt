@@ -31,8 +31,7 @@ fn say_array<A: Allocator + Copy>(out: &mut Vec<u8, A>, count: usize) -> Result<
 
 /// Appends what a value is.
 fn say_held<A: Allocator + Copy>(out: &mut Vec<u8, A>, value: &Value) -> Result<(), AllocError>
-    ensures { OnOk result
-        (out.new.items ≡ out.old.items ++ words.held_words (view value.now)) }
+    ensures { OnOk result (out.new.items ≡ out.old.items ++ words.held_words (view value.now)) }
 {
     match value {
         Value::String(text) => say_text(out, text.as_str()),

@@ -58,8 +58,7 @@ fn say_text_hint<A: Allocator + Copy>(
     text: &str,
     allowed: Allowed,
 ) -> Result<(), AllocError>
-    ensures { OnOk result
-        (out.new.items ≡ out.old.items ++ hints.text_hint allowed text.now) }
+    ensures { OnOk result (out.new.items ≡ out.old.items ++ hints.text_hint allowed text.now) }
 {
     match allowed {
         Allowed::KindName => { say_near(out, &["usable", "reserved", "acpi", "nvs", "bad"], text) }

@@ -101,8 +101,7 @@ fn say_part_digests<A: Allocator + Copy>(
     out: &mut Vec<u8, A>,
     parts: &[PartDigest],
 ) -> Result<(), AllocError>
-    ensures { OnOk result
-        (out.new.items ≡ out.old.items ++ flat_map part_digest_line parts.now) }
+    ensures { OnOk result (out.new.items ≡ out.old.items ++ flat_map part_digest_line parts.now) }
 {
     for part in parts {
         say_part_digest(out, part)?;

@@ -74,8 +74,7 @@ pub fn frames_at<A: Allocator, B: Allocator>(
     sought: &Sought<'_, A>,
     index: u32,
 ) -> u64
-    ensures { result
-        ≡ frames_wanted sought.now (names_at (view description.now).entries index) }
+    ensures { result ≡ frames_wanted sought.now (names_at (view description.now).entries index) }
 {
     match entry_at(description, index) {
         Some(entry) => frames_of_entry(sought, entry),

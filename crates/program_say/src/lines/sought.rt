@@ -34,8 +34,7 @@ fn say_sought<A: Allocator + Copy>(
     place: u64,
     name: &str,
 ) -> Result<(), AllocError>
-    ensures { OnOk result
-        (out.new.items ≡ out.old.items ++ sought_line sought.now place name.now) }
+    ensures { OnOk result (out.new.items ≡ out.old.items ++ sought_line sought.now place name.now) }
 {
     say_front(out, place, sought.size(name))?;
     say_name(out, name.as_bytes())?;

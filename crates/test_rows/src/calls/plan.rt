@@ -29,13 +29,11 @@ fn take(row: &mut Row<'_>, planner: &mut Planner<'_, &Refusing>) {
     });
 }
 
+const SIDES: [(&str, Side); 2] = [("lowest", Side::Lowest), ("highest", Side::Highest)];
+
 fn side_of(row: &mut Row<'_>) -> Side {
     let word = row.word();
-    row.pick(
-        &[("lowest", Side::Lowest), ("highest", Side::Highest)],
-        word,
-        Side::Lowest,
-    )
+    row.pick(&SIDES, word, Side::Lowest)
 }
 
 /// Places a part, at an address if it may be there.

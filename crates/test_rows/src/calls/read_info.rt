@@ -46,8 +46,7 @@ fn say_fault(row: &mut Row<'_>, fault: InfoFault) {
     }
     row.say_decimal("fault ", fault.number() as u64);
     match fault {
-        InfoFault::BadTag(place) => row.say_number(" ", place),
-        InfoFault::BadOrder(place) => row.say_number(" ", place),
+        InfoFault::BadTag(place) | InfoFault::BadOrder(place) => row.say_number(" ", place),
         _ => {}
     }
 }

@@ -5,6 +5,16 @@ use crate::entries::row_entry::prepared_entry;
 use crate::row::Row;
 use bl_load::{SegmentName, SegmentRegister};
 
+/// The segment registers, each with the text before it.
+const SEGMENTS: [(&str, SegmentName); 6] = [
+    (", cs", SegmentName::Cs),
+    (", ds", SegmentName::Ds),
+    (", es", SegmentName::Es),
+    (", fs", SegmentName::Fs),
+    (", gs", SegmentName::Gs),
+    (", ss", SegmentName::Ss),
+];
+
 /// A segment register with its name, and the flags that are set, by theirs.
 fn say_segment(row: &mut Row<'_>, name: &str, segment: &SegmentRegister) {
     row.say(name);
@@ -39,15 +49,7 @@ pub fn answer(row: &mut Row<'_>) {
         return;
     };
     row.say_shown(plan.registers);
-    let names = [
-        (", cs", SegmentName::Cs),
-        (", ds", SegmentName::Ds),
-        (", es", SegmentName::Es),
-        (", fs", SegmentName::Fs),
-        (", gs", SegmentName::Gs),
-        (", ss", SegmentName::Ss),
-    ];
-    for (text, name) in &names {
+    for (text, name) in &SEGMENTS {
         say_segment(row, text, &plan.registers.segment(*name));
     }
 }

@@ -8,7 +8,7 @@ use crate::menus::memory_after::{FILL, say_outside};
 use crate::menus::script_store::ScriptStore;
 use crate::menus::store_fields::StoreKind;
 use crate::row::Row;
-use bl_mem::{PhysMem, Sparse};
+use bl_mem::Sparse;
 use bl_session::{FileStore, Store, run};
 use std::alloc::AllocError;
 use test_refusing::Refusing;
@@ -25,9 +25,6 @@ fn say_run<'h, S: Store + Drop>(
     let Ok(mut memory) = Sparse::new(heap, plan.machine.size(), FILL) else {
         return row.say("no memory");
     };
-    if memory.size() != plan.machine.size() {
-        return row.refuse();
-    }
     let mut store = DryStore::new(heap, store, answers);
     let end = run(heap, &mut memory, &mut store, &plan.machine, &plan.menu);
     let pool = plan.machine.pool();

@@ -12,6 +12,14 @@ use std::io::{ErrorKind, Write};
 /// More faults than any row has.
 const FAULTS: u64 = 1000;
 
+/// How a writer ends: it takes nothing, or has an error.
+const ENDS: [(&str, Option<ErrorKind>); 4] = [
+    ("nothing", None),
+    ("storage_full", Some(ErrorKind::StorageFull)),
+    ("broken_pipe", Some(ErrorKind::BrokenPipe)),
+    ("interrupted", Some(ErrorKind::Interrupted)),
+];
+
 /// A writer that ends early.
 #[derive(Drop)]
 struct ShortWriter {
@@ -75,16 +83,10 @@ fn say_parts<S: Sink>(row: &mut Row<'_>, sink: &mut S)
 /// Writes the parts to the sink.
 pub fn answer(row: &mut Row<'_>) {
     let writes = row.number();
-    let ends = [
-        ("nothing", None),
-        ("storage_full", Some(ErrorKind::StorageFull)),
-        ("broken_pipe", Some(ErrorKind::BrokenPipe)),
-        ("interrupted", Some(ErrorKind::Interrupted)),
-    ];
     let end = row.word();
     let mut sink = IoSink::new(ShortWriter {
         writes,
-        error: row.pick(&ends, end, None),
+        error: row.pick(&ENDS, end, None),
         taken: 0,
     });
     say_parts(row, &mut sink);

@@ -8,7 +8,7 @@ use crate::menus::building::Plan;
 use crate::menus::memory_after::{FILL, say_outside};
 use crate::row::Row;
 use bl_mem::{PhysMem, Sparse};
-use bl_session::{Event, Progress, Request, Session, Ticket};
+use bl_session::{Event, Progress, Session, Ticket};
 use std::marker::Model;
 use std::ops::Range;
 use test_refusing::Refusing;
@@ -50,19 +50,6 @@ fn say_progress(row: &mut Row<'_>, progress: Progress) {
         Progress::Done => row.say("done"),
         Progress::Failed => row.say("failed"),
     }
-}
-
-fn say_request(row: &mut Row<'_>, request: &Request) {
-    row.say_numbers(
-        "file # ticket #.#.# length #",
-        &[
-            request.file as u64,
-            request.ticket.attempt as u64,
-            request.ticket.file as u64,
-            request.ticket.piece as u64,
-            request.len as u64,
-        ],
-    );
 }
 
 impl<'a, 'h> Rig<'a, 'h> {
@@ -128,7 +115,16 @@ impl<'a, 'h> Rig<'a, 'h> {
             None => self.session.missing(),
         };
         match request {
-            Some(request) => say_request(row, &request),
+            Some(request) => row.say_numbers(
+                "file # ticket #.#.# length #",
+                &[
+                    request.file as u64,
+                    request.ticket.attempt as u64,
+                    request.ticket.file as u64,
+                    request.ticket.piece as u64,
+                    request.len as u64,
+                ],
+            ),
             None => row.say("none"),
         }
     }

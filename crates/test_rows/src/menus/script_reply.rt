@@ -71,17 +71,14 @@ pub(crate) fn push_replies<A: Allocator>(
         (replies.new.items ≡ replies.old.items ++ replies_to twice.now fail.now submission) }
     ensures err { OnErr result (replies.new.items ≡ replies.old.items) }
 {
-    let is_fault = fail.contains(&submission.ticket);
-    if !is_fault && twice.contains(&submission.ticket) {
+    if fail.contains(&submission.ticket) {
+        replies.push(ScriptReply::Fault(submission.ticket))?;
+    } else if twice.contains(&submission.ticket) {
         replies.reserve(2)?;
         replies.push(ScriptReply::Answer(submission))?;
         replies.push(ScriptReply::Altered(submission))?;
-        return Ok(());
-    }
-    replies.push(if is_fault {
-        ScriptReply::Fault(submission.ticket)
     } else {
-        ScriptReply::Answer(submission)
-    })?;
+        replies.push(ScriptReply::Answer(submission))?;
+    }
     Ok(())
 }

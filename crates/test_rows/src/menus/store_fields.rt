@@ -13,6 +13,13 @@ pub enum StoreKind {
     Script,
 }
 
+/// The kinds by their names.
+const KINDS: [(&str, StoreKind); 3] = [
+    ("forward", StoreKind::Files(Order::Forward)),
+    ("reverse", StoreKind::Files(Order::Reverse)),
+    ("script", StoreKind::Script),
+];
+
 /// What a row says of a store.
 #[derive(Drop)]
 pub struct StoreFields {
@@ -57,15 +64,10 @@ impl StoreFields {
     }
 
     fn set_kind(&mut self, row: &mut Row<'_>, name: &str) {
-        let kinds = [
-            ("forward", StoreKind::Files(Order::Forward)),
-            ("reverse", StoreKind::Files(Order::Reverse)),
-            ("script", StoreKind::Script),
-        ];
         if name == "silent" {
             self.answers = 0;
         } else {
-            self.kind = row.pick(&kinds, name, self.kind);
+            self.kind = row.pick(&KINDS, name, self.kind);
         }
     }
 

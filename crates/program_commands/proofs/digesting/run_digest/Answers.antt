@@ -107,3 +107,30 @@ pub returns-clause-inline : goal.returns-clause-inline
 returns-clause-inline g c = λ has. c.in_ok-ready.ensures.inline
     (inline_in c.args.desc.now c.in_ok-description.description c.in_ok-description.ensures.given
     has)
+
+pub returns-in_err-digest_found-clause-missing : goal.returns-in_err-digest_found-clause-missing
+returns-in_err-digest_found-clause-missing g c =
+    rw (sought c.args.desc.now c.in_ok-description.description
+    c.in_ok-description.ensures.given) c.in_ok-ready.ensures.missing
+
+pub returns-clause-asked : goal.returns-clause-asked
+returns-clause-asked g c =
+    rw (fetched c.args.desc.now c.in_ok-description.description
+    c.in_ok-description.ensures.given) c.in_ok-ready.ensures.asked
+
+pub returns-clause-missing : goal.returns-clause-missing
+returns-clause-missing g c =
+    rw (sought c.args.desc.now c.in_ok-description.description
+    c.in_ok-description.ensures.given) c.in_ok-ready.ensures.missing
+
+pub returns-in_err-digest_found-clause-same_files : goal.returns-in_err-digest_found-clause-same_files
+returns-in_err-digest_found-clause-same_files g c = c.in_ok-ready.ensures.same
+
+pub returns-clause-same_files : goal.returns-clause-same_files
+returns-clause-same_files g c = c.in_ok-ready.ensures.same
+
+pub returns-in_err-digest_found-clause-few : goal.returns-in_err-digest_found-clause-few
+returns-in_err-digest_found-clause-few g c = c.in_ok-ready.ensures.few
+
+pub returns-clause-few : goal.returns-clause-few
+returns-clause-few g c = c.in_ok-ready.ensures.few

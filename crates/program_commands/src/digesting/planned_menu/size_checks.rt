@@ -37,8 +37,7 @@ pub fn checked_lengths<A: Allocator + Copy>(
         file_refusal 0 (file_sizes (stored_files files.now) indices.now) ≡ None) }
     ensures lengths { IfOk result (λ lengths. lengths.items
         ≡ known_lengths (file_sizes (stored_files files.now) indices.now)) }
-    ensures fault { IfErr result
-        (IsSizesFault (file_sizes (stored_files files.now) indices.now)) }
+    ensures fault { IfErr result (IsSizesFault (file_sizes (stored_files files.now) indices.now)) }
 {
     let mut lengths = Vec::new(alloc);
     for (place, file) in indices.iter().enumerate() {

@@ -46,3 +46,19 @@ returns-clause-missing g c =
     ap length c.deref-2.ensures.value
     ∙ as_many c.in_ok-names.names.items _ c.in_ok-names.ensures.names in
     (missing.0, omega (arith, missing.1, count))
+
+pub returns-in_err-found-clause-few : goal.returns-in_err-found-clause-few
+returns-in_err-found-clause-few g c =
+    let missing = c.in_err-found.ensures.missing in
+    let few = c.in_ok-names.ensures.few in
+    let count : length c.deref-2.result.now ≡ length c.in_ok-names.names.items =
+    ap length c.deref-2.ensures.value in
+    omega (arith, missing.1, few, count)
+
+pub returns-clause-few : goal.returns-clause-few
+returns-clause-few g c =
+    let missing = c.in_ok-found.ensures.missing in
+    let few = c.in_ok-names.ensures.few in
+    let count : length c.deref-2.result.now ≡ length c.in_ok-names.names.items =
+    ap length c.deref-2.ensures.value in
+    omega (arith, missing.1, few, count)
