@@ -13,7 +13,7 @@ use Rattle.bl_load.specs.declared.entry.Entry.{Entry}
 use Rattle.bl_load.specs.declared.refusal.PrepFault.{PrepFault}
 use Rattle.bl_load.specs.declared.refusal.PrepFault.TheVariants as prep_fault
 use Rattle.bl_load.specs.Parts.{IsHandover, IsPrepFault, IsRefusal}
-use Rattle.bl_load.specs.EntryValue.{EntryValue, HasLimits, IsWithinLimits, value_of}
+use Rattle.bl_load.specs.EntryValue.{EntryValue, HasLimits, IsWithinLimits, file_count, value_of}
 use Rattle.bl_load.specs.HandoffFacts.{Ascends, HandoffFacts, max_parts}
 use Rattle.bl_load.specs.Handover.{Part}
 use Rattle.bl_load.specs.Loadable.{IsLoadable}
@@ -39,6 +39,7 @@ use Rattle.c_abi.specs.Load.{load_fault_of_given, load_fault_of_prep}
 use Rattle.c_abi.specs.Load.{IsEntryLoaded, IsGivenLoadEnd, bad_entry}
 use Rattle.c_abi.specs.Machines.{IsMachineGiven, IsMachineSound}
 use Rattle.c_abi.specs.internal.LoadEnds.{IsValueFault, LoadsValue}
+use Rattle.c_abi.specs.internal.TakenEntries.{IsTakenFrom}
 use Rattle.c_abi.proofs.ValueLemmas.{value_is}
 
 -- an entry's value is the one that is given
@@ -75,6 +76,17 @@ pub entry_sound : {A : Type 0} (r : EntryRecord) (entry : Entry A)
 unfolding IsWithinLimits
 entry_sound r entry is names within =
     record { names = names; limits = subst HasLimits is within }
+
+-- what is known of an entry that was taken
+pub taken : {A : Type 0} (r : EntryRecord) (entry : Entry A)
+    → value_of [] entry ≡ entry_without_files r → file_count entry ≡ length (files_given r)
+    → IsWithinLimits entry → entry_misuse r ≡ None → IsTakenFrom r entry
+taken r entry is count within names = record {
+  value = is;
+  count = count;
+  limits = within;
+  sound = entry_sound r entry is names within;
+}
 
 -- what is not taken is not loaded
 pub of_given_is : (facts : MachineFacts) (r : EntryRecord) (texts : List (List ℕ)) (base : ℕ)

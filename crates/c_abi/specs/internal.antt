@@ -4,3 +4,4 @@ pub mod LoadEnds
 pub mod Menus
 pub mod Plans
 pub mod Tellings
+pub mod TakenEntries

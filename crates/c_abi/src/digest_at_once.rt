@@ -1,12 +1,12 @@
 //! The digests of an entry whose files are all at hand.
-ghost use Rattle.std.specs.Prelude.{◌≡◌, [], IfOk, IfErr, OnOk, Result, length};
-ghost use Rattle.bl_load.specs.EntryValue.{value_of, file_count, IsWithinLimits};
+ghost use Rattle.std.specs.Prelude.{IfOk, IfErr, OnOk, Result};
 ghost use Rattle.bl_digest.specs.DigestsFacts.{DigestsFacts};
 ghost use Rattle.c_abi.specs.Digest.{IsGivenDigestsEnd};
 ghost use Rattle.c_abi.specs.DigestTold.{TellsDigests};
 ghost use Rattle.c_abi.specs.Load.{IsEntryFault, IsEntrySound};
-ghost use Rattle.c_abi.specs.Given.{entry_without_files, files_given, texts_given};
+ghost use Rattle.c_abi.specs.Given.{texts_given};
 ghost use Rattle.c_abi.specs.internal.Digests.{AreDigestsOn};
+ghost use Rattle.c_abi.specs.internal.TakenEntries.{IsTakenFrom};
 ghost use Rattle.c_abi.specs.declared.load_fault.LoadFault.{LoadFault};
 
 use crate::digest_records::{DigestsRecord, PartDigestRecord};
@@ -30,10 +30,7 @@ fn digests_of_entry<A: Allocator + Copy>(
     entry: &Entry<A>,
     row: &EntryRecord,
 ) -> Result<Digests<A>, LoadFault>
-    requires value { value_of [] entry.now ≡ entry_without_files row.now }
-    requires count { file_count entry.now ≡ length (files_given row.now) }
-    requires limits { IsWithinLimits entry.now }
-    requires sound { IsEntrySound row.now }
+    requires { IsTakenFrom row.now entry.now }
     ensures digests { IfOk result (AreDigestsOn machine.now row.now) }
     ensures fault { IfErr result (IsEntryFault machine.now row.now (texts_given row.now) 0) }
 {

@@ -1,11 +1,10 @@
 //! The digest of an entry begins, whose files are fed later.
-ghost use Rattle.std.specs.Prelude.{◌≡◌, ℕ, List, [], IfOk, IfErr, OnOk, length};
-ghost use Rattle.bl_load.specs.EntryValue.{value_of, file_count, IsWithinLimits};
+ghost use Rattle.std.specs.Prelude.{ℕ, List, IfOk, IfErr, OnOk};
 ghost use Rattle.c_abi.specs.Digest.{IsGivenDigestEnd};
-ghost use Rattle.c_abi.specs.Given.{entry_without_files, files_given};
 ghost use Rattle.c_abi.specs.Load.{IsEntryFault, IsEntrySound};
 ghost use Rattle.c_abi.specs.Prepare.{AreFilesOf};
 ghost use Rattle.c_abi.specs.internal.Digests.{IsDigestOn};
+ghost use Rattle.c_abi.specs.internal.TakenEntries.{IsTakenFrom};
 
 use crate::entries::take_entry;
 use crate::given_records::{EntryRecord, MachineRecord, RegionRecord};
@@ -24,10 +23,7 @@ fn digest_of_entry<A: Allocator + Copy>(
     entry: &Entry<A>,
     row: &EntryRecord,
 ) -> Result<Digesting<A>, LoadFault>
-    requires value { value_of [] entry.now ≡ entry_without_files row.now }
-    requires count { file_count entry.now ≡ length (files_given row.now) }
-    requires limits { IsWithinLimits entry.now }
-    requires sound { IsEntrySound row.now }
+    requires { IsTakenFrom row.now entry.now }
     ensures begun { IfOk result (IsDigestOn machine.now row.now) }
     ensures fault { IfErr result (λ fault. (texts : List (List ℕ)) → AreFilesOf row.now texts
         → IsEntryFault machine.now row.now texts 0 fault) }

@@ -1,16 +1,17 @@
 //! One entry comes into memory of the caller's own.
 ghost use Rattle.std.specs.Prelude.{◌≡◌, ◌+◌, ◌≤◌, All, AllPairs, IfOk, IfErr, MatchBool, OnOk};
-ghost use Rattle.std.specs.Prelude.{Result, [], length, map};
+ghost use Rattle.std.specs.Prelude.{Result, length, map};
 ghost use Rattle.bl_mem.specs.Memory.{memory_from};
 ghost use Rattle.bl_load.specs.EntryValue.{value_of, file_count, IsWithinLimits};
 ghost use Rattle.bl_load.specs.HandoffFacts.{Ascends, HandoffFacts};
 ghost use Rattle.bl_load.specs.Loadable.{lengths_of, IsLoadable};
 ghost use Rattle.bl_load.specs.PlanContents.{handover_by, places_of};
 ghost use Rattle.bl_load.specs.PlannedPlaces.{planned_place};
-ghost use Rattle.c_abi.specs.Given.{entry_without_files, files_given, texts_given};
+ghost use Rattle.c_abi.specs.Given.{texts_given};
 ghost use Rattle.c_abi.specs.Load.{IsEntryLoaded, IsEntryFault, IsEntrySound, IsGivenLoadEnd};
 ghost use Rattle.c_abi.specs.LoadTold.{TellsEnd};
 ghost use Rattle.c_abi.specs.internal.LoadEnds.{LoadsHandover, LoadsValue};
+ghost use Rattle.c_abi.specs.internal.TakenEntries.{IsTakenFrom};
 ghost use Rattle.c_abi.specs.declared.load_fault.LoadFault.{LoadFault};
 
 use crate::end_records::{HandoffRecord, PlaceRecord, RefusalRecord};
@@ -100,10 +101,7 @@ fn load_of_entry<A: Allocator + Copy>(
     row: &EntryRecord,
 ) -> Result<Handoff<A>, LoadFault>
     requires size { machine.now.size ≤ base + length memory.old }
-    requires value { value_of [] entry.now ≡ entry_without_files row.now }
-    requires count { file_count entry.now ≡ length (files_given row.now) }
-    requires limits { IsWithinLimits entry.now }
-    requires sound { IsEntrySound row.now }
+    requires taken { IsTakenFrom row.now entry.now }
     ensures handed { IfOk result (λ handoff. IsEntryLoaded machine.now row.now base
         (memory_from base memory.old) (memory_from base memory.new) handoff) }
     ensures fault { IfErr result (IsEntryFault machine.now row.now (texts_given row.now) base) }

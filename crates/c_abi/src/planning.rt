@@ -1,12 +1,11 @@
 //! The steps that load an entry are told to C, which carries them out itself.
-ghost use Rattle.std.specs.Prelude.{◌≡◌, ℕ, ◌≤◌, List, [], All, IfOk, IfErr, OnOk, Result, length};
-ghost use Rattle.bl_load.specs.EntryValue.{value_of, file_count, IsWithinLimits};
-ghost use Rattle.c_abi.specs.Given.{entry_without_files, files_given};
+ghost use Rattle.std.specs.Prelude.{ℕ, ◌≤◌, List, All, IfOk, IfErr, OnOk, Result, length};
 ghost use Rattle.c_abi.specs.Load.{IsEntryFault, IsEntrySound};
 ghost use Rattle.c_abi.specs.Prepare.{AreFilesOf, IsNotPrepared};
 ghost use Rattle.c_abi.specs.Plan.{PlanFacts, IsPlanned, IsGivenPlanEnd};
 ghost use Rattle.c_abi.specs.PlanTold.{TellsPlan};
 ghost use Rattle.c_abi.specs.internal.Plans.{HasSmallFile, IsPlanOn, plan_facts};
+ghost use Rattle.c_abi.specs.internal.TakenEntries.{IsTakenFrom};
 ghost use Rattle.c_abi.specs.declared.load_fault.LoadFault.{LoadFault};
 
 use crate::end_records::{HandoffRecord, PlaceRecord, RefusalRecord};
@@ -32,10 +31,7 @@ fn plan_of_entry<A: Allocator + Copy>(
     entry: &Entry<A>,
     row: &EntryRecord,
 ) -> Result<SteppedPlan<A>, LoadFault>
-    requires value { value_of [] entry.now ≡ entry_without_files row.now }
-    requires count { file_count entry.now ≡ length (files_given row.now) }
-    requires limits { IsWithinLimits entry.now }
-    requires sound { IsEntrySound row.now }
+    requires { IsTakenFrom row.now entry.now }
     ensures planned { IfOk result (λ made. IsPlanOn machine.now row.now (plan_facts made)) }
     ensures few { IfOk result (λ made. length made.plan.parts.items ≤ 256) }
     ensures files { IfOk result (λ made. All HasSmallFile made.told.steps.items) }

@@ -1,7 +1,7 @@
 use Rattle.std.proofs.Common.{refl, subst, sym}
 use Rattle.c_abi.specs.Given.{texts_given}
 use Rattle.c_abi.specs.Load.{IsEntryFault}
-use Rattle.c_abi.proofs.LoadLemmas.{entry_sound, of_given_is}
+use Rattle.c_abi.proofs.LoadLemmas.{entry_sound, of_given_is, taken}
 use Rattle.c_abi.proofs.ResultLemmas.{on_ok}
 use Rattle.c_abi.proofs.loading.load_given.Goals as goal
 
@@ -24,10 +24,10 @@ returns-in-Err-clause-unchanged g c = refl
 pub load_of_entry-requires-clause-size : goal.load_of_entry-requires-clause-size
 load_of_entry-requires-clause-size g c = c.requires
 
-pub load_of_entry-requires-clause-sound : goal.load_of_entry-requires-clause-sound
-load_of_entry-requires-clause-sound g c =
-    entry_sound c.args.row.now c.in-Ok.entry c.in-Ok.ensures.value c.in-Ok.ensures.sound
-    c.in-Ok.ensures.limits
+pub load_of_entry-requires-clause-taken : goal.load_of_entry-requires-clause-taken
+load_of_entry-requires-clause-taken g c =
+    taken c.args.row.now c.in-Ok.entry c.in-Ok.ensures.value c.in-Ok.ensures.count
+    c.in-Ok.ensures.limits c.in-Ok.ensures.sound
 
 pub returns-in-Ok-clause-sound : goal.returns-in-Ok-clause-sound
 returns-in-Ok-clause-sound g c =

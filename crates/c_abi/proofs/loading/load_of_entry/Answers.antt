@@ -23,10 +23,10 @@ load_typed-requires-clause-files g c =
     let files =
     ap (map (λ (v : SliceView). v.bytes.now)) c.deref.ensures.value ∙ c.in-Ok.ensures in
     given_count (λ (v : SliceView). v.bytes.now) c.args.row.now c.deref.result.now files
-    ∙ sym c.requires.count
+    ∙ sym c.requires.taken.count
 
 pub load_typed-requires-clause-limits : goal.load_typed-requires-clause-limits
-load_typed-requires-clause-limits g c = c.requires.limits
+load_typed-requires-clause-limits g c = c.requires.taken.limits
 
 pub returns-clause-handed : goal.returns-clause-handed
 returns-clause-handed g c =
@@ -37,7 +37,7 @@ returns-clause-handed g c =
     loads_entry c.args.machine.now row _ c.args.base
     (memory_from c.args.base c.args.memory.now)
     (memory_from c.args.base c.load_typed.new.memory) c.load_typed.result
-    (given_value row c.args.entry.now texts (texts_given row) c.requires.value files)
+    (given_value row c.args.entry.now texts (texts_given row) c.requires.taken.value files)
     c.load_typed.ensures
 
 pub returns-clause-fault : goal.returns-clause-fault
@@ -49,8 +49,8 @@ returns-clause-fault g c =
     loads_not c.args.machine.now row _ c.args.base
     (memory_from c.args.base c.args.memory.now)
     (memory_from c.args.base c.load_typed.new.memory) c.load_typed.result
-    c.requires.sound
-    (given_value row c.args.entry.now texts (texts_given row) c.requires.value files)
+    c.requires.taken.sound
+    (given_value row c.args.entry.now texts (texts_given row) c.requires.taken.value files)
     c.load_typed.ensures
 
 pub returns-clause-unchanged : goal.returns-clause-unchanged
