@@ -31,8 +31,7 @@ use std::alloc::Allocator;
 /// Whether the first of parts that ascend begins below an address.
 fn begin_below<A: Allocator>(parts: &[PlannedPart<A>], base: u32) -> bool
     requires { AllPairs Ascends (map planned_place parts.now) }
-    ensures { MatchBool result
-        (¬ All (λ place. base ≤ place.address) (map planned_place parts.now))
+    ensures { MatchBool result (¬ All (λ place. base ≤ place.address) (map planned_place parts.now))
         (All (λ place. base ≤ place.address) (map planned_place parts.now)) }
 {
     if parts.is_empty() {
@@ -77,9 +76,8 @@ fn load_typed<A: Allocator + Copy>(
     requires size { machine.now.size ≤ base + length memory.old }
     requires files { length files.now ≡ file_count entry.now }
     requires limits { IsWithinLimits entry.now }
-    ensures { LoadsValue machine.now
-        (value_of (map (λ file. file.bytes.now) files.now) entry.now) base
-        (memory_from base memory.old) (memory_from base memory.new) result }
+    ensures { LoadsValue machine.now (value_of (map (λ file. file.bytes.now) files.now) entry.now)
+        base (memory_from base memory.old) (memory_from base memory.new) result }
 {
     let plan = match prepare(alloc, machine, entry, files) {
         Ok(plan) => plan,
