@@ -1,4 +1,3 @@
-use Rattle.std.proofs.Common.{rules}
 use Rattle.bl_stage.proofs.moves.copy_frame.Goals as goal
 
 pub returns-clause-after : goal.returns-clause-after

@@ -1,4 +1,4 @@
-use Rattle.std.proofs.Common.{◌≡◌, ◌≤◌, All, List, ℕ, [], ◌∷◌, arith, drop, get_or, length, subst}
+use Rattle.std.proofs.Common.{◌≡◌, ◌≤◌, All, List, [], ◌∷◌, arith, drop, get_or, length, subst}
 use Rattle.std.proofs.Common.{◌-◌, sym, take}
 use Rattle.std.proofs.lemmas.List.{take_all}
 use Rattle.std.proofs.lemmas.List.Elements.{All-cons}

@@ -1,4 +1,4 @@
-use Rattle.std.proofs.Common.{◌∙◌, ap, arith, refl, sym}
+use Rattle.std.proofs.Common.{◌∙◌, ap, arith, sym}
 use Rattle.std.proofs.lemmas.Bool.{false≢true}
 use Rattle.bl_stage.specs.declared.fetched.Fetched.TheVariants.{Missing}
 use Rattle.bl_stage.specs.Files.{file_of}
