@@ -136,8 +136,8 @@ impl Refusal {
     }
 }
 
-/// By hand, since a derived one is walked as a whole for each of its 30 texts, and took a twelfth of
-/// the crate's proof.
+/// By hand, since a derived one is proved as one function of 30 texts, which took a twelfth of the
+/// crate's proof.
 impl fmt::Display for Refusal {
     fn fmt<W: fmt::Write>(&self, f: &mut fmt::Formatter<W>) -> fmt::Result {
         f.write_str(self.meaning())?;
