@@ -11,7 +11,7 @@ from typing import List, Optional, Tuple
 
 from tests.support import TOP, Checks, is_at_hand, run
 
-BETWEEN_MEASURES = 10 * 60  # on a host that others use a unit may be a third longer half an hour later
+BETWEEN_MEASURES = 5 * 60  # two units of one gate may differ by a third, so a few make a mean
 CHECK_BYTES = 4 << 30  # what the largest checks take of memory
 
 # A refused edit whose proof cites what the edited code no longer has, as where a call was replaced: a right body would be refused too.
@@ -55,7 +55,7 @@ def checks_at_once() -> Optional[int]:
 
 
 class MeasuredBeside(threading.Thread):
-    """What `rt selftest` costs while something else runs, every ten minutes: a machine may be half as fast again an hour later."""
+    """What `rt selftest` costs while something else runs, every five minutes: a machine may be half as fast again an hour later."""
 
     def __init__(self) -> None:
         super().__init__(daemon=True)
@@ -127,7 +127,7 @@ class Gate(Checks):
 
     @staticmethod
     def tell_cost(before: float, beside: List[float], seconds: float) -> None:
-        """The gate's cost in units of rt selftest; of a run that ends within ten minutes the unit is the one before it.
+        """The gate's cost in units of rt selftest; of a run that ends within five minutes the unit is the one before it.
 
         rt selftest takes a job for each processor, and each loads the libraries: on two a unit is a fifth smaller than on four.
         """
