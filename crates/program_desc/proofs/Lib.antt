@@ -4,11 +4,3 @@ pub mod FileLemmas
 pub mod NameLemmas
 pub mod KeyLemmas
 pub mod DescribedLemmas
-pub mod BadValueLemmas
-pub mod BadRuleLemmas
-pub mod BadItemLemmas
-pub mod DescribesLemmas
-pub mod ArrayLemmas
-pub mod WholeLemmas
-pub mod PlaceLemmas
-pub mod SameNameLemmas

@@ -1,9 +1,11 @@
 -- Arrays of tables, by what a value is as an array.
-use Rattle.std.proofs.Common.{◌≡◌, Option, Some, None, refl}
+use Rattle.std.proofs.Common.{◌≡◌, Option, Some, None, List, [], ◌∷◌, length, refl}
 use Rattle.toml.specs.Data.{Data, string, integer, float, boolean, datetime, array, table, Items}
-use Rattle.toml.specs.Data.{Members, as_array, as_table, no_items}
+use Rattle.toml.specs.Data.{Members, as_array, as_table}
+use Rattle.toml.specs.View.{items_view}
+use Rattle.toml.specs.declared.value.Value.{Value}
 use Rattle.program_desc.specs.TomlValues.{each_item, in_table, in_tables}
-use Rattle.program_desc.specs.internal.BadKeySearch.{array_items}
+use Rattle.program_desc.specs.Allowed.{item_count}
 
 -- the items of an array are read one by one
 pub tables_read : {A : Type 0} (read : Members → Option A) (d : Data) (items : Items)
@@ -49,22 +51,7 @@ no_table read (boolean b) h = refl
 no_table read (datetime dt) h = refl
 no_table read (array ds) h = refl
 
--- the items of an array are those that are looked through
-pub items_in : (d : Data) (items : Items) → Some items ≡ as_array d → items ≡ array_items (Some d)
-items_in (array ds) items h = cc
-items_in (string s) items h = absurd (cc h)
-items_in (integer z) items h = absurd (cc h)
-items_in (float x) items h = absurd (cc h)
-items_in (boolean b) items h = absurd (cc h)
-items_in (datetime dt) items h = absurd (cc h)
-items_in (table ms) items h = absurd (cc h)
-
--- what is no array has none
-pub no_items_in : (d : Data) → None ≡ as_array d → no_items ≡ array_items (Some d)
-no_items_in (array ds) h = absurd (cc h)
-no_items_in (string s) h = refl
-no_items_in (integer z) h = refl
-no_items_in (float x) h = refl
-no_items_in (boolean b) h = refl
-no_items_in (datetime dt) h = refl
-no_items_in (table ms) h = refl
+-- as many items as values
+pub item_count-view : (vs : List Value) → item_count (items_view vs) ≡ length vs
+item_count-view [] = refl
+item_count-view (v ∷ vs) = rw (item_count-view vs) refl

@@ -7,4 +7,3 @@ pub mod EntryFormViews
 pub mod Views
 pub mod Allowed
 pub mod BadKeys
-pub mod internal

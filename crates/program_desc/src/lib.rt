@@ -3,7 +3,6 @@
 
 mod allowed;
 mod bad_key;
-mod bad_keys;
 mod default_and_fallbacks;
 mod desc;
 mod document;
@@ -15,7 +14,7 @@ mod file_row;
 mod files;
 mod index_of_name;
 mod key_set;
-mod key_table;
+pub mod key_table;
 mod keys;
 mod modules;
 mod owned_text;
@@ -26,10 +25,10 @@ mod values;
 
 pub use allowed::Allowed;
 pub use bad_key::{BadKey, KeyFault, TablePlace};
-pub use bad_keys::first_bad_key;
 pub use bl_plan::{MAX_ENTRIES, MAX_MODULES};
 pub use desc::{Description, file_named};
 pub use document::read_description;
+pub use entries::is_title;
 pub use entry_form::{EntryForm, ModuleRow, Modules};
 pub use entry_row::EntryRow;
 pub use fault::DescFault;
@@ -37,4 +36,6 @@ pub use file_row::FileRow;
 pub use index_of_name::file_index;
 pub use key_set::KeySet;
 pub use key_table::{Key, keys_of};
+pub use keys::at_key;
 pub use owned_text::Text;
+pub use values::{toml_byte, toml_number};

@@ -14,7 +14,8 @@ ghost use Rattle.program_commands.specs.internal.explaining.ExplanationEnds.{Say
 use crate::explaining::fault::ExplainFault;
 use crate::explaining::text_place::text_place;
 use bl_map::{Machine, MapFault};
-use program_desc::{DescFault, Description, first_bad_key, read_description};
+use program_bad_key::first_bad_key;
+use program_desc::{DescFault, Description, read_description};
 use program_say::{Blame, say_blame};
 use std::alloc::{Allocator, Global};
 
