@@ -24,7 +24,7 @@ fn is_printable(text: &str) -> bool
     text.as_bytes().iter().all(|c| *c >= 0x20 && *c <= 0x7E)
 }
 
-/// Whether a text can be a title.
+/// Whether a text can be a title: 1 to 64 printable characters of ASCII.
 pub fn is_title(text: &str) -> bool
     ensures { result ≡ spec.is_title text.now }
 {

@@ -36,46 +36,64 @@ macro_rules! optional {
     };
 }
 
+/// How many bytes memory has.
 pub const SIZE: Key = required!("size", Allowed::Number);
 
+/// The usable memory where files lie until they are loaded.
 pub const POOL: Key = required!("pool", Allowed::TwoNumbers);
 
+/// What each byte of memory is before the boot.
 pub const FILL: Key = optional!("fill", Allowed::Byte);
-// The search puts in how many entries there are.
+
+/// The entry that is attempted first. The search puts in how many entries there are.
 pub const DEFAULT: Key = optional!("default", Allowed::IndexBelow(0));
 
+/// The entries to fall back on.
 pub const FALLBACK: Key = optional!("fallback", Allowed::Indices);
 
+/// The regions of memory.
 pub const REGION: Key = optional!("region", Allowed::Tables);
 
+/// The files that stand in the description.
 pub const FILE: Key = optional!("file", Allowed::Tables);
 
+/// The entries of the menu.
 pub const ENTRY: Key = required!("entry", Allowed::EntryTables);
 
+/// An entry's title.
 pub const TITLE: Key = required!("title", Allowed::Title);
 
+/// An entry's protocol, by which it may have other keys.
 pub const PROTOCOL: Key = required!("protocol", Allowed::ProtocolName);
 
+/// The name of the file that is an entry's kernel.
 pub const KERNEL: Key = required!("kernel", Allowed::AnyText);
 
+/// The line of an entry's kernel, or that of a module.
 pub const LINE: Key = optional!("line", Allowed::AnyText);
 
+/// An entry's modules.
 pub const MODULE: Key = optional!("module", Allowed::ModuleTables);
 
+/// A copy of the Root System Description Pointer (RSDP) of ACPI 1.0.
 pub const RSDP_OLD: Key = optional!("rsdp_old", Allowed::CopyText);
 
+/// A copy of the RSDP of ACPI 2.0 or later.
 pub const RSDP_NEW: Key = optional!("rsdp_new", Allowed::CopyText);
 
+/// The name of the file that is an entry's initial ramdisk.
 pub const INITRD: Key = optional!("initrd", Allowed::AnyText);
 
 static IN_DESCRIPTION: [Key; 8] = [SIZE, POOL, FILL, DEFAULT, FALLBACK, REGION, FILE, ENTRY];
 
+/// The keys of a region.
 pub static IN_REGION: [Key; 3] = [
     required!("base", Allowed::Number),
     required!("length", Allowed::Number),
     required!("kind", Allowed::KindName),
 ];
 
+/// The keys of a file.
 pub static IN_FILE: [Key; 2] = [
     required!("name", Allowed::AnyText),
     required!("hex", Allowed::HexText),
@@ -89,6 +107,7 @@ static IN_MULTIBOOT2: [Key; 7] = [TITLE, PROTOCOL, KERNEL, LINE, MODULE, RSDP_OL
 
 static IN_LINUX: [Key; 5] = [TITLE, PROTOCOL, KERNEL, LINE, INITRD];
 
+/// The keys of a module.
 pub static IN_MODULE: [Key; 2] = [required!("file", Allowed::AnyText), LINE];
 
 /// The keys that a table may have.
@@ -112,7 +131,7 @@ fn is_among(name: &str, keys: &[Key]) -> bool
     keys.iter().any(|key| key.name == name)
 }
 
-/// Whether a table may have a key.
+/// Whether a table may have a key of this name, by its set of keys.
 pub fn is_key(set: KeySet, name: &str) -> bool
     ensures { result ≡ list_any (λ k. bytes_eq k name.now) (keys_of_set set) }
 {

@@ -12,7 +12,7 @@ use crate::key_table::is_key;
 use crate::values::toml_number;
 use toml::{Table, Value};
 
-/// The value at a key.
+/// The value at a key of a table, if it has that key.
 pub fn at_key<'a>(table: &'a Table, key: &str) -> Option<&'a Value>
     ensures { option_map (λ v. view v.now) result ≡ get_member key.now (table_view table.now) }
 {

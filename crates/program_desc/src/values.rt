@@ -10,7 +10,7 @@ use std::alloc::Allocator;
 use std::ops::Range;
 use toml::Value;
 
-/// The number that a value is.
+/// The number that a value is, if it is one of 0 or more.
 pub fn toml_number(value: &Value) -> Option<u64>
     ensures { result ≡ spec.toml_number (view value.now) }
 {
@@ -20,7 +20,7 @@ pub fn toml_number(value: &Value) -> Option<u64>
     }
 }
 
-/// The byte that a value is.
+/// The byte that a value is, if it is a number from 0 to 255.
 pub fn toml_byte(value: &Value) -> Option<u8>
     ensures { result ≡ spec.toml_byte (view value.now) }
 {
