@@ -8,8 +8,7 @@ ghost use Rattle.program_bad_key.specs.internal.BadKeySearch.{FindsFault, all_pa
 ghost use Rattle.program_bad_key.specs.internal.BadKeySearch.{rule_view};
 
 use crate::allowed_values::allows;
-use program_desc::key_table::is_key;
-use program_desc::{BadKey, Key, KeyFault, KeySet, TablePlace, at_key};
+use program_desc::{BadKey, Key, KeyFault, KeySet, TablePlace, at_key, is_key};
 use toml::Table;
 
 /// A key that the table at this place may not have.

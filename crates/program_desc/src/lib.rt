@@ -35,7 +35,7 @@ pub use fault::DescFault;
 pub use file_row::FileRow;
 pub use index_of_name::file_index;
 pub use key_set::KeySet;
-pub use key_table::{Key, keys_of};
+pub use key_table::{Key, is_key, keys_of};
 pub use keys::at_key;
 pub use owned_text::Text;
 pub use values::{toml_byte, toml_number};
