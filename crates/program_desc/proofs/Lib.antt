@@ -4,3 +4,4 @@ pub mod FileLemmas
 pub mod NameLemmas
 pub mod KeyLemmas
 pub mod DescribedLemmas
+pub mod MenuLemmas

@@ -1,28 +1,20 @@
 //! The default entry of a menu and its fallbacks.
-ghost use Rattle.std.specs.Prelude.{◌<◌, ◌≤◌, [], length, map, codes, All, IfOk};
+ghost use Rattle.std.specs.Prelude.{[], codes};
 ghost use Rattle.toml.specs.View.{view, table_view, items_view};
 ghost use Rattle.program_desc.specs.TomlValues as spec;
-ghost use Rattle.bl_plan.specs.MenuLimits.{max_entries};
-ghost use Rattle.program_desc.specs.Views.{AnswersAs, entry_view};
+ghost use Rattle.program_desc.specs.Views.{AnswersAs};
 
-use crate::entries::count_of;
-use crate::entry_row::EntryRow;
 use crate::fault::DescFault;
 use crate::keys::at_key;
 use crate::values::toml_index;
 use std::alloc::Allocator;
 use toml::{Table, Value};
 
-/// The default entry's index, 0 if the description has no such key.
-pub fn default_at<A: Allocator>(table: &Table, entries: &[EntryRow<A>]) -> Result<u32, DescFault>
-    requires some { 1 ≤ length entries.now }
-    requires few { length entries.now ≤ max_entries }
-    ensures given { let count = length (map entry_view entries.now) in
-        AnswersAs (λ n. n) result
+/// The default entry's index, of so many entries; 0 if the description has no such key.
+pub fn default_at(table: &Table, count: u32) -> Result<u32, DescFault>
+    ensures { AnswersAs (λ n. n) result
         (spec.at_key_or 0 (spec.toml_index count) (codes "default") (table_view table.now)) }
-    ensures inside { IfOk result (λ index. index < length entries.now) }
 {
-    let count = count_of(entries);
     match at_key(table, "default") {
         Some(value) => toml_index(value, count),
         None => Ok(0),
@@ -30,9 +22,8 @@ pub fn default_at<A: Allocator>(table: &Table, entries: &[EntryRow<A>]) -> Resul
 }
 
 fn indices_in<A: Allocator>(alloc: A, items: &[Value], count: u32) -> Result<Vec<u32, A>, DescFault>
-    ensures given { AnswersAs (λ v. v.items) result
+    ensures { AnswersAs (λ v. v.items) result
         (spec.each_item (spec.toml_index count) (items_view items.now)) }
-    ensures inside { IfOk result (λ v. All (λ index. index < count) v.items) }
 {
     let mut indices = Vec::new(alloc);
     for item in items {
@@ -43,8 +34,7 @@ fn indices_in<A: Allocator>(alloc: A, items: &[Value], count: u32) -> Result<Vec
 }
 
 fn toml_indices<A: Allocator>(alloc: A, value: &Value, count: u32) -> Result<Vec<u32, A>, DescFault>
-    ensures given { AnswersAs (λ v. v.items) result (spec.toml_indices count (view value.now)) }
-    ensures inside { IfOk result (λ v. All (λ index. index < count) v.items) }
+    ensures { AnswersAs (λ v. v.items) result (spec.toml_indices count (view value.now)) }
 {
     match value.as_array() {
         Some(items) => indices_in(alloc, items, count),
@@ -52,20 +42,17 @@ fn toml_indices<A: Allocator>(alloc: A, value: &Value, count: u32) -> Result<Vec
     }
 }
 
-/// The fallbacks' indices in order, none if the description has no such key.
+/// The fallbacks' indices in order, of so many entries; none if the description has no such key.
 pub fn fallbacks_at<A: Allocator>(
     alloc: A,
     table: &Table,
-    entries: &[EntryRow<A>],
+    count: u32,
 ) -> Result<Vec<u32, A>, DescFault>
-    requires { length entries.now ≤ max_entries }
-    ensures given { let count = length (map entry_view entries.now) in
-        AnswersAs (λ v. v.items) result
+    ensures { AnswersAs (λ v. v.items) result
         (spec.at_key_or [] (spec.toml_indices count) (codes "fallback") (table_view table.now)) }
-    ensures inside { IfOk result (λ v. All (λ index. index < length entries.now) v.items) }
 {
     match at_key(table, "fallback") {
-        Some(value) => toml_indices(alloc, value, count_of(entries)),
+        Some(value) => toml_indices(alloc, value, count),
         None => Ok(Vec::new(alloc)),
     }
 }

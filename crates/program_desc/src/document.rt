@@ -7,7 +7,7 @@ ghost use Rattle.program_desc.specs.Views.{AnswersAs, HasMenu, view};
 
 use crate::default_and_fallbacks::{default_at, fallbacks_at};
 use crate::desc::Description;
-use crate::entries::entries_at;
+use crate::entries::{count_of, entries_at};
 use crate::fault::DescFault;
 use crate::files::files_at;
 use crate::key_set::KeySet;
@@ -44,8 +44,7 @@ fn described_in<A: Allocator + Copy>(
     global: Global,
     table: &Table,
 ) -> Result<Description<A>, DescFault>
-    ensures given { AnswersAs view result (spec.described_in (table_view table.now)) }
-    ensures menu { IfOk result HasMenu }
+    ensures { AnswersAs view result (spec.described_in (table_view table.now)) }
 {
     if !has_only(table, KeySet::Description) {
         return Err(DescFault::BadDescription);
@@ -56,8 +55,9 @@ fn described_in<A: Allocator + Copy>(
     let regions = regions_at(alloc, table)?;
     let files = files_at(alloc, global, table)?;
     let entries = entries_at(alloc, table)?;
-    let default = default_at(table, &entries)?;
-    let fallbacks = fallbacks_at(alloc, table, &entries)?;
+    let count = count_of(&entries);
+    let default = default_at(table, count)?;
+    let fallbacks = fallbacks_at(alloc, table, count)?;
     Ok(Description {
         size,
         pool,

@@ -149,9 +149,7 @@ fn toml_entries<A: Allocator + Copy>(
     alloc: A,
     value: &Value,
 ) -> Result<Vec<EntryRow<A>, A>, DescFault>
-    ensures given { AnswersAs (λ v. map entry_view v.items) result
-        (spec.toml_entries (view value.now)) }
-    ensures count { IfOk result (λ v. (1 ≤ length v.items) × (length v.items ≤ max_entries)) }
+    ensures { AnswersAs (λ v. map entry_view v.items) result (spec.toml_entries (view value.now)) }
 {
     let Some(items) = value.as_array() else {
         return Err(DescFault::BadDescription);
@@ -168,9 +166,8 @@ pub fn entries_at<A: Allocator + Copy>(
     alloc: A,
     table: &Table,
 ) -> Result<Vec<EntryRow<A>, A>, DescFault>
-    ensures given { AnswersAs (λ v. map entry_view v.items) result
+    ensures { AnswersAs (λ v. map entry_view v.items) result
         (values.at_key spec.toml_entries (codes "entry") (table_view table.now)) }
-    ensures count { IfOk result (λ v. (1 ≤ length v.items) × (length v.items ≤ max_entries)) }
 {
     match at_key(table, "entry") {
         Some(value) => toml_entries(alloc, value),

@@ -1,5 +1,5 @@
 //! Single values of a description.
-ghost use Rattle.std.specs.Prelude.{◌≡◌, ◌<◌, IfOk};
+ghost use Rattle.std.specs.Prelude.{◌≡◌};
 ghost use Rattle.toml.specs.View.{view, items_view};
 ghost use Rattle.program_desc.specs.TomlValues as spec;
 ghost use Rattle.program_desc.specs.Views.{AnswersAs};
@@ -32,8 +32,7 @@ pub fn toml_byte(value: &Value) -> Option<u8>
 
 /// The index of one of `count` that a value is.
 pub fn toml_index(value: &Value, count: u32) -> Result<u32, DescFault>
-    ensures given { AnswersAs (λ index. index) result (spec.toml_index count (view value.now)) }
-    ensures inside { IfOk result (λ index. index < count) }
+    ensures { AnswersAs (λ index. index) result (spec.toml_index count (view value.now)) }
 {
     match toml_number(value) {
         Some(n) if n < u64::from(count) => Ok(n as u32),

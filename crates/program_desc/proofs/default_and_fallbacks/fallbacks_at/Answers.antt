@@ -1,19 +1,8 @@
-use Rattle.std.proofs.Common.{arith, refl}
-use Rattle.std.proofs.lemmas.List.{length-map}
+use Rattle.std.proofs.Common.{refl}
 use Rattle.program_desc.proofs.default_and_fallbacks.fallbacks_at.Goals as goal
 
-pub returns-in-Some-clause-given : goal.returns-in-Some-clause-given
-returns-in-Some-clause-given g c =
-    rw (← c.in-Some.ensures, ← c.count_of.ensures) c.toml_indices.ensures.given
+pub returns-in-Some : goal.returns-in-Some
+returns-in-Some g c = rw (← c.in-Some.ensures) c.toml_indices.ensures
 
-pub returns-in-Some-clause-inside : goal.returns-in-Some-clause-inside
-returns-in-Some-clause-inside g c =
-    rw (c.count_of.ensures, length-map) at c.toml_indices.ensures.inside
-
-pub returns-in-None-clause-given : goal.returns-in-None-clause-given
-returns-in-None-clause-given g c =
-    rw (← c.in-None.ensures, c.new.ensures.items) refl
-
-pub returns-in-None-clause-inside : goal.returns-in-None-clause-inside
-returns-in-None-clause-inside g c =
-    rw c.new.ensures.items (λ k d less. absurd (omega (arith, less)))
+pub returns-in-None : goal.returns-in-None
+returns-in-None g c = rw (← c.in-None.ensures, c.new.ensures.items) refl

@@ -2,6 +2,7 @@ use Rattle.std.proofs.Common.{◌∙◌, sym}
 use Rattle.std.proofs.Math.Bool.{true≢false}
 use Rattle.program_desc.proofs.DescribedLemmas.{described-table, described-no_text}
 use Rattle.program_desc.proofs.DescribedLemmas.{described-no_table}
+use Rattle.program_desc.proofs.MenuLemmas.{menu_read}
 use Rattle.program_desc.proofs.document.read_description.Goals as goal
 
 pub returns-in_default-clause-given : goal.returns-in_default-clause-given
@@ -14,7 +15,7 @@ returns-in-Ok-table_from_str-clause-given g c =
     let is =
     described-table c.args.bytes.now c.in-Ok.text.now _ text.0 text.1
     c.in-Ok-table_from_str.ensures.ok in
-    rw is c.described_in.ensures.given
+    rw is c.described_in.ensures
 
 pub returns-else-is_memory-clause-given : goal.returns-else-is_memory-clause-given
 returns-else-is_memory-clause-given g c =
@@ -22,3 +23,6 @@ returns-else-is_memory-clause-given g c =
     c.in-Err.ensures.refused
     (λ memory. true≢false (sym (c.is_memory.ensures.1 memory) ∙ c.if-is_memory.false)) in
     described-no_table c.args.bytes.now c.in-Ok.text.now c.in-Ok.ensures.cases.0 none
+
+pub returns-in-Ok-table_from_str-clause-menu : goal.returns-in-Ok-table_from_str-clause-menu
+returns-in-Ok-table_from_str-clause-menu g c = menu_read _ c.described_in.result c.described_in.ensures
