@@ -2,17 +2,17 @@
 # Seconds and peak memory of loading one entry into a guest's memory, beside a plain program that copies each file once to its
 # place (plain_guest.rs).
 #
-#   bench/guest.sh [EXAMPLES]
+#   bench/guest.sh [PROGRAM]
 #
 # The files are a Linux kernel of 10 MiB and an initial ramdisk of 200 MiB. The program under test is the argument, else
-# crates/example_callers/out/example_callers. Both programs read the files, and then load them once or eleven times; the difference
+# crates/test_probe/out/test_probe, which runs example_callers. Both programs read the files, and then load them once or eleven times; the difference
 # is ten loads, without what reading costs. The programs take turns, and the best of all rounds counts. Peak memory is that of
 # one load; files and guest are 722 MiB of it, of which the plain program touches only what it writes. Needs bash 5,
 # coreutils, awk and rustc.
 # shellcheck source-path=SCRIPTDIR source=loads.sh
 source "$(dirname "${BASH_SOURCE[0]}")/loads.sh"
 
-examples=$(realpath -m "${1:-$here/../crates/example_callers/out/example_callers}")
+examples=$(realpath -m "${1:-$here/../crates/test_probe/out/test_probe}")
 [ -x "$examples" ] || fail "$examples is not built: ./test builds it"
 has_rustc || fail "rustc is not at hand"
 build plain_guest

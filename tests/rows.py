@@ -5,7 +5,9 @@ from concurrent.futures import ThreadPoolExecutor
 from pathlib import Path
 
 from tests import tables
-from tests.support import PROBE, Checks, Ran, need_built, run
+from tests.support import PROBE, TOP, Checks, Ran, need_built, run
+
+EXAMPLES_PRINTED = TOP / "crates/example_callers/printed.txt"
 
 
 def answered(table: Path) -> Ran:
@@ -23,6 +25,11 @@ class Rows(Checks):
         with ThreadPoolExecutor(os.cpu_count() or 1) as pool:
             for table, ran in zip(found, pool.map(answered, found)):
                 self.compare(table, ran)
+
+    def test_examples(self) -> None:
+        with self.check("the examples of crates/example_callers print what its README says"):
+            ran = run(PROBE, "examples")
+            self.assertEqual((ran.status, ran.out), (0, EXAMPLES_PRINTED.read_bytes()), "status and lines")
 
     def compare(self, table: Path, ran: Ran) -> None:
         name = tables.name_of(table)

@@ -17,7 +17,7 @@ use std::io;
 const FILES: [&[u8]; 3] = [b"no kernel", &KERNEL, b"hello"];
 
 /// Loads the kernel into a guest's memory.
-pub fn show_guest(rt: &HostRuntime) -> io::Result<()> {
+fn show_guest(rt: &HostRuntime) -> io::Result<()> {
     let entry = Entry::multiboot2(rt.alloc(), 0, b"guest", Vec::new(rt.alloc()))?;
     let mut memory = Vec::from_elem(rt.alloc(), 0u8, MACHINE_SIZE as usize)?;
     let files = [SliceView::new(&KERNEL)];
@@ -49,7 +49,7 @@ fn show_image<M: PhysMem>(rt: &HostRuntime, memory: &M, handoff: &Handoff<Global
 }
 
 /// Boots the menu by events.
-pub fn show_by_hand(rt: &HostRuntime) -> io::Result<()> {
+fn show_by_hand(rt: &HostRuntime) -> io::Result<()> {
     let alloc = rt.alloc();
     let Ok(machine) = machine(alloc) else {
         return rt.println("by hand: no machine");
@@ -69,7 +69,7 @@ pub fn show_by_hand(rt: &HostRuntime) -> io::Result<()> {
 }
 
 /// Boots the menu over the disk.
-pub fn show_disk(rt: &HostRuntime) -> io::Result<()> {
+fn show_disk(rt: &HostRuntime) -> io::Result<()> {
     let alloc = rt.alloc();
     let Ok(machine) = machine(alloc) else {
         return rt.println("disk: no machine");
@@ -86,4 +86,11 @@ pub fn show_disk(rt: &HostRuntime) -> io::Result<()> {
         }
         Err(fault) => println!(rt; "disk: {fault}"),
     }
+}
+
+/// Runs each program on what `menu.rt` has.
+pub fn show_all(rt: &HostRuntime) -> io::Result<()> {
+    show_guest(rt)?;
+    show_by_hand(rt)?;
+    show_disk(rt)
 }
