@@ -8,8 +8,9 @@ use crate::guest_from_files::show_load;
 use crate::menu::{KERNEL, MACHINE_SIZE, machine, menu};
 use bl_image::{MemSink, write_image};
 use bl_load::{Entry, Handoff};
+use bl_map::Machine;
 use bl_mem::{Flat, PhysMem, SliceView};
-use bl_session::Session;
+use bl_session::{Menu, Session};
 use std::alloc::Global;
 use std::io;
 
@@ -48,17 +49,11 @@ fn show_image<M: PhysMem>(rt: &HostRuntime, memory: &M, handoff: &Handoff<Global
     }
 }
 
-/// Boots the menu by events.
-fn show_by_hand(rt: &HostRuntime) -> io::Result<()> {
+/// Boots a menu by events.
+fn show_events(rt: &HostRuntime, machine: &Machine<Global>, menu: &Menu<Global>) -> io::Result<()> {
     let alloc = rt.alloc();
-    let Ok(machine) = machine(alloc) else {
-        return rt.println("by hand: no machine");
-    };
-    let Ok(menu) = menu(alloc) else {
-        return rt.println("by hand: no menu");
-    };
     let mut memory = Flat::new(alloc, machine.size(), 0xA5)?;
-    let mut session = Session::new(alloc, &machine, &menu, &[Some(9), Some(160), Some(5)])?;
+    let mut session = Session::new(alloc, machine, menu, &[Some(9), Some(160), Some(5)])?;
     let progress = boot_by_hand(&mut memory, &mut session, &FILES);
     println!(rt; "by hand: {progress:?}")?;
     match session.into_outcome() {
@@ -68,18 +63,12 @@ fn show_by_hand(rt: &HostRuntime) -> io::Result<()> {
     }
 }
 
-/// Boots the menu over the disk.
-fn show_disk(rt: &HostRuntime) -> io::Result<()> {
+/// Boots a menu over the disk.
+fn show_disk(rt: &HostRuntime, machine: &Machine<Global>, menu: &Menu<Global>) -> io::Result<()> {
     let alloc = rt.alloc();
-    let Ok(machine) = machine(alloc) else {
-        return rt.println("disk: no machine");
-    };
-    let Ok(menu) = menu(alloc) else {
-        return rt.println("disk: no menu");
-    };
     let mut memory = Flat::new(alloc, machine.size(), 0)?;
     let files = [Some(FILES[0]), Some(FILES[1]), Some(FILES[2])];
-    match boot_from_disk(alloc, &mut memory, &files, &machine, &menu) {
+    match boot_from_disk(alloc, &mut memory, &files, machine, menu) {
         Ok(outcome) => {
             show_handoff(rt, "disk", &outcome.handoff)?;
             show_image(rt, &memory, &outcome.handoff)
@@ -88,9 +77,20 @@ fn show_disk(rt: &HostRuntime) -> io::Result<()> {
     }
 }
 
+/// Boots the menu of `menu.rt` by events, and over the disk.
+fn show_boots(rt: &HostRuntime) -> io::Result<()> {
+    let Ok(machine) = machine(rt.alloc()) else {
+        return rt.println("no machine");
+    };
+    let Ok(menu) = menu(rt.alloc()) else {
+        return rt.println("no menu");
+    };
+    show_events(rt, &machine, &menu)?;
+    show_disk(rt, &machine, &menu)
+}
+
 /// Runs each program on what `menu.rt` has.
 pub fn show_all(rt: &HostRuntime) -> io::Result<()> {
     show_guest(rt)?;
-    show_by_hand(rt)?;
-    show_disk(rt)
+    show_boots(rt)
 }

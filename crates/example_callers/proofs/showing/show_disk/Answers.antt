@@ -7,5 +7,5 @@ show_image-requires c =
     let size =
     c.boot_from_disk.ensures.size ∙ ap (λ (m : List ℕ). length m) c.in_ok-memory.ensures.ok
     ∙ length-replicate c.size.result 0 ∙ c.size.ensures.size in
-    λ k d h. let inside = c.in-Ok-boot_from_disk.ensures.inside k d h in
+    λ k d h. let inside = c.in-Ok.ensures.inside k d h in
     omega (arith, inside, size)

@@ -2,7 +2,7 @@ use Rattle.std.proofs.Common.{◌∙◌, ℕ, List, ap, arith, length}
 use Rattle.std.proofs.lemmas.List.{length-replicate}
 use Rattle.bl_session.specs.session.BootSteps.{BootFacts}
 use Rattle.bl_session.specs.session.Phases.{SessionFacts}
-use Rattle.example_callers.proofs.showing.show_by_hand.Goals as goal
+use Rattle.example_callers.proofs.showing.show_events.Goals as goal
 
 pub show_image-requires : goal.show_image-requires
 show_image-requires c =
