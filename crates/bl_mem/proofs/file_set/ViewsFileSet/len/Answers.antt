@@ -1,5 +1,6 @@
 use Rattle.std.proofs.Common.{◌<◌, ◌∙◌, ℕ, List, [], length, ap, sym, arith}
 use Rattle.std.proofs.lemmas.List.{get_or-map, length-map}
+use Rattle.std.proofs.lemmas.Grind.{common_steps}
 use Rattle.bl_mem.proofs.file_set.ViewsFileSet.len.Goals as goal
 
 pub bounds-self-file : goal.bounds-self-file
@@ -15,3 +16,6 @@ returns g c =
     c.len.ensures
     ∙ ap (λ (text : List ℕ). length text)
     (sym (get_or-map g.V.ByteView.bytes views c.args.file c.index-self-file.result [] within))
+
+pub offset_bounds-self-file : goal.offset_bounds-self-file
+offset_bounds-self-file g c = grind (arith, common_steps)

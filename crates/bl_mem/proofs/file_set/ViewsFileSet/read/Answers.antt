@@ -1,6 +1,7 @@
 use Rattle.std.proofs.Common.{◌<◌, ◌+◌, ◌∙◌, ℕ, List, [], length, ap, sym, arith}
 use Rattle.std.proofs.Common.{slice_range}
 use Rattle.std.proofs.lemmas.List.{get_or-map, length-map}
+use Rattle.std.proofs.lemmas.Grind.{common_steps}
 use Rattle.bl_mem.proofs.file_set.ViewsFileSet.read.Goals as goal
 
 pub bounds-self-file : goal.bounds-self-file
@@ -25,3 +26,6 @@ returns g c =
     c.read.ensures
     ∙ ap (λ (text : List ℕ). slice_range text at (at + length c.args.out.now))
     (sym (get_or-map g.V.ByteView.bytes views c.args.file c.index-self-file.result [] within))
+
+pub offset_bounds-self-file : goal.offset_bounds-self-file
+offset_bounds-self-file g c = grind (arith, common_steps)

@@ -4,6 +4,7 @@ use Rattle.std.proofs.lemmas.Slice.{take-put_mid}
 use Rattle.bl_mem.specs.Sparse.{bytes_of}
 use Rattle.bl_mem.proofs.ValueLemmas.{bytes_of_length}
 use Rattle.bl_mem.proofs.SparseLemmas.{read_on}
+use Rattle.std.proofs.lemmas.Grind.{common_steps}
 use Rattle.bl_mem.proofs.sparse.SparsePhysMem.read.Goals as goal
 
 pub loop-done-preserved : goal.loop-done-preserved
@@ -27,3 +28,9 @@ loop-done-preserved g c =
           (take-put_mid done (done + next - done) c.loop-done.out piece
           (done + next) (omega arith) (omega arith));
     }
+
+pub returns : goal.returns
+returns g c = grind (arith, common_steps)
+
+pub loop-done-init : goal.loop-done-init
+loop-done-init g c = grind (arith, common_steps, bytes_of_length)

@@ -3,6 +3,7 @@ use Rattle.std.proofs.lemmas.List.{take-append-drop}
 use Rattle.bl_mem.proofs.SparseLemmas.{write_on}
 use Rattle.bl_mem.specs.Sparse.{bytes_of}
 use Rattle.bl_mem.proofs.ValueLemmas.{bytes_of_length}
+use Rattle.std.proofs.lemmas.Grind.{common_steps}
 use Rattle.bl_mem.proofs.sparse.SparsePhysMem.write.Goals as goal
 
 pub loop-done-preserved : goal.loop-done-preserved
@@ -31,3 +32,9 @@ loop-done-init g c =
       after = search (rules, take-append-drop);
       kept = λ a had. had;
     }
+
+pub returns-clause-after : goal.returns-clause-after
+returns-clause-after g c = grind (arith, common_steps)
+
+pub returns-clause-kept : goal.returns-clause-kept
+returns-clause-kept g c = grind (arith, common_steps)

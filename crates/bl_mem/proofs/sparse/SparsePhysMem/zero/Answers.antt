@@ -4,6 +4,7 @@ use Rattle.bl_mem.specs.Memory.{overwrite}
 use Rattle.bl_mem.proofs.Overwrites.{overwrite_more}
 use Rattle.bl_mem.specs.Sparse.{bytes_of}
 use Rattle.bl_mem.proofs.ValueLemmas.{bytes_of_length}
+use Rattle.std.proofs.lemmas.Grind.{common_steps}
 use Rattle.bl_mem.proofs.sparse.SparsePhysMem.zero.Goals as goal
 
 pub loop-at-preserved : goal.loop-at-preserved
@@ -27,4 +28,20 @@ loop-at-preserved g c =
           ∙ ap (overwrite old start)
           (replicate-append-replicate done next 0 ∙ ap (λ n. replicate n 0) all));
       kept = λ a had. c.zero_frame.ensures.kept a (c.loop-at.invariant.kept a had);
+    }
+
+pub loop-at-init : goal.loop-at-init
+loop-at-init g c = grind (arith, common_steps)
+
+pub returns-clause-kept : goal.returns-clause-kept
+returns-clause-kept g c = grind (arith, common_steps)
+
+pub zero_frame-requires : goal.zero_frame-requires
+zero_frame-requires g c =
+    let at = c.loop-at.at in
+    let size = bytes_of_length c.args.self.now.frames c.args.self.now.size in
+    record {
+      inside = omega (arith, size, c.loop-at.invariant.size, c.requires.inside);
+      one = omega arith;
+      held = c.loop-at.invariant.kept at (c.requires.room at (omega arith) (omega arith));
     }

@@ -53,3 +53,9 @@ index_mut-requires g c = grind (arith, common_steps)
 
 pub returns-clause-bytes : goal.returns-clause-bytes
 returns-clause-bytes g c = grind (arith, common_steps)
+
+pub overflow_cast-slot : goal.overflow_cast-slot
+overflow_cast-slot g c = grind (arith, common_steps)
+
+pub overflow_sub-self : goal.overflow_sub-self
+overflow_sub-self g c = grind (arith, common_steps)

@@ -1,7 +1,8 @@
-use Rattle.std.proofs.Common.{subst, sym}
+use Rattle.std.proofs.Common.{subst, sym, arith}
 use Rattle.bl_mem.specs.SparseFrames.{SparseFramesFacts}
 use Rattle.bl_mem.specs.internal.FrameSlots.{ArePair}
 use Rattle.bl_mem.proofs.PairLemmas.{leaves}
+use Rattle.std.proofs.lemmas.Grind.{common_steps}
 use Rattle.bl_mem.proofs.sparse_frames.SparseFrames.leave.Goals as goal
 
 pub invariant_of-self : goal.invariant_of-self
@@ -18,3 +19,9 @@ returns g c =
     c.self.invariant c.args.number c.args.other c.args.slot
     (subst (λ (facts : SparseFramesFacts). ArePair facts c.args.number c.args.other c.args.slot)
     (sym c.self.view_is) c.requires)).1
+
+pub index_mut-requires : goal.index_mut-requires
+index_mut-requires g c = grind (arith, common_steps)
+
+pub index_mut-requires-2 : goal.index_mut-requires-2
+index_mut-requires-2 g c = grind (arith, common_steps)

@@ -6,6 +6,7 @@ use Rattle.bl_mem.specs.internal.FrameSlots.{slot_of, partner, AreSoundSlots}
 use Rattle.bl_mem.proofs.FrameLemmas.{kept_set, beside_slot, in_table, slot_room, slot_owes}
 use Rattle.bl_mem.proofs.PairLemmas.{reads_other}
 use Rattle.bl_mem.proofs.SoundLemmas.{sound_set}
+use Rattle.std.proofs.lemmas.Grind.{common_steps}
 use Rattle.bl_mem.proofs.sparse_frames.SparseFrames.rewrite.Goals as goal
 
 pub invariant_of-self : goal.invariant_of-self
@@ -48,3 +49,6 @@ returns-clause-after g c =
     rw c.put_at.ensures.items
     (beside_slot kept part slot c.args.place s place c.requires.inside (omega (arith, fits))
     (reads_other table _ _ _ number j slot s sound other alone own is) small)))
+
+pub index_mut-requires : goal.index_mut-requires
+index_mut-requires g c = grind (arith, common_steps)
