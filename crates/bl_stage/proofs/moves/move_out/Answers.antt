@@ -6,6 +6,7 @@ use Rattle.bl_stage.specs.internal.Cells.{cell_at, is_spare_cell, is_stranded_ce
 use Rattle.bl_stage.proofs.SpareLemmas.{enough_first, enough_rest, spare_is, enough_after}
 use Rattle.bl_stage.proofs.SpareLemmas.{spare_before}
 use Rattle.bl_stage.proofs.MoveLemmas.{none_moved, none_more, one_more}
+use Rattle.std.proofs.lemmas.Grind.{common_steps}
 use Rattle.bl_stage.proofs.moves.move_out.Goals as goal
 use Rattle.bl_stage.proofs.moves.move_out.Goals.{then-cell+in-Some, then-cell+in_default, else-cell}
 
@@ -108,3 +109,6 @@ move_slot-requires g c =
       to = within;
       small = omega (arith, wide, within, c.requires.pool.small);
     }
+
+pub next_spare-to-requires : goal.next_spare-to-requires
+next_spare-to-requires g c = grind (arith, common_steps)

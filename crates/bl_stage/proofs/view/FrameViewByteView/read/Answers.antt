@@ -27,3 +27,13 @@ loop-done-preserved g c =
           (take-put_mid done (done + next - done) c.loop-done.out piece
           (done + next) (omega arith) (omega arith));
     }
+
+pub loop-done-init : goal.loop-done-init
+loop-done-init g c =
+    let this = c.args.self.now in
+    let size = staged_length (g.M.PhysMem.bytes this.memory.now) this.frames.now this.size in
+    record {
+      within = omega arith;
+      inside = omega (arith, size, c.requires);
+      after = search rules;
+    }
