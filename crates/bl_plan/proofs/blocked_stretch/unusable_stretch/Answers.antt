@@ -3,6 +3,7 @@ use Rattle.bl_plan.proofs.KindLemmas.{gap_blocks, last_blocks, usable_more, ends
 use Rattle.bl_plan.proofs.blocked_stretch.unusable_stretch.Goals.{else-from-run-via-then-from-run+then-start-run+else-from-end}
 use Rattle.bl_plan.proofs.blocked_stretch.unusable_stretch.Goals.{else-from-run-via-then-from-run+else-start-run}
 use Rattle.bl_plan.proofs.blocked_stretch.unusable_stretch.Goals.{else-from-run-via-else-from-run}
+use Rattle.std.proofs.lemmas.Grind.{common_steps}
 use Rattle.bl_plan.proofs.blocked_stretch.unusable_stretch.Goals as goal
 
 pub returns-then-from-end : goal.returns-then-from-end
@@ -28,3 +29,6 @@ loop-run-preserved c = record {
       ])
       c.loop-run.invariant.usable above below in_run;
 }
+
+pub loop-run-preserved-in_default : goal.loop-run-preserved-in_default
+loop-run-preserved-in_default c = grind (arith, common_steps)

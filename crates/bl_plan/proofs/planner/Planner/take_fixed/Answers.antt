@@ -32,3 +32,13 @@ returns-clause-free g c = (
 
 pub returns-clause-taken : goal.returns-clause-taken
 returns-clause-taken g c = search rules
+
+pub take-requires-clause-usable : goal.take-requires-clause-usable
+take-requires-clause-usable g c =
+    subst (λ (p : PlannerFacts). AllUsable p.facts c.args.range.start c.args.range.end)
+    c.self.view_is c.if-not-is_usable.ensures.usable
+
+pub returns-then-not-is_usable-clause-fault : goal.returns-then-not-is_usable-clause-fault
+returns-then-not-is_usable-clause-fault g c =
+    subst (λ (p : PlannerFacts). AllUsable p.facts c.args.range.start c.args.range.end → ⊥)
+    c.self.view_is c.if-not-is_usable.ensures.usable
