@@ -1,5 +1,5 @@
 -- How boots end.
-use Rattle.std.proofs.Common.{◌≡◌, ◌++◌, ℕ, List, Some, Result, Ok, Err, inl, inr, map, refl}
+use Rattle.std.proofs.Common.{◌≡◌, ◌++◌, ℕ, List, Some, Result, Ok, Err, map, refl}
 use Rattle.bl_map.specs.MachineFacts.{MachineFacts}
 use Rattle.bl_load.specs.WellFormedEntry.{IsWellFormedValue}
 use Rattle.bl_load.specs.Handover.{Handover}
@@ -16,7 +16,7 @@ use Rattle.program_desc.specs.declared.desc.Description.{Description}
 use Rattle.program_desc.specs.Described.{DescriptionFacts, described}
 use Rattle.program_desc.specs.declared.fault.DescFault.{DescFault}
 use Rattle.program_desc.specs.declared.fault.DescFault.TheVariants as desc_fault
-use Rattle.program_desc.specs.Views.{IsReaderFault, view}
+use Rattle.program_desc.specs.Views.{view}
 use Rattle.program_commands.specs.declared.described.boot_end.End.{End}
 use Rattle.program_commands.specs.declared.described.boot_end.End.TheVariants.{Booted, NoEntryLeft}
 use Rattle.program_commands.specs.declared.booting.end_fault.EndFault.{EndFault}
@@ -26,9 +26,10 @@ use Rattle.program_commands.specs.declared.booting.end_fault.EndFault.TheVariant
 use Rattle.program_commands.specs.described.FoundFiles.{AreFound}
 use Rattle.program_commands.specs.described.BootCases.{boot_of}
 use Rattle.program_commands.specs.described.DescribedMenu.{attempted_file_names, menu_of}
-use Rattle.program_commands.specs.described.DescribedMachine.{IsMachineFault, IsMachineOf}
+use Rattle.program_commands.specs.described.DescribedMachine.{IsMachineOf}
 use Rattle.program_commands.specs.described.BootCases.{BootCase}
 use Rattle.program_commands.specs.Ends.{Surroundings}
+use Rattle.program_commands.specs.internal.described.ReadMachines.{IsReadingFault}
 use Rattle.program_commands.specs.internal.CallEnds.{end_fault_of_desc_fault, IsImageWriteFault}
 use Rattle.program_commands.specs.internal.CallEnds.{CountsSinkFault}
 use Rattle.program_commands.specs.internal.CallEnds.{HasAsked}
@@ -58,45 +59,23 @@ not_handed description facts files entry earlier handover came old new s t u v N
 
 -- ---- the names that were asked for
 
--- none is, if there is no machine
-pub asked_without : (description : DescriptionFacts) (names before : List (List ℕ)) (fault : DescFault)
-    → IsMachineFault description fault
+-- none is, if nothing is read
+pub asked_unread : (names before : List (List ℕ)) (fault : DescFault)
     → HasAsked names before before (Err (end_fault_of_desc_fault fault))
-asked_without description names before desc_fault.BadDescription is = none_asked names before
-asked_without description names before desc_fault.NoMemory is = none_asked names before
+asked_unread names before desc_fault.BadDescription = none_asked names before
+asked_unread names before desc_fault.NoMemory = none_asked names before
 
--- nothing is described, or memory ran out: the boot ends as it began
-pub undescribed : {F : Type 0} (answers : F → List ℕ → File → Type 0) (faults : F → ℕ)
-    (desc : List ℕ) (around : Surroundings F) (fault : DescFault)
-    → IsReaderFault fault (described desc)
+-- no machine is described, or memory ran out: the boot ends as it began
+pub unread : {F : Type 0} (answers : F → List ℕ → File → Type 0) (faults : F → ℕ)
+    (desc : List ℕ) (around : Surroundings F) (fault : DescFault) → IsReadingFault desc fault
     → BootEnds answers faults desc around around (Err (end_fault_of_desc_fault fault))
-undescribed answers faults desc around desc_fault.BadDescription none = (inl none, refl)
-undescribed answers faults desc around desc_fault.NoMemory given = (refl, refl)
+unread answers faults desc around desc_fault.BadDescription bad = (bad, refl)
+unread answers faults desc around desc_fault.NoMemory given = (refl, refl)
 
-pub sound_undescribed : (faults : ℕ) (fault : DescFault)
+pub sound_unread : (faults : ℕ) (fault : DescFault)
     → CountsSinkFault faults faults (Err (end_fault_of_desc_fault fault))
-sound_undescribed faults desc_fault.BadDescription = refl
-sound_undescribed faults desc_fault.NoMemory = refl
-
-pub asked_undescribed : (names before : List (List ℕ)) (fault : DescFault)
-    → HasAsked names before before (Err (end_fault_of_desc_fault fault))
-asked_undescribed names before desc_fault.BadDescription = none_asked names before
-asked_undescribed names before desc_fault.NoMemory = none_asked names before
-
--- so it does where there is no such machine
-pub without_machine : {A F : Type 0} (desc : List ℕ) (d : Description A)
-    → described desc ≡ Some (view d)
-    → (answers : F → List ℕ → File → Type 0) (faults : F → ℕ) (around : Surroundings F)
-    (fault : DescFault) → IsMachineFault (view d) fault
-    → BootEnds answers faults desc around around (Err (end_fault_of_desc_fault fault))
-without_machine desc d is answers faults around desc_fault.BadDescription bad =
-    (inr (view d, is, bad), refl)
-without_machine desc d is answers faults around desc_fault.NoMemory given = (refl, refl)
-
-pub sound_without : (description : DescriptionFacts) (faults : ℕ) (fault : DescFault)
-    → IsMachineFault description fault → CountsSinkFault faults faults (Err (end_fault_of_desc_fault fault))
-sound_without description faults desc_fault.BadDescription bad = refl
-sound_without description faults desc_fault.NoMemory given = refl
+sound_unread faults desc_fault.BadDescription = refl
+sound_unread faults desc_fault.NoMemory = refl
 
 -- all are, before the boot of what was found
 pub asked_by : (ended : Result End EndFault) (names before after : List (List ℕ))

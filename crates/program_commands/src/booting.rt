@@ -6,4 +6,5 @@ mod handover;
 mod whole_boot;
 
 pub use end_fault::EndFault;
+pub use handover::say_none_left;
 pub use whole_boot::boot;

@@ -16,7 +16,7 @@ pub use boot_inputs::{ReadyBoot, ready_boot};
 pub use described_boot::DescribedBoot;
 pub use files::{AskedNames, Files, MemFiles};
 pub use found_files::find_files;
-pub use machine::machine_of;
+pub use machine::{DescribedMachine, machine_of, read_machine};
 pub use menu::{entry_of, menu_of, title_of};
 pub use names::attempted_file_names;
 pub use piece_order::order_of;

@@ -9,11 +9,12 @@ ghost use Rattle.program_commands.specs.described.BootCases.{names_fetched};
 ghost use Rattle.program_commands.specs.described.DescribedMachine.{IsBadDescription};
 ghost use Rattle.program_commands.specs.described.DescribedMenu.{max_names};
 ghost use Rattle.program_commands.specs.described.FoundFiles.{AsksPrefix};
+ghost use Rattle.program_commands.specs.internal.described.SoughtFiles.{SeeksNamesOf};
 
-use crate::described::{DescribedBoot, End, Files, ReadyBoot, machine_of, ready_boot};
+use crate::described::{DescribedBoot, End, Files, ReadyBoot, read_machine, ready_boot};
 use crate::digesting::found_digests::digest_found;
 use bl_session::Order;
-use program_desc::{DescFault, read_description};
+use program_desc::DescFault;
 use std::alloc::{Allocator, Global};
 
 mod found_digests;
@@ -37,18 +38,13 @@ fn run_digest<A: Allocator + Copy, F: Files, B: Allocator>(
         say.old.items say.new.items result }
     ensures asked { DigestAsks (names_fetched (described desc.now))
         (F.asked files.old) (F.asked files.new) result }
-    ensures inline { HasInlineFiles desc.now → files.new ≡ files.old }
-    ensures same_files { (file : List ℕ) (answer : File) →
-        F.answers files.new file answer → F.answers files.old file answer }
-    ensures missing { (F.faults files.old ≤ F.faults files.new)
-        × (F.faults files.new ≤ F.faults files.old + length (names_sought (described desc.now))) }
-    ensures few { F.faults files.new ≤ F.faults files.old + max_names }
+    ensures sought { SeeksNamesOf F.answers F.faults desc.now files.old files.new }
 {
-    let description = read_description(alloc, global, desc)?;
-    let machine = machine_of(alloc, &description)?;
+    let read = read_machine(alloc, global, desc)?;
+    let size = read.machine.size();
     // Neither its memory nor its store is used: they have taken nothing, and a store in any order
     // has the same files.
-    let ready = ready_boot(alloc, &description, machine.size(), files, Order::Forward)?;
+    let ready = ready_boot(alloc, &read.description, size, files, Order::Forward)?;
     let ReadyBoot {
         names,
         menu,
@@ -58,11 +54,14 @@ fn run_digest<A: Allocator + Copy, F: Files, B: Allocator>(
     drop(names);
     drop(memory);
     let boot = DescribedBoot {
-        description: &description,
-        machine: &machine,
+        description: &read.description,
+        machine: &read.machine,
         menu: &menu,
     };
-    Ok(digest_found(alloc, store.fetched(), &boot, say)?)
+    match digest_found(alloc, store.fetched(), &boot, say) {
+        Ok(end) => Ok(end),
+        Err(_) => Err(DescFault::NoMemory),
+    }
 }
 
 /// Says what `boot` would say of a description, line by line, and after an entry that would be

@@ -5,8 +5,7 @@ ghost use Rattle.program_commands.specs.MachineMap.{SaysMachineMap};
 ghost use Rattle.program_commands.specs.internal.CallEnds.{MapEnds};
 
 use crate::booting::EndFault;
-use crate::described::machine_of;
-use program_desc::read_description;
+use crate::described::read_machine;
 use program_say::say_map;
 use std::alloc::{Allocator, Global};
 
@@ -19,8 +18,8 @@ fn run_map<A: Allocator + Copy, B: Allocator>(
 ) -> Result<(), EndFault>
     ensures { MapEnds desc.now say.old.items say.new.items result }
 {
-    let description = read_description(alloc, global, desc)?;
-    let machine = machine_of(alloc, &description)?;
+    let read = read_machine(alloc, global, desc)?;
+    let machine = &read.machine;
     say_map(
         alloc,
         machine.normal(),

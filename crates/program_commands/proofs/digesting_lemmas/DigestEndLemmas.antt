@@ -1,5 +1,5 @@
 -- How the digest of a boot ends, by what its steps answer.
-use Rattle.std.proofs.Common.{◌≡◌, ◌++◌, ℕ, List, Some, Result, Ok, Err, map, inl, inr, refl, subst}
+use Rattle.std.proofs.Common.{◌≡◌, ℕ, List, Some, Ok, Err, map, refl, subst}
 use Rattle.bl_map.specs.MachineFacts.{MachineFacts}
 use Rattle.bl_load.specs.WellFormedEntry.{IsWellFormedValue}
 use Rattle.bl_stage.specs.Files.{File, size_of}
@@ -8,38 +8,30 @@ use Rattle.bl_session.specs.menu.EntryContents.{entry_value_in}
 use Rattle.bl_session.specs.session.Phases.{boot_facts}
 use Rattle.program_desc.specs.declared.desc.Description.{Description}
 use Rattle.program_desc.specs.Described.{described}
-use Rattle.program_desc.specs.Views.{IsReaderFault, view}
+use Rattle.program_desc.specs.Views.{view}
 use Rattle.program_desc.specs.declared.fault.DescFault.{DescFault}
 use Rattle.program_desc.specs.declared.fault.DescFault.TheVariants.{BadDescription, NoMemory}
 use Rattle.program_commands.specs.described.BootCases.{BootCase}
-use Rattle.program_commands.specs.described.DescribedMachine.{IsMachineFault, IsMachineOf}
+use Rattle.program_commands.specs.described.DescribedMachine.{IsMachineOf}
+use Rattle.program_commands.specs.internal.described.ReadMachines.{IsReadingFault}
 use Rattle.program_commands.specs.described.BootCases.{boot_of}
 use Rattle.program_commands.specs.described.DescribedMenu.{attempted_file_names, menu_of}
 use Rattle.program_commands.specs.described.FoundFiles.{AreFound}
 use Rattle.program_commands.specs.declared.described.boot_end.End.{End}
 use Rattle.program_commands.specs.declared.described.boot_end.End.TheVariants.{Booted, NoEntryLeft}
-use Rattle.program_commands.proofs.described_lemmas.AskedLemmas.{all_asked}
-use Rattle.program_commands.specs.internal.digesting.DigestEnds.{DigestAsks, DigestEnds}
+use Rattle.program_commands.specs.internal.digesting.DigestEnds.{DigestEnds}
 use Rattle.program_commands.specs.internal.digesting.DigestEnds.{FoundDigestEnds}
 
 -- files of a type F
 module _ {F : Type 0} (answers : F → List ℕ → File → Type 0) (faults : F → ℕ) (desc : List ℕ)
   where
-    -- nothing is described, or memory ran out
-    pub undescribed : (files : F) (said : List ℕ) (fault : DescFault)
-        → IsReaderFault fault (described desc)
+    -- no machine is described, or memory ran out
+    pub unread : (files : F) (said : List ℕ) (fault : DescFault) → IsReadingFault desc fault
         → DigestEnds answers faults desc files files said said (Err fault)
-    undescribed files said BadDescription none = (inl none, refl, refl)
-    undescribed files said NoMemory given = refl
+    unread files said BadDescription bad = (bad, refl, refl)
+    unread files said NoMemory given = refl
 
     module _ {A : Type 0} (d : Description A) (is : described desc ≡ Some (view d)) where
-      -- there is no such machine
-      pub without_machine : (files : F) (said : List ℕ) (fault : DescFault)
-          → IsMachineFault (view d) fault
-          → DigestEnds answers faults desc files files said said (Err fault)
-      without_machine files said BadDescription bad = (inr (view d, is, bad), refl, refl)
-      without_machine files said NoMemory given = refl
-
       -- it ends as the digest of what was found
       module _ (facts : MachineFacts) (machine : IsMachineOf (view d) facts) (before after : F)
           (files : List File)
@@ -90,9 +82,3 @@ module _ {F : Type 0} (answers : F → List ℕ → File → Type 0) (faults : F
               (boot_facts facts (menu_of (view d)) (map size_of found)) found old new (Ok end)) same
               (subst (λ (m : MenuFacts). FoundDigestEnds (view d)
               (boot_facts facts m (map size_of fetched)) fetched old new (Ok end)) is ended))
-
--- each name was asked for, whatever came of the boot
-pub digest_asked : (ended : Result End DescFault) (names before after : List (List ℕ))
-    → after ≡ before ++ names → DigestAsks names before after ended
-digest_asked (Ok end) names before after all = all
-digest_asked (Err fault) names before after all = all_asked names before after all

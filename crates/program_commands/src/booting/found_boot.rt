@@ -18,20 +18,21 @@ use std::alloc::Allocator;
 pub fn boot_found<A: Allocator + Copy, M: PhysMem, S: Sink, B: Allocator>(
     alloc: A,
     memory: &mut M,
-    mut store: FileStore<A>,
+    store: &mut FileStore<A>,
     boot: &DescribedBoot<'_, A>,
     out: &mut S,
     say: &mut Vec<u8, B>,
 ) -> Result<End, EndFault>
     requires size { length (M.bytes memory.old) ≡ boot.now.machine.now.size }
-    requires store { store.given ≡ [] }
+    requires store { store.old.given ≡ [] }
     requires sink { S.faults out.old < 2 ^ 63 }
     ensures ends { FoundBootEnds (view boot.now.description.now)
-        (boot_facts boot.now.machine.now boot.now.menu.now (map size_of store.files)) store.files
+        (boot_facts boot.now.machine.now boot.now.menu.now (map size_of store.old.files))
+        store.old.files
         (S.contents out.old) (S.contents out.new) say.old.items say.new.items result }
     ensures faults { CountsSinkFault (S.faults out.old) (S.faults out.new) result }
 {
-    let ended = run(alloc, memory, &mut store, boot.machine, boot.menu);
+    let ended = run(alloc, memory, store, boot.machine, boot.menu);
     // For the proof: each ticket was answered once, with its piece.
     store.faithful();
     match ended {

@@ -13,9 +13,8 @@ ghost use Rattle.program_desc.specs.Described.{described};
 
 use crate::booting::end_fault::EndFault;
 use crate::booting::found_boot::boot_found;
-use crate::described::{DescribedBoot, End, Files, ReadyBoot, machine_of, order_of, ready_boot};
+use crate::described::{DescribedBoot, End, Files, ReadyBoot, order_of, read_machine, ready_boot};
 use bl_image::Sink;
-use program_desc::read_description;
 use program_line::Order;
 use std::alloc::{Allocator, Global};
 
@@ -39,22 +38,22 @@ fn run_boot<A: Allocator + Copy, F: Files, S: Sink, B: Allocator>(
         (F.asked files.old) (F.asked files.new) result }
     ensures sought { SeeksNamesOf F.answers F.faults desc.now files.old files.new }
 {
-    let description = read_description(alloc, global, desc)?;
-    let machine = machine_of(alloc, &description)?;
-    let ready = ready_boot(alloc, &description, machine.size(), files, order_of(order))?;
+    let read = read_machine(alloc, global, desc)?;
+    let size = read.machine.size();
+    let ready = ready_boot(alloc, &read.description, size, files, order_of(order))?;
     let ReadyBoot {
         names,
         menu,
         mut memory,
-        store,
+        mut store,
     } = ready;
     drop(names);
     let boot = DescribedBoot {
-        description: &description,
-        machine: &machine,
+        description: &read.description,
+        machine: &read.machine,
         menu: &menu,
     };
-    boot_found(alloc, &mut memory, store, &boot, out, say)
+    boot_found(alloc, &mut memory, &mut store, &boot, out, say)
 }
 
 /// Boots the first entry of a description's menu, in the order of attempts, that is not refused,

@@ -11,9 +11,10 @@ ghost use Rattle.program_desc.specs.Views.{view};
 ghost use Rattle.program_commands.specs.internal.digesting.DigestEnds.{FoundDigestEnds};
 ghost use Rattle.program_commands.specs.internal.digesting.EntryPlans.{file_texts};
 
+use crate::booting::say_none_left;
 use crate::described::{DescribedBoot, End, title_of};
 use crate::digesting::planned_menu::{MenuPlan, file_texts, indices_of, plan_menu};
-use crate::digesting::said_digests::{say_all_refused, say_digested};
+use crate::digesting::said_digests::say_digested;
 use bl_digest::{Digests, digest_plan};
 use bl_load::{Entry, Plan};
 use bl_session::Fetched;
@@ -56,7 +57,7 @@ pub fn digest_found<A: Allocator + Copy, B: Allocator>(
             Ok(End::Booted)
         }
         MenuPlan::NoneLeft(refused) => {
-            say_all_refused(alloc, &refused, say)?;
+            say_none_left(alloc, &refused, say)?;
             Ok(End::NoEntryLeft)
         }
     }

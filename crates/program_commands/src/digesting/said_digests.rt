@@ -1,12 +1,11 @@
 //! What is said of a boot, and of its digests.
 ghost use Rattle.std.specs.Prelude.{◌≡◌, ◌++◌, OnOk, OnErr};
 ghost use Rattle.program_commands.specs.digesting.Digested.{boot_lines};
-ghost use Rattle.program_say.specs.BootAndMapLines.{refused_lines, no_entry_line};
 ghost use Rattle.program_say.specs.DigestLines.{digest_lines};
 
 use bl_digest::Digests;
 use bl_session::RefusedEntry;
-use program_say::{say_booted, say_digests, say_no_entry_left, say_refusals};
+use program_say::{say_booted, say_digests, say_refusals};
 use std::alloc::{AllocError, Allocator};
 
 /// Appends the lines of digests. An error leaves the text as it was.
@@ -41,22 +40,5 @@ pub fn say_digested<A: Allocator + Copy, B: Allocator>(
     say_refusals(&mut lines, refused)?;
     say_booted(&mut lines, entry as u64, title)?;
     say_digests(&mut lines, digests)?;
-    say.extend_from_slice(&lines)
-}
-
-/// Appends the lines of a boot in which each entry that is attempted is refused. An error leaves
-/// the text as it was.
-pub fn say_all_refused<A: Allocator + Copy, B: Allocator>(
-    alloc: A,
-    refused: &[RefusedEntry],
-    say: &mut Vec<u8, B>,
-) -> Result<(), AllocError>
-    ensures ok { OnOk result (say.new.items ≡ say.old.items
-        ++ (refused_lines refused.now ++ no_entry_line)) }
-    ensures err { OnErr result (say.new.items ≡ say.old.items) }
-{
-    let mut lines = Vec::new(alloc);
-    say_refusals(&mut lines, refused)?;
-    say_no_entry_left(&mut lines)?;
     say.extend_from_slice(&lines)
 }

@@ -7,8 +7,8 @@ ghost use Rattle.program_commands.specs.internal.explaining.ExplanationEnds.{Has
 ghost use Rattle.program_commands.specs.internal.explaining.ExplanationEnds.{HasHandoverAt};
 
 use crate::described::DescribedBoot;
-use crate::explaining::found_entry::entry_with_files;
-use bl_load::{PrepFault, Step, prepare};
+use crate::explaining::found_entry::plan_found;
+use bl_load::{PrepFault, Step};
 use bl_map::Machine;
 use program_desc::EntryRow;
 use program_say::{Sought, entry_at};
@@ -25,8 +25,7 @@ fn steps_of<A: Allocator + Copy>(
     ensures { IfOk result (λ steps. AreEntrySteps A machine.now
         (value_sought sought.now (entry_view row.now)) steps.items) }
 {
-    let found = entry_with_files(alloc, sought, row)?;
-    match prepare(alloc, machine, &found.entry, &found.files) {
+    match plan_found(alloc, machine, sought, row) {
         Ok(plan) => Ok(plan.steps(alloc)?.steps),
         // What is handed over is refused by nothing.
         Err(PrepFault::Refused(_)) => unreachable!(),

@@ -109,23 +109,24 @@ fn tell_booted<A: Allocator + Copy, B: Allocator>(
 pub fn explain_found<A: Allocator + Copy, M: PhysMem, B: Allocator>(
     alloc: A,
     memory: &mut M,
-    mut store: FileStore<A>,
+    store: &mut FileStore<A>,
     boot: &DescribedBoot<'_, A>,
     names: &[&str],
     say: &mut Vec<u8, B>,
 ) -> Result<End, ExplainFault>
     requires size { length (M.bytes memory.old) ≡ boot.now.machine.now.size }
-    requires store { store.given ≡ [] }
+    requires store { store.old.given ≡ [] }
     requires few { length boot.now.description.now.entries.items ≤ 32 }
     requires menu { boot.now.menu.now ≡ menu_of (view boot.now.description.now) }
     requires names { map (λ n. n.now) names.now
         ≡ attempted_file_names (view boot.now.description.now) }
     ensures { ExplainFoundEnds A (view boot.now.description.now)
-        (boot_facts boot.now.machine.now boot.now.menu.now (map size_of store.files)) store.files
-        (record { names = map (λ n. n.now) names.now; files = store.files })
+        (boot_facts boot.now.machine.now boot.now.menu.now (map size_of store.old.files))
+        store.old.files
+        (record { names = map (λ n. n.now) names.now; files = store.old.files })
         say.old.items say.new.items result }
 {
-    let ended = run(alloc, memory, &mut store, boot.machine, boot.menu);
+    let ended = run(alloc, memory, store, boot.machine, boot.menu);
     // For the proof: each ticket was answered once, with its piece.
     store.faithful();
     let sought = Sought::new(names, store.fetched());

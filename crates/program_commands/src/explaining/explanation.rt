@@ -42,14 +42,14 @@ fn run_explain<A: Allocator + Copy, F: Files, B: Allocator>(
         names,
         menu,
         mut memory,
-        store,
+        mut store,
     } = ready;
     let boot = DescribedBoot {
         description: &description,
         machine: &machine,
         menu: &menu,
     };
-    explain_found(alloc, &mut memory, store, &boot, &names, say)
+    explain_found(alloc, &mut memory, &mut store, &boot, &names, say)
 }
 
 /// Tells the boot of a description for a person, line by line, in `say`: each entry that is

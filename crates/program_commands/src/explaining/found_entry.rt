@@ -1,13 +1,17 @@
 //! An entry of a description, with its files as they were found.
-ghost use Rattle.std.specs.Prelude.{◌≡◌, ◌∷◌, [], ◌++◌, IfOk, OnOk, map};
+ghost use Rattle.std.specs.Prelude.{◌≡◌, ◌∷◌, [], ◌++◌, IfOk, IfErr, OnOk, map};
+ghost use Rattle.bl_load.specs.Parts.{IsPrepFault};
 ghost use Rattle.program_desc.specs.EntryNames.{file_names, names_beside};
 ghost use Rattle.program_say.specs.Sought.{bytes_found};
 ghost use Rattle.program_commands.specs.internal.explaining.FoundEntries.{IsFoundEntry};
+ghost use Rattle.program_commands.specs.internal.explaining.FoundEntries.{IsFoundPlan};
 ghost use Rattle.program_commands.specs.internal.explaining.FoundEntries.{texts_of_views};
+ghost use Rattle.program_commands.specs.explaining.Details.{value_sought};
 ghost use Rattle.program_desc.specs.Views.{entry_view, form_view, module_view};
 
 use crate::described::entry_of;
-use bl_load::Entry;
+use bl_load::{Entry, Plan, PrepFault, prepare};
+use bl_map::Machine;
 use bl_mem::SliceView;
 use program_desc::{EntryForm, EntryRow, ModuleRow};
 use program_say::Sought;
@@ -94,7 +98,23 @@ pub fn entry_with_files<'s, A: Allocator + Copy>(
 ) -> Result<FoundEntry<'s, A>, AllocError>
     ensures { IfOk result (IsFoundEntry sought.now (entry_view row.now)) }
 {
-    let entry = entry_of(alloc, &[], row)?;
     let files = entry_texts(alloc, sought, row)?;
+    let entry = entry_of(alloc, &[], row)?;
     Ok(FoundEntry { entry, files })
+}
+
+/// What is loaded for the entry of a row, or its first refusal.
+pub fn plan_found<A: Allocator + Copy>(
+    alloc: A,
+    machine: &Machine<A>,
+    sought: &Sought<'_, A>,
+    row: &EntryRow<A>,
+) -> Result<Plan<A>, PrepFault>
+    ensures planned { IfOk result
+        (IsFoundPlan machine.now (value_sought sought.now (entry_view row.now))) }
+    ensures fault { IfErr result
+        (IsPrepFault machine.now (value_sought sought.now (entry_view row.now))) }
+{
+    let found = entry_with_files(alloc, sought, row)?;
+    prepare(alloc, machine, &found.entry, &found.files)
 }

@@ -9,8 +9,8 @@ ghost use Rattle.program_commands.specs.explaining.Details.{IsPlaceDetail};
 ghost use Rattle.program_commands.specs.explaining.Details.{value_sought};
 ghost use Rattle.program_commands.specs.internal.explaining.ExplanationEnds.{HasNoPlace};
 
-use crate::explaining::found_entry::entry_with_files;
-use bl_load::{Choice, PrepFault, Row, prepare, unplaced};
+use crate::explaining::found_entry::{entry_with_files, plan_found};
+use bl_load::{Choice, PrepFault, Row, unplaced};
 use bl_map::{Machine, open_frames};
 use bl_plan::first_unusable;
 use program_desc::EntryRow;
@@ -78,8 +78,7 @@ pub fn frames_detail<A: Allocator + Copy>(
     ensures { IfOk result
         (IsFramesDetail machine.now (value_sought sought.now (entry_view row.now))) }
 {
-    let found = entry_with_files(alloc, sought, row)?;
-    match prepare(alloc, machine, &found.entry, &found.files) {
+    match plan_found(alloc, machine, sought, row) {
         Ok(plan) => Ok(RefusalDetail::Frames {
             beside: Some(open_frames(&machine.pool(), plan.ranges())),
         }),

@@ -12,8 +12,8 @@ write_handover-requires-clause-inside g c =
 pub write_handover-requires-clause-faults : goal.write_handover-requires-clause-faults
 write_handover-requires-clause-faults g c = c.requires.sink
 
-pub returns-in-Ok-clause-ends : goal.returns-in-Ok-clause-ends
-returns-in-Ok-clause-ends g c =
+pub returns-in_ok-write_handover-in-Ok-clause-ends : goal.returns-in_ok-write_handover-in-Ok-clause-ends
+returns-in_ok-write_handover-in-Ok-clause-ends g c =
     let outcome = c.in-Ok.outcome in
     let handed = c.in_ok-write_handover-in-Ok.ensures in (
       outcome.entry,
@@ -26,5 +26,5 @@ returns-in-Ok-clause-ends g c =
       rw c.title_of-title.ensures at handed.said,
     )
 
-pub returns-in-Ok-clause-faults : goal.returns-in-Ok-clause-faults
-returns-in-Ok-clause-faults g c = c.in_ok-write_handover-in-Ok.ensures.sound
+pub returns-in_ok-write_handover-in-Ok-clause-faults : goal.returns-in_ok-write_handover-in-Ok-clause-faults
+returns-in_ok-write_handover-in-Ok-clause-faults g c = c.in_ok-write_handover-in-Ok.ensures.sound

@@ -10,13 +10,11 @@ use Rattle.program_commands.specs.described.BootCases.{boot_of}
 use Rattle.program_commands.specs.described.BootCases.{names_fetched}
 use Rattle.program_commands.proofs.described_lemmas.AskedLemmas.{fetched, inline_in, none_sought}
 use Rattle.program_commands.proofs.described_lemmas.AskedLemmas.{sought}
-use Rattle.program_commands.proofs.EndLemmas.{asked_by, asked_undescribed, asked_without, ends_by}
-use Rattle.program_commands.proofs.EndLemmas.{sound_undescribed, sound_without, undescribed}
-use Rattle.program_commands.proofs.EndLemmas.{without_machine}
+use Rattle.program_commands.proofs.EndLemmas.{asked_by, asked_unread, ends_by, sound_unread, unread}
 use Rattle.program_commands.proofs.booting.whole_boot.run_boot.Goals as goal
 
 pub ready_boot-requires-clause-menu : goal.ready_boot-requires-clause-menu
-ready_boot-requires-clause-menu g c = c.in_ok-description.ensures.menu
+ready_boot-requires-clause-menu g c = c.in_ok-read.ensures.read.menu
 
 pub ready_boot-requires-clause-faults : goal.ready_boot-requires-clause-faults
 ready_boot-requires-clause-faults g c = c.requires.files
@@ -24,7 +22,7 @@ ready_boot-requires-clause-faults g c = c.requires.files
 pub boot_found-requires-clause-size : goal.boot_found-requires-clause-size
 boot_found-requires-clause-size g c =
     ap length c.in_ok-ready.ensures.memory
-    ∙ length-replicate c.size.result c.in_ok-description.description.fill ∙ c.size.ensures.size
+    ∙ length-replicate c.size-size.result c.in_ok-read.read.description.fill ∙ c.size-size.ensures.size
 
 pub boot_found-requires-clause-store : goal.boot_found-requires-clause-store
 boot_found-requires-clause-store g c = c.in_ok-ready.ensures.given
@@ -32,36 +30,18 @@ boot_found-requires-clause-store g c = c.in_ok-ready.ensures.given
 pub boot_found-requires-clause-sink : goal.boot_found-requires-clause-sink
 boot_found-requires-clause-sink g c = c.requires.sink
 
-pub returns-in_err-description : goal.returns-in_err-description
-returns-in_err-description g c =
+pub returns-in_err-read : goal.returns-in_err-read
+returns-in_err-read g c =
     let p =
     err_from_is_err_and c.from_residual.result
     c.from_residual.ensures.1 in
     rw (p.1, p.2)
     (record {
-      ends = undescribed g.F.Files.answers g.F.Files.faults c.args.desc.now _ _
-          c.in_err-description.ensures.given;
-      faults = sound_undescribed (g.S.Sink.faults c.args.out.now) _;
-      asked = asked_undescribed (names_fetched (described c.args.desc.now))
+      ends = unread g.F.Files.answers g.F.Files.faults c.args.desc.now _ _
+          c.in_err-read.ensures.fault;
+      faults = sound_unread (g.S.Sink.faults c.args.out.now) _;
+      asked = asked_unread (names_fetched (described c.args.desc.now))
           (g.F.Files.asked c.args.files.now) _;
-      sought = none_sought g.F.Files.answers g.F.Files.faults c.args.desc.now c.args.files.now;
-    })
-
-pub returns-in_err-machine : goal.returns-in_err-machine
-returns-in_err-machine g c =
-    let p =
-    err_from_is_err_and c.from_residual-in_err-machine.result
-    c.from_residual-in_err-machine.ensures.1 in
-    rw (p.1, p.2)
-    (record {
-      ends = without_machine c.args.desc.now c.in_ok-description.description
-          c.in_ok-description.ensures.given g.F.Files.answers g.F.Files.faults _ _
-          c.in_err-machine.ensures.fault;
-      faults = sound_without (view c.in_ok-description.description)
-          (g.S.Sink.faults c.args.out.now) _ c.in_err-machine.ensures.fault;
-      asked = asked_without (view c.in_ok-description.description)
-          (names_fetched (described c.args.desc.now)) (g.F.Files.asked c.args.files.now) _
-          c.in_err-machine.ensures.fault;
       sought = none_sought g.F.Files.answers g.F.Files.faults c.args.desc.now c.args.files.now;
     })
 
@@ -70,8 +50,8 @@ returns-in_err-ready g c =
     let p =
     err_from_is_err_and c.from_residual-in_err-ready.result c.from_residual-in_err-ready.ensures.1
     in
-    let d = c.in_ok-description.description in
-    let is = c.in_ok-description.ensures.given in
+    let d = c.in_ok-read.read.description in
+    let is = c.in_ok-read.ensures.read.given in
     rw (p.1, p.2)
     (record {
       ends = (refl, refl);
@@ -92,13 +72,13 @@ pub returns-clause-asked : goal.returns-clause-asked
 returns-clause-asked g c =
     asked_by c.boot_found.result (names_fetched (described c.args.desc.now))
     (g.F.Files.asked c.args.files.now) _
-    (rw (fetched c.args.desc.now c.in_ok-description.description
-    c.in_ok-description.ensures.given) c.in_ok-ready.ensures.asked)
+    (rw (fetched c.args.desc.now c.in_ok-read.read.description
+    c.in_ok-read.ensures.read.given) c.in_ok-ready.ensures.asked)
 
 pub returns-clause-sought : goal.returns-clause-sought
 returns-clause-sought g c =
-    let d = c.in_ok-description.description in
-    let is = c.in_ok-description.ensures.given in
+    let d = c.in_ok-read.read.description in
+    let is = c.in_ok-read.ensures.read.given in
     record {
       inline = λ has. c.in_ok-ready.ensures.inline (inline_in c.args.desc.now d is has);
       same_files = c.in_ok-ready.ensures.same;
@@ -109,11 +89,11 @@ returns-clause-sought g c =
 pub returns-clause-ends : goal.returns-clause-ends
 returns-clause-ends g c =
     let files = c.in_ok-ready.ready.store.files in
-    ends_by c.args.desc.now c.in_ok-description.description c.in_ok-description.ensures.given
+    ends_by c.args.desc.now c.in_ok-read.read.description c.in_ok-read.ensures.read.given
     g.F.Files.answers g.F.Files.faults
-    c.in_ok-machine.machine c.in_ok-machine.ensures.machine _ _ files c.in_ok-ready.ensures.found
+    c.in_ok-read.read.machine c.in_ok-read.ensures.read.machine _ _ files c.in_ok-ready.ensures.found
     (λ entry. offered_values
-    (boot_of (view c.in_ok-description.description) c.in_ok-machine.machine files) files entry
+    (boot_of (view c.in_ok-read.read.description) c.in_ok-read.read.machine files) files entry
     (subst (λ (m : MenuFacts). All (λ e. IsWellFormedValue e.blank) m.entries)
     c.in_ok-ready.ensures.menu c.in_ok-ready.ensures.well_formed))
     _ _ _ _ c.boot_found.result

@@ -1,6 +1,8 @@
-use Rattle.std.proofs.Common.{◌≡◌, ◌∙◌, length, ap, arith}
+use Rattle.std.proofs.Common.{◌≡◌, ◌∙◌, length, refl, ap, arith}
+use Rattle.std.proofs.lemmas.Result.{err_from_is_err_and}
 use Rattle.program_desc.specs.Views.{view}
-use Rattle.program_commands.specs.described.DescribedMenu.{attempted_file_names}
+use Rattle.program_commands.specs.described.DescribedMenu.{attempted_file_names, max_names}
+use Rattle.program_commands.proofs.described_lemmas.AskedLemmas.{none_asked, none_missing}
 use Rattle.program_commands.proofs.described_lemmas.NameLemmas.{as_many, few_missing, few_seen}
 use Rattle.program_commands.proofs.described.boot_inputs.ready_boot.Goals as goal
 
@@ -17,6 +19,72 @@ pub menu_of-requires-clause-few : goal.menu_of-requires-clause-few
 menu_of-requires-clause-few g c =
     few_seen c.in_ok-names.names.items c.deref.result.now c.deref.ensures.value
     c.in_ok-names.ensures.few
+
+pub returns-in_err-names : goal.returns-in_err-names
+returns-in_err-names g c =
+    let p = err_from_is_err_and c.from_residual.result c.from_residual.ensures.1 in
+    let faults = g.F.Files.faults c.args.files.now in
+    rw p.1
+    (record {
+      names = tt;
+      menu = tt;
+      well_formed = tt;
+      memory = tt;
+      found = tt;
+      order = tt;
+      given = tt;
+      asked = tt;
+      asked_first = none_asked _ (g.F.Files.asked c.args.files.now);
+      inline = λ _. refl;
+      same = λ file answer told. told;
+      missing = none_missing faults
+          (length (attempted_file_names (view c.args.description.now)));
+      few = (none_missing faults max_names).1;
+    })
+
+pub returns-in_err-menu : goal.returns-in_err-menu
+returns-in_err-menu g c =
+    let p = err_from_is_err_and c.from_residual-in_err-menu.result c.from_residual-in_err-menu.ensures.1 in
+    let faults = g.F.Files.faults c.args.files.now in
+    rw p.1
+    (record {
+      names = tt;
+      menu = tt;
+      well_formed = tt;
+      memory = tt;
+      found = tt;
+      order = tt;
+      given = tt;
+      asked = tt;
+      asked_first = none_asked _ (g.F.Files.asked c.args.files.now);
+      inline = λ _. refl;
+      same = λ file answer told. told;
+      missing = none_missing faults
+          (length (attempted_file_names (view c.args.description.now)));
+      few = (none_missing faults max_names).1;
+    })
+
+pub returns-in_err-memory : goal.returns-in_err-memory
+returns-in_err-memory g c =
+    let p = err_from_is_err_and c.from_residual-in_err-memory.result c.from_residual-in_err-memory.ensures.1 in
+    let faults = g.F.Files.faults c.args.files.now in
+    rw p.1
+    (record {
+      names = tt;
+      menu = tt;
+      well_formed = tt;
+      memory = tt;
+      found = tt;
+      order = tt;
+      given = tt;
+      asked = tt;
+      asked_first = none_asked _ (g.F.Files.asked c.args.files.now);
+      inline = λ _. refl;
+      same = λ file answer told. told;
+      missing = none_missing faults
+          (length (attempted_file_names (view c.args.description.now)));
+      few = (none_missing faults max_names).1;
+    })
 
 pub find_files-requires : goal.find_files-requires
 find_files-requires g c =

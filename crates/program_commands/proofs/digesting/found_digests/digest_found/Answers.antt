@@ -43,3 +43,10 @@ returns-in_ok-say_digested-in-HandsOver g c =
       rw (c.deref.ensures.value, c.title_of-title.ensures, c.in_ok-digests-in-HandsOver.ensures)
           at c.in_ok-say_digested-in-HandsOver.ensures.ok,
     )
+
+pub returns-in_ok-say_none_left-in-NoneLeft : goal.returns-in_ok-say_none_left-in-NoneLeft
+returns-in_ok-say_none_left-in-NoneLeft g c = (
+  c.in-NoneLeft.refused.items,
+  rw c.in-NoneLeft.is at c.in_ok-planned.ensures.outcome,
+  rw c.deref-in-NoneLeft.ensures.value at c.in_ok-say_none_left-in-NoneLeft.ensures.ok,
+)

@@ -17,9 +17,9 @@ find_details-requires g c =
     let came =
     c.in-Ok.ensures.faithful c.requires.store
     (rw c.in-Ok.ensures.files at c.faithful.ensures) tt in
-    let found : c.new-sought.result ≡ sought_in d c.args.store.files =
+    let found : c.new-sought.result ≡ sought_in d c.args.store.now.files =
     rw (c.requires.names, c.fetched.ensures, c.in-Ok.ensures.files) at c.new-sought.ensures in
-    place_refusals_for d c.args.boot.now.machine.now c.args.store.files
+    place_refusals_for d c.args.boot.now.machine.now c.args.store.now.files
     c.args.boot.now.menu.now
     (handed_over outcome.entry outcome.refused.items (handover_held bytes outcome.handoff))
     c.new-sought.result c.deref.result.now found c.deref.ensures.value c.requires.menu came
@@ -31,10 +31,10 @@ find_details-requires-in-Err-NoEntryLeft g c =
     rw c.in-Err-NoEntryLeft.field-0-is at
     (c.in-Err-NoEntryLeft.ensures.faithful c.requires.store
     (rw c.in-Err-NoEntryLeft.ensures.files at c.faithful.ensures)) in
-    let found : c.new-sought.result ≡ sought_in d c.args.store.files =
+    let found : c.new-sought.result ≡ sought_in d c.args.store.now.files =
     rw (c.requires.names, c.fetched.ensures, c.in-Err-NoEntryLeft.ensures.files)
     at c.new-sought.ensures in
-    place_refusals_for d c.args.boot.now.machine.now c.args.store.files
+    place_refusals_for d c.args.boot.now.machine.now c.args.store.now.files
     c.args.boot.now.menu.now (none_left c.in-Err-NoEntryLeft.refused.items)
     c.new-sought.result c.deref-in-Err-NoEntryLeft.result.now found
     c.deref-in-Err-NoEntryLeft.ensures.value c.requires.menu (came tt)
@@ -47,14 +47,14 @@ find_steps-requires g c =
     let came =
     c.in-Ok.ensures.faithful c.requires.store
     (rw c.in-Ok.ensures.files at c.faithful.ensures) tt in
-    let found : c.new-sought.result ≡ sought_in d c.args.store.files =
+    let found : c.new-sought.result ≡ sought_in d c.args.store.now.files =
     rw (c.requires.names, c.fetched.ensures, c.in-Ok.ensures.files) at c.new-sought.ensures in
-    handed_entry_for d c.args.boot.now.machine.now c.args.store.files
+    handed_entry_for d c.args.boot.now.machine.now c.args.store.now.files
     c.args.boot.now.menu.now outcome.entry outcome.refused.items
     (handover_held bytes outcome.handoff) c.new-sought.result found c.requires.menu came
 
-pub returns-in-Ok : goal.returns-in-Ok
-returns-in-Ok g c =
+pub returns-in_ok-tell_booted-in-Ok : goal.returns-in_ok-tell_booted-in-Ok
+returns-in_ok-tell_booted-in-Ok g c =
     let outcome = c.in-Ok.outcome in
     let told = c.in_ok-told-in-Ok.told.items in
     let steps = c.in_ok-steps-in-Ok.steps.items in
