@@ -1,4 +1,4 @@
-use Rattle.std.proofs.Common.{◌≡◌, ◌*◌, ◌<◌, ℕ, length, get_or, set, true, sym, ap, ◌∙◌}
+use Rattle.std.proofs.Common.{◌≡◌, ◌*◌, ◌<◌, ℕ, length, get_or, set, true, sym, ap, refl, ◌∙◌}
 use Rattle.bl_mem.specs.Memory.{overwrite}
 use Rattle.bl_stage.specs.Staged.{Staging, AreStaged, staged_file}
 use Rattle.bl_stage.specs.PieceStates.{piece_states}
@@ -157,3 +157,9 @@ returns-then-index-clause-answer g c =
     (answer_repeated (is_piece stage c.args.file c.args.index (length c.args.bytes.now))
     inside.came.items c.in-Some.slot within found.0
     (rw c.if-index.true at c.index.ensures)))
+
+pub returns-then-index-clause-unchanged : goal.returns-then-index-clause-unchanged
+returns-then-index-clause-unchanged g c = λ _. (refl, refl)
+
+pub returns-then-index-clause-outside : goal.returns-then-index-clause-outside
+returns-then-index-clause-outside g c = λ _ _. refl
