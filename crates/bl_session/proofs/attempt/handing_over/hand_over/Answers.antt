@@ -6,7 +6,6 @@ use Rattle.bl_load.proofs.WrittenLemmas.{written_elsewhere}
 use Rattle.bl_stage.specs.Staged.{staged_texts}
 use Rattle.bl_session.proofs.attempt_lemmas.AfterLemmas.{ranges_are, after_scrub, held_on}
 use Rattle.bl_session.proofs.session_lemmas.KeptMemoryLemmas.{keeps_on}
-use Rattle.std.proofs.lemmas.Grind.{common_steps}
 use Rattle.bl_session.proofs.attempt.handing_over.hand_over.Goals as goal
 
 pub returns-clause-loaded : goal.returns-clause-loaded
@@ -48,4 +47,21 @@ pub returns-clause-kept : goal.returns-clause-kept
 returns-clause-kept g c = keeps_on c.load-handoff.ensures.kept c.scrub.ensures.kept
 
 pub scrub-requires-clause-room : goal.scrub-requires-clause-room
-scrub-requires-clause-room g c = grind (arith, common_steps)
+scrub-requires-clause-room g c =
+    λ a from to. c.load-handoff.ensures.kept.room a (c.requires.pool_room a from to)
+
+pub load-handoff-requires-clause-held : goal.load-handoff-requires-clause-held
+load-handoff-requires-clause-held g c = c.requires.held
+
+pub load-handoff-requires-clause-loadable : goal.load-handoff-requires-clause-loadable
+load-handoff-requires-clause-loadable g c = c.requires.loadable
+
+pub load-handoff-requires-clause-room : goal.load-handoff-requires-clause-room
+load-handoff-requires-clause-room g c = c.requires.room
+
+pub load-handoff-requires-clause-beside : goal.load-handoff-requires-clause-beside
+load-handoff-requires-clause-beside g c = c.requires.beside
+
+pub scrub-requires-clause-inside : goal.scrub-requires-clause-inside
+scrub-requires-clause-inside g c =
+    λ some. let end = c.requires.inside some in omega (arith, end, c.load-handoff.ensures.kept.size)
