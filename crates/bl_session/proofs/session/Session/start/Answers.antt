@@ -1,0 +1,13 @@
+use Rattle.bl_session.proofs.session.Session.start.Goals as goal
+
+pub returns-clause-step : goal.returns-clause-step
+returns-clause-step g c = rw (← c.self.view_is, ← c.deref.ensures.value) c.begin_first.ensures.started.step
+
+pub returns-clause-progress : goal.returns-clause-progress
+returns-clause-progress g c = rw (← c.self.view_is) c.begin_first.ensures.started.progress
+
+pub returns-clause-memory : goal.returns-clause-memory
+returns-clause-memory g c = rw (← c.self.view_is) c.begin_first.ensures.started.memory
+
+pub returns-clause-room : goal.returns-clause-room
+returns-clause-room g c = rw (← c.self.view_is) c.begin_first.ensures.started.room

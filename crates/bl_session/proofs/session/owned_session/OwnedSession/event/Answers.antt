@@ -1,0 +1,10 @@
+use Rattle.bl_session.proofs.session.owned_session.OwnedSession.event.Goals as goal
+
+pub returns-clause-step : goal.returns-clause-step
+returns-clause-step g c = rw (← c.self.view_is, ← c.deref.ensures.value) c.take_event.ensures.taken.step
+
+pub returns-clause-progress : goal.returns-clause-progress
+returns-clause-progress g c = rw (← c.self.view_is) c.take_event.ensures.taken.progress
+
+pub returns-clause-memory : goal.returns-clause-memory
+returns-clause-memory g c = rw (← c.self.view_is) c.take_event.ensures.taken.memory
