@@ -90,6 +90,15 @@ ended_on boot event r next old new (Err e) told taken is = record {
   stands = tt;
 }
 
+-- the phase that it goes on to is kept
+pub goes_to_kept : {A E : Type 0} (boot : BootContext A) (event : EventFacts) (r next : Running A)
+    (old new : List ℕ) (result : Result (Option (Phase A)) E)
+    → TakesEventOn boot event r next old new result
+    → IsPhaseKept boot.machine.now boot.menu.now (phase_after (Waits next) result)
+goes_to_kept boot event r next old new (Ok None) taken = taken.stands
+goes_to_kept boot event r next old new (Ok (Some phase)) taken = taken.stands
+goes_to_kept boot event r next old new (Err e) taken = tt
+
 kept_as_is : {A : Type 0} (boot : BootContext A) (event : EventFacts) (phase : Phase A)
     (bytes : List ℕ) (told : Progress) → ((r : Running A) → phase ≢ Waits r)
     → IsPhaseKept boot.machine.now boot.menu.now phase

@@ -19,6 +19,7 @@ use Rattle.bl_load.specs.PlanContents.{handover_by, places_of}
 use Rattle.bl_load.specs.EntryValue.{value_of}
 use Rattle.bl_session.proofs.attempt_lemmas.AfterLemmas.{after_before}
 use Rattle.bl_session.proofs.session_lemmas.KeptMemoryLemmas.{keeps_on}
+use Rattle.bl_session.proofs.attempt_lemmas.EarlyReturnLemmas.{keeps_same, no_value}
 use Rattle.bl_session.proofs.attempt_lemmas.FinishLemmas.{unprepared, has_room, lacks_room}
 use Rattle.bl_session.proofs.attempt.handing_over.finish_attempt.Goals as goal
 
@@ -220,3 +221,36 @@ returns-in_err-reserve-clause-left g c =
     c.from_residual-in_err-reserve.ensures.1 in
     rw (p.1, p.2)
     (ap (λ m. staged_texts m c.evacuate.new.self) c.reserve.ensures.same ∙ way.texts)
+
+pub returns-in_err-plan-clause-ok : goal.returns-in_err-plan-clause-ok
+returns-in_err-plan-clause-ok g c = no_value _ _ c.from_residual.result c.from_residual.ensures.1
+
+pub returns-in_err-plan-clause-stage : goal.returns-in_err-plan-clause-stage
+returns-in_err-plan-clause-stage g c = refl
+
+pub returns-in_err-plan-clause-kept : goal.returns-in_err-plan-clause-kept
+returns-in_err-plan-clause-kept g c = keeps_same
+
+pub returns-then-is_err-clause-ok : goal.returns-then-is_err-clause-ok
+returns-then-is_err-clause-ok g c = tt
+
+pub returns-then-is_err-clause-stage : goal.returns-then-is_err-clause-stage
+returns-then-is_err-clause-stage g c = c.evacuate.ensures.same
+
+pub returns-then-is_err-clause-kept : goal.returns-then-is_err-clause-kept
+returns-then-is_err-clause-kept g c = c.evacuate.ensures.kept
+
+pub returns-in_err-reserve-clause-ok : goal.returns-in_err-reserve-clause-ok
+returns-in_err-reserve-clause-ok g c = no_value _ _ c.from_residual-in_err-reserve.result c.from_residual-in_err-reserve.ensures.1
+
+pub returns-in_err-reserve-clause-stage : goal.returns-in_err-reserve-clause-stage
+returns-in_err-reserve-clause-stage g c = c.evacuate.ensures.same
+
+pub returns-clause-err : goal.returns-clause-err
+returns-clause-err g c = tt
+
+pub returns-clause-left : goal.returns-clause-left
+returns-clause-left g c = tt
+
+pub returns-clause-stage : goal.returns-clause-stage
+returns-clause-stage g c = c.evacuate.ensures.same
