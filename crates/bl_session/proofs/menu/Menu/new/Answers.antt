@@ -87,3 +87,39 @@ returns-clause-ok g c =
     let menu : MenuFacts =
     record { entries = map facts_of c.args.entries.items; attempts = attempts } in menu)
     c.in_ok-attempts.ensures
+
+pub returns-then-not-are_within_limits-clause-ok : goal.returns-then-not-are_within_limits-clause-ok
+returns-then-not-are_within_limits-clause-ok g c = tt
+
+pub returns-then-not-are_within_limits-clause-allowed : goal.returns-then-not-are_within_limits-clause-allowed
+returns-then-not-are_within_limits-clause-allowed g c = tt
+
+pub returns-then-not-are_within_limits-clause-well_formed : goal.returns-then-not-are_within_limits-clause-well_formed
+returns-then-not-are_within_limits-clause-well_formed g c = tt
+
+pub returns-then-not-are_entry_indices-clause-ok : goal.returns-then-not-are_entry_indices-clause-ok
+returns-then-not-are_entry_indices-clause-ok g c = tt
+
+pub returns-then-not-are_entry_indices-clause-allowed : goal.returns-then-not-are_entry_indices-clause-allowed
+returns-then-not-are_entry_indices-clause-allowed g c = tt
+
+pub returns-then-not-are_entry_indices-clause-well_formed : goal.returns-then-not-are_entry_indices-clause-well_formed
+returns-then-not-are_entry_indices-clause-well_formed g c = tt
+
+pub returns-in_err-attempts-clause-ok : goal.returns-in_err-attempts-clause-ok
+returns-in_err-attempts-clause-ok g c =
+    let p = err_from_is_err_and c.from_residual.result c.from_residual.ensures.1 in
+    rw p.1 tt
+
+pub returns-in_err-attempts-clause-allowed : goal.returns-in_err-attempts-clause-allowed
+returns-in_err-attempts-clause-allowed g c =
+    let p = err_from_is_err_and c.from_residual.result c.from_residual.ensures.1 in
+    rw p.1 tt
+
+pub returns-in_err-attempts-clause-well_formed : goal.returns-in_err-attempts-clause-well_formed
+returns-in_err-attempts-clause-well_formed g c =
+    let p = err_from_is_err_and c.from_residual.result c.from_residual.ensures.1 in
+    rw p.1 tt
+
+pub returns-clause-first_fault : goal.returns-clause-first_fault
+returns-clause-first_fault g c = tt

@@ -7,6 +7,8 @@ use Rattle.bl_session.specs.session.Phases.{boot_facts}
 use Rattle.bl_session.specs.internal.session.KeptPhases.{state_of, phase_by, HasSmallFiles}
 use Rattle.bl_session.specs.internal.session.KeptPhases.{IsPhaseKept}
 use Rattle.bl_session.proofs.attempt_lemmas.CursorLemmas.{none_below_later}
+use Rattle.bl_session.proofs.attempt_lemmas.EarlyReturnLemmas.{keeps_same}
+use Rattle.bl_session.proofs.session_lemmas.KeptMemoryLemmas.{keeps_on}
 use Rattle.bl_session.specs.declared.session.phase.Phase.TheVariants.{Waits}
 use Rattle.bl_session.proofs.session_lemmas.StepLemmas.{wanted_not, steps_unchanged, wanted_stored}
 use Rattle.bl_session.proofs.session_lemmas.StepLemmas.{piece_states_after, steps_piece}
@@ -182,3 +184,27 @@ returns-else-not-awaits_fault-clause-taken g c =
     (fault_taken c.args.boot.now c.in-Fault.ticket c.args.running.now c.refuse.new.running bytes
     (g.M.PhysMem.bytes c.refuse.new.memory) c.refuse.result
     (sym (c.if-not-awaits_fault.ensures bytes)) c.refuse.ensures.phase)
+
+pub returns-then-not-is_of-clause-kept : goal.returns-then-not-is_of-clause-kept
+returns-then-not-is_of-clause-kept g c = keeps_same
+
+pub returns-then-not-is_stored-clause-kept : goal.returns-then-not-is_stored-clause-kept
+returns-then-not-is_stored-clause-kept g c = c.put-answer.ensures.kept
+
+pub returns-else-not-is_stored-clause-kept : goal.returns-else-not-is_stored-clause-kept
+returns-else-not-is_stored-clause-kept g c = keeps_on c.put-answer.ensures.kept c.continue_attempt.ensures.kept
+
+pub returns-then-not-awaits_fault-clause-kept : goal.returns-then-not-awaits_fault-clause-kept
+returns-then-not-awaits_fault-clause-kept g c = keeps_same
+
+pub returns-else-not-awaits_fault-clause-kept : goal.returns-else-not-awaits_fault-clause-kept
+returns-else-not-awaits_fault-clause-kept g c = c.refuse.ensures.kept
+
+pub put-answer-requires-clause-room : goal.put-answer-requires-clause-room
+put-answer-requires-clause-room g c = rw c.requires.kept.0.pool c.requires.memory.room
+
+pub refuse-requires-clause-number : goal.refuse-requires-clause-number
+refuse-requires-clause-number g c = c.requires.kept.0.number
+
+pub refuse-requires-clause-memory : goal.refuse-requires-clause-memory
+refuse-requires-clause-memory g c = c.requires.memory

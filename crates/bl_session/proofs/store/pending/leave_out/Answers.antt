@@ -67,3 +67,6 @@ returns-clause-ok g c =
     (inner_left_out runs.items c.args.index c.args.at c.index-2.result.now c.from-rest.result
     c.index_mut-2.result.now c.truncate-2.new.self within c.index-2.ensures c.from-rest.ensures
     (rw c.in_ok-insert.ensures.items at c.index_mut-2.ensures.value) c.truncate-2.ensures)
+
+pub returns-in_err-insert-clause-first : goal.returns-in_err-insert-clause-first
+returns-in_err-insert-clause-first g c = λ is. absurd (omega (arith, is, c.if-at-eq0.false))
