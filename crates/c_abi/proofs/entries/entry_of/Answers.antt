@@ -1,4 +1,5 @@
 use Rattle.std.proofs.Common.{◌≡◌, ◌==◌, true, false, [], rules, refl}
+use Rattle.std.proofs.lemmas.Result.{err_from_is_err_and}
 use Rattle.bl_load.specs.EntryValue.{value_of}
 use Rattle.c_abi.specs.Given.{entry_without_files}
 use Rattle.c_abi.proofs.LoadLemmas.{too_large}
@@ -38,3 +39,65 @@ returns-clause-value g c =
 pub returns-clause-count : goal.returns-clause-count
 returns-clause-count g c =
     count_by_facts c.in_ok-entry.entry c.args.row.now c.args.before (returns-clause-facts g c)
+
+pub returns-then-not-is_within_limits-clause-value : goal.returns-then-not-is_within_limits-clause-value
+returns-then-not-is_within_limits-clause-value g c = tt
+
+pub returns-then-not-is_within_limits-clause-facts : goal.returns-then-not-is_within_limits-clause-facts
+returns-then-not-is_within_limits-clause-facts g c = tt
+
+pub returns-then-not-is_within_limits-clause-count : goal.returns-then-not-is_within_limits-clause-count
+returns-then-not-is_within_limits-clause-count g c = tt
+
+pub returns-then-not-is_within_limits-clause-limits : goal.returns-then-not-is_within_limits-clause-limits
+returns-then-not-is_within_limits-clause-limits g c = tt
+
+pub returns-clause-fault : goal.returns-clause-fault
+returns-clause-fault g c = tt
+
+pub returns-then-not-is_of-clause-fault : goal.returns-then-not-is_of-clause-fault
+returns-then-not-is_of-clause-fault g c = tt
+
+pub returns-in_err-entry-clause-value : goal.returns-in_err-entry-clause-value
+returns-in_err-entry-clause-value g c =
+    let p =
+    err_from_is_err_and c.from_residual-in_err-entry.result c.from_residual-in_err-entry.ensures.1 in
+    rw p.1 tt
+
+pub returns-in_err-linux_of-clause-value : goal.returns-in_err-linux_of-clause-value
+returns-in_err-linux_of-clause-value g c =
+    let p = err_from_is_err_and c.from_residual.result c.from_residual.ensures.1 in
+    rw p.1 tt
+
+pub returns-in_err-entry-clause-facts : goal.returns-in_err-entry-clause-facts
+returns-in_err-entry-clause-facts g c =
+    let p =
+    err_from_is_err_and c.from_residual-in_err-entry.result c.from_residual-in_err-entry.ensures.1 in
+    rw p.1 tt
+
+pub returns-in_err-linux_of-clause-facts : goal.returns-in_err-linux_of-clause-facts
+returns-in_err-linux_of-clause-facts g c =
+    let p = err_from_is_err_and c.from_residual.result c.from_residual.ensures.1 in
+    rw p.1 tt
+
+pub returns-in_err-entry-clause-count : goal.returns-in_err-entry-clause-count
+returns-in_err-entry-clause-count g c =
+    let p =
+    err_from_is_err_and c.from_residual-in_err-entry.result c.from_residual-in_err-entry.ensures.1 in
+    rw p.1 tt
+
+pub returns-in_err-linux_of-clause-count : goal.returns-in_err-linux_of-clause-count
+returns-in_err-linux_of-clause-count g c =
+    let p = err_from_is_err_and c.from_residual.result c.from_residual.ensures.1 in
+    rw p.1 tt
+
+pub returns-in_err-entry-clause-limits : goal.returns-in_err-entry-clause-limits
+returns-in_err-entry-clause-limits g c =
+    let p =
+    err_from_is_err_and c.from_residual-in_err-entry.result c.from_residual-in_err-entry.ensures.1 in
+    rw p.1 tt
+
+pub returns-in_err-linux_of-clause-limits : goal.returns-in_err-linux_of-clause-limits
+returns-in_err-linux_of-clause-limits g c =
+    let p = err_from_is_err_and c.from_residual.result c.from_residual.ensures.1 in
+    rw p.1 tt

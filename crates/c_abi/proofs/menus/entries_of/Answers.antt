@@ -1,4 +1,5 @@
 use Rattle.std.proofs.Common.{◌∙◌, arith}
+use Rattle.std.proofs.lemmas.List.{take_all}
 use Rattle.c_abi.proofs.MenuLemmas.{facts_more, count_more, few_files, size_fault_is}
 use Rattle.c_abi.proofs.menus.entries_of.Goals as goal
 
@@ -37,3 +38,15 @@ loop-record-preserved g c =
           (c.file_count.ensures ∙ c.in-Ok.ensures.count);
       few = omega (arith, few, c.file_count.ensures, so_far.few);
     }
+
+pub entry_of-requires : goal.entry_of-requires
+entry_of-requires g c =
+    let so_far = c.loop-record.invariant.few in
+    let most = c.if-records-gt-MAX_ENTRIES.false in
+    let within = c.loop-record-test.true in
+    omega (arith, so_far, most, within)
+
+pub returns-clause-facts : goal.returns-clause-facts
+returns-clause-facts g c =
+    rw (take_all c.loop-record.record-index c.args.records.now c.loop-record-test.false)
+    at c.loop-record.invariant.facts
