@@ -40,16 +40,20 @@ pub returns-clause-count : goal.returns-clause-count
 returns-clause-count g c =
     count_by_facts c.in_ok-entry.entry c.args.row.now c.args.before (returns-clause-facts g c)
 
-pub returns-then-not-is_within_limits-clause-value : goal.returns-then-not-is_within_limits-clause-value
+pub returns-then-not-is_within_limits-clause-value :
+    goal.returns-then-not-is_within_limits-clause-value
 returns-then-not-is_within_limits-clause-value g c = tt
 
-pub returns-then-not-is_within_limits-clause-facts : goal.returns-then-not-is_within_limits-clause-facts
+pub returns-then-not-is_within_limits-clause-facts :
+    goal.returns-then-not-is_within_limits-clause-facts
 returns-then-not-is_within_limits-clause-facts g c = tt
 
-pub returns-then-not-is_within_limits-clause-count : goal.returns-then-not-is_within_limits-clause-count
+pub returns-then-not-is_within_limits-clause-count :
+    goal.returns-then-not-is_within_limits-clause-count
 returns-then-not-is_within_limits-clause-count g c = tt
 
-pub returns-then-not-is_within_limits-clause-limits : goal.returns-then-not-is_within_limits-clause-limits
+pub returns-then-not-is_within_limits-clause-limits :
+    goal.returns-then-not-is_within_limits-clause-limits
 returns-then-not-is_within_limits-clause-limits g c = tt
 
 pub returns-clause-fault : goal.returns-clause-fault
@@ -61,7 +65,8 @@ returns-then-not-is_of-clause-fault g c = tt
 pub returns-in_err-entry-clause-value : goal.returns-in_err-entry-clause-value
 returns-in_err-entry-clause-value g c =
     let p =
-    err_from_is_err_and c.from_residual-in_err-entry.result c.from_residual-in_err-entry.ensures.1 in
+    err_from_is_err_and c.from_residual-in_err-entry.result
+    c.from_residual-in_err-entry.ensures.1 in
     rw p.1 tt
 
 pub returns-in_err-linux_of-clause-value : goal.returns-in_err-linux_of-clause-value
@@ -72,7 +77,8 @@ returns-in_err-linux_of-clause-value g c =
 pub returns-in_err-entry-clause-facts : goal.returns-in_err-entry-clause-facts
 returns-in_err-entry-clause-facts g c =
     let p =
-    err_from_is_err_and c.from_residual-in_err-entry.result c.from_residual-in_err-entry.ensures.1 in
+    err_from_is_err_and c.from_residual-in_err-entry.result
+    c.from_residual-in_err-entry.ensures.1 in
     rw p.1 tt
 
 pub returns-in_err-linux_of-clause-facts : goal.returns-in_err-linux_of-clause-facts
@@ -83,7 +89,8 @@ returns-in_err-linux_of-clause-facts g c =
 pub returns-in_err-entry-clause-count : goal.returns-in_err-entry-clause-count
 returns-in_err-entry-clause-count g c =
     let p =
-    err_from_is_err_and c.from_residual-in_err-entry.result c.from_residual-in_err-entry.ensures.1 in
+    err_from_is_err_and c.from_residual-in_err-entry.result
+    c.from_residual-in_err-entry.ensures.1 in
     rw p.1 tt
 
 pub returns-in_err-linux_of-clause-count : goal.returns-in_err-linux_of-clause-count
@@ -94,7 +101,8 @@ returns-in_err-linux_of-clause-count g c =
 pub returns-in_err-entry-clause-limits : goal.returns-in_err-entry-clause-limits
 returns-in_err-entry-clause-limits g c =
     let p =
-    err_from_is_err_and c.from_residual-in_err-entry.result c.from_residual-in_err-entry.ensures.1 in
+    err_from_is_err_and c.from_residual-in_err-entry.result
+    c.from_residual-in_err-entry.ensures.1 in
     rw p.1 tt
 
 pub returns-in_err-linux_of-clause-limits : goal.returns-in_err-linux_of-clause-limits

@@ -241,7 +241,8 @@ pub returns-then-is_err-clause-kept : goal.returns-then-is_err-clause-kept
 returns-then-is_err-clause-kept g c = c.evacuate.ensures.kept
 
 pub returns-in_err-reserve-clause-ok : goal.returns-in_err-reserve-clause-ok
-returns-in_err-reserve-clause-ok g c = no_value _ _ c.from_residual-in_err-reserve.result c.from_residual-in_err-reserve.ensures.1
+returns-in_err-reserve-clause-ok g c =
+    no_value _ _ c.from_residual-in_err-reserve.result c.from_residual-in_err-reserve.ensures.1
 
 pub returns-in_err-reserve-clause-stage : goal.returns-in_err-reserve-clause-stage
 returns-in_err-reserve-clause-stage g c = c.evacuate.ensures.same

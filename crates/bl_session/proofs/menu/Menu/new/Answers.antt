@@ -91,19 +91,23 @@ returns-clause-ok g c =
 pub returns-then-not-are_within_limits-clause-ok : goal.returns-then-not-are_within_limits-clause-ok
 returns-then-not-are_within_limits-clause-ok g c = tt
 
-pub returns-then-not-are_within_limits-clause-allowed : goal.returns-then-not-are_within_limits-clause-allowed
+pub returns-then-not-are_within_limits-clause-allowed :
+    goal.returns-then-not-are_within_limits-clause-allowed
 returns-then-not-are_within_limits-clause-allowed g c = tt
 
-pub returns-then-not-are_within_limits-clause-well_formed : goal.returns-then-not-are_within_limits-clause-well_formed
+pub returns-then-not-are_within_limits-clause-well_formed :
+    goal.returns-then-not-are_within_limits-clause-well_formed
 returns-then-not-are_within_limits-clause-well_formed g c = tt
 
 pub returns-then-not-are_entry_indices-clause-ok : goal.returns-then-not-are_entry_indices-clause-ok
 returns-then-not-are_entry_indices-clause-ok g c = tt
 
-pub returns-then-not-are_entry_indices-clause-allowed : goal.returns-then-not-are_entry_indices-clause-allowed
+pub returns-then-not-are_entry_indices-clause-allowed :
+    goal.returns-then-not-are_entry_indices-clause-allowed
 returns-then-not-are_entry_indices-clause-allowed g c = tt
 
-pub returns-then-not-are_entry_indices-clause-well_formed : goal.returns-then-not-are_entry_indices-clause-well_formed
+pub returns-then-not-are_entry_indices-clause-well_formed :
+    goal.returns-then-not-are_entry_indices-clause-well_formed
 returns-then-not-are_entry_indices-clause-well_formed g c = tt
 
 pub returns-in_err-attempts-clause-ok : goal.returns-in_err-attempts-clause-ok

@@ -1,7 +1,8 @@
 use Rattle.bl_session.proofs.session.Session.start.Goals as goal
 
 pub returns-clause-step : goal.returns-clause-step
-returns-clause-step g c = rw (← c.self.view_is, ← c.deref.ensures.value) c.begin_first.ensures.started.step
+returns-clause-step g c =
+    rw (← c.self.view_is, ← c.deref.ensures.value) c.begin_first.ensures.started.step
 
 pub returns-clause-progress : goal.returns-clause-progress
 returns-clause-progress g c = rw (← c.self.view_is) c.begin_first.ensures.started.progress

@@ -192,7 +192,8 @@ pub returns-then-not-is_stored-clause-kept : goal.returns-then-not-is_stored-cla
 returns-then-not-is_stored-clause-kept g c = c.put-answer.ensures.kept
 
 pub returns-else-not-is_stored-clause-kept : goal.returns-else-not-is_stored-clause-kept
-returns-else-not-is_stored-clause-kept g c = keeps_on c.put-answer.ensures.kept c.continue_attempt.ensures.kept
+returns-else-not-is_stored-clause-kept g c =
+    keeps_on c.put-answer.ensures.kept c.continue_attempt.ensures.kept
 
 pub returns-then-not-awaits_fault-clause-kept : goal.returns-then-not-awaits_fault-clause-kept
 returns-then-not-awaits_fault-clause-kept g c = keeps_same

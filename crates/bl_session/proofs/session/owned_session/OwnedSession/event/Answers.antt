@@ -1,7 +1,8 @@
 use Rattle.bl_session.proofs.session.owned_session.OwnedSession.event.Goals as goal
 
 pub returns-clause-step : goal.returns-clause-step
-returns-clause-step g c = rw (← c.self.view_is, ← c.deref.ensures.value) c.take_event.ensures.taken.step
+returns-clause-step g c =
+    rw (← c.self.view_is, ← c.deref.ensures.value) c.take_event.ensures.taken.step
 
 pub returns-clause-progress : goal.returns-clause-progress
 returns-clause-progress g c = rw (← c.self.view_is) c.take_event.ensures.taken.progress
