@@ -8,6 +8,7 @@ use Rattle.bl_mbi.specs.ReadingSteps.{◌>>=◌, RestFacts}
 use Rattle.bl_mbi.specs.Reading.{text_tag_at, modules_at, memory_at, map_at, copy_at, load_base_at}
 use Rattle.bl_mbi.specs.Reading.{end_at, info_of_tags}
 use Rattle.bl_mbi.specs.internal.TagGroups.{text_and_module_tags_at, map_tags_at, closing_tags_at}
+use Rattle.bl_mbi.specs.internal.TagGroups.{load_base_and_end_at}
 
 abbrev Texts : Type 0
 Texts = List ℕ × List ℕ × List ModuleInfo
@@ -68,8 +69,9 @@ last_then left next =
     steps (copy_at 15 old.1) _ next
     ∙ same_next (copy_at 15 old.1) _ _
     (λ new.
-    steps (load_base_at new.1) _ next
-    ∙ same_next (load_base_at new.1) _ _ (λ base. steps (end_at base.1) _ next)))
+    steps (load_base_and_end_at new.1) _ next
+    ∙ steps (load_base_at new.1) _ _
+    ∙ same_next (load_base_at new.1) _ _ (λ base. steps (end_at base.1) _ _)))
 
 abbrev info_with : Texts → Maps → Last → InfoFacts
 info_with texts maps last = record {

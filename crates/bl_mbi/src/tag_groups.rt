@@ -7,7 +7,7 @@ use crate::fault::InfoFault;
 use crate::module::Module;
 use crate::rest::Rest;
 use crate::tag_reader::{
-    copy_at, end_at, load_base_at, map_at, memory_at, modules_at, text_tag_at,
+    copy_at, load_base_and_end_at, map_at, memory_at, modules_at, text_tag_at,
 };
 use crate::tag_types::{TAG_ACPI_NEW, TAG_ACPI_OLD, TAG_BOOT_LOADER_NAME, TAG_COMMAND_LINE};
 use bl_map::Region;
@@ -54,7 +54,6 @@ pub(crate) fn closing_tags_at<A: Allocator + Copy>(
 {
     let (rsdp_old, rest) = copy_at(alloc, TAG_ACPI_OLD, rest)?;
     let (rsdp_new, rest) = copy_at(alloc, TAG_ACPI_NEW, rest)?;
-    let (load_base, rest) = load_base_at(rest)?;
-    end_at(rest)?;
+    let load_base = load_base_and_end_at(rest)?;
     Ok((rsdp_old, rsdp_new, load_base))
 }

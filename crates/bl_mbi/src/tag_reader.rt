@@ -2,6 +2,7 @@
 ghost use Rattle.std.specs.Prelude.{◌≡◌, ◌≤◌, ◌+◌, length, IfOk};
 ghost use Rattle.bl_mbi.specs.ReadingSteps.{MatchesReading};
 ghost use Rattle.bl_mbi.specs.internal.BytesLeft.{rest_facts, with_rest};
+ghost use Rattle.bl_mbi.specs.internal.TagGroups.{load_base_and_end_at};
 ghost use Rattle.bl_mbi.specs.ReadingSteps as fields;
 ghost use Rattle.bl_mbi.specs.Reading as spec;
 
@@ -142,7 +143,7 @@ pub(crate) fn copy_at<'a, A: Allocator>(
 
 /// The load base in the tag there, which may be missing.
 #[tactic(auto, unfolding(crate::specs::Reading::load_base_at))]
-pub(crate) fn load_base_at<'a>(rest: Rest<'a>) -> Result<(Option<u32>, Rest<'a>), InfoFault>
+fn load_base_at<'a>(rest: Rest<'a>) -> Result<(Option<u32>, Rest<'a>), InfoFault>
     ensures { MatchesReading with_rest result (spec.load_base_at (rest_facts rest.entry)) }
 {
     if !is_next(TAG_LOAD_BASE, rest) {
@@ -155,11 +156,14 @@ pub(crate) fn load_base_at<'a>(rest: Rest<'a>) -> Result<(Option<u32>, Rest<'a>)
     Ok((Some(load_base), after))
 }
 
-/// The tag that ends the information, with nothing after it.
+/// The load base, which may be missing, and the tag that ends the information, with nothing after
+/// it.
 #[tactic(auto, unfolding(crate::specs::Reading::end_at))]
-pub(crate) fn end_at(rest: Rest) -> Result<(), InfoFault>
-    ensures { MatchesReading (λ _. tt) result (spec.end_at (rest_facts rest.entry)) }
+pub(crate) fn load_base_and_end_at(rest: Rest) -> Result<Option<u32>, InfoFault>
+    ensures { MatchesReading (λ load_base. load_base) result
+        (load_base_and_end_at (rest_facts rest.entry)) }
 {
+    let (load_base, rest) = load_base_at(rest)?;
     let (body, after) = tag_at(TAG_END, rest)?;
     if !body.is_empty() {
         return Err(InfoFault::BadTag(rest.at));
@@ -167,5 +171,5 @@ pub(crate) fn end_at(rest: Rest) -> Result<(), InfoFault>
     if !after.bytes.is_empty() {
         return Err(InfoFault::BadOrder(after.at));
     }
-    Ok(())
+    Ok(load_base)
 }

@@ -23,12 +23,18 @@ map_tags_at left = do
   map ← map_at memory.1
   Ok ((memory.0, map.0), map.1)
 
--- the copies of the RSDP (14, 15), the load base (21) and the end (0)
+-- the load base (21) and the end (0)
+abbrev pub load_base_and_end_at : RestFacts → Result (Option ℕ) InfoFault
+load_base_and_end_at left = do
+  base ← load_base_at left
+  end ← end_at base.1
+  Ok base.0
+
+-- the copies of the RSDP (14, 15), the load base and the end
 unfoldable pub closing_tags_at : RestFacts
     → Result (Option (List ℕ) × Option (List ℕ) × Option ℕ) InfoFault
 closing_tags_at left = do
   old ← copy_at 14 left
   new ← copy_at 15 old.1
-  base ← load_base_at new.1
-  end ← end_at base.1
-  Ok (old.0, new.0, base.0)
+  base ← load_base_and_end_at new.1
+  Ok (old.0, new.0, base)
