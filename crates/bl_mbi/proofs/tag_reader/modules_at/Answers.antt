@@ -1,4 +1,5 @@
-use Rattle.std.proofs.Common.{◌∙◌, sym}
+use Rattle.std.proofs.Common.{◌∙◌, sym, arith}
+use Rattle.std.proofs.lemmas.Grind.{common_steps}
 use Rattle.std.proofs.lemmas.Result.{err_from_is_err_and}
 use Rattle.bl_mbi.proofs.ModuleLemmas.{starts, ends, reads_on, fails}
 use Rattle.bl_mbi.proofs.tag_reader.modules_at.Goals as goal
@@ -21,3 +22,6 @@ tags-preserved g c =
 
 pub returns : goal.returns
 returns g c = ends _ _ _ c.tags.invariant (sym c.is_next.ensures ∙ c.tags-test.false)
+
+pub tags-smaller : goal.tags-smaller
+tags-smaller g c = grind (arith, common_steps)

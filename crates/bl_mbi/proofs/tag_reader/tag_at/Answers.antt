@@ -39,3 +39,9 @@ returns-then-not-are_zeros-clause-read c = grind (arith, common_steps)
 pub returns-clause-read : goal.returns-clause-read
 unfolding next_info_tag
 returns-clause-read c = grind (arith, common_steps)
+
+pub invariant_of-after : goal.invariant_of-after
+invariant_of-after c = grind (arith, common_steps)
+
+pub returns-clause-shorter : goal.returns-clause-shorter
+returns-clause-shorter c = grind (arith, common_steps)

@@ -1,4 +1,5 @@
 use Rattle.std.proofs.Common.{◌+◌, arith, length}
+use Rattle.std.proofs.lemmas.Grind.{common_steps}
 use Rattle.bl_mbi.specs.Tags.{module_tag}
 use Rattle.bl_mbi.specs.Size.{tag_size}
 use Rattle.bl_mbi.proofs.SumLemmas.{next_fits, next_sum, appended_next}
@@ -43,3 +44,6 @@ loop-module-preserved g c =
           );
       capacity = omega (arith, e.capacity, i.capacity);
     }
+
+pub returns : goal.returns
+returns g c = grind (arith, common_steps)

@@ -1,4 +1,5 @@
-use Rattle.std.proofs.Common.{rules, List, ℕ, ◌++◌, ◌∙◌, ap}
+use Rattle.std.proofs.Common.{rules, arith, List, ℕ, ◌++◌, ◌∙◌, ap}
+use Rattle.std.proofs.lemmas.Grind.{common_steps}
 use Rattle.bl_mem.specs.LittleEndian.{u32_bytes}
 use Rattle.bl_mbi.proofs.GroupLemmas.{spelled}
 use Rattle.bl_mbi.proofs.write.write_info.Goals as goal
@@ -14,3 +15,12 @@ returns-clause-ok g c =
 
 pub returns-in_err-reserve-clause-err : goal.returns-in_err-reserve-clause-err
 returns-in_err-reserve-clause-err g c = search rules
+
+pub put_texts-requires : goal.put_texts-requires
+put_texts-requires g c = grind (arith, common_steps)
+
+pub put_map_tags-requires : goal.put_map_tags-requires
+put_map_tags-requires g c = grind (arith, common_steps)
+
+pub put_last-requires : goal.put_last-requires
+put_last-requires g c = grind (arith, common_steps)
