@@ -1,4 +1,5 @@
-use Rattle.std.proofs.Common.{◌-◌, ◌≤◌, ◌≡◌, length, ◌∙◌, sym, rules}
+use Rattle.std.proofs.Common.{◌-◌, ◌≤◌, ◌≡◌, length, ◌∙◌, sym, rules, arith}
+use Rattle.std.proofs.lemmas.Grind.{common_steps}
 use Rattle.std.proofs.lemmas.List.{places}
 use Rattle.bl_image.proofs.Inputs.{comes_more, comes_as, take_piece}
 use Rattle.bl_image.proofs.source.fill.Goals as goal
@@ -19,3 +20,6 @@ loop-done-preserved g c =
           (comes_more c.loop-done.invariant.came c.in_ok-count.ensures.gave);
       sound = c.in_ok-count.ensures.sound ∙ c.loop-done.invariant.sound;
     }
+
+pub returns-then-count-eq0-clause-gave : goal.returns-then-count-eq0-clause-gave
+returns-then-count-eq0-clause-gave g c = grind (arith, common_steps)
