@@ -1,5 +1,4 @@
 use Rattle.std.proofs.Common.{Ok, ◌≡◌, ◌≤◌, ◌^◌, ℕ, Bool, All, length, sym, ap, ◌∙◌, subst, arith}
-use Rattle.std.proofs.lemmas.Grind.{common_steps}
 use Rattle.std.proofs.lemmas.Result.{err_from_is_err_and}
 use Rattle.bl_image.specs.Image.{head, spelling}
 use Rattle.bl_image.specs.ImageHandover.{IsKeptByImages}
@@ -204,15 +203,3 @@ returns-clause-known g c =
 pub returns-clause-accepts : goal.returns-clause-accepts
 returns-clause-accepts g c bytes e =
     accepted_by (Ok c.new.result) bytes (returns-clause-known g c bytes e)
-
-pub returns-in_err-read_end-clause-ok : goal.returns-in_err-read_end-clause-ok
-returns-in_err-read_end-clause-ok g c = grind (arith, common_steps)
-
-pub returns-in_err-read_end-clause-ended : goal.returns-in_err-read_end-clause-ended
-returns-in_err-read_end-clause-ended g c = grind (arith, common_steps)
-
-pub returns-in_err-read_end-clause-kept : goal.returns-in_err-read_end-clause-kept
-returns-in_err-read_end-clause-kept g c = grind (arith, common_steps)
-
-pub returns-clause-faults : goal.returns-clause-faults
-returns-clause-faults g c = grind (arith, common_steps)

@@ -1,5 +1,4 @@
 use Rattle.std.proofs.Common.{◌<◌, ◌^◌, ◌∷◌, [], length, refl, arith}
-use Rattle.std.proofs.lemmas.Grind.{common_steps}
 use Rattle.std.specs.Prelude.{replicate}
 use Rattle.std.proofs.lemmas.Result.{err_from_is_err_and}
 use Rattle.bl_mem.specs.LittleEndian.{u64_bytes}
@@ -37,9 +36,3 @@ loop-i-preserved g c =
       fit = fit_more (2 ^ 32) out i v inside c.loop-i.invariant.fit c.in_ok-out.ensures.fits;
       sound = omega (arith, c.in_ok-out.ensures.read.faults, c.loop-i.invariant.sound);
     }
-
-pub returns-clause-read : goal.returns-clause-read
-returns-clause-read g c = grind (arith, common_steps)
-
-pub returns-clause-fit : goal.returns-clause-fit
-returns-clause-fit g c = grind (arith, common_steps)
