@@ -1,4 +1,4 @@
-use Rattle.std.proofs.Common.{◌≡◌, ℕ, List, Err, refl, arith}
+use Rattle.std.proofs.Common.{ℕ, List, Err, refl, arith}
 use Rattle.std.proofs.lemmas.Result.{err_from_is_err_and}
 use Rattle.program_desc.specs.declared.fault.DescFault.{DescFault}
 use Rattle.program_desc.specs.declared.fault.DescFault.TheVariants as desc_fault
