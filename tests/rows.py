@@ -30,6 +30,9 @@ class Rows(Checks):
         with self.check("the examples of crates/example_callers print what its README says"):
             ran = run(PROBE, "examples")
             self.assertEqual((ran.status, ran.out), (0, EXAMPLES_PRINTED.read_bytes()), "status and lines")
+        with self.check("the probe refuses words that it does not know, and reads no row"):
+            ran = run(PROBE, "rows", stdin=b"| gdt64\n")
+            self.assertEqual((ran.status, ran.out), (1, b""), "status and lines")
 
     def compare(self, table: Path, ran: Ran) -> None:
         name = tables.name_of(table)
