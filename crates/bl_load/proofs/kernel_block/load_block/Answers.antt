@@ -1,4 +1,5 @@
 use Rattle.std.proofs.Common.{◌≡◌, ◌+◌, ◌<◌, ◌≤◌, length, arith, refl, sym, ◌∙◌, get_or, drop, ◌∷◌}
+use Rattle.std.proofs.lemmas.Grind.{common_steps}
 use Rattle.std.proofs.Common.{add-zero, zero-add}
 use Rattle.std.proofs.lemmas.List.{drop_all, drop_more, get_or_default}
 use Rattle.bl_mem.specs.FileSet.{nth_file}
@@ -160,3 +161,15 @@ pub returns-clause-count : goal.returns-clause-count
 returns-clause-count g c =
     let none = drop_all c.loop-segment.segment-index c.args.segments.now c.loop-segment-test.false in
     rw (none, add-zero) at c.loop-segment.invariant.count
+
+pub overflow_add-at-in-loop-segment : goal.overflow_add-at-in-loop-segment
+overflow_add-at-in-loop-segment g c = grind (arith, common_steps)
+
+pub zero-requires-clause-inside : goal.zero-requires-clause-inside
+zero-requires-clause-inside g c = grind (arith, common_steps)
+
+pub zero-requires-clause-room : goal.zero-requires-clause-room
+zero-requires-clause-room g c = grind (arith, common_steps)
+
+pub overflow_add-at-in-loop-segment-2 : goal.overflow_add-at-in-loop-segment-2
+overflow_add-at-in-loop-segment-2 g c = grind (arith, common_steps)

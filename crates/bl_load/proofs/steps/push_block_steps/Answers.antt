@@ -1,4 +1,5 @@
 use Rattle.std.proofs.Common.{arith, refl}
+use Rattle.std.proofs.lemmas.Grind.{common_steps}
 use Rattle.std.proofs.lemmas.List.{drop_more, drop_all, get_or_default, append-nil, append_assoc}
 use Rattle.bl_load.specs.Parts.{no_segment}
 use Rattle.bl_load.proofs.BlockStepLemmas.{first_below}
@@ -59,3 +60,15 @@ returns-clause-steps g c =
     let i = c.loop-segment.segment-index in
     let rest = rw (drop_all i segments c.loop-segment-test.false) at c.loop-segment.invariant.rest in
     rw append-nil at rest
+
+pub overflow_add-at : goal.overflow_add-at
+overflow_add-at g c = grind (arith, common_steps)
+
+pub overflow_sub-start-in-loop-segment : goal.overflow_sub-start-in-loop-segment
+overflow_sub-start-in-loop-segment g c = grind (arith, common_steps)
+
+pub overflow_add-at-in-loop-segment : goal.overflow_add-at-in-loop-segment
+overflow_add-at-in-loop-segment g c = grind (arith, common_steps)
+
+pub push_segment_steps-requires-clause-inside : goal.push_segment_steps-requires-clause-inside
+push_segment_steps-requires-clause-inside g c = grind (arith, common_steps)

@@ -1,4 +1,5 @@
 use Rattle.std.proofs.Common.{ℕ, List, length, map, arith, ap, ◌∙◌}
+use Rattle.std.proofs.lemmas.Grind.{common_steps}
 use Rattle.std.proofs.lemmas.List.{length-map}
 use Rattle.bl_plan.specs.AddressOrder.{segments_in_order}
 use Rattle.bl_load.specs.Origins.{file_block}
@@ -35,3 +36,12 @@ returns-in_ok-in_order-in-Some g c =
           c.requires.long;
       lean = tt;
     }
+
+pub offset_bounds-segments-place : goal.offset_bounds-segments-place
+offset_bounds-segments-place g c = grind (arith, common_steps)
+
+pub bounds-segments-place : goal.bounds-segments-place
+bounds-segments-place g c = grind (arith, common_steps)
+
+pub returns-in-None : goal.returns-in-None
+returns-in-None g c = grind (arith, common_steps)

@@ -1,4 +1,5 @@
 use Rattle.std.proofs.Common.{◌≡◌, ℕ, List, ◌∷◌, ◌++◌, ◌+◌, get_or, map, drop, arith, sym, ap, ◌∙◌}
+use Rattle.std.proofs.lemmas.Grind.{common_steps}
 use Rattle.std.proofs.Common.{length}
 use Rattle.std.proofs.lemmas.List.{drop_more, at_drop_all, append-nil}
 use Rattle.std.proofs.lemmas.List.Elements.{All-push}
@@ -69,3 +70,6 @@ returns-clause-told g c =
     let all = at_drop_all lines_of_modules c.args.entry.now.modules.now c.loop-index.index
     (omega (arith, c.loop-index-test.false)) in
     rw (all, append-nil) at c.loop-index.invariant.told
+
+pub offset_bounds-entry-index : goal.offset_bounds-entry-index
+offset_bounds-entry-index g c = grind (arith, common_steps)
