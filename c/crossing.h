@@ -62,7 +62,7 @@ typedef struct bootcore_block {
     void *at;
 } bootcore_block;
 
-/* The sizes that crates/c_abi and crates/c_handle prove of these records. */
+/* The sizes that crates/c_records and crates/c_handle prove of these records. */
 #define BOOTCORE_HAS_SIZE(type, size) typedef char type##_has_##size[sizeof(type) == (size) ? 1 : -1]
 
 BOOTCORE_HAS_SIZE(bootcore_slice, 16);

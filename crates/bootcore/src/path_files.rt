@@ -1,6 +1,6 @@
 //! Files of the operating system.
 ghost use Rattle.std.specs.Prelude.{IfOk};
-ghost use Rattle.program_commands.specs.internal.described.WholeReads.{IsReadWhole};
+ghost use Rattle.program_commands.specs.internal.WholeReads.{IsReadWhole};
 
 use bl_mem::Bytes;
 use program_commands::{AskedNames, FILE_LIMIT, Fetched, Files};

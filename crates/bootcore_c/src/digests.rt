@@ -6,17 +6,17 @@ ghost use Rattle.bl_digest.specs.PlanInSteps.{DigestingFacts};
 ghost use Rattle.c_abi.specs.Digest.{IsGivenDigestEnd, IsGivenDigestsEnd};
 ghost use Rattle.c_abi.specs.DigestTold.{DigestsTelling, FeedsDigest, TellsFed};
 ghost use Rattle.c_abi.specs.DigestTold.{TellsDigestMade, TellsDigests, TellsWanted, wanted_of};
-ghost use Rattle.c_abi.specs.declared.load_fault.LoadFault.{LoadFault};
+ghost use Rattle.c_records.specs.declared.load_fault.LoadFault.{LoadFault};
 ghost use Rattle.c_handle.specs.Handles.{RelatesKept};
 ghost use Rattle.c_handle.specs.HandleTold.{progress_status};
 ghost use Rattle.c_handle.specs.declared.handle_fault.HandleFault.TheVariants.{NoSession};
 
-use c_abi::{
-    DigestsRecord, EntryRecord, FileRangeRecord, LoadFault, MachineRecord, PartDigestRecord,
-    RefusalRecord, RegionRecord, digest_given, digests_told, fed_digests_told, feed_told,
-    tell_load_fault, wanted_told,
-};
+use c_abi::{digest_given, digests_told, fed_digests_told, feed_told, wanted_told};
 use c_handle::{DigestHandle, HandleFault, status_of};
+use c_records::{
+    DigestsRecord, EntryRecord, FileRangeRecord, LoadFault, MachineRecord, PartDigestRecord,
+    RefusalRecord, RegionRecord, tell_load_fault,
+};
 use std::alloc::Global;
 
 /// A digest is made, and kept; one that was kept before is freed then.

@@ -6,15 +6,16 @@ ghost use Rattle.bl_mem.specs.Memory.{memory_from};
 ghost use Rattle.bl_session.specs.session.Phases.{PhaseFacts};
 ghost use Rattle.c_abi.specs.Boot.{IsGivenBootEnd};
 ghost use Rattle.c_abi.specs.BootTold.{TellsBoot};
-ghost use Rattle.c_abi.specs.declared.given_fault.GivenFault.{GivenFault};
+ghost use Rattle.c_records.specs.declared.given_fault.GivenFault.{GivenFault};
 
 mod digests;
 mod one_entry;
 mod sessions;
 mod walks;
 
-use c_abi::{
-    EntryRecord, HandoffRecord, MachineRecord, PlaceRecord, RefusalRecord, RegionRecord, boot_told,
+use c_abi::boot_told;
+use c_records::{
+    EntryRecord, HandoffRecord, MachineRecord, PlaceRecord, RefusalRecord, RegionRecord,
 };
 use std::alloc::Global;
 

@@ -3,15 +3,16 @@ ghost use Rattle.std.specs.Prelude.{ℕ, List, length, Result};
 ghost use Rattle.bl_mem.specs.Memory.{memory_from};
 ghost use Rattle.bl_load.specs.HandoffFacts.{HandoffFacts};
 ghost use Rattle.c_abi.specs.Load.{IsGivenLoadEnd};
-ghost use Rattle.c_abi.specs.LoadTold.{TellsEnd};
+ghost use Rattle.c_records.specs.LoadTold.{TellsEnd};
 ghost use Rattle.c_abi.specs.Plan.{PlanFacts, IsGivenPlanEnd};
 ghost use Rattle.c_abi.specs.PlanTold.{TellsPlan};
 ghost use Rattle.c_abi.specs.Prepare.{AreFilesOf, IsGivenPrepareEnd};
-ghost use Rattle.c_abi.specs.declared.load_fault.LoadFault.{LoadFault};
+ghost use Rattle.c_records.specs.declared.load_fault.LoadFault.{LoadFault};
 
-use c_abi::{
+use c_abi::{load_told, plan_told, prepare_told};
+use c_records::{
     EntryRecord, HandoffRecord, MachineRecord, PlaceRecord, PlanCountsRecord, RefusalRecord,
-    RegionRecord, StepRecord, load_told, plan_told, prepare_told,
+    RegionRecord, StepRecord,
 };
 use std::alloc::Global;
 

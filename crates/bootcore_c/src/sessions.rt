@@ -7,17 +7,17 @@ ghost use Rattle.bl_session.specs.session.Phases.{SessionFacts, state_at};
 ghost use Rattle.bl_session.specs.session.Requests.{first_request, request_after};
 ghost use Rattle.c_abi.specs.BootTold.{Telling};
 ghost use Rattle.c_abi.specs.Sessions.{IsSessionMade, TellsSession, TellsOutcome};
-ghost use Rattle.c_abi.specs.declared.given_fault.GivenFault.{GivenFault};
+ghost use Rattle.c_records.specs.declared.given_fault.GivenFault.{GivenFault};
 ghost use Rattle.c_handle.specs.declared.handle_fault.HandleFault.{HandleFault};
 ghost use Rattle.c_handle.specs.declared.handle_fault.HandleFault.TheVariants.{NoSession};
 ghost use Rattle.c_handle.specs.HandleTold.{TellsRequest, progress_status, record_ticket};
 ghost use Rattle.c_handle.specs.SessionSteps.{IsStarted, IsStepped};
 
-use c_abi::{
-    EntryRecord, GivenFault, HandoffRecord, MachineRecord, PlaceRecord, RefusalRecord,
-    RegionRecord, given_status, outcome_told, session_given,
-};
+use c_abi::{given_status, outcome_told, session_given};
 use c_handle::{Handle, HandleFault, RequestRecord, status_of};
+use c_records::{
+    EntryRecord, GivenFault, HandoffRecord, MachineRecord, PlaceRecord, RefusalRecord, RegionRecord,
+};
 use std::alloc::Global;
 
 /// A session is made, and kept; one that was kept before is freed then.

@@ -1,14 +1,12 @@
 //! An image for C: what a kernel sees in it.
 ghost use Rattle.std.specs.Prelude.{Result};
-ghost use Rattle.c_abi.specs.SeenTold.{WalkRecordsFacts};
+ghost use Rattle.c_records.specs.SeenTold.{WalkRecordsFacts};
 ghost use Rattle.c_abi.specs.Walk.{IsWalkEnd};
-ghost use Rattle.c_abi.specs.WalkTold.{TellsWalk, TellsWalkAll};
-ghost use Rattle.c_abi.specs.declared.seen_records.WalkStop.{WalkStop};
+ghost use Rattle.c_records.specs.WalkTold.{TellsWalk, TellsWalkAll};
+ghost use Rattle.c_records.specs.declared.seen_records.WalkStop.{WalkStop};
 
-use c_abi::{
-    RefusalRecord, RegionRecord, SeenModuleRecord, SeenPartRecord, SeenRecord, walk_all_told,
-    walk_told,
-};
+use c_abi::{walk_all_told, walk_told};
+use c_records::{RefusalRecord, RegionRecord, SeenModuleRecord, SeenPartRecord, SeenRecord};
 use std::alloc::Global;
 
 /// An image in memory is walked.

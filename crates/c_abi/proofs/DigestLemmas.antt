@@ -20,14 +20,15 @@ use Rattle.bl_digest.specs.DigestsFacts.{DigestsFacts}
 use Rattle.bl_digest.specs.PlanInSteps.{DigestingFacts, handover_in_steps, plan_in_steps}
 use Rattle.bl_digest.specs.Ranges.{ranges_of, source_ranges}
 use Rattle.bl_digest.specs.declared.file_range.FileRange.{FileRange}
-use Rattle.c_abi.specs.declared.given_records.EntryRecord.{EntryRecord}
-use Rattle.c_abi.specs.declared.given_records.MachineRecord.{MachineRecord}
-use Rattle.c_abi.specs.declared.given_records.RegionRecord.{RegionRecord}
-use Rattle.c_abi.specs.declared.load_fault.LoadFault.{LoadFault}
+use Rattle.c_records.specs.declared.given_records.EntryRecord.{EntryRecord}
+use Rattle.c_records.specs.declared.given_records.MachineRecord.{MachineRecord}
+use Rattle.c_records.specs.declared.given_records.RegionRecord.{RegionRecord}
+use Rattle.c_records.specs.declared.load_fault.LoadFault.{LoadFault}
 use Rattle.c_abi.specs.Digest.{IsGivenDigestEnd, IsGivenDigestsEnd, IsInFile, ranges_wanted}
-use Rattle.c_abi.specs.Given.{entry_without_files, texts_given, value_with}
-use Rattle.c_abi.specs.Load.{bad_entry, IsEntryFault, IsEntrySound}
-use Rattle.c_abi.specs.Machines.{IsMachineGiven, IsMachineSound}
+use Rattle.c_records.specs.Given.{entry_without_files, texts_given, value_with}
+use Rattle.c_abi.specs.Load.{bad_entry, IsEntryFault}
+use Rattle.c_records.specs.EntryFaults.{IsEntrySound}
+use Rattle.c_records.specs.Machines.{IsMachineGiven, IsMachineSound}
 use Rattle.c_abi.specs.Plan.{file_lengths}
 use Rattle.c_abi.specs.Prepare.{AreFilesOf}
 use Rattle.c_abi.specs.internal.Digests.{AreDigestsOn, IsDigestOn}

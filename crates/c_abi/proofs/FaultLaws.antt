@@ -8,19 +8,20 @@ use Rattle.bl_load.specs.EntryValue.{EntryValue}
 use Rattle.bl_load.specs.Handover.{Handover}
 use Rattle.bl_load.specs.Parts.{IsHandover, IsRefusal}
 use Rattle.bl_load.proofs.HandoverLaws as handovers
-use Rattle.c_abi.specs.declared.load_fault.LoadFault.{LoadFault}
-use Rattle.c_abi.specs.declared.load_fault.LoadFault.TheVariants.{Misused, Refused, NoMemory}
-use Rattle.c_abi.specs.declared.misuse.Misuse.{Misuse}
-use Rattle.c_abi.specs.declared.given_fault.GivenFault.TheVariants as given_fault
-use Rattle.c_abi.specs.declared.given_records.EntryRecord.{EntryRecord}
-use Rattle.c_abi.specs.declared.given_records.MachineRecord.{MachineRecord}
-use Rattle.c_abi.specs.declared.given_records.RegionRecord.{RegionRecord}
-use Rattle.c_abi.specs.declared.load_fault.LoadFault.TheVariants.{Outside}
-use Rattle.c_abi.specs.Given.{value_with}
-use Rattle.c_abi.specs.Load.{HandsOverBelow, IsEntryMisuse, IsEntrySound, HasEntryFault}
+use Rattle.c_records.specs.declared.load_fault.LoadFault.{LoadFault}
+use Rattle.c_records.specs.declared.load_fault.LoadFault.TheVariants.{Misused, Refused, NoMemory}
+use Rattle.c_records.specs.declared.misuse.Misuse.{Misuse}
+use Rattle.c_records.specs.declared.given_fault.GivenFault.TheVariants as given_fault
+use Rattle.c_records.specs.declared.given_records.EntryRecord.{EntryRecord}
+use Rattle.c_records.specs.declared.given_records.MachineRecord.{MachineRecord}
+use Rattle.c_records.specs.declared.given_records.RegionRecord.{RegionRecord}
+use Rattle.c_records.specs.declared.load_fault.LoadFault.TheVariants.{Outside}
+use Rattle.c_records.specs.Given.{value_with}
+use Rattle.c_abi.specs.Load.{HandsOverBelow, HasEntryFault}
+use Rattle.c_records.specs.EntryFaults.{IsEntryMisuse, IsEntrySound}
 use Rattle.c_abi.specs.Load.{IsNotLoaded}
 use Rattle.c_abi.specs.Load.{few_places, bad_machine, bad_memory, bad_entry}
-use Rattle.c_abi.specs.Machines.{IsMachineGiven}
+use Rattle.c_records.specs.Machines.{IsMachineGiven}
 use Rattle.c_abi.proofs.MachineLaws.{one_machine, sound_machine, one_machine_fault}
 
 -- ---- of an entry

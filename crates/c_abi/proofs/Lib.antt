@@ -1,8 +1,4 @@
-mod TellLemmas
 mod ValueLemmas
-mod ListLemmas
-mod NumberLemmas
-mod CheckLemmas
 mod LoadLemmas
 mod MenuLemmas
 mod PrepareLemmas
@@ -12,7 +8,5 @@ mod MachineLaws
 mod FaultLaws
 mod PrepareLaws
 mod SizeLemmas
-mod SeenLemmas
 mod TextLaws
-mod ProtocolLemmas
 mod ResultLemmas

@@ -21,23 +21,24 @@ use Rattle.bl_load.specs.PlanContents.{handover_in, part_by}
 use Rattle.bl_load.specs.PlannedPlaces.{planned_place}
 use Rattle.bl_load.specs.declared.plan.Plan.{Plan}
 use Rattle.bl_load.specs.declared.plan.PlannedPart.{PlannedPart}
-use Rattle.c_abi.specs.declared.given_records.FileRecord.{FileRecord}
-use Rattle.c_abi.specs.declared.given_records.MachineRecord.{MachineRecord}
-use Rattle.c_abi.specs.declared.given_records.RegionRecord.{RegionRecord}
-use Rattle.c_abi.specs.declared.load_fault.LoadFault.{LoadFault}
-use Rattle.c_abi.specs.declared.load_fault.LoadFault.TheVariants.{Misused, Refused, NoMemory}
-use Rattle.c_abi.specs.declared.load_fault.LoadFault.TheVariants.{Outside}
-use Rattle.c_abi.specs.declared.given_records.EntryRecord.{EntryRecord}
-use Rattle.c_abi.specs.declared.given_fault.GivenFault.{GivenFault}
-use Rattle.c_abi.specs.declared.given_fault.GivenFault.TheVariants as given_fault
-use Rattle.c_abi.specs.GivenChecks.{entry_misuse}
-use Rattle.c_abi.specs.Given.{entry_without_files, files_given, texts_given, value_with}
-use Rattle.c_abi.specs.Given.{value_given}
-use Rattle.c_abi.specs.Load.{IsEntrySound, IsEntryGivenFault, IsEntryFault}
-use Rattle.c_abi.specs.Load.{IsEntrySizeFault}
-use Rattle.c_abi.specs.Load.{load_fault_of_given, load_fault_of_prep}
+use Rattle.c_records.specs.declared.given_records.FileRecord.{FileRecord}
+use Rattle.c_records.specs.declared.given_records.MachineRecord.{MachineRecord}
+use Rattle.c_records.specs.declared.given_records.RegionRecord.{RegionRecord}
+use Rattle.c_records.specs.declared.load_fault.LoadFault.{LoadFault}
+use Rattle.c_records.specs.declared.load_fault.LoadFault.TheVariants.{Misused, Refused, NoMemory}
+use Rattle.c_records.specs.declared.load_fault.LoadFault.TheVariants.{Outside}
+use Rattle.c_records.specs.declared.given_records.EntryRecord.{EntryRecord}
+use Rattle.c_records.specs.declared.given_fault.GivenFault.{GivenFault}
+use Rattle.c_records.specs.declared.given_fault.GivenFault.TheVariants as given_fault
+use Rattle.c_records.specs.GivenChecks.{entry_misuse}
+use Rattle.c_records.specs.Given.{entry_without_files, files_given, texts_given, value_with}
+use Rattle.c_records.specs.Given.{value_given}
+use Rattle.c_abi.specs.Load.{IsEntryFault}
+use Rattle.c_records.specs.EntryFaults.{IsEntrySound, IsEntryGivenFault}
+use Rattle.c_records.specs.EntryFaults.{IsEntrySizeFault}
+use Rattle.c_records.specs.EntryFaults.{load_fault_of_given, load_fault_of_prep}
 use Rattle.c_abi.specs.Load.{IsEntryLoaded, IsGivenLoadEnd, bad_entry}
-use Rattle.c_abi.specs.Machines.{IsMachineGiven, IsMachineSound}
+use Rattle.c_records.specs.Machines.{IsMachineGiven, IsMachineSound}
 use Rattle.c_abi.specs.internal.LoadEnds.{IsValueFault, LoadsValue}
 use Rattle.c_abi.specs.internal.TakenEntries.{IsTakenFrom}
 use Rattle.c_abi.proofs.ValueLemmas.{value_is}
@@ -55,19 +56,6 @@ pub given_count : {V : Type 0} (bytes : V → List ℕ) (r : EntryRecord)
 given_count bytes r views is =
     sym (length-map views bytes) ∙ ap length is
     ∙ length-map (files_given r) (λ (file : FileRecord). file.bytes.now)
-
--- one that is too large, and has no other misuse, is not taken
-pub size_fault : (r : EntryRecord) → entry_misuse r ≡ None → (fault : GivenFault)
-    → IsEntrySizeFault r fault → IsEntryGivenFault r fault
-size_fault r names (given_fault.Misused misuse) (is, not) = inr (is, names, not)
-size_fault r names given_fault.NoMemory is = tt
-
--- an entry that has not its limits is too large
-pub too_large : {A : Type 0} (r : EntryRecord) (entry : Entry A)
-    → value_of [] entry ≡ entry_without_files r → ¬ IsWithinLimits entry
-    → ¬ HasLimits (entry_without_files r)
-unfolding IsWithinLimits
-too_large r entry is not = λ limits. not (subst HasLimits (sym is) limits)
 
 -- an entry within its limits has no misuse
 pub entry_sound : {A : Type 0} (r : EntryRecord) (entry : Entry A)

@@ -11,17 +11,17 @@ use Rattle.bl_map.specs.declared.fault.MapFault.TheVariants as map_fault
 use Rattle.bl_map.specs.Faults.{HasFirstMapFault, IsAccepted, HasAllowedEnd}
 use Rattle.bl_map.specs.MachineFacts.{MachineFacts}
 use Rattle.bl_map.proofs.MapLaws.{one_normal_map}
-use Rattle.c_abi.specs.declared.load_fault.LoadFault.TheVariants.{NoMemory}
-use Rattle.c_abi.specs.declared.misuse.Misuse.{Misuse}
-use Rattle.c_abi.specs.declared.given_fault.GivenFault.{GivenFault}
-use Rattle.c_abi.specs.declared.given_fault.GivenFault.TheVariants as given_fault
-use Rattle.c_abi.specs.declared.given_records.MachineRecord.{MachineRecord}
-use Rattle.c_abi.specs.declared.given_records.RegionRecord.{RegionRecord}
-use Rattle.c_abi.specs.Given.{region_given}
-use Rattle.c_abi.specs.Load.{load_fault_of_given}
-use Rattle.c_abi.specs.Machines.{IsMachineGiven, IsMachineSound, HasMachineFault}
-use Rattle.c_abi.specs.Machines.{given_fault_of_map}
-use Rattle.c_abi.specs.Machines.{pool_given}
+use Rattle.c_records.specs.declared.load_fault.LoadFault.TheVariants.{NoMemory}
+use Rattle.c_records.specs.declared.misuse.Misuse.{Misuse}
+use Rattle.c_records.specs.declared.given_fault.GivenFault.{GivenFault}
+use Rattle.c_records.specs.declared.given_fault.GivenFault.TheVariants as given_fault
+use Rattle.c_records.specs.declared.given_records.MachineRecord.{MachineRecord}
+use Rattle.c_records.specs.declared.given_records.RegionRecord.{RegionRecord}
+use Rattle.c_records.specs.Given.{region_given}
+use Rattle.c_records.specs.EntryFaults.{load_fault_of_given}
+use Rattle.c_records.specs.Machines.{IsMachineGiven, IsMachineSound, HasMachineFault}
+use Rattle.c_records.specs.Machines.{given_fault_of_map}
+use Rattle.c_records.specs.Machines.{pool_given}
 
 -- ---- of a machine's parts
 

@@ -13,15 +13,15 @@ use Rattle.bl_session.specs.menu.Menu.{EntryFacts, facts_of}
 use Rattle.bl_session.specs.menu.MenuFaults.{AreWithinLimits, AreEntryIndices, HasMenuFault}
 use Rattle.bl_session.specs.declared.menu.fault.MenuFault.{MenuFault}
 use Rattle.bl_session.specs.declared.menu.fault.MenuFault.TheVariants as menu_faults
-use Rattle.c_abi.specs.declared.given_fault.GivenFault.{GivenFault}
-use Rattle.c_abi.specs.declared.given_fault.GivenFault.TheVariants.{Misused, NoMemory}
-use Rattle.c_abi.specs.declared.given_records.EntryRecord.{EntryRecord}
-use Rattle.c_abi.specs.declared.given_records.FileRecord.{FileRecord}
-use Rattle.c_abi.specs.Given.{files_given, entry_without_files}
-use Rattle.c_abi.specs.Load.{IsEntrySizeFault}
-use Rattle.c_abi.specs.MenuGiven.{menu_files, entry_facts_given, entries_facts}
-use Rattle.c_abi.specs.MenuGiven.{given_fault_of_menu, AreFewGiven, IsNoMenu}
-use Rattle.c_abi.specs.MenuGiven.{are_many, names_none, is_short}
+use Rattle.c_records.specs.declared.given_fault.GivenFault.{GivenFault}
+use Rattle.c_records.specs.declared.given_fault.GivenFault.TheVariants.{Misused, NoMemory}
+use Rattle.c_records.specs.declared.given_records.EntryRecord.{EntryRecord}
+use Rattle.c_records.specs.declared.given_records.FileRecord.{FileRecord}
+use Rattle.c_records.specs.Given.{files_given, entry_without_files}
+use Rattle.c_records.specs.EntryFaults.{IsEntrySizeFault}
+use Rattle.c_records.specs.MenuGiven.{menu_files, entry_facts_given, entries_facts}
+use Rattle.c_records.specs.MenuGiven.{given_fault_of_menu, AreFewGiven, IsNoMenu}
+use Rattle.c_records.specs.MenuGiven.{are_many, names_none, is_short}
 use Rattle.c_abi.specs.internal.Menus.{AreTooMany}
 
 -- ---- one entry more

@@ -17,9 +17,9 @@ use Rattle.bl_load.specs.Loadable.{lengths_of, IsLoadable}
 use Rattle.bl_load.specs.Parts.{IsHandover}
 use Rattle.bl_load.specs.PlanContents.{handover_by}
 use Rattle.bl_load.specs.Steps.{carry_out, IsStep, IsThere, StepsAscend, CanBeLoaded}
-use Rattle.c_abi.specs.declared.given_records.EntryRecord.{EntryRecord}
-use Rattle.c_abi.specs.declared.given_records.FileRecord.{FileRecord}
-use Rattle.c_abi.specs.Given.{entry_without_files, files_beside, files_given, lengths_beside}
+use Rattle.c_records.specs.declared.given_records.EntryRecord.{EntryRecord}
+use Rattle.c_records.specs.declared.given_records.FileRecord.{FileRecord}
+use Rattle.c_records.specs.Given.{entry_without_files, files_beside, files_given, lengths_beside}
 use Rattle.c_abi.specs.Plan.{file_lengths}
 use Rattle.c_abi.specs.Prepare.{AreFilesOf}
 use Rattle.c_abi.specs.PlanTold.{source_file}

@@ -15,17 +15,18 @@ use Rattle.bl_load.proofs.HandoverLaws as handovers
 use Rattle.bl_load.proofs.WrittenLemmas.{EndsWithin, length-written}
 use Rattle.bl_image.specs.ImageHandover.{part_place, handoff_of}
 use Rattle.bl_image.proofs.Spelled.{EndsIn, length-place_bytes}
-use Rattle.c_abi.specs.declared.load_fault.LoadFault.{LoadFault}
-use Rattle.c_abi.specs.declared.load_fault.LoadFault.TheVariants.{Misused, Refused, NoMemory}
-use Rattle.c_abi.specs.declared.given_fault.GivenFault.TheVariants as given_fault
-use Rattle.c_abi.specs.declared.given_records.EntryRecord.{EntryRecord}
-use Rattle.c_abi.specs.declared.given_records.MachineRecord.{MachineRecord}
-use Rattle.c_abi.specs.declared.given_records.RegionRecord.{RegionRecord}
-use Rattle.c_abi.specs.declared.load_fault.LoadFault.TheVariants.{Outside}
-use Rattle.c_abi.specs.Given.{texts_given, value_given}
-use Rattle.c_abi.specs.Load.{IsEntryFault, IsEntrySound, IsLoaded, IsNotLoaded}
+use Rattle.c_records.specs.declared.load_fault.LoadFault.{LoadFault}
+use Rattle.c_records.specs.declared.load_fault.LoadFault.TheVariants.{Misused, Refused, NoMemory}
+use Rattle.c_records.specs.declared.given_fault.GivenFault.TheVariants as given_fault
+use Rattle.c_records.specs.declared.given_records.EntryRecord.{EntryRecord}
+use Rattle.c_records.specs.declared.given_records.MachineRecord.{MachineRecord}
+use Rattle.c_records.specs.declared.given_records.RegionRecord.{RegionRecord}
+use Rattle.c_records.specs.declared.load_fault.LoadFault.TheVariants.{Outside}
+use Rattle.c_records.specs.Given.{texts_given, value_given}
+use Rattle.c_abi.specs.Load.{IsEntryFault, IsLoaded, IsNotLoaded}
+use Rattle.c_records.specs.EntryFaults.{IsEntrySound}
 use Rattle.c_abi.specs.Load.{few_places, bad_machine, bad_memory, bad_entry}
-use Rattle.c_abi.specs.Machines.{IsMachineGiven, IsMachineSound}
+use Rattle.c_records.specs.Machines.{IsMachineGiven, IsMachineSound}
 use Rattle.c_abi.specs.Prepare.{IsPrepared}
 use Rattle.c_abi.proofs.MachineLaws.{one_machine, sound_machine}
 use Rattle.c_abi.proofs.FaultLaws.{sound_entry}

@@ -4,9 +4,9 @@ use Rattle.std.proofs.Common.{map, All, None, Some, if◌then◌else◌, refl, a
 use Rattle.std.proofs.Common.{inl, inr}
 use Rattle.std.proofs.lemmas.List.Elements.{All-head, All-tail}
 use Rattle.bl_stage.specs.Files.{missing, whole, size_of}
-use Rattle.c_abi.specs.declared.given_records.FileRecord.{FileRecord}
+use Rattle.c_records.specs.declared.given_records.FileRecord.{FileRecord}
 use Rattle.c_abi.specs.Boot.{stored_given}
-use Rattle.c_abi.specs.MenuGiven.{is_unreadable}
+use Rattle.c_records.specs.MenuGiven.{is_unreadable}
 use Rattle.c_abi.specs.Sessions.{HasItsLength, size_given}
 
 size_if : (file : FileRecord) (b : Bool) → is_unreadable file ≡ b → HasItsLength file

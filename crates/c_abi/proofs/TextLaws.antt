@@ -8,9 +8,9 @@ use Rattle.std.proofs.lemmas.Bool.{le-leb}
 use Rattle.std.proofs.lemmas.List.{append-nil}
 use Rattle.std.proofs.Math.Seq.{drop-append_seam, take-append_seam}
 use Rattle.bl_walk.specs.SeenFacts.{SeenFacts, SeenModuleFacts}
-use Rattle.c_abi.specs.TextRanges.{are_among, range_bytes}
-use Rattle.c_abi.specs.SeenTold.{copy_range, lines_seen, modules_told, text_seen}
-use Rattle.c_abi.specs.SeenTold.{text_before_rsdp_new}
+use Rattle.c_records.specs.TextRanges.{are_among, range_bytes}
+use Rattle.c_records.specs.SeenTold.{copy_range, lines_seen, modules_told, text_seen}
+use Rattle.c_records.specs.SeenTold.{text_before_rsdp_new}
 
 -- as many elements as the piece has, from where it begins
 piece_at : (before piece after text : List ℕ) (at n : ℕ) → text ≡ before ++ (piece ++ after)

@@ -11,15 +11,16 @@ use Rattle.bl_session.specs.session.Phases.{PhaseFacts, boot_facts, state_at}
 use Rattle.bl_session.specs.runs.Run.{final_phase}
 use Rattle.bl_session.specs.declared.session.outcome.BootFault.{BootFault}
 use Rattle.bl_session.specs.declared.session.outcome.Outcome.{Outcome}
-use Rattle.c_abi.specs.declared.given_records.RegionRecord.{RegionRecord}
-use Rattle.c_abi.specs.declared.given_records.MachineRecord.{MachineRecord}
-use Rattle.c_abi.specs.declared.given_records.FileRecord.{FileRecord}
-use Rattle.c_abi.specs.declared.given_records.EntryRecord.{EntryRecord}
-use Rattle.c_abi.specs.declared.misuse.Misuse.TheVariants.{BadMemory, SmallRoom}
-use Rattle.c_abi.specs.declared.given_fault.GivenFault.{GivenFault}
-use Rattle.c_abi.specs.declared.given_fault.GivenFault.TheVariants.{Misused}
-use Rattle.c_abi.specs.Machines.{IsMachineGiven, IsMachineSound, HasMachineFault}
-use Rattle.c_abi.specs.MenuGiven.{menu_files, is_unreadable, menu_given, IsMenuAllowed, IsMenuFault}
+use Rattle.c_records.specs.declared.given_records.RegionRecord.{RegionRecord}
+use Rattle.c_records.specs.declared.given_records.MachineRecord.{MachineRecord}
+use Rattle.c_records.specs.declared.given_records.FileRecord.{FileRecord}
+use Rattle.c_records.specs.declared.given_records.EntryRecord.{EntryRecord}
+use Rattle.c_records.specs.declared.misuse.Misuse.TheVariants.{BadMemory, SmallRoom}
+use Rattle.c_records.specs.declared.given_fault.GivenFault.{GivenFault}
+use Rattle.c_records.specs.declared.given_fault.GivenFault.TheVariants.{Misused}
+use Rattle.c_records.specs.Machines.{IsMachineGiven, IsMachineSound, HasMachineFault}
+use Rattle.c_records.specs.MenuGiven.{menu_files, is_unreadable, menu_given, IsMenuAllowed}
+use Rattle.c_records.specs.MenuGiven.{IsMenuFault}
 
 -- ---- the files
 

@@ -4,14 +4,14 @@ use Rattle.bl_load.specs.HandoffFacts.{HandoffFacts}
 use Rattle.bl_load.specs.declared.refused_entry.RefusedEntry.{RefusedEntry}
 use Rattle.bl_session.specs.session.Phases.{PhaseFacts, not_started, waits, hands_over, has_none}
 use Rattle.bl_session.specs.session.Phases.{lacks_memory}
-use Rattle.c_abi.specs.declared.end_records.PlaceRecord.{PlaceRecord}
-use Rattle.c_abi.specs.declared.end_records.HandoffRecord.{HandoffRecord}
-use Rattle.c_abi.specs.declared.end_records.RefusalRecord.{RefusalRecord}
-use Rattle.c_abi.specs.declared.given_fault.GivenFault.{GivenFault}
-use Rattle.c_abi.specs.Load.{load_fault_of_given}
-use Rattle.c_abi.specs.RefusalTold.{refusal_record}
-use Rattle.c_abi.specs.Status.{done_status, refused_status, no_memory_status, fault_status}
-use Rattle.c_abi.specs.LoadTold.{handoff_told, places_told}
+use Rattle.c_records.specs.declared.end_records.PlaceRecord.{PlaceRecord}
+use Rattle.c_records.specs.declared.end_records.HandoffRecord.{HandoffRecord}
+use Rattle.c_records.specs.declared.end_records.RefusalRecord.{RefusalRecord}
+use Rattle.c_records.specs.declared.given_fault.GivenFault.{GivenFault}
+use Rattle.c_records.specs.EntryFaults.{load_fault_of_given}
+use Rattle.c_records.specs.RefusalTold.{refusal_record}
+use Rattle.c_records.specs.Status.{done_status, refused_status, no_memory_status, fault_status}
+use Rattle.c_records.specs.LoadTold.{handoff_told, places_told}
 
 abbrev pub refused_told : RefusedEntry → RefusalRecord
 refused_told refused = refusal_record refused.entry refused.refusal

@@ -6,15 +6,15 @@ use Rattle.bl_digest.specs.PlanInSteps.{DigestingFacts}
 use Rattle.bl_digest.specs.Ranges.{wanted_after, IsWithinWanted}
 use Rattle.bl_digest.specs.declared.file_range.FileRange.{FileRange}
 use Rattle.bl_digest.specs.declared.part_digest.PartDigest.{PartDigest}
-use Rattle.c_abi.specs.declared.digest_records.DigestsRecord.{DigestsRecord}
-use Rattle.c_abi.specs.declared.digest_records.FileRangeRecord.{FileRangeRecord}
-use Rattle.c_abi.specs.declared.digest_records.PartDigestRecord.{PartDigestRecord}
-use Rattle.c_abi.specs.declared.end_records.RefusalRecord.{RefusalRecord}
-use Rattle.c_abi.specs.declared.load_fault.LoadFault.{LoadFault}
+use Rattle.c_records.specs.declared.digest_records.DigestsRecord.{DigestsRecord}
+use Rattle.c_records.specs.declared.digest_records.FileRangeRecord.{FileRangeRecord}
+use Rattle.c_records.specs.declared.digest_records.PartDigestRecord.{PartDigestRecord}
+use Rattle.c_records.specs.declared.end_records.RefusalRecord.{RefusalRecord}
+use Rattle.c_records.specs.declared.load_fault.LoadFault.{LoadFault}
 use Rattle.c_abi.specs.Digest.{AreDigestsFed, ranges_wanted}
-use Rattle.c_abi.specs.LoadTold.{after_fault, place_told}
+use Rattle.c_records.specs.LoadTold.{after_fault, place_told}
 use Rattle.c_abi.specs.Sessions.{waiting_status}
-use Rattle.c_abi.specs.Status.{done_status, fault_status}
+use Rattle.c_records.specs.Status.{done_status, fault_status}
 
 -- ---- a digest is made
 

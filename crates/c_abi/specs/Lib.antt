@@ -1,12 +1,5 @@
-pub mod Given
-pub mod GivenChecks
-pub mod MenuGiven
-pub mod Machines
 pub mod Load
 pub mod Prepare
-pub mod RefusalTold
-pub mod Status
-pub mod LoadTold
 pub mod Plan
 pub mod PlanTold
 pub mod Boot
@@ -14,8 +7,5 @@ pub mod BootTold
 pub mod Sessions
 pub mod Digest
 pub mod DigestTold
-pub mod TextRanges
-pub mod SeenTold
 pub mod Walk
-pub mod WalkTold
 pub mod internal

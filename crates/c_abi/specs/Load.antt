@@ -1,60 +1,25 @@
 -- What comes of an entry that C has loaded. Own.
-use Rattle.std.specs.Prelude.{◌≡◌, ◌⊎◌, ℕ, ◌+◌, ◌≤◌, ◌<◌, List, length, All}
-use Rattle.std.specs.Prelude.{None, Some, Result, Ok, Err}
+use Rattle.std.specs.Prelude.{◌≡◌, ℕ, ◌+◌, ◌≤◌, ◌<◌, List, length, All}
+use Rattle.std.specs.Prelude.{Result, Ok, Err}
 use Rattle.bl_map.specs.MachineFacts.{MachineFacts}
-use Rattle.bl_load.specs.declared.refusal.PrepFault.{PrepFault}
-use Rattle.bl_load.specs.declared.refusal.PrepFault.TheVariants as prep_fault
-use Rattle.bl_load.specs.EntryValue.{EntryValue, HasLimits}
+use Rattle.bl_load.specs.EntryValue.{EntryValue}
 use Rattle.bl_load.specs.HandoffFacts.{HandoffFacts, max_parts}
 use Rattle.bl_load.specs.Handover.{Handover, overwrite_parts}
 use Rattle.bl_load.specs.Parts.{IsHandover, IsRefusal}
 use Rattle.bl_load.specs.PlanContents.{handover_in}
-use Rattle.c_abi.specs.declared.given_records.RegionRecord.{RegionRecord}
-use Rattle.c_abi.specs.declared.given_records.MachineRecord.{MachineRecord}
-use Rattle.c_abi.specs.declared.given_records.EntryRecord.{EntryRecord}
-use Rattle.c_abi.specs.declared.misuse.Misuse.{Misuse}
-use Rattle.c_abi.specs.declared.misuse.Misuse.TheVariants.{BadMemory, SmallRoom, TooMany}
-use Rattle.c_abi.specs.declared.given_fault.GivenFault.{GivenFault}
-use Rattle.c_abi.specs.declared.given_fault.GivenFault.TheVariants as given_fault
-use Rattle.c_abi.specs.declared.load_fault.LoadFault.{LoadFault}
-use Rattle.c_abi.specs.declared.load_fault.LoadFault.TheVariants.{Misused, Refused, NoMemory}
-use Rattle.c_abi.specs.declared.load_fault.LoadFault.TheVariants.{Outside}
-use Rattle.c_abi.specs.Given.{entry_without_files, texts_given, value_with, value_given}
-use Rattle.c_abi.specs.GivenChecks.{entry_misuse}
-use Rattle.c_abi.specs.Machines.{IsMachineGiven, IsMachineSound, HasMachineFault}
-
-abbrev pub load_fault_of_prep : PrepFault → LoadFault
-load_fault_of_prep (prep_fault.Refused refusal) = Refused refusal
-load_fault_of_prep prep_fault.NoMemory = NoMemory
-
-abbrev pub load_fault_of_given : GivenFault → LoadFault
-load_fault_of_given (given_fault.Misused misuse) = Misused misuse
-load_fault_of_given given_fault.NoMemory = NoMemory
+use Rattle.c_records.specs.declared.given_records.RegionRecord.{RegionRecord}
+use Rattle.c_records.specs.declared.given_records.MachineRecord.{MachineRecord}
+use Rattle.c_records.specs.declared.given_records.EntryRecord.{EntryRecord}
+use Rattle.c_records.specs.declared.misuse.Misuse.TheVariants.{BadMemory, SmallRoom}
+use Rattle.c_records.specs.declared.given_fault.GivenFault.{GivenFault}
+use Rattle.c_records.specs.declared.load_fault.LoadFault.{LoadFault}
+use Rattle.c_records.specs.declared.load_fault.LoadFault.TheVariants.{Misused, Refused, NoMemory}
+use Rattle.c_records.specs.declared.load_fault.LoadFault.TheVariants.{Outside}
+use Rattle.c_records.specs.EntryFaults.{IsEntryMisuse, IsEntrySound, load_fault_of_given}
+use Rattle.c_records.specs.Given.{texts_given, value_with, value_given}
+use Rattle.c_records.specs.Machines.{IsMachineGiven, IsMachineSound, HasMachineFault}
 
 -- ---- on a machine of these facts
-
--- no misuse of an entry stands
-pub record IsEntrySound (entry : EntryRecord) : Type 0 where
-  pub names : entry_misuse entry ≡ None
-  pub limits : HasLimits (entry_without_files entry)
-
--- its first misuse: of what its record names, or else of its size
-abbrev pub IsEntryMisuse : EntryRecord → Misuse → Type 0
-IsEntryMisuse entry misuse =
-    (entry_misuse entry ≡ Some misuse)
-    ⊎ ((misuse ≡ TooMany) × (entry_misuse entry ≡ None)
-    × (¬ HasLimits (entry_without_files entry)))
-
--- why it is not taken
-abbrev pub IsEntryGivenFault : EntryRecord → GivenFault → Type 0
-IsEntryGivenFault entry (given_fault.Misused misuse) = IsEntryMisuse entry misuse
-IsEntryGivenFault entry given_fault.NoMemory = Unit {0}
-
--- why it is not taken, if nothing else of it is misused: its size
-abbrev pub IsEntrySizeFault : EntryRecord → GivenFault → Type 0
-IsEntrySizeFault entry (given_fault.Misused misuse) =
-    (misuse ≡ TooMany) × (¬ HasLimits (entry_without_files entry))
-IsEntrySizeFault entry given_fault.NoMemory = Unit {0}
 
 -- something is handed over, and a part of it begins below this address
 pub record HandsOverBelow (facts : MachineFacts) (value : EntryValue) (base : ℕ) : Type 0 where

@@ -8,13 +8,13 @@ use Rattle.bl_load.specs.LoadedBySteps.{LoadsEntry}
 use Rattle.bl_load.specs.Steps.{IsStep, StepsAscend}
 use Rattle.bl_load.specs.declared.step.Step.{Step}
 use Rattle.bl_image.specs.ImageHandover.{handoff_of}
-use Rattle.c_abi.specs.declared.given_records.RegionRecord.{RegionRecord}
-use Rattle.c_abi.specs.declared.given_records.MachineRecord.{MachineRecord}
-use Rattle.c_abi.specs.declared.given_records.EntryRecord.{EntryRecord}
-use Rattle.c_abi.specs.declared.load_fault.LoadFault.{LoadFault}
-use Rattle.c_abi.specs.Given.{lengths_beside, value_with}
-use Rattle.c_abi.specs.Load.{IsEntrySound}
-use Rattle.c_abi.specs.Machines.{IsMachineGiven, IsMachineSound}
+use Rattle.c_records.specs.declared.given_records.RegionRecord.{RegionRecord}
+use Rattle.c_records.specs.declared.given_records.MachineRecord.{MachineRecord}
+use Rattle.c_records.specs.declared.given_records.EntryRecord.{EntryRecord}
+use Rattle.c_records.specs.declared.load_fault.LoadFault.{LoadFault}
+use Rattle.c_records.specs.Given.{lengths_beside, value_with}
+use Rattle.c_records.specs.EntryFaults.{IsEntrySound}
+use Rattle.c_records.specs.Machines.{IsMachineGiven, IsMachineSound}
 use Rattle.c_abi.specs.Prepare.{AreFilesOf, IsNotPrepared}
 
 -- the lengths of all files of an entry

@@ -3,17 +3,17 @@ use Rattle.std.specs.Prelude.{◌≡◌, ◌≤◌, ℕ, List, length, map, Resu
 use Rattle.bl_load.specs.declared.step.Step.{Step}
 use Rattle.bl_load.specs.declared.step.StepSource.{StepSource}
 use Rattle.bl_load.specs.declared.step.StepSource.TheVariants.{File, Own, Zeros}
-use Rattle.c_abi.specs.declared.end_records.PlaceRecord.{PlaceRecord}
-use Rattle.c_abi.specs.declared.end_records.HandoffRecord.{HandoffRecord}
-use Rattle.c_abi.specs.declared.end_records.RefusalRecord.{RefusalRecord}
-use Rattle.c_abi.specs.declared.load_fault.LoadFault.{LoadFault}
-use Rattle.c_abi.specs.declared.misuse.Misuse.TheVariants.{SmallRoom}
-use Rattle.c_abi.specs.declared.plan_records.PlanCountsRecord.{PlanCountsRecord}
-use Rattle.c_abi.specs.declared.plan_records.StepRecord.{StepRecord}
-use Rattle.c_abi.specs.LoadTold.{handoff_told, places_told, after_fault}
+use Rattle.c_records.specs.declared.end_records.PlaceRecord.{PlaceRecord}
+use Rattle.c_records.specs.declared.end_records.HandoffRecord.{HandoffRecord}
+use Rattle.c_records.specs.declared.end_records.RefusalRecord.{RefusalRecord}
+use Rattle.c_records.specs.declared.load_fault.LoadFault.{LoadFault}
+use Rattle.c_records.specs.declared.misuse.Misuse.TheVariants.{SmallRoom}
+use Rattle.c_records.specs.declared.plan_records.PlanCountsRecord.{PlanCountsRecord}
+use Rattle.c_records.specs.declared.plan_records.StepRecord.{StepRecord}
+use Rattle.c_records.specs.LoadTold.{handoff_told, places_told, after_fault}
 use Rattle.c_abi.specs.Plan.{PlanFacts}
-use Rattle.c_abi.specs.Status.{done_status, fault_status, misuse_status}
-use Rattle.c_abi.specs.WalkTold.{told_over}
+use Rattle.c_records.specs.Status.{done_status, fault_status, misuse_status}
+use Rattle.c_records.specs.WalkTold.{told_over}
 
 -- ---- a step
 

@@ -7,13 +7,14 @@ use Rattle.bl_load.specs.HandoffFacts.{HandoffFacts, max_parts}
 use Rattle.bl_load.specs.Handover.{Handover}
 use Rattle.bl_load.specs.Parts.{IsHandover}
 use Rattle.bl_image.specs.ImageHandover.{handoff_of}
-use Rattle.c_abi.specs.declared.given_records.RegionRecord.{RegionRecord}
-use Rattle.c_abi.specs.declared.given_records.MachineRecord.{MachineRecord}
-use Rattle.c_abi.specs.declared.given_records.EntryRecord.{EntryRecord}
-use Rattle.c_abi.specs.declared.load_fault.LoadFault.{LoadFault}
-use Rattle.c_abi.specs.Given.{lengths_beside, value_with}
-use Rattle.c_abi.specs.Load.{IsEntrySound, IsNotLoaded}
-use Rattle.c_abi.specs.Machines.{IsMachineGiven, IsMachineSound}
+use Rattle.c_records.specs.declared.given_records.RegionRecord.{RegionRecord}
+use Rattle.c_records.specs.declared.given_records.MachineRecord.{MachineRecord}
+use Rattle.c_records.specs.declared.given_records.EntryRecord.{EntryRecord}
+use Rattle.c_records.specs.declared.load_fault.LoadFault.{LoadFault}
+use Rattle.c_records.specs.Given.{lengths_beside, value_with}
+use Rattle.c_abi.specs.Load.{IsNotLoaded}
+use Rattle.c_records.specs.EntryFaults.{IsEntrySound}
+use Rattle.c_records.specs.Machines.{IsMachineGiven, IsMachineSound}
 
 -- an entry's files may hold these texts: the kernel's bytes, and others of the lengths that are
 -- told

@@ -5,17 +5,18 @@ use Rattle.bl_map.specs.MachineFacts.{MachineFacts}
 use Rattle.bl_load.specs.HandoffFacts.{max_parts}
 use Rattle.bl_session.specs.session.Phases.{PhaseFacts, SessionFacts, boot_facts, end_facts}
 use Rattle.bl_session.specs.session.Phases.{not_started}
-use Rattle.c_abi.specs.declared.given_records.RegionRecord.{RegionRecord}
-use Rattle.c_abi.specs.declared.given_records.MachineRecord.{MachineRecord}
-use Rattle.c_abi.specs.declared.given_records.FileRecord.{FileRecord}
-use Rattle.c_abi.specs.declared.given_records.EntryRecord.{EntryRecord}
-use Rattle.c_abi.specs.declared.misuse.Misuse.TheVariants.{SmallRoom}
-use Rattle.c_abi.specs.declared.given_fault.GivenFault.{GivenFault}
-use Rattle.c_abi.specs.Machines.{IsMachineGiven, IsMachineSound, HasMachineFault}
-use Rattle.c_abi.specs.MenuGiven.{menu_files, is_unreadable, menu_given, IsMenuAllowed, IsMenuFault}
-use Rattle.c_abi.specs.Load.{load_fault_of_given}
+use Rattle.c_records.specs.declared.given_records.RegionRecord.{RegionRecord}
+use Rattle.c_records.specs.declared.given_records.MachineRecord.{MachineRecord}
+use Rattle.c_records.specs.declared.given_records.FileRecord.{FileRecord}
+use Rattle.c_records.specs.declared.given_records.EntryRecord.{EntryRecord}
+use Rattle.c_records.specs.declared.misuse.Misuse.TheVariants.{SmallRoom}
+use Rattle.c_records.specs.declared.given_fault.GivenFault.{GivenFault}
+use Rattle.c_records.specs.Machines.{IsMachineGiven, IsMachineSound, HasMachineFault}
+use Rattle.c_records.specs.MenuGiven.{menu_files, is_unreadable, menu_given, IsMenuAllowed}
+use Rattle.c_records.specs.MenuGiven.{IsMenuFault}
+use Rattle.c_records.specs.EntryFaults.{load_fault_of_given}
 use Rattle.c_abi.specs.BootTold.{Telling, end_status, end_told}
-use Rattle.c_abi.specs.Status.{done_status, fault_status, misuse_status}
+use Rattle.c_records.specs.Status.{done_status, fault_status, misuse_status}
 
 -- ---- the session
 

@@ -9,9 +9,9 @@ use Rattle.bl_walk.specs.Faults.{HasWalkFault, IsSound}
 use Rattle.bl_walk.specs.Seen.{IsSeen}
 use Rattle.bl_walk.specs.SeenFacts.{SeenFacts}
 use Rattle.bl_walk.specs.declared.fault.WalkFault.{WalkFault}
-use Rattle.c_abi.specs.SeenTold.{WalkRecordsFacts, walk_records}
-use Rattle.c_abi.specs.declared.seen_records.WalkStop.{WalkStop}
-use Rattle.c_abi.specs.declared.seen_records.WalkStop.TheVariants.{NoImage, NotWalked}
+use Rattle.c_records.specs.SeenTold.{WalkRecordsFacts, walk_records}
+use Rattle.c_records.specs.declared.seen_records.WalkStop.{WalkStop}
+use Rattle.c_records.specs.declared.seen_records.WalkStop.TheVariants.{NoImage, NotWalked}
 
 -- the bytes are an image, none of whose faults stand, and this is told of what a kernel sees in it
 pub record HasWalked (bytes : List ℕ) (told : WalkRecordsFacts) : Type 0 where

@@ -1,4 +1,3 @@
-pub mod Checks
 pub mod Digests
 pub mod LoadEnds
 pub mod Menus

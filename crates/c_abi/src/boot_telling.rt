@@ -3,17 +3,17 @@ ghost use Rattle.std.specs.Prelude.{◌≡◌, ◌≤◌, List, length, Ok, OnOk
 ghost use Rattle.bl_session.specs.session.Phases.{outcome_facts, fault_facts};
 ghost use Rattle.c_abi.specs.Boot.{typed_end};
 ghost use Rattle.c_abi.specs.BootTold as spec;
-ghost use Rattle.c_abi.specs.Load.{load_fault_of_given};
-ghost use Rattle.c_abi.specs.Status.{fault_status};
+ghost use Rattle.c_records.specs.EntryFaults.{load_fault_of_given};
+ghost use Rattle.c_records.specs.Status.{fault_status};
 ghost use Rattle.c_abi.specs.internal.Tellings.{telling};
-ghost use Rattle.c_abi.specs.declared.end_records.HandoffRecord.{HandoffRecord};
-ghost use Rattle.c_abi.specs.declared.end_records.PlaceRecord.{PlaceRecord};
+ghost use Rattle.c_records.specs.declared.end_records.HandoffRecord.{HandoffRecord};
+ghost use Rattle.c_records.specs.declared.end_records.PlaceRecord.{PlaceRecord};
 
-use crate::end_records::{HandoffRecord, PlaceRecord, RefusalRecord};
-use crate::given_fault::GivenFault;
-use crate::handoff_telling::{handoff_told, tell_places};
-use crate::refusal_record::refusal_record;
 use bl_session::{BootFault, Outcome, RefusedEntry};
+use c_records::{
+    GivenFault, HandoffRecord, PlaceRecord, RefusalRecord, handoff_told, refusal_record,
+    tell_places,
+};
 use std::alloc::Allocator;
 
 /// Tells refusals in the first records, as many as there is room for.

@@ -7,20 +7,19 @@ ghost use Rattle.bl_session.specs.runs.Run.{final_phase};
 ghost use Rattle.bl_session.specs.session.Phases.{PhaseFacts};
 ghost use Rattle.c_abi.specs.Boot.{HasBootEnded, IsGivenBootEnd, given_files, typed_end};
 ghost use Rattle.c_abi.specs.BootTold.{TellsBoot};
-ghost use Rattle.c_abi.specs.declared.given_fault.GivenFault.{GivenFault};
+ghost use Rattle.c_records.specs.declared.given_fault.GivenFault.{GivenFault};
 
 use crate::boot_telling::tell_boot;
-use crate::end_records::{HandoffRecord, PlaceRecord, RefusalRecord};
-use crate::given_fault::GivenFault;
-use crate::given_records::{EntryRecord, MachineRecord, RegionRecord};
-use crate::machines::machine_of;
 use crate::menu_files::stored_files;
 use crate::menus::menu_of;
-use crate::misuse::Misuse;
 use bl_map::Machine;
 use bl_mem::{PhysMem, SliceMemory};
 use bl_plan::MAX_PARTS;
 use bl_session::{BootFault, Menu, Order, Outcome, SliceStore, run};
+use c_records::{
+    EntryRecord, GivenFault, HandoffRecord, MachineRecord, Misuse, PlaceRecord, RefusalRecord,
+    RegionRecord, machine_of,
+};
 use std::alloc::Allocator;
 
 /// Boots a menu from files in slices.

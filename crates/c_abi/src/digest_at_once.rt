@@ -3,24 +3,22 @@ ghost use Rattle.std.specs.Prelude.{IfOk, IfErr, OnOk, Result};
 ghost use Rattle.bl_digest.specs.DigestsFacts.{DigestsFacts};
 ghost use Rattle.c_abi.specs.Digest.{IsGivenDigestsEnd};
 ghost use Rattle.c_abi.specs.DigestTold.{TellsDigests};
-ghost use Rattle.c_abi.specs.Load.{IsEntryFault, IsEntrySound};
-ghost use Rattle.c_abi.specs.Given.{texts_given};
+ghost use Rattle.c_abi.specs.Load.{IsEntryFault};
+ghost use Rattle.c_records.specs.EntryFaults.{IsEntrySound};
+ghost use Rattle.c_records.specs.Given.{texts_given};
 ghost use Rattle.c_abi.specs.internal.Digests.{AreDigestsOn};
 ghost use Rattle.c_abi.specs.internal.TakenEntries.{IsTakenFrom};
-ghost use Rattle.c_abi.specs.declared.load_fault.LoadFault.{LoadFault};
+ghost use Rattle.c_records.specs.declared.load_fault.LoadFault.{LoadFault};
 
-use crate::digest_records::{DigestsRecord, PartDigestRecord};
 use crate::digest_telling::tell_digests;
-use crate::end_records::RefusalRecord;
-use crate::entries::take_entry;
-use crate::file_views::views_of;
-use crate::given_records::{EntryRecord, MachineRecord, RegionRecord};
-use crate::handoff_telling::tell_load_fault;
-use crate::load_fault::{LoadFault, given_fault, load_fault};
-use crate::machines::machine_of;
 use bl_digest::{Digests, digest_plan};
 use bl_load::{Entry, prepare};
 use bl_map::Machine;
+use c_records::{
+    DigestsRecord, EntryRecord, LoadFault, MachineRecord, PartDigestRecord, RefusalRecord,
+    RegionRecord, load_fault_of_given, load_fault_of_prep, machine_of, take_entry, tell_load_fault,
+    views_of,
+};
 use std::alloc::Allocator;
 
 /// The digests of what an entry that was taken hands over on a machine.
@@ -39,7 +37,7 @@ fn digests_of_entry<A: Allocator + Copy>(
     };
     let plan = match prepare(alloc, machine, entry, &views) {
         Ok(plan) => plan,
-        Err(fault) => return Err(load_fault(fault)),
+        Err(fault) => return Err(load_fault_of_prep(fault)),
     };
     match digest_plan(alloc, &plan, &views) {
         Ok(digests) => Ok(digests),
@@ -59,7 +57,7 @@ fn digests_on<A: Allocator + Copy>(
 {
     match take_entry(alloc, row) {
         Ok(entry) => digests_of_entry(alloc, machine, &entry, row),
-        Err(fault) => Err(given_fault(fault)),
+        Err(fault) => Err(load_fault_of_given(fault)),
     }
 }
 
@@ -74,7 +72,7 @@ fn digests_given<A: Allocator + Copy>(
 {
     let made = match machine_of(alloc, machine, regions) {
         Ok(made) => made,
-        Err(fault) => return Err(given_fault(fault)),
+        Err(fault) => return Err(load_fault_of_given(fault)),
     };
     digests_on(alloc, &made, entry)
 }

@@ -3,8 +3,8 @@ ghost use Rattle.std.specs.Prelude.{MatchBool};
 ghost use Rattle.bl_digest.specs.Ranges.{IsWithinWanted};
 ghost use Rattle.c_abi.specs.DigestTold.{FeedsDigest, TellsWanted, wanted_of};
 
-use crate::digest_records::FileRangeRecord;
 use bl_digest::Digesting;
+use c_records::FileRangeRecord;
 use std::alloc::Allocator;
 
 /// The status of a digest that was fed more than it wants.

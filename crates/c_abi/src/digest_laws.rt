@@ -6,11 +6,11 @@ ghost use Rattle.bl_digest.specs.PlanInSteps.{DigestingFacts};
 ghost use Rattle.bl_digest.specs.Ranges.{bytes_of_ranges};
 ghost use Rattle.bl_load.specs.HandoffFacts.{HandoffFacts};
 ghost use Rattle.bl_load.specs.PlanContents.{handover_in};
-ghost use Rattle.c_abi.specs.declared.given_records.EntryRecord.{EntryRecord};
-ghost use Rattle.c_abi.specs.declared.given_records.MachineRecord.{MachineRecord};
-ghost use Rattle.c_abi.specs.declared.given_records.RegionRecord.{RegionRecord};
+ghost use Rattle.c_records.specs.declared.given_records.EntryRecord.{EntryRecord};
+ghost use Rattle.c_records.specs.declared.given_records.MachineRecord.{MachineRecord};
+ghost use Rattle.c_records.specs.declared.given_records.RegionRecord.{RegionRecord};
 ghost use Rattle.c_abi.specs.Digest.{AreDigestsFed, AreDigestsGiven, IsDigestMade, ranges_wanted};
-ghost use Rattle.c_abi.specs.Given.{texts_given};
+ghost use Rattle.c_records.specs.Given.{texts_given};
 ghost use Rattle.c_abi.specs.Load.{IsGivenLoadEnd};
 ghost use Rattle.c_abi.specs.Prepare.{AreFilesOf};
 

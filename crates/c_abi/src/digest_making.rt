@@ -1,19 +1,20 @@
 //! The digest of an entry begins, whose files are fed later.
 ghost use Rattle.std.specs.Prelude.{ℕ, List, IfOk, IfErr, OnOk};
 ghost use Rattle.c_abi.specs.Digest.{IsGivenDigestEnd};
-ghost use Rattle.c_abi.specs.Load.{IsEntryFault, IsEntrySound};
+ghost use Rattle.c_abi.specs.Load.{IsEntryFault};
+ghost use Rattle.c_records.specs.EntryFaults.{IsEntrySound};
 ghost use Rattle.c_abi.specs.Prepare.{AreFilesOf};
 ghost use Rattle.c_abi.specs.internal.Digests.{IsDigestOn};
 ghost use Rattle.c_abi.specs.internal.TakenEntries.{IsTakenFrom};
 
-use crate::entries::take_entry;
-use crate::given_records::{EntryRecord, MachineRecord, RegionRecord};
-use crate::load_fault::{LoadFault, given_fault, load_fault};
-use crate::machines::machine_of;
 use crate::preparing::prepare_row;
 use bl_digest::Digesting;
 use bl_load::Entry;
 use bl_map::Machine;
+use c_records::{
+    EntryRecord, LoadFault, MachineRecord, RegionRecord, load_fault_of_given, load_fault_of_prep,
+    machine_of, take_entry,
+};
 use std::alloc::Allocator;
 
 /// Begins the digest of an entry that was taken on a machine.
@@ -30,7 +31,7 @@ fn digest_of_entry<A: Allocator + Copy>(
 {
     let plan = match prepare_row(alloc, machine, entry, row) {
         Ok(plan) => plan,
-        Err(fault) => return Err(load_fault(fault)),
+        Err(fault) => return Err(load_fault_of_prep(fault)),
     };
     match Digesting::begin(alloc, &plan) {
         Ok(digest) => Ok(digest),
@@ -51,7 +52,7 @@ fn digest_on<A: Allocator + Copy>(
 {
     match take_entry(alloc, row) {
         Ok(entry) => digest_of_entry(alloc, machine, &entry, row),
-        Err(fault) => Err(given_fault(fault)),
+        Err(fault) => Err(load_fault_of_given(fault)),
     }
 }
 
@@ -67,7 +68,7 @@ pub fn digest_given<A: Allocator + Copy>(
 {
     let made = match machine_of(alloc, machine, regions) {
         Ok(made) => made,
-        Err(fault) => return Err(given_fault(fault)),
+        Err(fault) => return Err(load_fault_of_given(fault)),
     };
     digest_on(alloc, &made, entry)
 }

@@ -3,9 +3,8 @@ ghost use Rattle.std.specs.Prelude.{◌≡◌};
 ghost use Rattle.c_abi.specs.DigestTold as spec;
 ghost use Rattle.c_abi.specs.internal.Tellings.{digests_facts, digests_telling};
 
-use crate::digest_records::{DigestsRecord, PartDigestRecord};
-use crate::handoff_telling::place_told;
 use bl_digest::{Digesting, ImageDigest, PartDigest};
+use c_records::{DigestsRecord, PartDigestRecord, place_told};
 use std::alloc::Allocator;
 
 fn part_digest_told(part: PartDigest) -> PartDigestRecord

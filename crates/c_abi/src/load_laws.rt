@@ -2,13 +2,13 @@
 ghost use Rattle.std.specs.Prelude.{◌≡◌, ◌≢◌, ◌≤◌, ◌⊎◌, ℕ, List, All, length, Ok, Err};
 ghost use Rattle.bl_load.specs.HandoffFacts.{HandoffFacts, max_parts};
 ghost use Rattle.bl_load.specs.declared.refusal.Refusal.{Refusal};
-ghost use Rattle.c_abi.specs.declared.load_fault.LoadFault.{LoadFault};
-ghost use Rattle.c_abi.specs.declared.load_fault.LoadFault.TheVariants.{Refused, NoMemory};
-ghost use Rattle.c_abi.specs.declared.load_fault.LoadFault.TheVariants.{Outside};
-ghost use Rattle.c_abi.specs.declared.given_records.EntryRecord.{EntryRecord};
-ghost use Rattle.c_abi.specs.declared.given_records.MachineRecord.{MachineRecord};
-ghost use Rattle.c_abi.specs.declared.given_records.RegionRecord.{RegionRecord};
-ghost use Rattle.c_abi.specs.Given.{texts_given};
+ghost use Rattle.c_records.specs.declared.load_fault.LoadFault.{LoadFault};
+ghost use Rattle.c_records.specs.declared.load_fault.LoadFault.TheVariants.{Refused, NoMemory};
+ghost use Rattle.c_records.specs.declared.load_fault.LoadFault.TheVariants.{Outside};
+ghost use Rattle.c_records.specs.declared.given_records.EntryRecord.{EntryRecord};
+ghost use Rattle.c_records.specs.declared.given_records.MachineRecord.{MachineRecord};
+ghost use Rattle.c_records.specs.declared.given_records.RegionRecord.{RegionRecord};
+ghost use Rattle.c_records.specs.Given.{texts_given};
 ghost use Rattle.c_abi.specs.Load.{IsGivenLoadEnd};
 ghost use Rattle.c_abi.specs.Prepare.{IsGivenPrepareEnd};
 

@@ -7,25 +7,23 @@ ghost use Rattle.bl_load.specs.HandoffFacts.{Ascends, HandoffFacts};
 ghost use Rattle.bl_load.specs.Loadable.{lengths_of, IsLoadable};
 ghost use Rattle.bl_load.specs.PlanContents.{handover_by, places_of};
 ghost use Rattle.bl_load.specs.PlannedPlaces.{planned_place};
-ghost use Rattle.c_abi.specs.Given.{texts_given};
-ghost use Rattle.c_abi.specs.Load.{IsEntryLoaded, IsEntryFault, IsEntrySound, IsGivenLoadEnd};
-ghost use Rattle.c_abi.specs.LoadTold.{TellsEnd};
+ghost use Rattle.c_records.specs.Given.{texts_given};
+ghost use Rattle.c_abi.specs.Load.{IsEntryLoaded, IsEntryFault, IsGivenLoadEnd};
+ghost use Rattle.c_records.specs.EntryFaults.{IsEntrySound};
+ghost use Rattle.c_records.specs.LoadTold.{TellsEnd};
 ghost use Rattle.c_abi.specs.internal.LoadEnds.{LoadsHandover, LoadsValue};
 ghost use Rattle.c_abi.specs.internal.TakenEntries.{IsTakenFrom};
-ghost use Rattle.c_abi.specs.declared.load_fault.LoadFault.{LoadFault};
+ghost use Rattle.c_records.specs.declared.load_fault.LoadFault.{LoadFault};
 
-use crate::end_records::{HandoffRecord, PlaceRecord, RefusalRecord};
-use crate::entries::take_entry;
-use crate::file_views::views_of;
-use crate::given_records::{EntryRecord, MachineRecord, RegionRecord};
-use crate::handoff_telling::tell_end;
-use crate::load_fault::{LoadFault, given_fault, load_fault};
-use crate::machines::machine_of;
-use crate::misuse::Misuse;
 use bl_load::{Entry, Handoff, Plan, PlannedPart, load, prepare};
 use bl_map::Machine;
 use bl_mem::{SliceMemory, SliceView, Views};
 use bl_plan::MAX_PARTS;
+use c_records::{
+    EntryRecord, HandoffRecord, LoadFault, MachineRecord, Misuse, PlaceRecord, RefusalRecord,
+    RegionRecord, load_fault_of_given, load_fault_of_prep, machine_of, take_entry, tell_end,
+    views_of,
+};
 use std::alloc::Allocator;
 
 /// Whether the first of parts that ascend begins below an address.
@@ -81,7 +79,7 @@ fn load_typed<A: Allocator + Copy>(
 {
     let plan = match prepare(alloc, machine, entry, files) {
         Ok(plan) => plan,
-        Err(fault) => return Err(load_fault(fault)),
+        Err(fault) => return Err(load_fault_of_prep(fault)),
     };
     if begin_below(plan.parts.as_slice(), base) {
         return Err(LoadFault::Outside);
@@ -130,7 +128,7 @@ fn load_given<A: Allocator + Copy>(
 {
     match take_entry(alloc, row) {
         Ok(entry) => load_of_entry(alloc, machine, memory, base, &entry, row),
-        Err(fault) => Err(given_fault(fault)),
+        Err(fault) => Err(load_fault_of_given(fault)),
     }
 }
 
@@ -153,7 +151,7 @@ pub(crate) fn load_entry_at<A: Allocator + Copy>(
     }
     let made = match machine_of(alloc, machine, regions) {
         Ok(made) => made,
-        Err(fault) => return Err(given_fault(fault)),
+        Err(fault) => return Err(load_fault_of_given(fault)),
     };
     let end = base as u64 + memory.len() as u64;
     if end < made.size() {

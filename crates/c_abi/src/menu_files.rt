@@ -2,11 +2,11 @@
 ghost use Rattle.std.specs.Prelude.{◌≡◌, ◌++◌, IfOk, OnOk, map, option_copied};
 ghost use Rattle.bl_session.specs.store.Ledger.{sliced_file};
 ghost use Rattle.c_abi.specs.Boot as spec;
-ghost use Rattle.c_abi.specs.Given.{files_given};
-ghost use Rattle.c_abi.specs.MenuGiven.{menu_files};
+ghost use Rattle.c_records.specs.Given.{files_given};
+ghost use Rattle.c_records.specs.MenuGiven.{menu_files};
 
-use crate::given_records::{EntryRecord, FileRecord, ModuleRecord, UNREADABLE};
 use bl_plan::Protocol;
+use c_records::{EntryRecord, FileRecord, ModuleRecord, UNREADABLE};
 use std::alloc::{AllocError, Allocator};
 
 /// Appends the files of modules.

@@ -2,19 +2,15 @@
 ghost use Rattle.std.specs.Prelude.{◌≡◌, IfOk, IfErr, OnOk, length, map};
 ghost use Rattle.bl_session.specs.menu.Menu.{facts_of};
 ghost use Rattle.bl_session.specs.menu.MenuFaults.{AreEntryIndices};
-ghost use Rattle.c_abi.specs.MenuGiven.{AreFewGiven, IsMenuAllowed, IsMenuFault, IsNoMenu};
-ghost use Rattle.c_abi.specs.MenuGiven.{entries_facts, menu_given};
-ghost use Rattle.c_abi.specs.MenuGiven as spec;
+ghost use Rattle.c_records.specs.MenuGiven.{AreFewGiven, IsMenuAllowed, IsMenuFault, IsNoMenu};
+ghost use Rattle.c_records.specs.MenuGiven.{entries_facts, menu_given};
+ghost use Rattle.c_records.specs.MenuGiven as spec;
 ghost use Rattle.c_abi.specs.internal.Menus.{AreTooMany};
 
-use crate::entries::entry_of;
-use crate::given_checks::check_entries;
-use crate::given_fault::GivenFault;
-use crate::given_records::EntryRecord;
-use crate::misuse::Misuse;
 use bl_load::Entry;
 use bl_plan::MAX_ENTRIES;
 use bl_session::{Menu, MenuFault};
+use c_records::{EntryRecord, GivenFault, Misuse, check_entries, entry_of};
 use std::alloc::Allocator;
 
 /// The entries of a menu; the files of each come after those of the entries before it.

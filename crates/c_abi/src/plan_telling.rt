@@ -1,17 +1,15 @@
 //! What C is told of a plan.
 ghost use Rattle.std.specs.Prelude.{◌≡◌, ◌≤◌, All, MatchBool, length, map};
 ghost use Rattle.c_abi.specs.PlanTold as spec;
-ghost use Rattle.c_abi.specs.WalkTold.{told_over};
+ghost use Rattle.c_records.specs.WalkTold.{told_over};
 ghost use Rattle.c_abi.specs.internal.Plans.{HasSmallFile, plan_facts};
 ghost use Rattle.c_abi.specs.internal.Tellings.{plan_telling};
 
-use crate::array_fronts::put_front;
-use crate::end_records::{HandoffRecord, PlaceRecord};
-use crate::handoff_telling::tell_plan;
-use crate::misuse::Misuse;
-use crate::plan_records::{PlanCountsRecord, StepRecord};
 use crate::plan_steps::SteppedPlan;
 use bl_load::{Step, StepSource};
+use c_records::{
+    HandoffRecord, Misuse, PlaceRecord, PlanCountsRecord, StepRecord, put_front, tell_plan,
+};
 use std::alloc::Allocator;
 
 /// Tells a step. An entry has few files, so each has a number of 32 bits.

@@ -1,27 +1,25 @@
 //! The steps that load an entry are told to C, which carries them out itself.
 ghost use Rattle.std.specs.Prelude.{ℕ, ◌≤◌, List, All, IfOk, IfErr, OnOk, Result, length};
-ghost use Rattle.c_abi.specs.Load.{IsEntryFault, IsEntrySound};
+ghost use Rattle.c_abi.specs.Load.{IsEntryFault};
+ghost use Rattle.c_records.specs.EntryFaults.{IsEntrySound};
 ghost use Rattle.c_abi.specs.Prepare.{AreFilesOf, IsNotPrepared};
 ghost use Rattle.c_abi.specs.Plan.{PlanFacts, IsPlanned, IsGivenPlanEnd};
 ghost use Rattle.c_abi.specs.PlanTold.{TellsPlan};
 ghost use Rattle.c_abi.specs.internal.Plans.{HasSmallFile, IsPlanOn, plan_facts};
 ghost use Rattle.c_abi.specs.internal.TakenEntries.{IsTakenFrom};
-ghost use Rattle.c_abi.specs.declared.load_fault.LoadFault.{LoadFault};
+ghost use Rattle.c_records.specs.declared.load_fault.LoadFault.{LoadFault};
 
-use crate::end_records::{HandoffRecord, PlaceRecord, RefusalRecord};
-use crate::entries::take_entry;
-use crate::given_records::{EntryRecord, MachineRecord, RegionRecord};
-use crate::handoff_telling::tell_load_fault;
-use crate::load_fault::{LoadFault, given_fault, load_fault};
-use crate::machines::machine_of;
-use crate::misuse::Misuse;
-use crate::plan_records::{PlanCountsRecord, StepRecord};
 use crate::plan_steps::SteppedPlan;
 use crate::plan_telling::tell_stepped;
 use crate::preparing::prepare_row;
 use bl_load::Entry;
 use bl_map::Machine;
 use bl_plan::MAX_PARTS;
+use c_records::{
+    EntryRecord, HandoffRecord, LoadFault, MachineRecord, Misuse, PlaceRecord, PlanCountsRecord,
+    RefusalRecord, RegionRecord, StepRecord, load_fault_of_given, load_fault_of_prep, machine_of,
+    take_entry, tell_load_fault,
+};
 use std::alloc::Allocator;
 
 /// Plans an entry that was taken on a machine.
@@ -40,7 +38,7 @@ fn plan_of_entry<A: Allocator + Copy>(
 {
     let plan = match prepare_row(alloc, machine, entry, row) {
         Ok(plan) => plan,
-        Err(fault) => return Err(load_fault(fault)),
+        Err(fault) => return Err(load_fault_of_prep(fault)),
     };
     match plan.steps(alloc) {
         Ok(told) => Ok(SteppedPlan { plan, told }),
@@ -63,7 +61,7 @@ fn plan_given<A: Allocator + Copy>(
 {
     match take_entry(alloc, row) {
         Ok(entry) => plan_of_entry(alloc, machine, &entry, row),
-        Err(fault) => Err(given_fault(fault)),
+        Err(fault) => Err(load_fault_of_given(fault)),
     }
 }
 
@@ -88,7 +86,7 @@ fn plan_entry<A: Allocator + Copy>(
     }
     let made = match machine_of(alloc, machine, regions) {
         Ok(made) => made,
-        Err(fault) => return Err(given_fault(fault)),
+        Err(fault) => return Err(load_fault_of_given(fault)),
     };
     plan_given(alloc, &made, entry)
 }

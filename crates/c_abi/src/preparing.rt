@@ -6,25 +6,23 @@ ghost use Rattle.bl_load.specs.HandoffFacts.{HandoffFacts};
 ghost use Rattle.bl_load.specs.Loadable.{lengths_of, IsLoadable};
 ghost use Rattle.bl_load.specs.Parts.{IsHandover, IsPrepFault};
 ghost use Rattle.bl_load.specs.PlanContents.{handoff_by, handover_by};
-ghost use Rattle.c_abi.specs.Given.{files_given};
-ghost use Rattle.c_abi.specs.Load.{IsEntryFault, IsEntrySound};
+ghost use Rattle.c_records.specs.Given.{files_given};
+ghost use Rattle.c_abi.specs.Load.{IsEntryFault};
+ghost use Rattle.c_records.specs.EntryFaults.{IsEntrySound};
 ghost use Rattle.c_abi.specs.Prepare.{AreFilesOf, IsHandoffOf, IsPrepared, IsNotPrepared};
 ghost use Rattle.c_abi.specs.Prepare.{IsGivenPrepareEnd};
-ghost use Rattle.c_abi.specs.LoadTold.{TellsEnd};
-ghost use Rattle.c_abi.specs.declared.load_fault.LoadFault.{LoadFault};
+ghost use Rattle.c_records.specs.LoadTold.{TellsEnd};
+ghost use Rattle.c_records.specs.declared.load_fault.LoadFault.{LoadFault};
 
-use crate::end_records::{HandoffRecord, PlaceRecord, RefusalRecord};
-use crate::entries::take_entry;
-use crate::file_views::lengths_beside;
-use crate::given_records::{EntryRecord, MachineRecord, RegionRecord};
-use crate::handoff_telling::{tell_load_fault, tell_plan};
-use crate::load_fault::{LoadFault, given_fault, load_fault};
-use crate::machines::machine_of;
-use crate::misuse::Misuse;
 use bl_load::{Entry, Plan, PrepFault, prepare_by_lengths};
 use bl_map::Machine;
 use bl_mem::SliceView;
 use bl_plan::MAX_PARTS;
+use c_records::{
+    EntryRecord, HandoffRecord, LoadFault, MachineRecord, Misuse, PlaceRecord, RefusalRecord,
+    RegionRecord, lengths_beside, load_fault_of_given, load_fault_of_prep, machine_of, take_entry,
+    tell_load_fault, tell_plan,
+};
 use std::alloc::Allocator;
 
 /// Prepares an entry by its kernel and by the lengths of its other files.
@@ -63,11 +61,11 @@ fn prepare_given<A: Allocator + Copy>(
 {
     let entry = match take_entry(alloc, row) {
         Ok(entry) => entry,
-        Err(fault) => return Err(given_fault(fault)),
+        Err(fault) => return Err(load_fault_of_given(fault)),
     };
     match prepare_row(alloc, machine, &entry, row) {
         Ok(plan) => Ok(plan),
-        Err(fault) => Err(load_fault(fault)),
+        Err(fault) => Err(load_fault_of_prep(fault)),
     }
 }
 
@@ -91,7 +89,7 @@ fn prepare_entry<A: Allocator + Copy>(
     }
     let made = match machine_of(alloc, machine, regions) {
         Ok(made) => made,
-        Err(fault) => return Err(given_fault(fault)),
+        Err(fault) => return Err(load_fault_of_given(fault)),
     };
     prepare_given(alloc, &made, entry)
 }

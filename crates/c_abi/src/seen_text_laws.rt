@@ -1,8 +1,8 @@
 //! What the ranges are that C is told of a walk.
 ghost use Rattle.std.specs.Prelude.{◌≡◌, ℕ, List, Some, map, take};
 ghost use Rattle.bl_walk.specs.SeenFacts.{SeenFacts};
-ghost use Rattle.c_abi.specs.TextRanges.{range_bytes};
-ghost use Rattle.c_abi.specs.SeenTold.{seen_told, text_seen, walk_records};
+ghost use Rattle.c_records.specs.TextRanges.{range_bytes};
+ghost use Rattle.c_records.specs.SeenTold.{seen_told, text_seen, walk_records};
 
 /// The text that is told of what a kernel sees begins with its line; the range of a module is its
 /// line, and that of a copy of the RSDP is the copy.

@@ -4,15 +4,14 @@ ghost use Rattle.c_abi.specs.Sessions.{IsSessionMade, TellsOutcome};
 ghost use Rattle.c_abi.specs.Sessions as spec;
 
 use crate::boot_telling::{tell_boot_fault, tell_outcome};
-use crate::end_records::{HandoffRecord, PlaceRecord, RefusalRecord};
-use crate::given_fault::GivenFault;
-use crate::given_records::{EntryRecord, FileRecord, MachineRecord, RegionRecord, UNREADABLE};
-use crate::machines::machine_of;
 use crate::menu_files::files_of;
 use crate::menus::menu_of;
-use crate::misuse::Misuse;
 use bl_plan::MAX_PARTS;
 use bl_session::OwnedSession;
+use c_records::{
+    EntryRecord, FileRecord, GivenFault, HandoffRecord, MachineRecord, Misuse, PlaceRecord,
+    RefusalRecord, RegionRecord, UNREADABLE, machine_of,
+};
 use std::alloc::{AllocError, Allocator};
 
 /// How long a file is; none if it can't be read.

@@ -4,20 +4,17 @@ ghost use Rattle.bl_image.specs.ImageFaults.{image_fault};
 ghost use Rattle.bl_image.specs.ImageHandover.{IsImage};
 ghost use Rattle.bl_image.specs.SourceFacts.{IsBytesFault};
 ghost use Rattle.bl_image.specs.declared.version.Version.{Version};
-ghost use Rattle.c_abi.specs.SeenTold.{WalkRecordsFacts};
+ghost use Rattle.c_records.specs.SeenTold.{WalkRecordsFacts};
 ghost use Rattle.c_abi.specs.Walk as ends;
-ghost use Rattle.c_abi.specs.WalkTold as spec;
-ghost use Rattle.c_abi.specs.declared.seen_records.WalkStop.{WalkStop};
+ghost use Rattle.c_records.specs.WalkTold as spec;
+ghost use Rattle.c_records.specs.declared.seen_records.WalkStop.{WalkStop};
 
-use crate::end_records::RefusalRecord;
-use crate::given_records::RegionRecord;
-use crate::seen_records::{SeenModuleRecord, SeenPartRecord, SeenRecord, WalkStop};
-use crate::seen_telling::records_of;
-use crate::seen_vectors::SeenVectors;
-use crate::walk_stops::{stop_status, stop_told};
-use crate::walk_telling::{tell_records, tell_walk};
 use bl_image::{Image, ImageFault, IoSource, read_image};
 use bl_walk::{WalkFault, walk};
+use c_records::{
+    RefusalRecord, RegionRecord, SeenModuleRecord, SeenPartRecord, SeenRecord, SeenVectors,
+    WalkStop, records_of, stop_status, stop_told, tell_records, tell_walk,
+};
 use std::alloc::Allocator;
 
 /// The image that these bytes spell.

@@ -19,10 +19,10 @@ use Rattle.bl_session.specs.attempt.AwaitedPieces.{are_whole}
 use Rattle.bl_session.proofs.attempt_lemmas.EndLaws.{one_end}
 use Rattle.bl_session.proofs.session_lemmas.OutcomeLaws.{same_handover}
 use Rattle.program_desc.specs.Described.{DescriptionFacts}
-use Rattle.program_commands.specs.described.BootCases.{boot_of}
-use Rattle.program_commands.specs.described.DescribedMachine.{IsMachineOf}
-use Rattle.program_commands.specs.described.BootCases.{BootCase, HasResultAt, file_sizes_at}
-use Rattle.program_commands.specs.described.BootCases.{entry_value_at}
+use Rattle.program_boots.specs.described.BootCases.{boot_of}
+use Rattle.program_boots.specs.described.DescribedMachine.{IsMachineOf}
+use Rattle.program_boots.specs.described.BootCases.{BootCase, HasResultAt, file_sizes_at}
+use Rattle.program_boots.specs.described.BootCases.{entry_value_at}
 use Rattle.program_commands.specs.Ends.{IsBooted, Surroundings}
 
 -- two boots

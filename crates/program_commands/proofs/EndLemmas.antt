@@ -2,60 +2,33 @@
 use Rattle.std.proofs.Common.{◌≡◌, ◌++◌, ℕ, List, Some, Result, Ok, Err, map, refl}
 use Rattle.bl_map.specs.MachineFacts.{MachineFacts}
 use Rattle.bl_load.specs.WellFormedEntry.{IsWellFormedValue}
-use Rattle.bl_load.specs.Handover.{Handover}
-use Rattle.bl_load.specs.declared.refused_entry.RefusedEntry.{RefusedEntry}
 use Rattle.bl_stage.specs.Files.{File, size_of}
-use Rattle.bl_image.specs.Image.{spelling}
-use Rattle.bl_image.specs.Versions.{written_version}
-use Rattle.bl_session.specs.session.BootSteps.{BootFacts, handed_over}
 use Rattle.bl_session.specs.menu.EntryContents.{entry_value_in}
-use Rattle.bl_session.specs.session.Schedules.{no_fault}
-use Rattle.bl_session.specs.session.Outcome.{IsOutcome}
 use Rattle.bl_session.specs.session.Phases.{boot_facts}
 use Rattle.program_desc.specs.declared.desc.Description.{Description}
-use Rattle.program_desc.specs.Described.{DescriptionFacts, described}
+use Rattle.program_desc.specs.Described.{described}
 use Rattle.program_desc.specs.declared.fault.DescFault.{DescFault}
 use Rattle.program_desc.specs.declared.fault.DescFault.TheVariants as desc_fault
 use Rattle.program_desc.specs.Views.{view}
-use Rattle.program_commands.specs.declared.described.boot_end.End.{End}
-use Rattle.program_commands.specs.declared.described.boot_end.End.TheVariants.{Booted, NoEntryLeft}
-use Rattle.program_commands.specs.declared.booting.end_fault.EndFault.{EndFault}
-use Rattle.program_commands.specs.declared.booting.end_fault.EndFault.TheVariants.{BadDescription}
-use Rattle.program_commands.specs.declared.booting.end_fault.EndFault.TheVariants.{Device}
-use Rattle.program_commands.specs.declared.booting.end_fault.EndFault.TheVariants.{NoMemory}
-use Rattle.program_commands.specs.described.FoundFiles.{AreFound}
-use Rattle.program_commands.specs.described.BootCases.{boot_of}
-use Rattle.program_commands.specs.described.DescribedMenu.{attempted_file_names, menu_of}
-use Rattle.program_commands.specs.described.DescribedMachine.{IsMachineOf}
-use Rattle.program_commands.specs.described.BootCases.{BootCase}
+use Rattle.program_boots.specs.declared.described.boot_end.End.{End}
+use Rattle.program_boots.specs.declared.described.boot_end.End.TheVariants.{Booted, NoEntryLeft}
+use Rattle.program_boots.specs.declared.booting.end_fault.EndFault.{EndFault}
+use Rattle.program_boots.specs.declared.booting.end_fault.EndFault.TheVariants.{BadDescription}
+use Rattle.program_boots.specs.declared.booting.end_fault.EndFault.TheVariants.{Device}
+use Rattle.program_boots.specs.declared.booting.end_fault.EndFault.TheVariants.{NoMemory}
+use Rattle.program_boots.specs.described.FoundFiles.{AreFound}
+use Rattle.program_boots.specs.described.BootCases.{boot_of}
+use Rattle.program_boots.specs.described.DescribedMenu.{attempted_file_names, menu_of}
+use Rattle.program_boots.specs.described.DescribedMachine.{IsMachineOf}
+use Rattle.program_boots.specs.described.BootCases.{BootCase}
 use Rattle.program_commands.specs.Ends.{Surroundings}
-use Rattle.program_commands.specs.internal.described.ReadMachines.{IsReadingFault}
-use Rattle.program_commands.specs.internal.CallEnds.{end_fault_of_desc_fault, IsImageWriteFault}
-use Rattle.program_commands.specs.internal.CallEnds.{CountsSinkFault}
+use Rattle.program_boots.specs.described.ReadMachines.{IsReadingFault}
+use Rattle.program_boots.specs.FoundBoots.{end_fault_of_desc_fault}
+use Rattle.program_boots.specs.FoundBoots.{CountsSinkFault}
 use Rattle.program_commands.specs.internal.CallEnds.{HasAsked}
-use Rattle.program_commands.specs.internal.CallEnds.{FoundBootEnds, BootEnds}
-use Rattle.program_commands.proofs.described_lemmas.AskedLemmas.{none_asked, all_asked}
-
--- the sink has one fault more exactly if it had one while the image was written
-pub faults_by : (old new : ℕ) (s t image : List ℕ) (fault : EndFault)
-    → IsImageWriteFault old new s t image fault → CountsSinkFault old new (Err fault)
-faults_by old new s t image BadDescription never = absurd never
-faults_by old new s t image Device broken = broken.0
-faults_by old new s t image NoMemory kept = kept.0
-
--- an entry that is not handed over after all
-pub not_handed : (description : DescriptionFacts) (facts : BootFacts) (files : List File)
-    (entry : ℕ) (earlier : List RefusedEntry) (handover : Handover)
-    → IsOutcome facts files no_fault (handed_over entry earlier handover)
-    → (old new : ℕ) (s t u v : List ℕ) (fault : EndFault)
-    → IsImageWriteFault old new s t (spelling written_version handover) fault → v ≡ u
-    → FoundBootEnds description facts files s t u v (Err fault)
-not_handed description facts files entry earlier handover came old new s t u v BadDescription never
-    unsaid = absurd never
-not_handed description facts files entry earlier handover came old new s t u v Device broken
-    unsaid = (entry, earlier, handover, came, broken.1, unsaid)
-not_handed description facts files entry earlier handover came old new s t u v NoMemory kept
-    unsaid = (kept.1, unsaid)
+use Rattle.program_boots.specs.FoundBoots.{FoundBootEnds}
+use Rattle.program_commands.specs.internal.CallEnds.{BootEnds}
+use Rattle.program_boots.proofs.described_lemmas.AskedLemmas.{none_asked, all_asked}
 
 -- ---- the names that were asked for
 

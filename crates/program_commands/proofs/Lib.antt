@@ -1,8 +1,7 @@
-pub mod described_lemmas
 pub mod EndLemmas
 pub mod EndLaws
-pub mod RunLemmas
 pub mod ShownLaws
 pub mod ConvertLaws
-pub mod digesting_lemmas
-pub mod explaining_lemmas
+pub mod DigestEndLemmas
+pub mod DigestLaws
+pub mod ExplainEnds

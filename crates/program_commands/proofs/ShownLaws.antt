@@ -16,10 +16,10 @@ use Rattle.bl_walk.specs.State.{IsEntered}
 use Rattle.bl_walk.proofs.LegalLaws.{images_show, images_are_entered, images_are_sound}
 use Rattle.bl_session.specs.session.Schedules.{no_fault}
 use Rattle.bl_session.proofs.session_lemmas.OutcomeLaws.{is_handover}
-use Rattle.program_commands.specs.described.BootCases.{boot_of}
-use Rattle.program_commands.specs.described.BootCases.{entry_value_at}
+use Rattle.program_boots.specs.described.BootCases.{boot_of}
+use Rattle.program_boots.specs.described.BootCases.{entry_value_at}
 use Rattle.program_commands.specs.Ends.{IsBooted, Surroundings}
-use Rattle.program_commands.proofs.RunLemmas.{machine_facts}
+use Rattle.program_boots.proofs.RunLemmas.{machine_facts}
 
 module _ {F : Type 0} {answers : F → List ℕ → File → Type 0} {faults : F → ℕ} {desc : List ℕ}
   where

@@ -10,9 +10,9 @@ use Rattle.bl_image.specs.ImageHandover.{IsKeptByImages}
 use Rattle.bl_image.specs.Versions.{written_version}
 use Rattle.bl_session.specs.session.BootSteps.{handed_over, none_left}
 use Rattle.bl_session.specs.menu.EntryContents.{entry_value_in}
-use Rattle.program_commands.specs.described.BootCases.{boot_of}
-use Rattle.program_commands.specs.described.DescribedMenu.{described_entry}
-use Rattle.program_commands.specs.described.BootCases.{BootCase, HasOutcome}
+use Rattle.program_boots.specs.described.BootCases.{boot_of}
+use Rattle.program_boots.specs.described.DescribedMenu.{described_entry}
+use Rattle.program_boots.specs.described.BootCases.{BootCase, HasOutcome}
 use Rattle.program_say.specs.BootAndMapLines.{booted_line, refused_lines, no_entry_line}
 
 -- what a boot starts from, or what it leaves: the files, what the sink took, and what is said

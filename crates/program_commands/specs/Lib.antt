@@ -1,4 +1,3 @@
-pub mod described
 pub mod Ends
 pub mod MachineMap
 pub mod internal

@@ -3,7 +3,7 @@ use Rattle.std.specs.Prelude.{◌≡◌, ℕ, List, ◌++◌, Some}
 use Rattle.bl_map.specs.MachineFacts.{MachineFacts}
 use Rattle.bl_map.specs.NormalMap.{low_kib, high_kib}
 use Rattle.program_desc.specs.Described.{DescriptionFacts, described}
-use Rattle.program_commands.specs.described.DescribedMachine.{IsMachineOf}
+use Rattle.program_boots.specs.described.DescribedMachine.{IsMachineOf}
 use Rattle.program_say.specs.BootAndMapLines.{map_lines}
 
 -- what is said grew by the map of the machine that the bytes describe

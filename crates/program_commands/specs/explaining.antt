@@ -1,6 +1,2 @@
-pub mod Details
-pub mod EntrySteps
-pub mod ExplanationLines
-pub mod TextPlaces
 pub mod BlameConditions
 pub mod Explained

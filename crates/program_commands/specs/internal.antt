@@ -1,5 +1,5 @@
 pub mod CallEnds
 pub mod WalkEnds
-pub mod described
-pub mod digesting
-pub mod explaining
+pub mod DigestEnds
+pub mod ExplanationEnds
+pub mod WholeReads

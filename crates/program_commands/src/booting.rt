@@ -1,10 +1,5 @@
 //! A boot: from a description to the image of the handover.
 
-mod end_fault;
-mod found_boot;
-mod handover;
 mod whole_boot;
 
-pub use end_fault::EndFault;
-pub use handover::say_none_left;
 pub use whole_boot::boot;

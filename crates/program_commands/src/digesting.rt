@@ -3,24 +3,24 @@ ghost use Rattle.std.specs.Prelude.{◌≡◌, ◌≢◌, ◌⊎◌, ℕ, List, 
 ghost use Rattle.bl_stage.specs.Files.{File};
 ghost use Rattle.program_desc.specs.Described.{described};
 ghost use Rattle.program_commands.specs.digesting.Digested.{IsDigested, TellsRefusals};
-ghost use Rattle.program_commands.specs.internal.digesting.DigestEnds.{DigestAsks, DigestEnds};
-ghost use Rattle.program_commands.specs.described.BootCases.{HasInlineFiles, names_sought};
-ghost use Rattle.program_commands.specs.described.BootCases.{names_fetched};
-ghost use Rattle.program_commands.specs.described.DescribedMachine.{IsBadDescription};
-ghost use Rattle.program_commands.specs.described.DescribedMenu.{max_names};
-ghost use Rattle.program_commands.specs.described.FoundFiles.{AsksPrefix};
-ghost use Rattle.program_commands.specs.internal.described.SoughtFiles.{SeeksNamesOf};
+ghost use Rattle.program_commands.specs.internal.DigestEnds.{DigestAsks, DigestEnds};
+ghost use Rattle.program_boots.specs.described.BootCases.{HasInlineFiles, names_sought};
+ghost use Rattle.program_boots.specs.described.BootCases.{names_fetched};
+ghost use Rattle.program_boots.specs.described.DescribedMachine.{IsBadDescription};
+ghost use Rattle.program_boots.specs.described.DescribedMenu.{max_names};
+ghost use Rattle.program_boots.specs.described.FoundFiles.{AsksPrefix};
+ghost use Rattle.program_boots.specs.described.SoughtFiles.{SeeksNamesOf};
 
-use crate::described::{DescribedBoot, End, Files, ReadyBoot, read_machine, ready_boot};
+use crate::described::{ReadyBoot, ready_boot};
 use crate::digesting::found_digests::digest_found;
 use bl_session::Order;
+use program_boots::{DescribedBoot, End, Files, read_machine};
 use program_desc::DescFault;
 use std::alloc::{Allocator, Global};
 
 mod found_digests;
 mod image_digests;
 mod planned_menu;
-mod said_digests;
 
 pub use image_digests::digest_image_to;
 pub use planned_menu::{MenuPlan, PlannedEntry, plan_menu};
@@ -72,7 +72,6 @@ fn run_digest<A: Allocator + Copy, F: Files, B: Allocator>(
 /// The status is that of `boot`, which never is 3 here: 0 if an entry would be handed over, 1 if
 /// each one that is attempted is refused, 2 if the description is bad, and 4 if memory ran out;
 /// with 2 and 4 nothing is said. `global` is what the TOML reader takes its memory from.
-#[tactic(auto, using(crate::proofs::described_lemmas::AskedLemmas::all_asked))]
 pub fn digest_to<A: Allocator + Copy, F: Files, B: Allocator>(
     alloc: A,
     global: Global,

@@ -18,16 +18,17 @@ ghost use Rattle.bl_walk.specs.State.{IsEntered};
 ghost use Rattle.bl_session.specs.attempt.AttemptResult.{AttemptResult};
 ghost use Rattle.program_commands.specs.Converted.{Converts, Walks, WalkRefuses};
 ghost use Rattle.program_desc.specs.Described.{DescriptionFacts};
-ghost use Rattle.program_commands.specs.described.DescribedMachine.{IsMachineOf};
-ghost use Rattle.program_commands.specs.described.BootCases.{BootCase, entry_value_at};
-ghost use Rattle.program_commands.specs.described.BootCases.{file_sizes_at};
-ghost use Rattle.program_commands.specs.described.BootCases.{HasResultAt};
-ghost use Rattle.program_commands.specs.described.DescribedMenu.{described_entry};
+ghost use Rattle.program_boots.specs.described.DescribedMachine.{IsMachineOf};
+ghost use Rattle.program_boots.specs.described.BootCases.{BootCase, entry_value_at};
+ghost use Rattle.program_boots.specs.described.BootCases.{file_sizes_at};
+ghost use Rattle.program_boots.specs.described.BootCases.{HasResultAt};
+ghost use Rattle.program_boots.specs.described.DescribedMenu.{described_entry};
 ghost use Rattle.program_commands.specs.Ends.{IsBooted, Surroundings};
-ghost use Rattle.program_commands.specs.digesting.Digested.{boot_lines, IsDigested};
+ghost use Rattle.program_boots.specs.FoundBoots.{boot_lines};
+ghost use Rattle.program_commands.specs.digesting.Digested.{IsDigested};
 ghost use Rattle.program_commands.specs.digesting.ImageDigested.{IsImageDigested, HasDigestLines};
 
-use crate::described::Files;
+use program_boots::Files;
 
 /// Two boots are two calls of `boot` with no more in common than this: their machines have equal
 /// facts (size, map and pool), and the entries that they hand over have equal values (protocol,

@@ -13,10 +13,7 @@ mod machine_map;
 
 pub use bl_session::{FILE_LIMIT, Fetched};
 pub use booting::boot;
-pub use described::{
-    AskedNames, DescribedBoot, End, Files, MemFiles, ReadyBoot, attempted_file_names, entry_of,
-    find_files, machine_of, menu_of, order_of, ready_boot, title_of,
-};
+pub use described::{ReadyBoot, attempted_file_names, find_files, ready_boot};
 pub use digesting::{MenuPlan, PlannedEntry, digest_image_to, digest_to, plan_menu};
 pub use explaining::explain_to;
 pub use image_conversion::convert;
@@ -26,3 +23,4 @@ pub use laws::{
     digests_are_of_booted_images, images_have_one_table, two_boots,
 };
 pub use machine_map::map_to;
+pub use program_boots::{AskedNames, Files, MemFiles};

@@ -1,11 +1,10 @@
 //! The map of a description's machine, as it is said.
 ghost use Rattle.std.specs.Prelude.{◌≡◌, ◌⊎◌};
-ghost use Rattle.program_commands.specs.described.DescribedMachine.{IsBadDescription};
+ghost use Rattle.program_boots.specs.described.DescribedMachine.{IsBadDescription};
 ghost use Rattle.program_commands.specs.MachineMap.{SaysMachineMap};
 ghost use Rattle.program_commands.specs.internal.CallEnds.{MapEnds};
 
-use crate::booting::EndFault;
-use crate::described::read_machine;
+use program_boots::{EndFault, read_machine};
 use program_say::say_map;
 use std::alloc::{Allocator, Global};
 

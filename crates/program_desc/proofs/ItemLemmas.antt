@@ -1,6 +1,8 @@
 -- Reading the items of an array one after the other.
 use Rattle.std.proofs.Common.{◌≡◌, ℕ, ◌+◌, ◌<◌, ◌≤◌, Option, Some, None, List, [], ◌∷◌, ◌++◌}
+use Rattle.std.proofs.Common.{Ok, Err}
 use Rattle.std.proofs.Common.{length, map, drop, get_or, refl, sym, ap, ◌∙◌, arith, append_assoc}
+use Rattle.std.specs.Option.{ok_or}
 use Rattle.std.proofs.lemmas.List.{map-append, drop_all, append-nil}
 use Rattle.toml.specs.Data.{Data, item}
 use Rattle.toml.specs.View.{view, items_view}
@@ -9,7 +11,7 @@ use Rattle.toml.proofs.Views.{items_view-drop}
 use Rattle.program_desc.specs.declared.fault.DescFault.{DescFault}
 use Rattle.program_desc.specs.declared.fault.DescFault.TheVariants.{BadDescription, NoMemory}
 use Rattle.program_desc.specs.Views.{IsReaderFault}
-use Rattle.program_desc.specs.TomlValues.{◌>>=◌, range_in, each_item}
+use Rattle.program_desc.specs.TomlValues.{◌>>=◌, range_in, each_item, toml_number}
 
 -- what was read before, and what is still read
 abbrev pub with_front : {A : Type 0} → List A → Option (List A) → Option (List A)
@@ -26,6 +28,17 @@ no_range_long [] h = absurd (omega arith)
 no_range_long (a ∷ []) h = absurd (omega arith)
 no_range_long (a ∷ b ∷ []) h = absurd (omega arith)
 no_range_long (a ∷ b ∷ c ∷ vs) h = refl
+
+-- of two items, each is a number
+pub range_of_two : (vs : List Value) (a b : Value)
+    → 2 ≤ length vs → length vs < 3 → a ≡ get_or vs 0 a → b ≡ get_or vs 1 b
+    → range_in (items_view vs)
+    ≡ (toml_number (view a) >>= λ start. toml_number (view b) >>= λ end.
+    Some record { start = start; end = end })
+range_of_two [] a b many few first second = absurd (omega (arith, many))
+range_of_two (v ∷ []) a b many few first second = absurd (omega (arith, many))
+range_of_two (v ∷ w ∷ []) a b many few first second = rw (first, second) refl
+range_of_two (v ∷ w ∷ x ∷ vs) a b many few first second = absurd (omega (arith, few))
 
 -- before the first item nothing was read
 pub front_none : {Y : Type 0} (rest : Option (List Y)) → with_front [] rest ≡ rest
@@ -89,3 +102,22 @@ pub fails_on : {X Y : Type 0} (fault : DescFault) (x : Option X) (rest : X → O
     → IsReaderFault fault x → IsReaderFault fault (x >>= rest)
 fails_on NoMemory x rest fails = tt
 fails_on BadDescription x rest fails = rw fails refl
+
+-- what fails only where memory runs out
+pub only_memory : {X Y : Type 0} (fault : DescFault) (x : X) (y : Option Y)
+    → IsReaderFault fault (Some x) → IsReaderFault fault y
+only_memory NoMemory x y fails = tt
+only_memory BadDescription x y fails = absurd (cc fails)
+
+-- a value that was asked for
+pub given_by : {X : Type 0} (o : Option X) (x : X) (fault : DescFault)
+    → Ok x ≡ ok_or o fault → o ≡ Some x
+given_by None x fault h = absurd (cc h)
+given_by (Some y) x fault h = cc h
+
+-- where it is not there, what is made of it fails
+pub fails_by : {X Y : Type 0} (o : Option X) (rest : X → Option Y) (fault : DescFault)
+    → Err fault ≡ ok_or o BadDescription → IsReaderFault fault (o >>= rest)
+fails_by None rest fault h =
+    let bad : fault ≡ BadDescription = cc h in rw bad refl
+fails_by (Some y) rest fault h = absurd (cc h)

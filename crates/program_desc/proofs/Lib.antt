@@ -5,3 +5,9 @@ pub mod NameLemmas
 pub mod KeyLemmas
 pub mod DescribedLemmas
 pub mod MenuLemmas
+pub mod BadValueLemmas
+pub mod BadRuleLemmas
+pub mod BadItemLemmas
+pub mod DescribesLemmas
+pub mod PlaceLemmas
+pub mod SameNameLemmas

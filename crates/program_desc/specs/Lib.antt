@@ -7,3 +7,4 @@ pub mod EntryFormViews
 pub mod Views
 pub mod Allowed
 pub mod BadKeys
+pub mod internal

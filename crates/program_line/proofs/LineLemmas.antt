@@ -29,7 +29,8 @@ use Rattle.clap.proofs.WalkLemmas.{first_value-rows}
 use Rattle.clap.specs.declared.error.Error.{Error}
 use Rattle.clap.specs.declared.error.kind.ErrorKind.{ErrorKind}
 use Rattle.program_line.specs.declared.fault.LineFault.{LineFault}
-use Rattle.program_line.specs.CommandLineJobs.{IsOrderParser, RefusesLine, fault_of_kind, line_app}
+use Rattle.program_line.specs.CommandLineJobs.{RefusesLine, fault_of_kind}
+use Rattle.program_arguments.specs.CommandLine.{IsOrderParser, line_app}
 use Rattle.program_line.specs.CommandLineJobs.{IsJobOf, IsJobOfWords, argument_text}
 use Rattle.program_line.specs.declared.fault.LineFault.TheVariants.{Refused}
 use Rattle.program_line.specs.declared.job.Job.{Job}

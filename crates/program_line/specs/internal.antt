@@ -1,2 +1,1 @@
-pub mod CommandParts
 pub mod ChosenNames

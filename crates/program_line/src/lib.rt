@@ -1,7 +1,6 @@
 //! The command line of the program.
 #![tactic(auto)]
 
-mod command;
 mod fault;
 mod job;
 mod matches;

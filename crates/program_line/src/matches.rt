@@ -6,11 +6,11 @@ ghost use Rattle.program_line.specs.CommandLineJobs.{IsJobOf, AreTakenByClap, Is
 ghost use Rattle.program_line.specs.CommandLineJobs.{RefusesLine};
 ghost use Rattle.program_line.specs.internal.ChosenNames.{HasJob, IsOfNone};
 
-use crate::command::line_command;
 use crate::fault::LineFault;
 use crate::job::{Job, Order};
 use clap::ArgMatches;
 use clap::error::ErrorKind;
+use program_arguments::line_command;
 use std::alloc::Global;
 
 /// The text of an argument, empty where it has none.

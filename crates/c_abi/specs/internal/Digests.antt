@@ -7,10 +7,10 @@ use Rattle.bl_digest.specs.Digests.{digests_of}
 use Rattle.bl_digest.specs.DigestsFacts.{DigestsFacts}
 use Rattle.bl_digest.specs.PlanInSteps.{DigestingFacts, handover_in_steps}
 use Rattle.c_abi.specs.Digest.{IsInFile, ranges_wanted}
-use Rattle.c_abi.specs.Given.{value_given, value_with}
+use Rattle.c_records.specs.Given.{value_given, value_with}
 use Rattle.c_abi.specs.Plan.{file_lengths}
 use Rattle.c_abi.specs.Prepare.{AreFilesOf}
-use Rattle.c_abi.specs.declared.given_records.EntryRecord.{EntryRecord}
+use Rattle.c_records.specs.declared.given_records.EntryRecord.{EntryRecord}
 
 -- it is the entry's digest on a machine of these facts, and was fed nothing
 pub record IsDigestOn (facts : MachineFacts) (entry : EntryRecord) (digest : DigestingFacts)

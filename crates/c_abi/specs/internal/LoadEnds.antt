@@ -6,9 +6,9 @@ use Rattle.bl_load.specs.HandoffFacts.{HandoffFacts}
 use Rattle.bl_load.specs.Handover.{Handover, overwrite_parts}
 use Rattle.bl_load.specs.Parts.{IsHandover, IsRefusal}
 use Rattle.bl_load.specs.PlanContents.{handover_in}
-use Rattle.c_abi.specs.declared.load_fault.LoadFault.{LoadFault}
-use Rattle.c_abi.specs.declared.load_fault.LoadFault.TheVariants.{Misused, Refused, NoMemory}
-use Rattle.c_abi.specs.declared.load_fault.LoadFault.TheVariants.{Outside}
+use Rattle.c_records.specs.declared.load_fault.LoadFault.{LoadFault}
+use Rattle.c_records.specs.declared.load_fault.LoadFault.TheVariants.{Misused, Refused, NoMemory}
+use Rattle.c_records.specs.declared.load_fault.LoadFault.TheVariants.{Outside}
 use Rattle.c_abi.specs.Load.{HandsOverBelow}
 
 -- memory that held the old bytes holds the new ones: this handover at its places, which is what the

@@ -1,10 +1,10 @@
 -- Why the entries that C gives are not taken for a menu's. Own.
 use Rattle.std.specs.Prelude.{◌≡◌, List}
-use Rattle.c_abi.specs.MenuGiven.{AreFewGiven}
-use Rattle.c_abi.specs.declared.given_fault.GivenFault.{GivenFault}
-use Rattle.c_abi.specs.declared.given_fault.GivenFault.TheVariants.{Misused, NoMemory}
-use Rattle.c_abi.specs.declared.given_records.EntryRecord.{EntryRecord}
-use Rattle.c_abi.specs.declared.misuse.Misuse.TheVariants.{TooMany}
+use Rattle.c_records.specs.MenuGiven.{AreFewGiven}
+use Rattle.c_records.specs.declared.given_fault.GivenFault.{GivenFault}
+use Rattle.c_records.specs.declared.given_fault.GivenFault.TheVariants.{Misused, NoMemory}
+use Rattle.c_records.specs.declared.given_records.EntryRecord.{EntryRecord}
+use Rattle.c_records.specs.declared.misuse.Misuse.TheVariants.{TooMany}
 
 -- they are too many, or one is beyond its limits; memory may run out
 abbrev pub AreTooMany : List EntryRecord → GivenFault → Type 0

@@ -4,11 +4,11 @@ use Rattle.bl_map.specs.MachineFacts.{MachineFacts}
 use Rattle.bl_load.specs.PlanContents.{handoff_by}
 use Rattle.bl_load.specs.Steps.{IsStep, StepsAscend}
 use Rattle.bl_load.specs.declared.step.Step.{Step}
-use Rattle.c_abi.specs.Given.{value_with}
+use Rattle.c_records.specs.Given.{value_with}
 use Rattle.c_abi.specs.Plan.{PlanFacts, IsPlanOf, file_lengths}
 use Rattle.c_abi.specs.Prepare.{AreFilesOf}
 use Rattle.c_abi.specs.PlanTold.{source_file}
-use Rattle.c_abi.specs.declared.given_records.EntryRecord.{EntryRecord}
+use Rattle.c_records.specs.declared.given_records.EntryRecord.{EntryRecord}
 use Rattle.c_abi.specs.declared.plan_steps.SteppedPlan.{SteppedPlan}
 
 -- a plan with its steps, as contracts see it

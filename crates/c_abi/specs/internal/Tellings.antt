@@ -6,18 +6,13 @@ use Rattle.bl_digest.specs.declared.part_digest.PartDigest.{PartDigest}
 use Rattle.c_abi.specs.BootTold.{Telling}
 use Rattle.c_abi.specs.DigestTold.{DigestsTelling}
 use Rattle.c_abi.specs.PlanTold.{PlanTelling}
-use Rattle.c_abi.specs.SeenTold.{WalkRecordsFacts}
-use Rattle.c_abi.specs.declared.digest_records.DigestsRecord.{DigestsRecord}
-use Rattle.c_abi.specs.declared.digest_records.PartDigestRecord.{PartDigestRecord}
-use Rattle.c_abi.specs.declared.end_records.HandoffRecord.{HandoffRecord}
-use Rattle.c_abi.specs.declared.end_records.PlaceRecord.{PlaceRecord}
-use Rattle.c_abi.specs.declared.end_records.RefusalRecord.{RefusalRecord}
-use Rattle.c_abi.specs.declared.given_records.RegionRecord.{RegionRecord}
-use Rattle.c_abi.specs.declared.plan_records.PlanCountsRecord.{PlanCountsRecord}
-use Rattle.c_abi.specs.declared.plan_records.StepRecord.{StepRecord}
-use Rattle.c_abi.specs.declared.seen_records.SeenModuleRecord.{SeenModuleRecord}
-use Rattle.c_abi.specs.declared.seen_records.SeenPartRecord.{SeenPartRecord}
-use Rattle.c_abi.specs.declared.seen_records.SeenRecord.{SeenRecord}
+use Rattle.c_records.specs.declared.digest_records.DigestsRecord.{DigestsRecord}
+use Rattle.c_records.specs.declared.digest_records.PartDigestRecord.{PartDigestRecord}
+use Rattle.c_records.specs.declared.end_records.HandoffRecord.{HandoffRecord}
+use Rattle.c_records.specs.declared.end_records.PlaceRecord.{PlaceRecord}
+use Rattle.c_records.specs.declared.end_records.RefusalRecord.{RefusalRecord}
+use Rattle.c_records.specs.declared.plan_records.PlanCountsRecord.{PlanCountsRecord}
+use Rattle.c_records.specs.declared.plan_records.StepRecord.{StepRecord}
 
 -- of a boot
 abbrev pub telling : HandoffRecord → List PlaceRecord → List RefusalRecord → ℕ → Telling
@@ -37,9 +32,3 @@ digests_facts image parts = record { image = image; parts = parts }
 -- of digests
 abbrev pub digests_telling : DigestsRecord → List PartDigestRecord → DigestsTelling
 digests_telling digests parts = record { digests = digests; parts = parts }
-
--- of a walk
-abbrev pub walk_telling : SeenRecord → List SeenPartRecord → List SeenModuleRecord
-    → List RegionRecord → List ℕ → WalkRecordsFacts
-walk_telling seen kernel modules runs text =
-    record { seen = seen; kernel = kernel; modules = modules; runs = runs; text = text }

@@ -6,14 +6,11 @@ use Rattle.bl_load.specs.Handover.{Handover}
 use Rattle.bl_load.specs.declared.refused_entry.RefusedEntry.{RefusedEntry}
 use Rattle.bl_stage.specs.Files.{File}
 use Rattle.bl_session.specs.session.BootSteps.{handed_over, none_left}
-use Rattle.program_commands.specs.described.BootCases.{BootCase, HasOutcome, entry_value_at}
-use Rattle.program_commands.specs.described.DescribedMenu.{described_entry}
-use Rattle.program_say.specs.BootAndMapLines.{booted_line, refused_lines, no_entry_line}
+use Rattle.program_boots.specs.described.BootCases.{BootCase, HasOutcome, entry_value_at}
+use Rattle.program_boots.specs.described.DescribedMenu.{described_entry}
+use Rattle.program_say.specs.BootAndMapLines.{refused_lines, no_entry_line}
+use Rattle.program_boots.specs.FoundBoots.{boot_lines}
 use Rattle.program_say.specs.DigestLines.{digest_lines}
-
--- the lines of an entry that is booted, and of the refusals before it
-abbrev pub boot_lines : List RefusedEntry → (entry : ℕ) → (title : List ℕ) → List ℕ
-boot_lines earlier entry title = refused_lines earlier ++ booted_line entry title
 
 -- with files of a type F: what they may answer for a name, and how many faults they had
 module _ {F : Type 0} (answers : F → List ℕ → File → Type 0) (faults : F → ℕ) where

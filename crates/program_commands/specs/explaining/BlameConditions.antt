@@ -14,7 +14,7 @@ use Rattle.program_say.specs.declared.subjects.blame.Blame.{Blame}
 use Rattle.program_say.specs.declared.subjects.blame.Blame.TheVariants as blames
 use Rattle.program_say.specs.declared.subjects.blame.Blame.TheVariants.{NotUtf8, NotToml}
 use Rattle.program_say.specs.declared.subjects.blame.Blame.TheVariants.{BadMachine}
-use Rattle.program_commands.specs.explaining.TextPlaces.{text_place}
+use Rattle.program_boots.specs.explaining.TextPlaces.{text_place}
 
 -- the text is not TOML, and the place is one of it, or behind it: toml's contract says of no place
 -- that the mistake is there

@@ -9,12 +9,12 @@ use Rattle.program_desc.specs.Described.{described}
 use Rattle.program_say.specs.declared.subjects.blame.Blame.{Blame}
 use Rattle.program_commands.specs.explaining.BlameConditions.{HasBlame}
 use Rattle.program_say.specs.blame.BlameLines.{blame_lines}
-use Rattle.program_commands.specs.described.DescribedMachine.{IsBadDescription}
-use Rattle.program_commands.specs.described.BootCases.{BootCase, HasOutcome}
-use Rattle.program_commands.specs.explaining.Details.{AreToldRefusals}
-use Rattle.program_commands.specs.explaining.EntrySteps.{AreToldSteps}
-use Rattle.program_commands.specs.explaining.ExplanationLines.{refused_in, sought_in}
-use Rattle.program_commands.specs.explaining.ExplanationLines.{explanation_lines}
+use Rattle.program_boots.specs.described.DescribedMachine.{IsBadDescription}
+use Rattle.program_boots.specs.described.BootCases.{BootCase, HasOutcome}
+use Rattle.program_boots.specs.explaining.Details.{AreToldRefusals}
+use Rattle.program_boots.specs.explaining.EntrySteps.{AreToldSteps}
+use Rattle.program_boots.specs.explaining.ExplanationLines.{refused_in, sought_in}
+use Rattle.program_boots.specs.explaining.ExplanationLines.{explanation_lines}
 use Rattle.program_say.specs.declared.subjects.refusal_detail.ToldRefusal.{ToldRefusal}
 
 -- with files of a type F: what they may answer for a name, and how many faults they had; and with

@@ -1,20 +1,20 @@
 //! The command `boot`: from a description's bytes to a status.
 ghost use Rattle.std.specs.Prelude.{◌≡◌, ◌≢◌, ℕ, List, ◌+◌, ◌<◌, ◌≤◌, ◌^◌, ◌++◌, length};
 ghost use Rattle.bl_stage.specs.Files.{File};
-ghost use Rattle.program_commands.specs.described.BootCases.{HasInlineFiles, names_sought};
-ghost use Rattle.program_commands.specs.described.BootCases.{names_fetched};
+ghost use Rattle.program_boots.specs.described.BootCases.{HasInlineFiles, names_sought};
+ghost use Rattle.program_boots.specs.described.BootCases.{names_fetched};
 ghost use Rattle.program_commands.specs.Ends.{IsBooted, IsCutShort, IsRefused};
-ghost use Rattle.program_commands.specs.described.DescribedMachine.{IsBadDescription};
-ghost use Rattle.program_commands.specs.described.FoundFiles.{AsksPrefix};
-ghost use Rattle.program_commands.specs.internal.described.SoughtFiles.{SeeksNamesOf};
-ghost use Rattle.program_commands.specs.internal.CallEnds.{BootEnds, CountsSinkFault, HasAsked};
-ghost use Rattle.program_commands.specs.described.DescribedMenu.{max_names};
+ghost use Rattle.program_boots.specs.described.DescribedMachine.{IsBadDescription};
+ghost use Rattle.program_boots.specs.described.FoundFiles.{AsksPrefix};
+ghost use Rattle.program_boots.specs.described.SoughtFiles.{SeeksNamesOf};
+ghost use Rattle.program_commands.specs.internal.CallEnds.{BootEnds, HasAsked};
+ghost use Rattle.program_boots.specs.FoundBoots.{CountsSinkFault};
+ghost use Rattle.program_boots.specs.described.DescribedMenu.{max_names};
 ghost use Rattle.program_desc.specs.Described.{described};
 
-use crate::booting::end_fault::EndFault;
-use crate::booting::found_boot::boot_found;
-use crate::described::{DescribedBoot, End, Files, ReadyBoot, order_of, read_machine, ready_boot};
+use crate::described::{ReadyBoot, ready_boot};
 use bl_image::Sink;
+use program_boots::{DescribedBoot, End, EndFault, Files, boot_found, order_of, read_machine};
 use program_line::Order;
 use std::alloc::{Allocator, Global};
 
@@ -66,7 +66,6 @@ fn run_boot<A: Allocator + Copy, F: Files, S: Sink, B: Allocator>(
 /// description is bad, 3 if the sink had a fault, and 4 if memory ran out; with 2, 3 and 4 nothing
 /// is said. An entry is refused for want of a file only if `files` counted a fault more. `global`
 /// is what the TOML reader takes its memory from.
-#[tactic(auto, using(crate::proofs::described_lemmas::AskedLemmas::all_asked))]
 pub fn boot<A: Allocator + Copy, F: Files, S: Sink, B: Allocator>(
     alloc: A,
     global: Global,

@@ -6,16 +6,15 @@ ghost use Rattle.bl_load.specs.WellFormedEntry.{IsWellFormedValue};
 ghost use Rattle.bl_stage.specs.Files.{File};
 ghost use Rattle.program_desc.specs.Described.{file_named};
 ghost use Rattle.program_desc.specs.Views.{HasMenu, view};
-ghost use Rattle.program_commands.specs.described.DescribedMenu as attempted;
-ghost use Rattle.program_commands.specs.described.DescribedMenu.{max_names};
-ghost use Rattle.program_commands.specs.described.FoundFiles.{AreFound, AsksPrefix, names_to_ask};
+ghost use Rattle.program_boots.specs.described.DescribedMenu as attempted;
+ghost use Rattle.program_boots.specs.described.DescribedMenu.{max_names};
+ghost use Rattle.program_boots.specs.described.FoundFiles.{AreFound, AsksPrefix, names_to_ask};
 
-use crate::described::files::Files;
 use crate::described::found_files::find_files;
-use crate::described::menu::menu_of;
 use crate::described::names::attempted_file_names;
 use bl_mem::Sparse;
 use bl_session::{FileStore, Menu, Order};
+use program_boots::{Files, menu_of};
 use program_desc::Description;
 use std::alloc::{AllocError, Allocator};
 

@@ -2,14 +2,14 @@
 ghost use Rattle.std.specs.Prelude.{◌≡◌, ℕ, List, ◌+◌, ◌-◌, ◌<◌, ◌≤◌, ◌^◌, All, IfOk, IsSome};
 ghost use Rattle.std.specs.Prelude.{length, map, ◌++◌, OnOk};
 ghost use Rattle.bl_stage.specs.Files.{File, file_of};
-ghost use Rattle.program_commands.specs.described.FoundFiles.{AreFound, AsksPrefix, IsFound};
-ghost use Rattle.program_commands.specs.described.FoundFiles.{names_to_ask};
+ghost use Rattle.program_boots.specs.described.FoundFiles.{AreFound, AsksPrefix, IsFound};
+ghost use Rattle.program_boots.specs.described.FoundFiles.{names_to_ask};
 ghost use Rattle.program_desc.specs.Described.{file_named};
 ghost use Rattle.program_desc.specs.Views.{view};
-ghost use Rattle.program_commands.specs.internal.described.SoughtFiles.{SeeksName};
+ghost use Rattle.program_boots.specs.described.SoughtFiles.{SeeksName};
 
-use crate::described::files::{Files, copy_of};
 use bl_session::Fetched;
+use program_boots::{Files, copy_of};
 use program_desc::Description;
 use std::alloc::{AllocError, Allocator};
 

@@ -3,9 +3,9 @@ ghost use Rattle.std.specs.Prelude.{◌≡◌, ◌*◌, ◌<◌, ◌≤◌, ◌�
 ghost use Rattle.std.specs.Prelude.{OnOk};
 ghost use Rattle.std.specs.Str.{bytes_eq};
 ghost use Rattle.std.specs.List.{list_any};
-ghost use Rattle.program_commands.specs.described.DescribedMenu as attempted;
-ghost use Rattle.program_commands.specs.described.DescribedMenu.{names_of_entries};
-ghost use Rattle.program_commands.specs.internal.described.DistinctNames.{AddsNames};
+ghost use Rattle.program_boots.specs.described.DescribedMenu as attempted;
+ghost use Rattle.program_boots.specs.described.DescribedMenu.{names_of_entries};
+ghost use Rattle.program_boots.specs.described.DistinctNames.{AddsNames};
 ghost use Rattle.program_desc.specs.EntryNames.{file_names};
 ghost use Rattle.program_desc.specs.Views.{HasMenu, entry_view, module_view, view};
 

@@ -1,41 +1,14 @@
 //! The digests of what was found for a description.
-ghost use Rattle.std.specs.Prelude.{◌≡◌, IfOk, map};
-ghost use Rattle.bl_digest.specs.Digests.{digests_of};
-ghost use Rattle.bl_digest.specs.PlanInSteps.{CanBeLoadedFrom};
-ghost use Rattle.bl_load.specs.Loadable.{lengths_of};
-ghost use Rattle.bl_load.specs.PlanContents.{handover_by};
+ghost use Rattle.std.specs.Prelude.{map};
 ghost use Rattle.bl_stage.specs.Files.{size_of, stored_files};
-ghost use Rattle.bl_session.specs.menu.Menu.{files_of};
 ghost use Rattle.bl_session.specs.session.Phases.{boot_facts};
 ghost use Rattle.program_desc.specs.Views.{view};
-ghost use Rattle.program_commands.specs.internal.digesting.DigestEnds.{FoundDigestEnds};
-ghost use Rattle.program_commands.specs.internal.digesting.EntryPlans.{file_texts};
+ghost use Rattle.program_commands.specs.internal.DigestEnds.{FoundDigestEnds};
 
-use crate::booting::say_none_left;
-use crate::described::{DescribedBoot, End, title_of};
-use crate::digesting::planned_menu::{MenuPlan, file_texts, indices_of, plan_menu};
-use crate::digesting::said_digests::say_digested;
-use bl_digest::{Digests, digest_plan};
-use bl_load::{Entry, Plan};
+use crate::digesting::planned_menu::{MenuPlan, plan_menu};
 use bl_session::Fetched;
+use program_boots::{DescribedBoot, End, digest_entry, say_digested, say_none_left, title_of};
 use std::alloc::{AllocError, Allocator};
-
-/// The digests of the image of an entry with these files, by its plan.
-fn digest_entry<A: Allocator + Copy>(
-    alloc: A,
-    entry: &Entry<A>,
-    files: &[Fetched<A>],
-    plan: &Plan<A>,
-) -> Result<Digests<A>, AllocError>
-    requires { CanBeLoadedFrom
-        (lengths_of (file_texts (stored_files files.now) (files_of entry.now))) plan.now }
-    ensures { IfOk result (λ digests. digests ≡ digests_of
-        (handover_by (file_texts (stored_files files.now) (files_of entry.now)) plan.now)) }
-{
-    let indices = indices_of(alloc, entry)?;
-    let texts = file_texts(alloc, files, &indices)?;
-    digest_plan(alloc, plan, &texts)
-}
 
 /// Says what the boot of these files comes to, and the digests of what would be handed over.
 pub fn digest_found<A: Allocator + Copy, B: Allocator>(

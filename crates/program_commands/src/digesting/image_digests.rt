@@ -1,29 +1,12 @@
 //! The digests of an image that is there.
-ghost use Rattle.std.specs.Prelude.{◌≡◌, ◌⊎◌, ◌+◌, ◌<◌, ◌^◌, ◌++◌, OnOk, OnErr};
-ghost use Rattle.bl_digest.specs.Digests.{digests_of};
+ghost use Rattle.std.specs.Prelude.{◌≡◌, ◌⊎◌, ◌+◌, ◌<◌, ◌^◌};
 ghost use Rattle.program_commands.specs.ReadImage.{IsUnreadable};
 ghost use Rattle.program_commands.specs.digesting.ImageDigested.{IsImageDigested};
-ghost use Rattle.program_say.specs.DigestLines.{digest_lines};
 
-use crate::digesting::said_digests::say_table;
-use bl_digest::digest_image;
-use bl_image::{Image, ImageFault, Source, read_image};
+use bl_image::{ImageFault, Source, read_image};
+use program_boots::say_image;
 use program_say::say_bad_image;
-use std::alloc::{AllocError, Allocator};
-
-/// Appends the lines of the digests of an image. An error leaves the text as it was.
-fn say_image<A: Allocator + Copy, B: Allocator>(
-    alloc: A,
-    image: &Image<A>,
-    say: &mut Vec<u8, B>,
-) -> Result<(), AllocError>
-    ensures ok { OnOk result (say.new.items
-        ≡ say.old.items ++ digest_lines (digests_of image.now)) }
-    ensures err { OnErr result (say.new.items ≡ say.old.items) }
-{
-    let digests = digest_image(alloc, image)?;
-    say_table(alloc, &digests, say)
-}
+use std::alloc::Allocator;
 
 /// Reads an image to the end of a source, in either version, and appends the lines of its digests
 /// to `say`: of the image in the version that is written, of its head and records, and of each

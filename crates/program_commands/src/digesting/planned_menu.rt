@@ -12,11 +12,7 @@ use bl_map::Machine;
 use bl_session::{Fetched, Menu, RefusedEntry};
 use std::alloc::{AllocError, Allocator};
 
-mod entry_files;
 mod entry_plan;
-mod size_checks;
-
-pub(crate) use entry_files::{file_texts, indices_of};
 
 /// The entry that is handed over, by its index in the menu, with the refusals before it, in order,
 /// and what is loaded for it.

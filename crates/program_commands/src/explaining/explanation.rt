@@ -1,21 +1,21 @@
 //! One explanation.
 ghost use Rattle.std.specs.Prelude.{◌≡◌, ◌≢◌, ◌⊎◌, ℕ, List, ◌+◌, ◌<◌, ◌≤◌, ◌^◌, ◌++◌, length};
 ghost use Rattle.bl_stage.specs.Files.{File};
-ghost use Rattle.program_commands.specs.described.DescribedMenu.{max_names};
-ghost use Rattle.program_commands.specs.described.BootCases.{HasInlineFiles, names_sought};
-ghost use Rattle.program_commands.specs.described.BootCases.{names_fetched};
-ghost use Rattle.program_commands.specs.internal.explaining.ExplanationEnds.{ExplainAsks};
-ghost use Rattle.program_commands.specs.internal.explaining.ExplanationEnds.{ExplainEnds};
+ghost use Rattle.program_boots.specs.described.DescribedMenu.{max_names};
+ghost use Rattle.program_boots.specs.described.BootCases.{HasInlineFiles, names_sought};
+ghost use Rattle.program_boots.specs.described.BootCases.{names_fetched};
+ghost use Rattle.program_commands.specs.internal.ExplanationEnds.{ExplainAsks};
+ghost use Rattle.program_commands.specs.internal.ExplanationEnds.{ExplainEnds};
 ghost use Rattle.program_commands.specs.explaining.Explained.{ExplainsBlame, ExplainsBoot};
 ghost use Rattle.program_commands.specs.explaining.Explained.{ExplainsRefusals};
-ghost use Rattle.program_commands.specs.described.FoundFiles.{AsksPrefix};
-ghost use Rattle.program_commands.specs.internal.described.SoughtFiles.{SeeksNamesOf};
+ghost use Rattle.program_boots.specs.described.FoundFiles.{AsksPrefix};
+ghost use Rattle.program_boots.specs.described.SoughtFiles.{SeeksNamesOf};
 ghost use Rattle.program_desc.specs.Described.{described};
 
-use crate::described::{DescribedBoot, End, Files, ReadyBoot, order_of, ready_boot};
+use crate::described::{ReadyBoot, ready_boot};
 use crate::explaining::explained_boot::explain_found;
-use crate::explaining::fault::ExplainFault;
-use crate::explaining::read_or_blame::{machine_or_blame, read_or_blame};
+use crate::explaining::read_or_blame::read_or_blame;
+use program_boots::{DescribedBoot, End, ExplainFault, Files, machine_or_blame, order_of};
 use program_line::Order;
 use std::alloc::{Allocator, Global};
 
@@ -60,7 +60,6 @@ fn run_explain<A: Allocator + Copy, F: Files, B: Allocator>(
 /// each one that is attempted is refused, 2 if the description is bad, for what is said, and 4 if
 /// memory ran out, with which nothing is said. `global` is what the TOML reader takes its memory
 /// from.
-#[tactic(auto, using(crate::proofs::described_lemmas::AskedLemmas::all_asked))]
 pub fn explain_to<A: Allocator + Copy, F: Files, B: Allocator>(
     alloc: A,
     global: Global,

@@ -1,40 +1,17 @@
-//! A description is read and its machine made, or it is said why not.
-ghost use Rattle.std.specs.Prelude.{◌≡◌, true, None, option_map};
+//! A description is read, or it is said why not.
+ghost use Rattle.std.specs.Prelude.{◌≡◌, true, None};
 ghost use Rattle.std.specs.Str.{is_utf8};
 ghost use Rattle.toml.specs.Errors.{IsMemory, IsWithin};
 ghost use Rattle.toml.specs.Parse.{parse_document};
 ghost use Rattle.program_desc.specs.Described.{described};
-ghost use Rattle.program_desc.specs.Views.{view};
-ghost use Rattle.program_say.specs.blame.BlameLines.{blame_lines};
-ghost use Rattle.program_commands.specs.internal.explaining.ExplanationEnds.{IsMachineOrBlamed};
-ghost use Rattle.program_commands.specs.internal.explaining.ExplanationEnds.{IsReadBlame};
-ghost use Rattle.program_commands.specs.internal.explaining.ExplanationEnds.{IsReadOrBlamed};
-ghost use Rattle.program_commands.specs.internal.explaining.ExplanationEnds.{SaysLines};
+ghost use Rattle.program_commands.specs.internal.ExplanationEnds.{IsReadBlame};
+ghost use Rattle.program_commands.specs.internal.ExplanationEnds.{IsReadOrBlamed};
 
-use crate::explaining::fault::ExplainFault;
-use crate::explaining::text_place::text_place;
-use bl_map::{Machine, MapFault};
-use program_bad_key::first_bad_key;
-use program_desc::{DescFault, Description, read_description};
-use program_say::{Blame, say_blame};
+use program_boots::{ExplainFault, blamed, text_place};
+use program_desc::{DescFault, Description};
+use program_document::{first_bad_key, read_description};
+use program_say::Blame;
 use std::alloc::{Allocator, Global};
-
-/// Says why a description is a bad one, where it describes this, if anything. An error leaves what
-/// was said as it was.
-fn blamed<'a, A: Allocator + Copy, B: Allocator>(
-    alloc: A,
-    blame: &'a Blame<'a>,
-    description: Option<&'a Description<A>>,
-    say: &mut Vec<u8, B>,
-) -> ExplainFault
-    ensures { SaysLines (blame_lines blame.now (option_map (λ d. view d.now) description.entry))
-        say.old.items say.new.items result }
-{
-    match say_blame(alloc, blame, description, say) {
-        Ok(()) => ExplainFault::Blamed,
-        Err(_) => ExplainFault::NoMemory,
-    }
-}
 
 /// Says what an error of toml's tells of a text that is UTF-8.
 fn say_toml_blame<A: Allocator + Copy, B: Allocator>(
@@ -109,22 +86,5 @@ pub fn read_or_blame<A: Allocator + Copy, B: Allocator>(
         Ok(description) => Ok(description),
         Err(DescFault::BadDescription) => Err(say_blame_of(alloc, global, desc, say)),
         Err(DescFault::NoMemory) => Err(ExplainFault::NoMemory),
-    }
-}
-
-/// The machine that is described, or why there is none, which is said.
-pub fn machine_or_blame<A: Allocator + Copy, B: Allocator>(
-    alloc: A,
-    description: &Description<A>,
-    say: &mut Vec<u8, B>,
-) -> Result<Machine<A>, ExplainFault>
-    ensures { IsMachineOrBlamed (view description.now) say.old.items say.new.items result }
-{
-    let pool = description.pool.start..description.pool.end;
-    let regions = description.regions.as_slice();
-    match Machine::new(alloc, description.size, regions, pool) {
-        Ok(machine) => Ok(machine),
-        Err(MapFault::NoMemory) => Err(ExplainFault::NoMemory),
-        Err(fault) => Err(blamed(alloc, &Blame::BadMachine(fault), Some(description), say)),
     }
 }

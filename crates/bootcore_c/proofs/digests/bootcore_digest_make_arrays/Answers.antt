@@ -1,7 +1,7 @@
 use Rattle.std.proofs.Common.{Err, arith, inl, inr, refl, rules}
 use Rattle.c_abi.specs.Load.{bad_machine}
-use Rattle.c_abi.specs.declared.given_fault.GivenFault.TheVariants as given_fault
-use Rattle.c_abi.specs.declared.load_fault.LoadFault.TheVariants.{NoMemory}
+use Rattle.c_records.specs.declared.given_fault.GivenFault.TheVariants as given_fault
+use Rattle.c_records.specs.declared.load_fault.LoadFault.TheVariants.{NoMemory}
 use Rattle.bootcore_c.proofs.digests.bootcore_digest_make_arrays.Goals as goal
 
 -- there was a digest, and no memory to keep it in: memory ran out

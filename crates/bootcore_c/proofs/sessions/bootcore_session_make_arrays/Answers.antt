@@ -1,5 +1,5 @@
 use Rattle.std.proofs.Common.{Err, inl, inr, refl}
-use Rattle.c_abi.specs.declared.given_fault.GivenFault.TheVariants.{NoMemory}
+use Rattle.c_records.specs.declared.given_fault.GivenFault.TheVariants.{NoMemory}
 use Rattle.c_abi.specs.Sessions.{of_machine}
 use Rattle.bootcore_c.proofs.sessions.bootcore_session_make_arrays.Goals as goal
 

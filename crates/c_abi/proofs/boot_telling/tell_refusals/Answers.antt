@@ -1,6 +1,6 @@
 use Rattle.std.proofs.Common.{arith, ◌∙◌}
 use Rattle.c_abi.specs.BootTold.{refused_told}
-use Rattle.c_abi.proofs.TellLemmas.{tell_one, told_all}
+use Rattle.c_records.proofs.TellLemmas.{tell_one, told_all}
 use Rattle.c_abi.proofs.boot_telling.tell_refusals.Goals as goal
 
 pub loop-index-preserved : goal.loop-index-preserved

@@ -1,9 +1,9 @@
 use Rattle.std.proofs.Common.{arith, subst, sym}
 use Rattle.bl_load.specs.HandoffFacts.{max_parts}
-use Rattle.c_abi.specs.Given.{texts_given}
+use Rattle.c_records.specs.Given.{texts_given}
 use Rattle.c_abi.specs.Load.{bad_machine}
 use Rattle.c_abi.specs.Prepare.{IsNotPrepared}
-use Rattle.c_abi.specs.declared.load_fault.LoadFault.{LoadFault}
+use Rattle.c_records.specs.declared.load_fault.LoadFault.{LoadFault}
 use Rattle.c_abi.proofs.DigestLemmas.{given_digests_end}
 use Rattle.c_abi.proofs.digest_at_once.digests_given.Goals as goal
 
@@ -13,7 +13,7 @@ returns-in-Err g c =
     subst
     (λ (f : LoadFault).
     IsNotPrepared c.args.machine.now c.args.regions.now entry (texts_given entry) max_parts f)
-    (sym c.given_fault.ensures)
+    (sym c.load_fault_of_given.ensures)
     (bad_machine (omega arith) c.in-Err.fault c.in-Err.ensures.fault)
 
 pub returns : goal.returns

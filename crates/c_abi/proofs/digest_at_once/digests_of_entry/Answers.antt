@@ -4,7 +4,7 @@ use Rattle.bl_digest.specs.Digests.{digests_of}
 use Rattle.bl_load.specs.EntryValue.{EntryValue}
 use Rattle.bl_load.specs.Parts.{IsHandover}
 use Rattle.bl_load.specs.PlanContents.{handover_by}
-use Rattle.c_abi.specs.Given.{texts_given}
+use Rattle.c_records.specs.Given.{texts_given}
 use Rattle.c_abi.specs.Load.{IsEntryFault}
 use Rattle.c_abi.proofs.LoadLemmas.{given_value, of_prepared_is}
 use Rattle.c_abi.proofs.digest_at_once.digests_of_entry.Goals as goal
@@ -16,7 +16,7 @@ returns-in-Err-clause-fault g c =
     let texts = map (λ (v : SliceView). v.bytes.now) c.deref.result.now in
     let files =
     ap (map (λ (v : SliceView). v.bytes.now)) c.deref.ensures.value ∙ c.in-Ok.ensures in
-    subst (IsEntryFault facts row (texts_given row) 0) (sym c.load_fault.ensures)
+    subst (IsEntryFault facts row (texts_given row) 0) (sym c.load_fault_of_prep.ensures)
     (of_prepared_is facts row (texts_given row) 0 _ c.in-Err.fault
     c.requires.sound
     (given_value row c.args.entry.now texts (texts_given row) c.requires.value files)

@@ -6,7 +6,7 @@ use Rattle.bl_load.specs.Parts.{IsHandover}
 use Rattle.bl_load.specs.PlanContents.{handover_in}
 use Rattle.bl_load.proofs.HandoverLaws as handovers
 use Rattle.c_abi.specs.Digest.{AreDigestsFed}
-use Rattle.c_abi.specs.Given.{texts_given, value_given}
+use Rattle.c_records.specs.Given.{texts_given, value_given}
 use Rattle.c_abi.proofs.MachineLaws.{one_machine}
 use Rattle.c_abi.proofs.digest_laws.digests_are_those_of_loads.Goals as goal
 

@@ -8,7 +8,7 @@ use Rattle.c_abi.proofs.digest_making.digest_of_entry.Goals as goal
 pub returns-in-Err-clause-fault : goal.returns-in-Err-clause-fault
 returns-in-Err-clause-fault g c = λ texts files.
     let row = c.args.row.now in
-    subst (IsEntryFault c.args.machine.now row texts 0) (sym c.load_fault.ensures)
+    subst (IsEntryFault c.args.machine.now row texts 0) (sym c.load_fault_of_prep.ensures)
     (of_prepared_is c.args.machine.now row texts 0 _ c.in-Err.fault c.requires.sound
     (given_value row c.args.entry.now texts texts c.requires.value refl)
     (c.in-Err.ensures.fault texts files))

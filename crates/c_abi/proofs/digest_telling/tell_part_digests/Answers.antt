@@ -1,6 +1,6 @@
 use Rattle.std.proofs.Common.{arith, ◌∙◌}
 use Rattle.c_abi.specs.DigestTold.{part_digest_told}
-use Rattle.c_abi.proofs.TellLemmas.{tell_one, told_all}
+use Rattle.c_records.proofs.TellLemmas.{tell_one, told_all}
 use Rattle.c_abi.proofs.digest_telling.tell_part_digests.Goals as goal
 
 pub loop-index-preserved : goal.loop-index-preserved

@@ -1,6 +1,6 @@
 use Rattle.std.proofs.Common.{length, arith}
 use Rattle.bl_load.specs.PlanContents.{handover_in}
-use Rattle.c_abi.specs.Given.{texts_given}
+use Rattle.c_records.specs.Given.{texts_given}
 use Rattle.c_abi.proofs.FaultLaws as faults
 use Rattle.c_abi.proofs.PrepareLaws.{one_handoff, only_memory, one_refusal, never_loaded}
 use Rattle.c_abi.proofs.PrepareLaws.{memory_alone, one_of_two, prepared_above}

@@ -1,8 +1,8 @@
 use Rattle.std.proofs.Common.{ℕ, arith, length, refl, subst, sym}
 use Rattle.std.proofs.lemmas.List.{length-append, length-replicate}
 use Rattle.bl_mem.specs.Memory.{memory_from}
-use Rattle.c_abi.specs.declared.load_fault.LoadFault.{LoadFault}
-use Rattle.c_abi.specs.Given.{texts_given}
+use Rattle.c_records.specs.declared.load_fault.LoadFault.{LoadFault}
+use Rattle.c_records.specs.Given.{texts_given}
 use Rattle.c_abi.specs.Load.{few_places, bad_machine, bad_memory, IsNotLoaded}
 use Rattle.c_abi.proofs.LoadLemmas.{given_end}
 use Rattle.c_abi.proofs.ResultLemmas.{on_ok}
@@ -19,7 +19,7 @@ returns-in-Err-clause-end g c =
           (λ (f : LoadFault).
           IsNotLoaded c.args.machine.now c.args.regions.now c.args.entry.now
           (texts_given c.args.entry.now) c.args.room c.args.base end f)
-          (sym c.given_fault.ensures)
+          (sym c.load_fault_of_given.ensures)
           (bad_machine (omega (arith, many)) c.in-Err.fault c.in-Err.ensures.fault),
       refl,
     )

@@ -1,5 +1,5 @@
 use Rattle.std.proofs.Common.{refl, subst, sym}
-use Rattle.c_abi.specs.Given.{texts_given}
+use Rattle.c_records.specs.Given.{texts_given}
 use Rattle.c_abi.specs.Load.{IsEntryFault}
 use Rattle.c_abi.proofs.LoadLemmas.{entry_sound, of_given_is, taken}
 use Rattle.c_abi.proofs.ResultLemmas.{on_ok}
@@ -15,7 +15,7 @@ pub returns-in-Err-clause-fault : goal.returns-in-Err-clause-fault
 returns-in-Err-clause-fault g c =
     let facts = c.args.machine.now in
     let row = c.args.row.now in
-    subst (IsEntryFault facts row (texts_given row) c.args.base) (sym c.given_fault.ensures)
+    subst (IsEntryFault facts row (texts_given row) c.args.base) (sym c.load_fault_of_given.ensures)
     (of_given_is facts row (texts_given row) c.args.base c.in-Err.fault c.in-Err.ensures.fault)
 
 pub returns-in-Err-clause-unchanged : goal.returns-in-Err-clause-unchanged

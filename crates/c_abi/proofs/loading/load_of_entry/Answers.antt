@@ -1,7 +1,7 @@
 use Rattle.std.proofs.Common.{ap, ◌∙◌, map, refl, sym}
 use Rattle.bl_mem.specs.Memory.{memory_from}
 use Rattle.bl_mem.specs.declared.byte_view.SliceView.{SliceView}
-use Rattle.c_abi.specs.Given.{texts_given}
+use Rattle.c_records.specs.Given.{texts_given}
 use Rattle.c_abi.proofs.LoadLemmas.{given_count, given_value}
 use Rattle.c_abi.proofs.LoadLemmas.{loads_entry, loads_not}
 use Rattle.c_abi.proofs.loading.load_of_entry.Goals as goal

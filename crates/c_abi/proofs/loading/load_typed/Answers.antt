@@ -22,7 +22,7 @@ returns-in-Err g c =
       inside = tt;
       above = tt;
       fault =
-          subst (IsValueFault c.args.machine.now value c.args.base) (sym c.load_fault.ensures)
+          subst (IsValueFault c.args.machine.now value c.args.base) (sym c.load_fault_of_prep.ensures)
           (value_not_prepared c.args.machine.now value c.args.base c.in-Err.fault
           c.in-Err.ensures.fault);
       unchanged = refl;

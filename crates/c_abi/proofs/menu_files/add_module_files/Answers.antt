@@ -1,5 +1,5 @@
 use Rattle.std.proofs.lemmas.List.{take_all}
-use Rattle.c_abi.proofs.ListLemmas.{one_more_after}
+use Rattle.c_records.proofs.ListLemmas.{one_more_after}
 use Rattle.c_abi.proofs.menu_files.add_module_files.Goals as goal
 
 pub loop-module-preserved : goal.loop-module-preserved

@@ -1,5 +1,5 @@
 use Rattle.std.proofs.Common.{◌≡◌, take}
-use Rattle.c_abi.specs.MenuGiven.{menu_files}
+use Rattle.c_records.specs.MenuGiven.{menu_files}
 use Rattle.c_abi.proofs.menu_files.files_of.Given as goal
 
 -- the files of the entries so far

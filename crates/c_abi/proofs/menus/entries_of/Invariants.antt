@@ -1,6 +1,6 @@
 use Rattle.std.proofs.Common.{◌≡◌, ◌≤◌, ◌*◌, length, map, take}
 use Rattle.bl_session.specs.menu.Menu.{facts_of}
-use Rattle.c_abi.specs.MenuGiven.{entries_facts, menu_files}
+use Rattle.c_records.specs.MenuGiven.{entries_facts, menu_files}
 use Rattle.c_abi.proofs.menus.entries_of.Given as goal
 
 -- the entries so far, and how many files they have

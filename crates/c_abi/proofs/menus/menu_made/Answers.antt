@@ -1,6 +1,6 @@
 use Rattle.std.proofs.Common.{subst, sym}
 use Rattle.bl_session.specs.menu.MenuFaults.{AreEntryIndices}
-use Rattle.c_abi.specs.MenuGiven.{IsNoMenu}
+use Rattle.c_records.specs.MenuGiven.{IsNoMenu}
 use Rattle.c_abi.proofs.MenuLemmas.{entry_count, few_given, no_menu_is, no_entries_is}
 use Rattle.c_abi.proofs.menus.menu_made.Goals as goal
 

@@ -1,8 +1,8 @@
 use Rattle.std.proofs.Common.{length}
 use Rattle.std.proofs.lemmas.Result.{IfErr-weaker}
 use Rattle.bl_session.specs.menu.MenuFaults.{AreEntryIndices}
-use Rattle.c_abi.specs.MenuGiven.{misused, no_menu, AreFewGiven, IsMenuAllowed, IsMenuFault}
-use Rattle.c_abi.specs.MenuGiven.{IsNoMenu}
+use Rattle.c_records.specs.MenuGiven.{misused, no_menu, AreFewGiven, IsMenuAllowed, IsMenuFault}
+use Rattle.c_records.specs.MenuGiven.{IsNoMenu}
 use Rattle.c_abi.proofs.ResultLemmas.{ok_by_both}
 use Rattle.c_abi.proofs.menus.menu_of.Goals as goal
 

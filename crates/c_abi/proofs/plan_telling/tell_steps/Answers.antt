@@ -1,6 +1,6 @@
 use Rattle.std.proofs.Common.{arith, ◌∙◌, ◌≡◌, length}
 use Rattle.c_abi.specs.PlanTold.{step_told}
-use Rattle.c_abi.proofs.TellLemmas.{tell_one, told_whole}
+use Rattle.c_records.proofs.TellLemmas.{tell_one, told_whole}
 use Rattle.c_abi.proofs.plan_telling.tell_steps.Goals as goal
 
 pub loop-index-preserved : goal.loop-index-preserved

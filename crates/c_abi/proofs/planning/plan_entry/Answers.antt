@@ -1,7 +1,8 @@
 use Rattle.std.proofs.Common.{ℕ, List, arith, subst, sym}
 use Rattle.std.proofs.lemmas.Result.{IfErr-weaker}
-use Rattle.c_abi.specs.declared.load_fault.LoadFault.{LoadFault}
-use Rattle.c_abi.specs.Load.{few_places, bad_machine, bad_entry, IsEntryFault, IsEntrySound}
+use Rattle.c_records.specs.declared.load_fault.LoadFault.{LoadFault}
+use Rattle.c_abi.specs.Load.{few_places, bad_machine, bad_entry, IsEntryFault}
+use Rattle.c_records.specs.EntryFaults.{IsEntrySound}
 use Rattle.c_abi.specs.Plan.{IsPlanned}
 use Rattle.c_abi.specs.Prepare.{AreFilesOf, IsNotPrepared}
 use Rattle.c_abi.specs.internal.Plans.{IsPlanOn, plan_facts}
@@ -17,7 +18,7 @@ returns-in-Err-clause-fault g c = λ texts files.
     subst
     (λ (f : LoadFault).
     IsNotPrepared c.args.machine.now c.args.regions.now c.args.entry.now texts c.args.room f)
-    (sym c.given_fault.ensures)
+    (sym c.load_fault_of_given.ensures)
     (bad_machine (omega (arith, many)) c.in-Err.fault c.in-Err.ensures.fault)
 
 pub returns-clause-planned : goal.returns-clause-planned

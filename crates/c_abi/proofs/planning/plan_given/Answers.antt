@@ -18,5 +18,5 @@ returns-in-Ok-clause-sound g c =
 pub returns-in-Err-clause-fault : goal.returns-in-Err-clause-fault
 returns-in-Err-clause-fault g c = λ texts files.
     let row = c.args.row.now in
-    subst (IsEntryFault c.args.machine.now row texts 0) (sym c.given_fault.ensures)
+    subst (IsEntryFault c.args.machine.now row texts 0) (sym c.load_fault_of_given.ensures)
     (of_given_is c.args.machine.now row texts 0 c.in-Err.fault c.in-Err.ensures.fault)

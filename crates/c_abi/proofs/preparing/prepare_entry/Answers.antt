@@ -1,9 +1,9 @@
 use Rattle.std.proofs.Common.{ℕ, List, arith, subst, sym}
-use Rattle.c_abi.specs.declared.load_fault.LoadFault.{LoadFault}
+use Rattle.c_records.specs.declared.load_fault.LoadFault.{LoadFault}
 use Rattle.std.proofs.lemmas.Result.{IfErr-weaker}
 use Rattle.bl_load.specs.PlanContents.{handoff_by}
 use Rattle.c_abi.specs.Load.{few_places, bad_machine, bad_entry, IsEntryFault}
-use Rattle.c_abi.specs.Load.{IsEntrySound}
+use Rattle.c_records.specs.EntryFaults.{IsEntrySound}
 use Rattle.c_abi.specs.Prepare.{AreFilesOf, IsHandoffOf, IsPrepared, IsNotPrepared}
 use Rattle.c_abi.proofs.ResultLemmas.{on_ok, ok_by_both}
 use Rattle.c_abi.proofs.preparing.prepare_entry.Goals as goal
@@ -17,7 +17,7 @@ returns-in-Err-clause-fault g c = λ texts files.
     subst
     (λ (f : LoadFault).
     IsNotPrepared c.args.machine.now c.args.regions.now c.args.entry.now texts c.args.room f)
-    (sym c.given_fault.ensures)
+    (sym c.load_fault_of_given.ensures)
     (bad_machine (omega (arith, many)) c.in-Err.fault c.in-Err.ensures.fault)
 
 pub returns-clause-prepared : goal.returns-clause-prepared

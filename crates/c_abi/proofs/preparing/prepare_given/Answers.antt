@@ -11,7 +11,7 @@ use Rattle.c_abi.proofs.preparing.prepare_given.Goals as goal
 pub returns-in-Err-clause-fault : goal.returns-in-Err-clause-fault
 returns-in-Err-clause-fault g c = λ texts files.
     let row = c.args.row.now in
-    subst (IsEntryFault c.args.machine.now row texts 0) (sym c.given_fault.ensures)
+    subst (IsEntryFault c.args.machine.now row texts 0) (sym c.load_fault_of_given.ensures)
     (of_given_is c.args.machine.now row texts 0 c.in-Err.fault c.in-Err.ensures.fault)
 
 pub returns-in-Ok-prepare_row-clause-handed : goal.returns-in-Ok-prepare_row-clause-handed
@@ -46,7 +46,7 @@ returns-clause-fault g c = λ texts files.
     let sound =
     entry_sound row c.in-Ok.entry c.in-Ok.ensures.value c.in-Ok.ensures.sound
     c.in-Ok.ensures.limits in
-    subst (IsEntryFault c.args.machine.now row texts 0) (sym c.load_fault.ensures)
+    subst (IsEntryFault c.args.machine.now row texts 0) (sym c.load_fault_of_prep.ensures)
     (of_prepared_is c.args.machine.now row texts 0 _ c.in-Err-prepare_row.fault sound
     (given_value row c.in-Ok.entry texts texts c.in-Ok.ensures.value refl)
     (c.in-Err-prepare_row.ensures.fault texts files))

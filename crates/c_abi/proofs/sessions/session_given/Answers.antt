@@ -1,5 +1,5 @@
 use Rattle.std.proofs.Common.{inl, inr, refl}
-use Rattle.c_abi.specs.declared.given_fault.GivenFault.TheVariants.{NoMemory}
+use Rattle.c_records.specs.declared.given_fault.GivenFault.TheVariants.{NoMemory}
 use Rattle.c_abi.specs.Sessions.{of_machine, of_menu}
 use Rattle.c_abi.proofs.sessions.session_given.Goals as goal
 

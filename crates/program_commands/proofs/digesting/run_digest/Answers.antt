@@ -6,10 +6,10 @@ use Rattle.bl_session.specs.menu.Menu.{MenuFacts}
 use Rattle.bl_session.proofs.menu_lemmas.MenuLemmas.{offered_values}
 use Rattle.program_desc.specs.Described.{described}
 use Rattle.program_desc.specs.Views.{view}
-use Rattle.program_commands.specs.described.BootCases.{boot_of, names_fetched}
-use Rattle.program_commands.proofs.described_lemmas.AskedLemmas.{all_asked, fetched, inline_in}
-use Rattle.program_commands.proofs.described_lemmas.AskedLemmas.{none_asked, none_sought, sought}
-use Rattle.program_commands.proofs.digesting_lemmas.DigestEndLemmas.{ends_by, unread}
+use Rattle.program_boots.specs.described.BootCases.{boot_of, names_fetched}
+use Rattle.program_boots.proofs.described_lemmas.AskedLemmas.{all_asked, fetched, inline_in}
+use Rattle.program_boots.proofs.described_lemmas.AskedLemmas.{none_asked, none_sought, sought}
+use Rattle.program_commands.proofs.DigestEndLemmas.{ends_by, unread}
 use Rattle.program_commands.proofs.digesting.run_digest.Goals as goal
 
 pub ready_boot-requires-clause-menu : goal.ready_boot-requires-clause-menu

@@ -1,4 +1,4 @@
-use Rattle.program_commands.proofs.digesting_lemmas.DigestLaws.{of_booted, of_digested}
+use Rattle.program_commands.proofs.DigestLaws.{of_booted, of_digested}
 use Rattle.program_commands.proofs.laws.digests_are_of_booted_images.Goals as goal
 
 pub returns-clause-booted : goal.returns-clause-booted

@@ -1,5 +1,5 @@
-use Rattle.program_commands.proofs.digesting_lemmas.DigestLaws.{converted_table, one_table}
-use Rattle.program_commands.proofs.digesting_lemmas.DigestLaws.{said_table}
+use Rattle.program_commands.proofs.DigestLaws.{converted_table, one_table}
+use Rattle.program_commands.proofs.DigestLaws.{said_table}
 use Rattle.program_commands.proofs.laws.images_have_one_table.Goals as goal
 
 pub returns-clause-said : goal.returns-clause-said

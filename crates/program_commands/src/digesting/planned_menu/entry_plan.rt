@@ -3,13 +3,12 @@ ghost use Rattle.std.specs.Prelude.{IfOk, IfErr};
 ghost use Rattle.bl_load.specs.EntryValue.{IsWithinLimits};
 ghost use Rattle.bl_stage.specs.Files.{stored_files};
 ghost use Rattle.bl_session.specs.menu.Menu.{facts_of};
-ghost use Rattle.program_commands.specs.internal.digesting.EntryPlans.{IsEntryPlan, IsPlanFault};
+ghost use Rattle.program_boots.specs.EntryPlans.{IsEntryPlan, IsPlanFault};
 
-use crate::digesting::planned_menu::entry_files::{file_texts, indices_of};
-use crate::digesting::planned_menu::size_checks::{check_frames, checked_lengths};
 use bl_load::{Entry, Plan, PrepFault, prepare};
 use bl_map::{Machine, frames_in, open_frames};
 use bl_session::Fetched;
+use program_boots::{check_frames, checked_lengths, file_texts, indices_of};
 use std::alloc::Allocator;
 
 /// What is loaded for an entry with these files, or its first refusal: by the sizes of its files,

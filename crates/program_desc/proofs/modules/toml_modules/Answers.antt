@@ -1,5 +1,5 @@
-use Rattle.std.proofs.Common.{◌≡◌, true, map, arith, refl}
-use Rattle.std.proofs.lemmas.Bool.{le-leb}
+use Rattle.std.proofs.Common.{◌≡◌, true, false, map, arith, refl}
+use Rattle.std.proofs.lemmas.Bool.{le-leb, lt-leb}
 use Rattle.std.proofs.lemmas.List.{length-map}
 use Rattle.std.proofs.lemmas.Result.{err_from_is_err_and}
 use Rattle.toml.specs.View.{view}
@@ -30,3 +30,15 @@ returns g c =
     let tables = tables_read module_in (view c.args.value.now) _ c.in-Some.ensures in
     let read = rw c.deref.ensures.value at c.in_ok-rows.ensures in
     rw (tables, read, few) refl
+
+pub returns-then-len-gt-MAX_MODULES : goal.returns-then-len-gt-MAX_MODULES
+unfolding toml_modules
+returns-then-len-gt-MAX_MODULES g c =
+    let many : has_few_modules (map module_view c.in_ok-rows.rows.items) ≡ false =
+    rw length-map (lt-leb _ _ (omega arith)) in
+    let tables = tables_read module_in (view c.args.value.now) _ c.in-Some.ensures in
+    let read = rw c.deref.ensures.value at c.in_ok-rows.ensures in
+    rw (tables, read, many) refl
+
+pub invariant_of-result : goal.invariant_of-result
+invariant_of-result g c = omega arith

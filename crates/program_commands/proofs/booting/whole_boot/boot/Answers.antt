@@ -1,83 +1,110 @@
-use Rattle.std.proofs.Common.{arith, refl}
+use Rattle.std.proofs.Common.{ap, arith, refl}
+use Rattle.program_desc.specs.Described.{described}
+use Rattle.program_boots.specs.described.BootCases.{names_fetched}
+use Rattle.program_boots.proofs.described_lemmas.AskedLemmas.{all_asked}
 use Rattle.program_commands.proofs.booting.whole_boot.boot.Goals as goal
 
-pub returns-in-Ok-Booted-clause-described : goal.returns-in-Ok-Booted-clause-described
-returns-in-Ok-Booted-clause-described g c = λ other. absurd (omega (arith, other))
+pub returns-in-Ok-Booted : goal.returns-in-Ok-Booted
+returns-in-Ok-Booted g c =
+    let run = rw c.in-Ok-Booted.field-0-is at c.in-Ok-Booted.ensures in
+    record {
+      status = omega arith;
+      booted = λ _. run.ends;
+      refused = λ other. absurd (omega (arith, other));
+      described = λ other. absurd (omega (arith, other));
+      device = λ other. absurd (omega (arith, other));
+      memory = λ other. absurd (omega (arith, other));
+      fault = λ other. absurd (omega (arith, other));
+      sound = λ _. run.faults;
+      asked = λ _ _. run.asked;
+      asked_first = all_asked (names_fetched (described c.args.desc.now)) _ _ run.asked;
+      inline = run.sought.inline;
+      same_files = run.sought.same_files;
+      missing = run.sought.missing;
+      few = run.sought.few;
+    }
 
-pub returns-in-Ok-Booted-clause-device : goal.returns-in-Ok-Booted-clause-device
-returns-in-Ok-Booted-clause-device g c = λ other. absurd (omega (arith, other))
+pub returns-in-Ok-NoEntryLeft : goal.returns-in-Ok-NoEntryLeft
+returns-in-Ok-NoEntryLeft g c =
+    let run = rw c.in-Ok-NoEntryLeft.field-0-is at c.in-Ok-NoEntryLeft.ensures in
+    record {
+      status = omega arith;
+      booted = λ other. absurd (omega (arith, other));
+      refused = λ _. run.ends;
+      described = λ other. absurd (omega (arith, other));
+      device = λ other. absurd (omega (arith, other));
+      memory = λ other. absurd (omega (arith, other));
+      fault = λ other. absurd (omega (arith, other));
+      sound = λ _. run.faults;
+      asked = λ _ _. run.asked;
+      asked_first = all_asked (names_fetched (described c.args.desc.now)) _ _ run.asked;
+      inline = run.sought.inline;
+      same_files = run.sought.same_files;
+      missing = run.sought.missing;
+      few = run.sought.few;
+    }
 
-pub returns-in-Ok-Booted-clause-fault : goal.returns-in-Ok-Booted-clause-fault
-returns-in-Ok-Booted-clause-fault g c = λ other. absurd (omega (arith, other))
+pub returns-in-Err-BadDescription : goal.returns-in-Err-BadDescription
+returns-in-Err-BadDescription g c =
+    let run = rw c.in-Err-BadDescription.field-0-is at c.in-Err-BadDescription.ensures in
+    record {
+      status = omega arith;
+      booted = λ other. absurd (omega (arith, other));
+      refused = λ other. absurd (omega (arith, other));
+      described = λ _. (
+        run.ends.0,
+        ap (λ s. s.files) run.ends.1,
+        ap (λ s. s.sink) run.ends.1,
+        ap (λ s. s.said) run.ends.1,
+      );
+      device = λ other. absurd (omega (arith, other));
+      memory = λ other. absurd (omega (arith, other));
+      fault = λ other. absurd (omega (arith, other));
+      sound = λ _. run.faults;
+      asked = λ other. absurd (other refl);
+      asked_first = run.asked;
+      inline = run.sought.inline;
+      same_files = run.sought.same_files;
+      missing = run.sought.missing;
+      few = run.sought.few;
+    }
 
-pub returns-in-Ok-NoEntryLeft-clause-described : goal.returns-in-Ok-NoEntryLeft-clause-described
-returns-in-Ok-NoEntryLeft-clause-described g c = λ other. absurd (omega (arith, other))
+pub returns-in-Err-Device : goal.returns-in-Err-Device
+returns-in-Err-Device g c =
+    let run = rw c.in-Err-Device.field-0-is at c.in-Err-Device.ensures in
+    record {
+      status = omega arith;
+      booted = λ other. absurd (omega (arith, other));
+      refused = λ other. absurd (omega (arith, other));
+      described = λ other. absurd (omega (arith, other));
+      device = λ _. run.ends;
+      memory = λ other. absurd (omega (arith, other));
+      fault = λ _. run.faults;
+      sound = λ other. absurd (other refl);
+      asked = λ _ _. run.asked;
+      asked_first = all_asked (names_fetched (described c.args.desc.now)) _ _ run.asked;
+      inline = run.sought.inline;
+      same_files = run.sought.same_files;
+      missing = run.sought.missing;
+      few = run.sought.few;
+    }
 
-pub returns-in-Ok-NoEntryLeft-clause-device : goal.returns-in-Ok-NoEntryLeft-clause-device
-returns-in-Ok-NoEntryLeft-clause-device g c = λ other. absurd (omega (arith, other))
-
-pub returns-in-Ok-NoEntryLeft-clause-fault : goal.returns-in-Ok-NoEntryLeft-clause-fault
-returns-in-Ok-NoEntryLeft-clause-fault g c = λ other. absurd (omega (arith, other))
-
-pub returns-in-Err-BadDescription-clause-device : goal.returns-in-Err-BadDescription-clause-device
-returns-in-Err-BadDescription-clause-device g c = λ other. absurd (omega (arith, other))
-
-pub returns-in-Err-BadDescription-clause-fault : goal.returns-in-Err-BadDescription-clause-fault
-returns-in-Err-BadDescription-clause-fault g c = λ other. absurd (omega (arith, other))
-
-pub returns-in-Err-BadDescription-clause-asked : goal.returns-in-Err-BadDescription-clause-asked
-returns-in-Err-BadDescription-clause-asked g c = λ other. absurd (other refl)
-
-pub returns-in-Err-Device-clause-described : goal.returns-in-Err-Device-clause-described
-returns-in-Err-Device-clause-described g c = λ other. absurd (omega (arith, other))
-
-pub returns-in-Err-Device-clause-sound : goal.returns-in-Err-Device-clause-sound
-returns-in-Err-Device-clause-sound g c = λ other. absurd (other refl)
-
-pub returns-in-Err-NoMemory-clause-described : goal.returns-in-Err-NoMemory-clause-described
-returns-in-Err-NoMemory-clause-described g c = λ other. absurd (omega (arith, other))
-
-pub returns-in-Err-NoMemory-clause-device : goal.returns-in-Err-NoMemory-clause-device
-returns-in-Err-NoMemory-clause-device g c = λ other. absurd (omega (arith, other))
-
-pub returns-in-Err-NoMemory-clause-fault : goal.returns-in-Err-NoMemory-clause-fault
-returns-in-Err-NoMemory-clause-fault g c = λ other. absurd (omega (arith, other))
-
-pub returns-in-Err-NoMemory-clause-asked : goal.returns-in-Err-NoMemory-clause-asked
-returns-in-Err-NoMemory-clause-asked g c = λ _ other. absurd (other refl)
-
-pub returns-in-Ok-Booted-clause-refused : goal.returns-in-Ok-Booted-clause-refused
-returns-in-Ok-Booted-clause-refused g c = λ other. absurd (omega (arith, other))
-
-pub returns-in-Ok-Booted-clause-memory : goal.returns-in-Ok-Booted-clause-memory
-returns-in-Ok-Booted-clause-memory g c = λ other. absurd (omega (arith, other))
-
-pub returns-in-Ok-NoEntryLeft-clause-booted : goal.returns-in-Ok-NoEntryLeft-clause-booted
-returns-in-Ok-NoEntryLeft-clause-booted g c = λ other. absurd (omega (arith, other))
-
-pub returns-in-Ok-NoEntryLeft-clause-memory : goal.returns-in-Ok-NoEntryLeft-clause-memory
-returns-in-Ok-NoEntryLeft-clause-memory g c = λ other. absurd (omega (arith, other))
-
-pub returns-in-Err-BadDescription-clause-booted : goal.returns-in-Err-BadDescription-clause-booted
-returns-in-Err-BadDescription-clause-booted g c = λ other. absurd (omega (arith, other))
-
-pub returns-in-Err-BadDescription-clause-refused : goal.returns-in-Err-BadDescription-clause-refused
-returns-in-Err-BadDescription-clause-refused g c = λ other. absurd (omega (arith, other))
-
-pub returns-in-Err-BadDescription-clause-memory : goal.returns-in-Err-BadDescription-clause-memory
-returns-in-Err-BadDescription-clause-memory g c = λ other. absurd (omega (arith, other))
-
-pub returns-in-Err-Device-clause-booted : goal.returns-in-Err-Device-clause-booted
-returns-in-Err-Device-clause-booted g c = λ other. absurd (omega (arith, other))
-
-pub returns-in-Err-Device-clause-refused : goal.returns-in-Err-Device-clause-refused
-returns-in-Err-Device-clause-refused g c = λ other. absurd (omega (arith, other))
-
-pub returns-in-Err-Device-clause-memory : goal.returns-in-Err-Device-clause-memory
-returns-in-Err-Device-clause-memory g c = λ other. absurd (omega (arith, other))
-
-pub returns-in-Err-NoMemory-clause-booted : goal.returns-in-Err-NoMemory-clause-booted
-returns-in-Err-NoMemory-clause-booted g c = λ other. absurd (omega (arith, other))
-
-pub returns-in-Err-NoMemory-clause-refused : goal.returns-in-Err-NoMemory-clause-refused
-returns-in-Err-NoMemory-clause-refused g c = λ other. absurd (omega (arith, other))
+pub returns-in-Err-NoMemory : goal.returns-in-Err-NoMemory
+returns-in-Err-NoMemory g c =
+    let run = rw c.in-Err-NoMemory.field-0-is at c.in-Err-NoMemory.ensures in
+    record {
+      status = omega arith;
+      booted = λ other. absurd (omega (arith, other));
+      refused = λ other. absurd (omega (arith, other));
+      described = λ other. absurd (omega (arith, other));
+      device = λ other. absurd (omega (arith, other));
+      memory = λ _. run.ends;
+      fault = λ other. absurd (omega (arith, other));
+      sound = λ _. run.faults;
+      asked = λ _ other. absurd (other refl);
+      asked_first = run.asked;
+      inline = run.sought.inline;
+      same_files = run.sought.same_files;
+      missing = run.sought.missing;
+      few = run.sought.few;
+    }

@@ -6,10 +6,10 @@ use Rattle.bl_session.specs.menu.Menu.{MenuFacts}
 use Rattle.bl_session.proofs.menu_lemmas.MenuLemmas.{offered_values}
 use Rattle.program_desc.specs.Described.{described}
 use Rattle.program_desc.specs.Views.{view}
-use Rattle.program_commands.specs.described.BootCases.{boot_of}
-use Rattle.program_commands.specs.described.BootCases.{names_fetched}
-use Rattle.program_commands.proofs.described_lemmas.AskedLemmas.{fetched, inline_in, none_sought}
-use Rattle.program_commands.proofs.described_lemmas.AskedLemmas.{sought}
+use Rattle.program_boots.specs.described.BootCases.{boot_of}
+use Rattle.program_boots.specs.described.BootCases.{names_fetched}
+use Rattle.program_boots.proofs.described_lemmas.AskedLemmas.{fetched, inline_in, none_sought}
+use Rattle.program_boots.proofs.described_lemmas.AskedLemmas.{sought}
 use Rattle.program_commands.proofs.EndLemmas.{asked_by, asked_unread, ends_by, sound_unread, unread}
 use Rattle.program_commands.proofs.booting.whole_boot.run_boot.Goals as goal
 

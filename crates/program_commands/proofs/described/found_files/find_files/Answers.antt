@@ -3,9 +3,9 @@ use Rattle.std.proofs.lemmas.List.{map-append, take_all}
 use Rattle.bl_stage.specs.Files.{file_of}
 use Rattle.program_desc.specs.Described.{file_named}
 use Rattle.program_desc.specs.Views.{view}
-use Rattle.program_commands.proofs.described_lemmas.FileLemmas.{no_name, one_more_found}
-use Rattle.program_commands.proofs.described_lemmas.FileLemmas.{one_more_asked, asks_first}
-use Rattle.program_commands.proofs.described_lemmas.FileLemmas.{stands_at, names_grow}
+use Rattle.program_boots.proofs.described_lemmas.FileLemmas.{no_name, one_more_found}
+use Rattle.program_boots.proofs.described_lemmas.FileLemmas.{one_more_asked, asks_first}
+use Rattle.program_boots.proofs.described_lemmas.FileLemmas.{stands_at, names_grow}
 use Rattle.program_commands.proofs.described.found_files.find_files.Goals as goal
 
 pub loop-name-preserved : goal.loop-name-preserved

@@ -2,7 +2,7 @@ use Rattle.std.proofs.Common.{◌≡◌, ◌+◌, ◌≤◌, ◌++◌, ℕ, List
 use Rattle.bl_stage.specs.Files.{File, file_of}
 use Rattle.program_desc.specs.Described.{file_named}
 use Rattle.program_desc.specs.Views.{view}
-use Rattle.program_commands.specs.described.FoundFiles.{AreFound, names_to_ask}
+use Rattle.program_boots.specs.described.FoundFiles.{AreFound, names_to_ask}
 use Rattle.program_commands.proofs.described.found_files.find_files.Given as goal
 
 abbrev pub invariant-loop-name : goal.invariant-loop-name

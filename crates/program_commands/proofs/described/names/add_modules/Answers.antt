@@ -1,4 +1,4 @@
-use Rattle.program_commands.proofs.described_lemmas.NameLemmas.{texts, one_more_module, all_modules}
+use Rattle.program_boots.proofs.described_lemmas.NameLemmas.{texts, one_more_module, all_modules}
 use Rattle.program_commands.proofs.described.names.add_modules.Goals as goal
 
 pub loop-module-preserved : goal.loop-module-preserved

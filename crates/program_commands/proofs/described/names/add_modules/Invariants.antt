@@ -1,6 +1,6 @@
 use Rattle.std.proofs.Common.{◌≡◌, ◌++◌, ℕ, List, map, drop}
 use Rattle.program_desc.specs.Views.{module_view}
-use Rattle.program_commands.specs.internal.described.DistinctNames.{with_new_names}
+use Rattle.program_boots.specs.described.DistinctNames.{with_new_names}
 use Rattle.program_commands.proofs.described.names.add_modules.Given as goal
 
 -- what was added so far, and what is left, give all

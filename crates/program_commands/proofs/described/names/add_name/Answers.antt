@@ -1,5 +1,5 @@
 use Rattle.std.proofs.Common.{◌∙◌, sym}
-use Rattle.program_commands.proofs.described_lemmas.NameLemmas.{name_new, name_there}
+use Rattle.program_boots.proofs.described_lemmas.NameLemmas.{name_new, name_there}
 use Rattle.program_commands.proofs.described.names.add_name.Goals as goal
 
 pub returns-in_ok-push : goal.returns-in_ok-push

@@ -1,8 +1,8 @@
 use Rattle.std.proofs.Common.{◌*◌}
 use Rattle.bl_session.proofs.menu_lemmas.OnceLemmas.{all_attempts}
 use Rattle.program_desc.specs.Views.{view}
-use Rattle.program_commands.specs.described.DescribedMenu.{names_of_entries}
-use Rattle.program_commands.proofs.described_lemmas.NameLemmas.{few_kept, few_names}
+use Rattle.program_boots.specs.described.DescribedMenu.{names_of_entries}
+use Rattle.program_boots.proofs.described_lemmas.NameLemmas.{few_kept, few_names}
 use Rattle.program_commands.proofs.described.names.attempted_file_names.Goals as goal
 
 pub names_of-requires : goal.names_of-requires

@@ -1,8 +1,8 @@
 use Rattle.std.proofs.Common.{◌≡◌, drop, map}
 use Rattle.std.specs.List.{flat_map}
 use Rattle.program_desc.specs.Views.{view}
-use Rattle.program_commands.specs.described.DescribedMenu.{described_entry, names_of_entries}
-use Rattle.program_commands.specs.internal.described.DistinctNames.{with_new_names}
+use Rattle.program_boots.specs.described.DescribedMenu.{described_entry, names_of_entries}
+use Rattle.program_boots.specs.described.DistinctNames.{with_new_names}
 use Rattle.program_desc.specs.EntryNames.{file_names}
 use Rattle.program_commands.proofs.described.names.names_of.Given as goal
 

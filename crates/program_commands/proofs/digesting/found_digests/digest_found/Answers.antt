@@ -7,8 +7,8 @@ use Rattle.bl_session.specs.session.BootSteps.{handed_over}
 use Rattle.bl_session.specs.session.Outcome.{IsOutcome}
 use Rattle.bl_session.specs.session.Phases.{boot_facts}
 use Rattle.bl_session.specs.session.Schedules.{no_fault}
-use Rattle.program_commands.specs.internal.digesting.EntryPlans.{file_texts}
-use Rattle.program_commands.proofs.digesting_lemmas.MenuPlanLemmas.{same_texts}
+use Rattle.program_boots.specs.EntryPlans.{file_texts}
+use Rattle.program_boots.proofs.digesting_lemmas.MenuPlanLemmas.{same_texts}
 use Rattle.program_commands.proofs.digesting.found_digests.digest_found.Goals as goal
 
 pub digest_entry-requires : goal.digest_entry-requires

@@ -2,7 +2,7 @@ use Rattle.std.proofs.Common.{◌<◌, ◌≤◌, arith, length, refl}
 use Rattle.std.proofs.lemmas.List.{drop_all}
 use Rattle.bl_stage.specs.Files.{stored_files}
 use Rattle.bl_session.specs.menu.Menu.{facts_of}
-use Rattle.program_commands.proofs.digesting_lemmas.MenuPlanLemmas.{handed_here, refused_here}
+use Rattle.program_boots.proofs.digesting_lemmas.MenuPlanLemmas.{handed_here, refused_here}
 use Rattle.program_commands.proofs.digesting.planned_menu.plan_menu.Goals as goal
 
 pub returns-in-Ok-clause-outcome : goal.returns-in-Ok-clause-outcome

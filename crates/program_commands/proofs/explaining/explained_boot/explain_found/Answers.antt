@@ -3,10 +3,10 @@ use Rattle.bl_session.specs.session.BootSteps.{none_left}
 use Rattle.bl_session.specs.session.Phases.{handover_held}
 use Rattle.bl_session.specs.session.BootSteps.{handed_over}
 use Rattle.program_desc.specs.Views.{view}
-use Rattle.program_commands.specs.explaining.ExplanationLines.{sought_in}
-use Rattle.program_commands.proofs.explaining_lemmas.HeldLemmas.{told_booted}
-use Rattle.program_commands.proofs.explaining_lemmas.RefusedLemmas.{place_refusals_for}
-use Rattle.program_commands.proofs.explaining_lemmas.StepLemmas.{handed_entry_for}
+use Rattle.program_boots.specs.explaining.ExplanationLines.{sought_in}
+use Rattle.program_boots.proofs.explaining_lemmas.HeldLemmas.{told_booted}
+use Rattle.program_boots.proofs.explaining_lemmas.RefusedLemmas.{place_refusals_for}
+use Rattle.program_boots.proofs.explaining_lemmas.StepLemmas.{handed_entry_for}
 use Rattle.program_commands.proofs.explaining.explained_boot.explain_found.Goals as goal
 
 pub find_details-requires : goal.find_details-requires

@@ -1,44 +1,73 @@
-use Rattle.std.proofs.Common.{arith, refl}
+use Rattle.std.proofs.Common.{arith, inl, inr, refl}
+use Rattle.program_desc.specs.Described.{described}
+use Rattle.program_boots.specs.described.BootCases.{names_fetched}
+use Rattle.program_boots.proofs.described_lemmas.AskedLemmas.{all_asked}
 use Rattle.program_commands.proofs.explaining.explanation.explain_to.Goals as goal
 
-pub returns-in-Ok-Booted-clause-refused : goal.returns-in-Ok-Booted-clause-refused
-returns-in-Ok-Booted-clause-refused g c = λ other. absurd (omega (arith, other))
+pub returns-in-Ok-Booted : goal.returns-in-Ok-Booted
+returns-in-Ok-Booted g c =
+    let run = rw c.in-Ok-Booted.field-0-is at c.in-Ok-Booted.ensures in
+    record {
+      status = inl (omega arith);
+      booted = λ _. run.ends;
+      refused = λ other. absurd (omega (arith, other));
+      described = λ other. absurd (omega (arith, other));
+      memory = λ other. absurd (omega (arith, other));
+      asked = λ _ _. run.asked;
+      asked_first = all_asked (names_fetched (described c.args.desc.now)) _ _ run.asked;
+      inline = run.sought.inline;
+      same_files = run.sought.same_files;
+      missing = run.sought.missing;
+      few = run.sought.few;
+    }
 
-pub returns-in-Err-Blamed-clause-refused : goal.returns-in-Err-Blamed-clause-refused
-returns-in-Err-Blamed-clause-refused g c = λ other. absurd (omega (arith, other))
+pub returns-in-Ok-NoEntryLeft : goal.returns-in-Ok-NoEntryLeft
+returns-in-Ok-NoEntryLeft g c =
+    let run = rw c.in-Ok-NoEntryLeft.field-0-is at c.in-Ok-NoEntryLeft.ensures in
+    record {
+      status = inl (omega arith);
+      booted = λ other. absurd (omega (arith, other));
+      refused = λ _. run.ends;
+      described = λ other. absurd (omega (arith, other));
+      memory = λ other. absurd (omega (arith, other));
+      asked = λ _ _. run.asked;
+      asked_first = all_asked (names_fetched (described c.args.desc.now)) _ _ run.asked;
+      inline = run.sought.inline;
+      same_files = run.sought.same_files;
+      missing = run.sought.missing;
+      few = run.sought.few;
+    }
 
-pub returns-in-Err-Blamed-clause-asked : goal.returns-in-Err-Blamed-clause-asked
-returns-in-Err-Blamed-clause-asked g c = λ other. absurd (other refl)
+pub returns-in-Err-Blamed : goal.returns-in-Err-Blamed
+returns-in-Err-Blamed g c =
+    let run = rw c.in-Err-Blamed.field-0-is at c.in-Err-Blamed.ensures in
+    record {
+      status = inl (omega arith);
+      booted = λ other. absurd (omega (arith, other));
+      refused = λ other. absurd (omega (arith, other));
+      described = λ _. run.ends;
+      memory = λ other. absurd (omega (arith, other));
+      asked = λ other. absurd (other refl);
+      asked_first = run.asked;
+      inline = run.sought.inline;
+      same_files = run.sought.same_files;
+      missing = run.sought.missing;
+      few = run.sought.few;
+    }
 
-pub returns-in-Err-NoMemory-clause-refused : goal.returns-in-Err-NoMemory-clause-refused
-returns-in-Err-NoMemory-clause-refused g c = λ other. absurd (omega (arith, other))
-
-pub returns-in-Err-NoMemory-clause-asked : goal.returns-in-Err-NoMemory-clause-asked
-returns-in-Err-NoMemory-clause-asked g c = λ _ other. absurd (other refl)
-
-pub returns-in-Ok-Booted-clause-described : goal.returns-in-Ok-Booted-clause-described
-returns-in-Ok-Booted-clause-described g c = λ other. absurd (omega (arith, other))
-
-pub returns-in-Ok-Booted-clause-memory : goal.returns-in-Ok-Booted-clause-memory
-returns-in-Ok-Booted-clause-memory g c = λ other. absurd (omega (arith, other))
-
-pub returns-in-Ok-NoEntryLeft-clause-booted : goal.returns-in-Ok-NoEntryLeft-clause-booted
-returns-in-Ok-NoEntryLeft-clause-booted g c = λ other. absurd (omega (arith, other))
-
-pub returns-in-Ok-NoEntryLeft-clause-described : goal.returns-in-Ok-NoEntryLeft-clause-described
-returns-in-Ok-NoEntryLeft-clause-described g c = λ other. absurd (omega (arith, other))
-
-pub returns-in-Ok-NoEntryLeft-clause-memory : goal.returns-in-Ok-NoEntryLeft-clause-memory
-returns-in-Ok-NoEntryLeft-clause-memory g c = λ other. absurd (omega (arith, other))
-
-pub returns-in-Err-Blamed-clause-booted : goal.returns-in-Err-Blamed-clause-booted
-returns-in-Err-Blamed-clause-booted g c = λ other. absurd (omega (arith, other))
-
-pub returns-in-Err-Blamed-clause-memory : goal.returns-in-Err-Blamed-clause-memory
-returns-in-Err-Blamed-clause-memory g c = λ other. absurd (omega (arith, other))
-
-pub returns-in-Err-NoMemory-clause-booted : goal.returns-in-Err-NoMemory-clause-booted
-returns-in-Err-NoMemory-clause-booted g c = λ other. absurd (omega (arith, other))
-
-pub returns-in-Err-NoMemory-clause-described : goal.returns-in-Err-NoMemory-clause-described
-returns-in-Err-NoMemory-clause-described g c = λ other. absurd (omega (arith, other))
+pub returns-in-Err-NoMemory : goal.returns-in-Err-NoMemory
+returns-in-Err-NoMemory g c =
+    let run = rw c.in-Err-NoMemory.field-0-is at c.in-Err-NoMemory.ensures in
+    record {
+      status = inr refl;
+      booted = λ other. absurd (omega (arith, other));
+      refused = λ other. absurd (omega (arith, other));
+      described = λ other. absurd (omega (arith, other));
+      memory = λ _. run.ends;
+      asked = λ _ other. absurd (other refl);
+      asked_first = run.asked;
+      inline = run.sought.inline;
+      same_files = run.sought.same_files;
+      missing = run.sought.missing;
+      few = run.sought.few;
+    }

@@ -2,11 +2,11 @@ use Rattle.std.proofs.Common.{◌∙◌, length, ap}
 use Rattle.std.proofs.lemmas.List.{length-replicate}
 use Rattle.std.proofs.lemmas.Result.{err_from_is_err_and}
 use Rattle.program_desc.specs.Described.{described}
-use Rattle.program_commands.specs.described.BootCases.{names_fetched}
-use Rattle.program_commands.proofs.described_lemmas.AskedLemmas.{fetched, inline_in, none_asked}
-use Rattle.program_commands.proofs.described_lemmas.AskedLemmas.{none_sought, sought}
-use Rattle.program_commands.proofs.explaining_lemmas.ExplainEnds.{explain_asked, explained_by}
-use Rattle.program_commands.proofs.explaining_lemmas.ExplainEnds.{unmade, unread}
+use Rattle.program_boots.specs.described.BootCases.{names_fetched}
+use Rattle.program_boots.proofs.described_lemmas.AskedLemmas.{fetched, inline_in, none_asked}
+use Rattle.program_boots.proofs.described_lemmas.AskedLemmas.{none_sought, sought}
+use Rattle.program_commands.proofs.ExplainEnds.{explain_asked, explained_by}
+use Rattle.program_commands.proofs.ExplainEnds.{unmade, unread}
 use Rattle.program_commands.proofs.explaining.explanation.run_explain.Goals as goal
 
 pub ready_boot-requires-clause-menu : goal.ready_boot-requires-clause-menu

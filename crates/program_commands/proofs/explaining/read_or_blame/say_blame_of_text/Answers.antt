@@ -1,6 +1,6 @@
 use Rattle.program_say.specs.declared.subjects.blame.Blame.TheVariants.{BadKey}
-use Rattle.program_commands.proofs.explaining_lemmas.ExplainEnds.{blamed_for}
-use Rattle.program_commands.proofs.explaining_lemmas.ExplainLemmas.{undescribed}
+use Rattle.program_commands.proofs.ExplainEnds.{blamed_for}
+use Rattle.program_boots.proofs.explaining_lemmas.ExplainLemmas.{undescribed}
 use Rattle.program_commands.proofs.explaining.read_or_blame.say_blame_of_text.Goals as goal
 
 pub returns-in-Ok-Some : goal.returns-in-Ok-Some

@@ -1,7 +1,7 @@
 use Rattle.std.proofs.Common.{rules}
 use Rattle.program_commands.specs.explaining.BlameConditions.{HasBlame}
 use Rattle.program_say.specs.declared.subjects.blame.Blame.TheVariants.{NotToml}
-use Rattle.program_commands.proofs.explaining_lemmas.ExplainEnds.{blamed_for}
+use Rattle.program_commands.proofs.ExplainEnds.{blamed_for}
 use Rattle.program_commands.proofs.explaining.read_or_blame.say_toml_blame.Goals as goal
 
 pub returns-in-Some : goal.returns-in-Some

@@ -8,10 +8,10 @@ use Rattle.bl_session.specs.attempt.AttemptResult.{known_lengths, size_refusal}
 use Rattle.bl_session.specs.menu.Menu.{files_of}
 use Rattle.bl_session.proofs.menu_lemmas.MenuLemmas.{few_files}
 use Rattle.program_say.proofs.FrameLemmas.{ascending_parts}
-use Rattle.program_commands.specs.internal.digesting.EntryPlans.{file_sizes, file_texts}
-use Rattle.program_commands.proofs.digesting_lemmas.EntryLemmas.{counted_texts, fits_sizes}
-use Rattle.program_commands.proofs.digesting_lemmas.EntryLemmas.{has_plan, room_fault}
-use Rattle.program_commands.proofs.digesting_lemmas.EntryLemmas.{value_fault}
+use Rattle.program_boots.specs.EntryPlans.{file_sizes, file_texts}
+use Rattle.program_boots.proofs.digesting_lemmas.EntryLemmas.{counted_texts, fits_sizes}
+use Rattle.program_boots.proofs.digesting_lemmas.EntryLemmas.{has_plan, room_fault}
+use Rattle.program_boots.proofs.digesting_lemmas.EntryLemmas.{value_fault}
 use Rattle.program_commands.proofs.digesting.planned_menu.entry_plan.plan_entry.Goals as goal
 
 pub checked_lengths-requires : goal.checked_lengths-requires

@@ -1,0 +1,34 @@
+-- What C may not give, in the order of these lines. Own.
+use Rattle.std.specs.Prelude.{ℕ, Bool, ◌&&◌, not, nat_le, if◌then◌else◌, List, Option, Some, None}
+use Rattle.std.specs.Prelude.{◌≡◌, [], ◌∷◌, Result, MatchResult}
+use Rattle.std.specs.List.{list_all}
+use Rattle.std.specs.Option.{option_or}
+use Rattle.c_records.specs.declared.given_records.RegionRecord.{RegionRecord}
+use Rattle.c_records.specs.declared.given_records.EntryRecord.{EntryRecord}
+use Rattle.c_records.specs.declared.misuse.Misuse.{Misuse}
+use Rattle.c_records.specs.declared.misuse.Misuse.TheVariants.{BadProtocol}
+
+-- the number of a kind of memory
+abbrev pub is_kind : ℕ → Bool
+is_kind kind = nat_le 1 kind && nat_le kind 5
+
+-- each region is of a kind
+abbrev pub have_kinds : List RegionRecord → Bool
+have_kinds regions = list_all (λ region. is_kind region.kind) regions
+
+-- the number of a protocol
+abbrev pub is_protocol : ℕ → Bool
+is_protocol protocol = nat_le 1 protocol && nat_le protocol 3
+
+-- the misuse of an entry, but for its size
+unfoldable pub entry_misuse : EntryRecord → Option Misuse
+entry_misuse entry = if not (is_protocol entry.protocol) then Some BadProtocol else None
+
+-- the first misuse of entries, one after the other
+abbrev pub entries_misuse : List EntryRecord → Option Misuse
+entries_misuse [] = None
+entries_misuse (entry ∷ entries) = option_or (entry_misuse entry) (entries_misuse entries)
+
+-- a check answers this misuse, if it is one
+abbrev pub FindsMisuse : {X : Type 0} → Option Misuse → Result X Misuse → Type 0
+FindsMisuse misuse result = MatchResult result (λ _. misuse ≡ None) (λ found. misuse ≡ Some found)

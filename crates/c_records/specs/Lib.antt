@@ -1,0 +1,11 @@
+pub mod Given
+pub mod GivenChecks
+pub mod EntryFaults
+pub mod MenuGiven
+pub mod Machines
+pub mod RefusalTold
+pub mod Status
+pub mod LoadTold
+pub mod TextRanges
+pub mod SeenTold
+pub mod WalkTold

@@ -1,0 +1,48 @@
+//! What C gave that it may not give.
+ghost use Rattle.std.specs.Prelude.{◌≡◌};
+ghost use Rattle.c_records.specs.Status.{misuse_status};
+
+/// A condition of a call that its caller broke, found before any memory was changed.
+#[derive(Clone, Copy)]
+pub enum Misuse {
+    /// An array has too little room.
+    SmallRoom,
+    /// A region's kind is none.
+    BadKind,
+    /// The machine's size is a bad one.
+    BadSize,
+    /// There are too many regions.
+    TooManyRegions,
+    /// A region ends too high.
+    BadRegion,
+    /// The pool is a bad one.
+    BadPool,
+    /// Memory does not cover the machine.
+    BadMemory,
+    /// There is no such protocol.
+    BadProtocol,
+    /// There are too many entries or modules, or a copy of the RSDP is too long.
+    TooMany,
+    /// There is no such entry.
+    BadIndex,
+}
+
+impl Misuse {
+    /// The status that tells of it. No refusal and no fault has such a number.
+    pub fn status(self) -> u32
+        ensures { result ≡ misuse_status self }
+    {
+        match self {
+            Misuse::SmallRoom => 104,
+            Misuse::BadKind => 105,
+            Misuse::BadSize => 106,
+            Misuse::TooManyRegions => 107,
+            Misuse::BadRegion => 108,
+            Misuse::BadPool => 109,
+            Misuse::BadMemory => 110,
+            Misuse::BadProtocol => 111,
+            Misuse::TooMany => 112,
+            Misuse::BadIndex => 113,
+        }
+    }
+}

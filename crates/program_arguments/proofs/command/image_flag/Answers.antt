@@ -1,0 +1,5 @@
+use Rattle.std.proofs.Common.{rules}
+use Rattle.program_arguments.proofs.command.image_flag.Goals as goal
+
+pub returns : goal.returns
+returns c = record { local = search rules; is = search rules }

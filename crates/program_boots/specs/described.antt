@@ -1,0 +1,8 @@
+pub mod Files
+pub mod FoundFiles
+pub mod DescribedMenu
+pub mod DescribedMachine
+pub mod BootCases
+pub mod DistinctNames
+pub mod ReadMachines
+pub mod SoughtFiles

@@ -1,0 +1,6 @@
+pub mod Details
+pub mod EntrySteps
+pub mod ExplanationLines
+pub mod TextPlaces
+pub mod AttemptedEntries
+pub mod MachineBlames

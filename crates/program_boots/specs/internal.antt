@@ -1,0 +1,2 @@
+pub mod MenuRows
+pub mod FoundEntries

@@ -1,4 +1,0 @@
-pub mod EntryLemmas
-pub mod MenuPlanLemmas
-pub mod DigestEndLemmas
-pub mod DigestLaws

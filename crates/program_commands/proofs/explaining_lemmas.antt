@@ -1,7 +1,0 @@
-pub mod ExplainLemmas
-pub mod DetailLemmas
-pub mod NoPlaceLemmas
-pub mod RefusedLemmas
-pub mod HeldLemmas
-pub mod StepLemmas
-pub mod ExplainEnds

@@ -1,5 +1,0 @@
-pub mod Files
-pub mod FoundFiles
-pub mod DescribedMenu
-pub mod DescribedMachine
-pub mod BootCases

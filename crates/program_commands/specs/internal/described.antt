@@ -1,5 +1,0 @@
-pub mod DistinctNames
-pub mod MenuRows
-pub mod ReadMachines
-pub mod SoughtFiles
-pub mod WholeReads

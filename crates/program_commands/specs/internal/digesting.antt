@@ -1,2 +1,0 @@
-pub mod EntryPlans
-pub mod DigestEnds

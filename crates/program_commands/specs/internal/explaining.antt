@@ -1,2 +1,0 @@
-pub mod ExplanationEnds
-pub mod FoundEntries

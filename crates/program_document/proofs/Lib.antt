@@ -1,0 +1,2 @@
+mod ArrayLemmas
+mod WholeLemmas

@@ -1,4 +1,0 @@
-use Rattle.program_line.proofs.command.convert_command.Goals as goal
-
-pub returns : goal.returns
-returns c = c.add_arg.ensures _ _ c.command_of.ensures c.out_arg.ensures

@@ -1,4 +1,0 @@
-use Rattle.program_line.proofs.command.explain_command.Goals as goal
-
-pub returns : goal.returns
-returns c = c.add_arg.ensures _ _ c.command_of.ensures c.order_arg.ensures

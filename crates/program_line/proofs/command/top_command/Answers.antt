@@ -1,5 +1,0 @@
-use Rattle.std.proofs.Common.{rules}
-use Rattle.program_line.proofs.command.top_command.Goals as goal
-
-pub returns : goal.returns
-returns c = record { local = search rules; is = search rules }
