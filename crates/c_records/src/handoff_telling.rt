@@ -12,6 +12,7 @@ use crate::registers_record::registers_told;
 use bl_load::{Handoff, Place, Plan, PlannedPart};
 use std::alloc::Allocator;
 
+/// A place as C is told it: its role by number, and its range in memory, in bytes.
 pub fn place_told(place: Place) -> PlaceRecord
     ensures { result ≡ spec.place_told place }
 {
