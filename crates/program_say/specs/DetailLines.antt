@@ -14,9 +14,7 @@ use Rattle.program_say.specs.Frames.{number_between, frames_line, frames_wanted,
 use Rattle.program_say.specs.HandoffLines.{role_name}
 use Rattle.program_say.specs.Sought.{SoughtFacts}
 use Rattle.program_say.specs.declared.subjects.refusal_detail.RefusalDetail.{RefusalDetail}
-use Rattle.program_say.specs.declared.subjects.refusal_detail.RefusalDetail.TheVariants.{Nothing}
-use Rattle.program_say.specs.declared.subjects.refusal_detail.RefusalDetail.TheVariants.{NoPlace}
-use Rattle.program_say.specs.declared.subjects.refusal_detail.RefusalDetail.TheVariants.{Frames}
+use Rattle.program_say.specs.declared.subjects.refusal_detail.RefusalDetail.TheVariants as details
 
 -- ---- a part that finds no place
 
@@ -58,8 +56,8 @@ pool_frames_line wanted all None =
 -- ---- a refusal of an entry, by its index in a menu
 
 abbrev pub detail_lines : List Entry → MachineFacts → SoughtFacts → ℕ → RefusalDetail → List ℕ
-detail_lines entries facts sought index Nothing = []
-detail_lines entries facts sought index (NoPlace row unusable) =
+detail_lines entries facts sought index details.Nothing = []
+detail_lines entries facts sought index (details.NoPlace row unusable) =
     no_place_line row ++ unusable_lines facts unusable
-detail_lines entries facts sought index (Frames beside) =
+detail_lines entries facts sought index (details.Frames beside) =
     pool_frames_line (frames_wanted sought (names_at entries index)) (frames_in facts.pool) beside

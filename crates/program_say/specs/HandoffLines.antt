@@ -3,8 +3,7 @@ use Rattle.std.specs.Prelude.{ℕ, List, ◌++◌, codes, decimal, length}
 use Rattle.std.specs.List.{flat_map}
 use Rattle.bl_plan.specs.declared.part.Place.{Place}
 use Rattle.bl_plan.specs.declared.part.Role.{Role}
-use Rattle.bl_plan.specs.declared.part.Role.TheVariants.{Kernel, Module, Information, BootParams}
-use Rattle.bl_plan.specs.declared.part.Role.TheVariants.{CommandLine, Gdt, Initrd, PageTables}
+use Rattle.bl_plan.specs.declared.part.Role.TheVariants as roles
 use Rattle.bl_load.specs.HandoffFacts.{HandoffFacts}
 use Rattle.bl_load.specs.Handover.{Part, Handover}
 use Rattle.bl_load.specs.NamedRegisters.{named_in}
@@ -16,14 +15,14 @@ use Rattle.program_say.specs.WalkLines.{protocol_line}
 -- ---- the parts
 
 abbrev pub role_name : Role → List ℕ
-role_name Kernel = codes "kernel"
-role_name Module = codes "module"
-role_name Information = codes "information"
-role_name BootParams = codes "boot-params"
-role_name CommandLine = codes "command-line"
-role_name Gdt = codes "gdt"
-role_name Initrd = codes "initrd"
-role_name PageTables = codes "page-tables"
+role_name roles.Kernel = codes "kernel"
+role_name roles.Module = codes "module"
+role_name roles.Information = codes "information"
+role_name roles.BootParams = codes "boot-params"
+role_name roles.CommandLine = codes "command-line"
+role_name roles.Gdt = codes "gdt"
+role_name roles.Initrd = codes "initrd"
+role_name roles.PageTables = codes "page-tables"
 
 -- what a part is, which one of its role, its address, its length
 unfoldable pub part_front : Place → List ℕ

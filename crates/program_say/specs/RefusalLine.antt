@@ -3,10 +3,7 @@ use Rattle.std.specs.Prelude.{ℕ, false, List, [], ◌++◌, codes, decimal}
 use Rattle.std.specs.Fmt.{digits}
 use Rattle.bl_load.specs.RefusalNumbers.{refusal_number}
 use Rattle.bl_load.specs.declared.refusal.Refusal.{Refusal}
-use Rattle.bl_load.specs.declared.refusal.Refusal.TheVariants.{NoFile, FileFault, FileTooLong}
-use Rattle.bl_load.specs.declared.refusal.Refusal.TheVariants.{BadTag, UnsupportedTag}
-use Rattle.bl_load.specs.declared.refusal.Refusal.TheVariants.{UnsupportedRequest, SegmentCut}
-use Rattle.bl_load.specs.declared.refusal.Refusal.TheVariants.{AddressTooHigh, SegmentsOverlap}
+use Rattle.bl_load.specs.declared.refusal.Refusal.TheVariants as refusals
 use Rattle.program_say.specs.RefusalWords.{refusal_name, refusal_meaning}
 use Rattle.program_say.specs.blame.BracketedNumber.{number_told}
 
@@ -19,15 +16,15 @@ pair_told i j = codes "(" ++ decimal i ++ codes ", " ++ decimal j ++ codes ")"
 -- what it carries: the place of a file in its entry, the offset of a tag in the kernel's file, the
 -- type of a tag, or the indices of program headers
 abbrev pub refusal_told : Refusal → List ℕ
-refusal_told (NoFile file) = number_told file
-refusal_told (FileFault file) = number_told file
-refusal_told (FileTooLong file) = number_told file
-refusal_told (BadTag offset) = offset_told offset
-refusal_told (UnsupportedTag type) = number_told type
-refusal_told (UnsupportedRequest type) = number_told type
-refusal_told (SegmentCut i) = number_told i
-refusal_told (AddressTooHigh i) = number_told i
-refusal_told (SegmentsOverlap i j) = pair_told i j
+refusal_told (refusals.NoFile file) = number_told file
+refusal_told (refusals.FileFault file) = number_told file
+refusal_told (refusals.FileTooLong file) = number_told file
+refusal_told (refusals.BadTag offset) = offset_told offset
+refusal_told (refusals.UnsupportedTag type) = number_told type
+refusal_told (refusals.UnsupportedRequest type) = number_told type
+refusal_told (refusals.SegmentCut i) = number_told i
+refusal_told (refusals.AddressTooHigh i) = number_told i
+refusal_told (refusals.SegmentsOverlap i j) = pair_told i j
 refusal_told _ = []
 
 -- its number and its name

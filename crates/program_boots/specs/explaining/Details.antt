@@ -20,9 +20,7 @@ use Rattle.program_boots.specs.described.DescribedMenu.{entry_value}
 use Rattle.program_desc.specs.EntryNames.{file_names}
 use Rattle.program_say.specs.Sought.{SoughtFacts, bytes_found}
 use Rattle.program_say.specs.declared.subjects.refusal_detail.RefusalDetail.{RefusalDetail}
-use Rattle.program_say.specs.declared.subjects.refusal_detail.RefusalDetail.TheVariants.{Nothing}
-use Rattle.program_say.specs.declared.subjects.refusal_detail.RefusalDetail.TheVariants.{NoPlace}
-use Rattle.program_say.specs.declared.subjects.refusal_detail.RefusalDetail.TheVariants.{Frames}
+use Rattle.program_say.specs.declared.subjects.refusal_detail.RefusalDetail.TheVariants as details
 use Rattle.program_say.specs.declared.subjects.refusal_detail.ToldRefusal.{ToldRefusal}
 
 -- the value of an entry with what was found for the names of its files
@@ -43,10 +41,10 @@ IsFirstUnusable facts count (Preferred at align low high) byte = byte ≡ None
 
 -- the first part that finds no place is told, with that byte
 abbrev pub IsPlaceDetail : MachineFacts → EntryValue → RefusalDetail → Type 0
-IsPlaceDetail facts value Nothing = ⊥
-IsPlaceDetail facts value (NoPlace row unusable) =
+IsPlaceDetail facts value details.Nothing = ⊥
+IsPlaceDetail facts value (details.NoPlace row unusable) =
     IsUnplaced facts value (Some row) × IsFirstUnusable facts row.length row.choice unusable
-IsPlaceDetail facts value (Frames beside) = ⊥
+IsPlaceDetail facts value (details.Frames beside) = ⊥
 
 -- ---- the frames of the pool
 
@@ -59,9 +57,9 @@ AreFramesBeside facts value (Some beside) =
     × (beside ≡ open_frames facts.pool (map part_range handover.parts))
 
 abbrev pub IsFramesDetail : MachineFacts → EntryValue → RefusalDetail → Type 0
-IsFramesDetail facts value Nothing = ⊥
-IsFramesDetail facts value (NoPlace row unusable) = ⊥
-IsFramesDetail facts value (Frames beside) = AreFramesBeside facts value beside
+IsFramesDetail facts value details.Nothing = ⊥
+IsFramesDetail facts value (details.NoPlace row unusable) = ⊥
+IsFramesDetail facts value (details.Frames beside) = AreFramesBeside facts value beside
 
 -- ---- a refusal
 
@@ -70,11 +68,11 @@ abbrev pub IsRefusalDetail : MachineFacts → EntryValue → Refusal → Refusal
 IsRefusalDetail facts value NotUsable detail = IsPlaceDetail facts value detail
 IsRefusalDetail facts value NoRoom detail = IsPlaceDetail facts value detail
 IsRefusalDetail facts value NoPool detail = IsFramesDetail facts value detail
-IsRefusalDetail facts value _ detail = detail ≡ Nothing
+IsRefusalDetail facts value _ detail = detail ≡ details.Nothing
 
 abbrev pub IsRefusalDetailOrNothing : MachineFacts → SoughtFacts → Option Entry → Refusal
     → RefusalDetail → Type 0
-IsRefusalDetailOrNothing facts sought None refusal detail = detail ≡ Nothing
+IsRefusalDetailOrNothing facts sought None refusal detail = detail ≡ details.Nothing
 IsRefusalDetailOrNothing facts sought (Some entry) refusal detail =
     IsRefusalDetail facts (value_sought sought entry) refusal detail
 

@@ -1,6 +1,5 @@
 -- The machine of a description, or that it is said why there is none. Own.
-use Rattle.std.specs.Prelude.{◌≡◌, ◌≢◌, ℕ, ◌++◌, List, Result, Ok, Err}
-use Rattle.std.specs.Prelude.{Some}
+use Rattle.std.specs.Prelude.{◌≡◌, ◌≢◌, ℕ, ◌++◌, List, Result, Ok, Err, Some}
 use Rattle.bl_map.specs.Faults.{HasFirstMapFault}
 use Rattle.bl_map.specs.MachineFacts.{MachineFacts}
 use Rattle.bl_map.specs.declared.fault.MapFault.{MapFault}
@@ -8,8 +7,7 @@ use Rattle.bl_map.specs.declared.fault.MapFault.TheVariants as map_fault
 use Rattle.program_desc.specs.Described.{DescriptionFacts}
 use Rattle.program_say.specs.declared.subjects.blame.Blame.TheVariants.{BadMachine}
 use Rattle.program_boots.specs.declared.explaining.fault.ExplainFault.{ExplainFault}
-use Rattle.program_boots.specs.declared.explaining.fault.ExplainFault.TheVariants.{Blamed}
-use Rattle.program_boots.specs.declared.explaining.fault.ExplainFault.TheVariants.{NoMemory}
+use Rattle.program_boots.specs.declared.explaining.fault.ExplainFault.TheVariants.{Blamed, NoMemory}
 use Rattle.program_say.specs.blame.BlameLines.{blame_lines}
 use Rattle.program_boots.specs.described.DescribedMachine.{IsMachineOf}
 

@@ -3,8 +3,7 @@ ghost use Rattle.std.specs.Prelude.{IfOk};
 ghost use Rattle.program_desc.specs.Views.{entry_view, view};
 ghost use Rattle.program_boots.specs.explaining.Details.{value_sought};
 ghost use Rattle.program_boots.specs.explaining.EntrySteps.{AreEntrySteps, AreStepsAt};
-ghost use Rattle.program_boots.specs.explaining.AttemptedEntries.{HasHandover};
-ghost use Rattle.program_boots.specs.explaining.AttemptedEntries.{HasHandoverAt};
+ghost use Rattle.program_boots.specs.explaining.AttemptedEntries.{HasHandover, HasHandoverAt};
 
 use crate::described::DescribedBoot;
 use crate::explaining::found_entry::plan_found;

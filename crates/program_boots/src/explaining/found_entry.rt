@@ -3,8 +3,7 @@ ghost use Rattle.std.specs.Prelude.{◌≡◌, ◌∷◌, [], ◌++◌, IfOk, If
 ghost use Rattle.bl_load.specs.Parts.{IsPrepFault};
 ghost use Rattle.program_desc.specs.EntryNames.{file_names, names_beside};
 ghost use Rattle.program_say.specs.Sought.{bytes_found};
-ghost use Rattle.program_boots.specs.internal.FoundEntries.{IsFoundEntry};
-ghost use Rattle.program_boots.specs.internal.FoundEntries.{IsFoundPlan};
+ghost use Rattle.program_boots.specs.internal.FoundEntries.{IsFoundEntry, IsFoundPlan};
 ghost use Rattle.program_boots.specs.internal.FoundEntries.{texts_of_views};
 ghost use Rattle.program_boots.specs.explaining.Details.{value_sought};
 ghost use Rattle.program_desc.specs.Views.{entry_view, form_view, module_view};

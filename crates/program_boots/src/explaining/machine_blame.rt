@@ -2,8 +2,7 @@
 ghost use Rattle.std.specs.Prelude.{option_map};
 ghost use Rattle.program_desc.specs.Views.{view};
 ghost use Rattle.program_say.specs.blame.BlameLines.{blame_lines};
-ghost use Rattle.program_boots.specs.explaining.MachineBlames.{IsMachineOrBlamed};
-ghost use Rattle.program_boots.specs.explaining.MachineBlames.{SaysLines};
+ghost use Rattle.program_boots.specs.explaining.MachineBlames.{IsMachineOrBlamed, SaysLines};
 
 use crate::explaining::fault::ExplainFault;
 use bl_map::{Machine, MapFault};

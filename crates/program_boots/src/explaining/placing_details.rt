@@ -5,8 +5,7 @@ ghost use Rattle.bl_map.specs.MachineFacts.{AllUsable};
 ghost use Rattle.bl_plan.specs.Unusable.{IsUnusableFrom};
 ghost use Rattle.program_desc.specs.Views.{entry_view};
 ghost use Rattle.program_boots.specs.explaining.Details.{IsFirstUnusable, IsFramesDetail};
-ghost use Rattle.program_boots.specs.explaining.Details.{IsPlaceDetail};
-ghost use Rattle.program_boots.specs.explaining.Details.{value_sought};
+ghost use Rattle.program_boots.specs.explaining.Details.{IsPlaceDetail, value_sought};
 ghost use Rattle.program_boots.specs.explaining.AttemptedEntries.{HasNoPlace};
 
 use crate::explaining::found_entry::{entry_with_files, plan_found};

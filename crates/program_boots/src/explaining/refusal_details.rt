@@ -2,10 +2,8 @@
 ghost use Rattle.std.specs.Prelude.{◌≡◌, All, IfOk, slice_get, true};
 ghost use Rattle.bl_load.specs.Parts.{IsRefusal};
 ghost use Rattle.program_boots.specs.explaining.Details.{AreToldRefusals, IsRefusalDetail};
-ghost use Rattle.program_boots.specs.explaining.Details.{value_sought};
-ghost use Rattle.program_boots.specs.explaining.Details.{IsRefusalDetailOrNothing};
-ghost use Rattle.program_boots.specs.explaining.AttemptedEntries.{HasPlaceRefusal};
-ghost use Rattle.program_boots.specs.explaining.AttemptedEntries.{is_placing};
+ghost use Rattle.program_boots.specs.explaining.Details.{value_sought, IsRefusalDetailOrNothing};
+ghost use Rattle.program_boots.specs.explaining.AttemptedEntries.{HasPlaceRefusal, is_placing};
 ghost use Rattle.program_desc.specs.Views.{entry_view, view};
 
 use crate::described::DescribedBoot;

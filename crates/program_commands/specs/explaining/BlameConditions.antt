@@ -12,8 +12,6 @@ use Rattle.program_desc.specs.declared.bad_key.BadKey.{BadKey}
 use Rattle.program_say.specs.declared.subjects.blame.TextPlace.{TextPlace}
 use Rattle.program_say.specs.declared.subjects.blame.Blame.{Blame}
 use Rattle.program_say.specs.declared.subjects.blame.Blame.TheVariants as blames
-use Rattle.program_say.specs.declared.subjects.blame.Blame.TheVariants.{NotUtf8, NotToml}
-use Rattle.program_say.specs.declared.subjects.blame.Blame.TheVariants.{BadMachine}
 use Rattle.program_boots.specs.explaining.TextPlaces.{text_place}
 
 -- the text is not TOML, and the place is one of it, or behind it: toml's contract says of no place
@@ -41,7 +39,7 @@ pub record HasBadMachine (desc : List ℕ) (fault : MapFault) : Type 0 where
   pub first : HasFirstMapFault description.size description.regions description.pool fault
 
 abbrev pub HasBlame : List ℕ → Blame → Type 0
-HasBlame desc NotUtf8 = is_utf8 desc ≡ false
-HasBlame desc (NotToml place) = IsNotToml desc place
+HasBlame desc blames.NotUtf8 = is_utf8 desc ≡ false
+HasBlame desc (blames.NotToml place) = IsNotToml desc place
 HasBlame desc (blames.BadKey bad) = HasBadKey desc bad
-HasBlame desc (BadMachine fault) = HasBadMachine desc fault
+HasBlame desc (blames.BadMachine fault) = HasBadMachine desc fault

@@ -1,6 +1,5 @@
 -- What the code keeps of how an explanation ends, by its result. Own.
-use Rattle.std.specs.Prelude.{◌≡◌, ℕ, ◌++◌, List, [], Result, Ok, Err}
-use Rattle.std.specs.Prelude.{Some}
+use Rattle.std.specs.Prelude.{◌≡◌, ℕ, ◌++◌, List, [], Result, Ok, Err, Some}
 use Rattle.bl_load.specs.Handover.{Handover}
 use Rattle.bl_load.specs.declared.refused_entry.RefusedEntry.{RefusedEntry}
 use Rattle.bl_load.specs.declared.step.Step.{Step}
@@ -14,8 +13,7 @@ use Rattle.program_desc.specs.declared.desc.Description.{Description}
 use Rattle.program_boots.specs.declared.described.boot_end.End.{End}
 use Rattle.program_boots.specs.declared.described.boot_end.End.TheVariants.{Booted, NoEntryLeft}
 use Rattle.program_boots.specs.declared.explaining.fault.ExplainFault.{ExplainFault}
-use Rattle.program_boots.specs.declared.explaining.fault.ExplainFault.TheVariants.{Blamed}
-use Rattle.program_boots.specs.declared.explaining.fault.ExplainFault.TheVariants.{NoMemory}
+use Rattle.program_boots.specs.declared.explaining.fault.ExplainFault.TheVariants.{Blamed, NoMemory}
 use Rattle.program_commands.specs.explaining.Explained.{ExplainsBlame, ExplainsBoot}
 use Rattle.program_commands.specs.explaining.Explained.{ExplainsRefusals}
 use Rattle.program_boots.specs.described.FoundFiles.{AsksPrefix}

@@ -4,8 +4,7 @@ ghost use Rattle.std.specs.Str.{is_utf8};
 ghost use Rattle.toml.specs.Errors.{IsMemory, IsWithin};
 ghost use Rattle.toml.specs.Parse.{parse_document};
 ghost use Rattle.program_desc.specs.Described.{described};
-ghost use Rattle.program_commands.specs.internal.ExplanationEnds.{IsReadBlame};
-ghost use Rattle.program_commands.specs.internal.ExplanationEnds.{IsReadOrBlamed};
+ghost use Rattle.program_commands.specs.internal.ExplanationEnds.{IsReadBlame, IsReadOrBlamed};
 
 use program_boots::{ExplainFault, blamed, text_place};
 use program_desc::{DescFault, Description};

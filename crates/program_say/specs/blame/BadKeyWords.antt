@@ -7,22 +7,13 @@ use Rattle.toml.specs.View.{view}
 use Rattle.program_desc.specs.Allowed.{item_count}
 use Rattle.program_desc.specs.KeyRules.{keys_of_set}
 use Rattle.program_desc.specs.declared.allowed.Allowed.{Allowed}
-use Rattle.program_desc.specs.declared.allowed.Allowed.TheVariants.{Number, Byte, IndexBelow}
-use Rattle.program_desc.specs.declared.allowed.Allowed.TheVariants.{TwoNumbers, Indices, Tables}
-use Rattle.program_desc.specs.declared.allowed.Allowed.TheVariants.{EntryTables, ModuleTables}
-use Rattle.program_desc.specs.declared.allowed.Allowed.TheVariants.{AnyText}
-use Rattle.program_desc.specs.declared.allowed.Allowed.TheVariants.{Title, KindName, ProtocolName}
-use Rattle.program_desc.specs.declared.allowed.Allowed.TheVariants.{HexText, CopyText}
+use Rattle.program_desc.specs.declared.allowed.Allowed.TheVariants as allows
 use Rattle.program_desc.specs.declared.bad_key.BadKey.{BadKey}
 use Rattle.program_desc.specs.declared.bad_key.KeyFault.{KeyFault}
-use Rattle.program_desc.specs.declared.bad_key.KeyFault.TheVariants.{NoTable, Unknown, Missing}
-use Rattle.program_desc.specs.declared.bad_key.KeyFault.TheVariants.{BadValue}
-use Rattle.program_desc.specs.declared.bad_key.KeyFault.TheVariants.{BadItem, SameName}
+use Rattle.program_desc.specs.declared.bad_key.KeyFault.TheVariants as faults
 use Rattle.program_desc.specs.declared.key_set.KeySet.{KeySet}
 use Rattle.program_desc.specs.declared.bad_key.TablePlace.{TablePlace}
-use Rattle.program_desc.specs.declared.bad_key.TablePlace.TheVariants.{Description, Region, File}
-use Rattle.program_desc.specs.declared.bad_key.TablePlace.TheVariants.{Entry}
-use Rattle.program_desc.specs.declared.bad_key.TablePlace.TheVariants.{Module}
+use Rattle.program_desc.specs.declared.bad_key.TablePlace.TheVariants as places
 use Rattle.program_say.specs.blame.ShownNames.{shown_name}
 
 -- ---- where
@@ -33,16 +24,16 @@ index_words i = codes "[" ++ decimal i ++ codes "]"
 
 -- a table, by its path, in which indices count from 0
 abbrev pub table_words : TablePlace → List ℕ
-table_words Description = []
-table_words (Region i) = codes "region[" ++ decimal i ++ codes "]"
-table_words (File i) = codes "file[" ++ decimal i ++ codes "]"
-table_words (Entry i) = codes "entry[" ++ decimal i ++ codes "]"
-table_words (Module i j) =
+table_words places.Description = []
+table_words (places.Region i) = codes "region[" ++ decimal i ++ codes "]"
+table_words (places.File i) = codes "file[" ++ decimal i ++ codes "]"
+table_words (places.Entry i) = codes "entry[" ++ decimal i ++ codes "]"
+table_words (places.Module i j) =
     codes "entry[" ++ decimal i ++ codes "].module[" ++ decimal j ++ codes "]"
 
 -- what joins a table's path to its key
 abbrev pub dot_words : TablePlace → List ℕ
-dot_words Description = []
+dot_words places.Description = []
 dot_words _ = codes "."
 
 -- a key, by its path
@@ -74,23 +65,23 @@ held_words (table ms) = codes "a table"
 
 -- but for the number of entries
 abbrev pub allowed_front : Allowed → List ℕ
-allowed_front Number = codes "a number of 0 or more"
-allowed_front Byte = codes "a number from 0 to 255"
-allowed_front (IndexBelow count) = codes "the index of an entry, below "
-allowed_front TwoNumbers = codes "an array of two numbers"
-allowed_front Indices = codes "an array of numbers"
-allowed_front Tables = codes "an array of tables"
-allowed_front EntryTables = codes "an array of 1 to 32 tables"
-allowed_front ModuleTables = codes "an array of at most 64 tables"
-allowed_front AnyText = codes "a text"
-allowed_front Title = codes "a text of 1 to 64 printable characters of ASCII"
-allowed_front KindName = codes "\"usable\", \"reserved\", \"acpi\", \"nvs\" or \"bad\""
-allowed_front ProtocolName = codes "\"multiboot2\", \"linux\" or \"linux64\""
-allowed_front HexText = codes "a text of hexadecimal digits, an even number"
-allowed_front CopyText = codes "a text of hexadecimal digits, for 1 to 256 bytes"
+allowed_front allows.Number = codes "a number of 0 or more"
+allowed_front allows.Byte = codes "a number from 0 to 255"
+allowed_front (allows.IndexBelow count) = codes "the index of an entry, below "
+allowed_front allows.TwoNumbers = codes "an array of two numbers"
+allowed_front allows.Indices = codes "an array of numbers"
+allowed_front allows.Tables = codes "an array of tables"
+allowed_front allows.EntryTables = codes "an array of 1 to 32 tables"
+allowed_front allows.ModuleTables = codes "an array of at most 64 tables"
+allowed_front allows.AnyText = codes "a text"
+allowed_front allows.Title = codes "a text of 1 to 64 printable characters of ASCII"
+allowed_front allows.KindName = codes "\"usable\", \"reserved\", \"acpi\", \"nvs\" or \"bad\""
+allowed_front allows.ProtocolName = codes "\"multiboot2\", \"linux\" or \"linux64\""
+allowed_front allows.HexText = codes "a text of hexadecimal digits, an even number"
+allowed_front allows.CopyText = codes "a text of hexadecimal digits, for 1 to 256 bytes"
 
 abbrev pub allowed_words : Allowed → List ℕ
-allowed_words (IndexBelow count) = allowed_front (IndexBelow count) ++ decimal count
+allowed_words (allows.IndexBelow count) = allowed_front (allows.IndexBelow count) ++ decimal count
 allowed_words allowed = allowed_front allowed
 
 -- names, one after the other
@@ -119,18 +110,18 @@ unfoldable pub missing_words : Allowed → List ℕ
 missing_words allowed = codes " is missing; it must be " ++ allowed_words allowed
 
 abbrev pub key_fault_words : TablePlace → KeyFault → List ℕ
-key_fault_words at (NoTable value) =
+key_fault_words at (faults.NoTable value) =
     table_words at ++ instead_words (view value.now) (codes "a table")
-key_fault_words at (Unknown key known) =
+key_fault_words at (faults.Unknown key known) =
     path_words at key.now ++ unknown_words known
-key_fault_words at (Missing key allowed) =
+key_fault_words at (faults.Missing key allowed) =
     path_words at key.now ++ missing_words allowed
-key_fault_words at (BadValue key value allowed) =
+key_fault_words at (faults.BadValue key value allowed) =
     path_words at key.now ++ instead_words (view value.now) (allowed_words allowed)
-key_fault_words at (BadItem key index value allowed) =
+key_fault_words at (faults.BadItem key index value allowed) =
     path_words at key.now ++ index_words index
     ++ instead_words (view value.now) (allowed_words allowed)
-key_fault_words at (SameName value) =
+key_fault_words at (faults.SameName value) =
     path_words at (codes "name")
     ++ instead_words (view value.now) (codes "another name than that of each other file")
 

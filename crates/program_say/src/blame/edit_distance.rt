@@ -32,15 +32,7 @@ fn has_swapped(word: &[u8], other: &[u8]) -> bool
         [a, b, rest @ ..] => match other {
             [] => false,
             [_] => false,
-            [c, d, others @ ..] => {
-                if *a != *d {
-                    return false;
-                }
-                if *b != *c {
-                    return false;
-                }
-                rest == others
-            }
+            [c, d, others @ ..] => { *a == *d && *b == *c && rest == others }
         },
     }
 }
@@ -50,16 +42,10 @@ fn has_swapped(word: &[u8], other: &[u8]) -> bool
 fn is_edited(word: &[u8], other: &[u8]) -> bool
     ensures { result ≡ near.is_edited word.now other.now }
 {
-    if has_extra(word, other) {
-        return true;
-    }
-    if has_extra(other, word) {
-        return true;
-    }
-    if has_replaced(word, other) {
-        return true;
-    }
-    has_swapped(word, other)
+    has_extra(word, other)
+        || has_extra(other, word)
+        || has_replaced(word, other)
+        || has_swapped(word, other)
 }
 
 /// Whether one edit makes a word the other one: a byte more, a byte less, another byte, or two
@@ -73,13 +59,7 @@ pub fn is_one_edit_away(word: &[u8], other: &[u8]) -> bool
         [first, rest @ ..] => match other {
             [] => is_edited(word, other),
             [its_first, others @ ..] => {
-                if is_edited(word, other) {
-                    return true;
-                }
-                if *first != *its_first {
-                    return false;
-                }
-                is_one_edit_away(rest, others)
+                is_edited(word, other) || *first == *its_first && is_one_edit_away(rest, others)
             }
         },
     }

@@ -20,13 +20,7 @@ fn digits_as_hex<A: Allocator>(alloc: A, n: u64) -> Result<Option<u64>, AllocErr
 fn is_size(n: u64) -> bool
     ensures { result ≡ hints.is_size n }
 {
-    if n < MIN_SIZE {
-        return false;
-    }
-    if MAX_SIZE < n {
-        return false;
-    }
-    n % FRAME_SIZE == 0
+    MIN_SIZE <= n && n <= MAX_SIZE && n % FRAME_SIZE == 0
 }
 
 fn is_unaligned(n: u64) -> bool
@@ -38,10 +32,7 @@ fn is_unaligned(n: u64) -> bool
 fn is_pool_bound(size: u64, n: u64) -> bool
     ensures { result ≡ hints.is_pool_bound size n }
 {
-    if is_unaligned(n) {
-        return false;
-    }
-    n <= size
+    !is_unaligned(n) && n <= size
 }
 
 /// Appends the hint on a size that is a bad one, if there is one.

@@ -17,24 +17,15 @@ use std::alloc::{AllocError, Allocator};
 fn has_bz_magic(bytes: &[u8]) -> bool
     ensures { result ≡ hints.has_bz_magic bytes.now }
 {
-    if bytes.len() < 0x206 {
-        return false;
-    }
     let view = SliceView::new(bytes);
-    if u16_at(&view, 0x1FE) != 0xAA55 {
-        return false;
-    }
-    u32_at(&view, 0x202) == 0x5372_6448
+    bytes.len() >= 0x206 && u16_at(&view, 0x1FE) == 0xAA55 && u32_at(&view, 0x202) == 0x5372_6448
 }
 
 /// Whether a file begins as an ELF file.
 fn has_elf_magic(bytes: &[u8]) -> bool
     ensures { result ≡ hints.has_elf_magic bytes.now }
 {
-    if bytes.len() < 4 {
-        return false;
-    }
-    u32_at(&SliceView::new(bytes), 0) == 0x464C_457F
+    bytes.len() >= 4 && u32_at(&SliceView::new(bytes), 0) == 0x464C_457F
 }
 
 /// Appends the hint on the bytes of an entry's kernel that was refused, if there is one.
@@ -106,10 +97,7 @@ fn is_among(index: u32, indices: &[u32]) -> bool
 fn is_attempted<A: Allocator>(description: &Description<A>, index: u32) -> bool
     ensures { result ≡ hints.is_attempted (view description.now) index }
 {
-    if description.default == index {
-        return true;
-    }
-    is_among(index, &description.fallbacks)
+    description.default == index || is_among(index, &description.fallbacks)
 }
 
 /// Appends the hint on an entry, if there is one.
