@@ -148,10 +148,12 @@ pub fn linux_rows<A: Allocator, V: ByteView>(
         ≡ kept.capped_linux_rows protocol setup.now (initrd_file (map V.bytes files.now))) }
 {
     let mut rows = Vec::new(alloc);
-    rows.push(kernel_row(setup))?;
-    rows.push(frame_row(Role::BootParams, MAX_SIZE))?;
-    rows.push(frame_row(Role::CommandLine, LINE_END_LIMIT))?;
-    rows.push(frame_row(Role::Gdt, MAX_SIZE))?;
+    rows.extend_from_slice(&[
+        kernel_row(setup),
+        frame_row(Role::BootParams, MAX_SIZE),
+        frame_row(Role::CommandLine, LINE_END_LIMIT),
+        frame_row(Role::Gdt, MAX_SIZE),
+    ])?;
     if let Some(row) = paging_row(protocol) {
         rows.push(row)?;
     }
