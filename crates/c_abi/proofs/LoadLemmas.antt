@@ -1,6 +1,6 @@
 -- How a load of an entry ends, by what was made of it.
 use Rattle.std.proofs.Common.{◌≡◌, ◌≤◌, ◌<◌, ℕ, zero, suc, List, [], ◌∷◌, None, length, map, subst, sym}
-use Rattle.std.proofs.Common.{inr, ap, ◌∙◌, All, AllPairs, get_or, arith}
+use Rattle.std.proofs.Common.{ap, ◌∙◌, All, AllPairs, get_or, arith}
 use Rattle.std.proofs.Common.{Result, Ok, Err, IfOk, IfErr, OnOk, OnErr}
 use Rattle.std.proofs.lemmas.List.{length-map, get_or-map}
 use Rattle.std.proofs.lemmas.List.Elements.{All-map}
@@ -35,7 +35,6 @@ use Rattle.c_records.specs.Given.{entry_without_files, files_given, texts_given,
 use Rattle.c_records.specs.Given.{value_given}
 use Rattle.c_abi.specs.Load.{IsEntryFault}
 use Rattle.c_records.specs.EntryFaults.{IsEntrySound, IsEntryGivenFault}
-use Rattle.c_records.specs.EntryFaults.{IsEntrySizeFault}
 use Rattle.c_records.specs.EntryFaults.{load_fault_of_given, load_fault_of_prep}
 use Rattle.c_abi.specs.Load.{IsEntryLoaded, IsGivenLoadEnd, bad_entry}
 use Rattle.c_records.specs.Machines.{IsMachineGiven, IsMachineSound}

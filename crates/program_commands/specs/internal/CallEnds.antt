@@ -1,5 +1,5 @@
 -- What the code keeps of how a boot or a map ends, by its result. Own.
-use Rattle.std.specs.Prelude.{◌≡◌, ℕ, ◌+◌, ◌++◌, List, Result, Ok, Err}
+use Rattle.std.specs.Prelude.{◌≡◌, ℕ, ◌++◌, List, Result, Ok, Err}
 use Rattle.bl_stage.specs.Files.{File}
 use Rattle.program_boots.specs.described.FoundFiles.{AsksPrefix}
 use Rattle.program_boots.specs.described.DescribedMachine.{IsBadDescription}
