@@ -4,12 +4,22 @@ ghost use Rattle.std.specs.Prelude.{◌≤◌};
 use crate::line::split_or;
 use crate::session::Session;
 use hex::FromHexError;
+use std::alloc::AllocError;
 
 /// Bytes that have a name.
 #[derive(Drop)]
 pub struct Named {
     pub name: String,
     pub bytes: Vec<u8>,
+}
+
+impl Named {
+    /// Appends a line and its line feed.
+    pub fn add_line(&mut self, line: &str) -> Result<(), AllocError> {
+        self.bytes.extend_from_slice(line.as_bytes())?;
+        self.bytes.push(b'\n')?;
+        Ok(())
+    }
 }
 
 /// The bytes that got this name last.
@@ -104,11 +114,8 @@ impl<'a> Pieces<'a> {
 
     /// Appends a piece, which may be there several times: `COUNT*PIECE`.
     fn push_pieces(&mut self, word: &str) {
-        let (piece, count) = match word.split_once("*") {
-            Some((count, piece)) => (piece, self.number(count)),
-            None => (word, 1),
-        };
-        for _ in 0..count {
+        let (count, piece) = word.split_once("*").unwrap_or(("1", word));
+        for _ in 0..self.number(count) {
             self.push_piece(piece);
         }
     }
@@ -128,10 +135,10 @@ impl<'a> Pieces<'a> {
     /// Makes a change: `OFFSET=PIECE` puts a piece over the bytes.
     fn change(&mut self, change: &str) {
         let (at, piece) = change.split_once("=").unwrap_or(("", ""));
-        let at = self.number(at);
+        let at = self.number(at) as usize;
         let end = self.bytes.len();
         self.push_piece(piece);
-        self.put_back(end, at as usize);
+        self.put_back(end, at);
     }
 
     /// Cuts to a length, or appends zeros up to it. Bytes that end before it are not cut, and those

@@ -23,6 +23,16 @@ pub struct Session {
     text: String,
 }
 
+/// The call, and the words of the bytes that it is over, if it takes some.
+fn split_bytes<'w, C: Calls>(calls: &C, call: &'w str) -> (&'w str, Option<&'w str>) {
+    let (name, words) = split_word(call);
+    match call.split_once(" of ") {
+        Some((call, bytes)) => (call, Some(bytes)),
+        None if calls.takes_bytes(name) => (name, Some(words)),
+        None => (call, None),
+    }
+}
+
 impl Session {
     /// A session with no names and no machine.
     pub fn new(alloc: Global) -> Session {
@@ -60,30 +70,30 @@ impl Session {
     fn add_line(&mut self, line: &str) -> Result<bool, AllocError> {
         for named in self.names.iter_mut().rev() {
             if named.name.as_str() == self.text.as_str() {
-                named.bytes.extend_from_slice(line.as_bytes())?;
-                named.bytes.push(b'\n')?;
+                named.add_line(line)?;
                 return Ok(true);
             }
         }
         Ok(false)
     }
 
-    /// What a row's call answers.
-    fn answer_call<C: Calls>(&mut self, calls: &C, words: &str) -> Result<String, AllocError> {
-        let (way, call) = read_way(words);
+    /// Keeps the words of a machine whose last answer is that it was accepted.
+    fn keep_machine(&mut self, call: &str, answer: &str) -> Result<(), AllocError> {
         let (name, words) = split_word(call);
-        let (call, over) = match call.split_once(" of ") {
-            Some((call, bytes)) => (call, Some(bytes)),
-            None if calls.takes_bytes(name) => (name, Some(words)),
-            None => (call, None),
-        };
-        let mut sweep = Sweep::new(self, call, over);
-        sweep.make(calls, way);
-        let answer = sweep.finish()?;
-        // the last answer of a machine that was accepted
         if name == "machine" && answer.ends_with("ok") {
             self.machine = String::from_str(self.alloc, words)?;
         }
+        Ok(())
+    }
+
+    /// What a row's call answers.
+    fn answer_call<C: Calls>(&mut self, calls: &C, words: &str) -> Result<String, AllocError> {
+        let (way, call) = read_way(words);
+        let (plain, over) = split_bytes(calls, call);
+        let mut sweep = Sweep::new(self, plain, over);
+        sweep.make(calls, way);
+        let answer = sweep.finish()?;
+        self.keep_machine(call, answer.as_str())?;
         Ok(answer)
     }
 

@@ -1,11 +1,11 @@
 //! Entries of rows, prepared and loaded: `multiboot2 line=BYTES module=BYTES:BYTES ..
 //! rsdp_old=BYTES rsdp_new=BYTES`, `linux line=BYTES initrd=BYTES`, or the same with `linux64`.
-ghost use Rattle.std.specs.Prelude.{◌≡◌, ◌+◌, ◌≤◌, length, map, All, IfSome};
+ghost use Rattle.std.specs.Prelude.{◌+◌, ◌≤◌, length, map, All, IfSome};
 ghost use Rattle.bl_load.specs.Loadable.{lengths_of, IsLoadable};
-ghost use Rattle.bl_load.specs.EntryValue.{file_count, IsWithinLimits};
 
 use crate::entries::entry::{EntryField, ModuleField, protocol_of};
 use crate::entries::refusal::say_fault;
+use crate::line::split_or;
 use crate::row::Row;
 use bl_load::{Entry, Handoff, Plan, load, prepare};
 use bl_map::Machine;
@@ -39,7 +39,7 @@ impl RowEntry {
 
     /// Takes a copy of an RSDP, or a file.
     fn add(&mut self, row: &mut Row<'_>, word: &str) {
-        let (key, value) = word.split_once("=").unwrap_or((word, ""));
+        let (key, value) = split_or(word, "=", "");
         match key {
             "rsdp_old" | "rsdp_new" => self.entry.add_copy(row, key, value),
             _ => self.add_file(row, word),
@@ -75,28 +75,32 @@ impl RowEntry {
     }
 }
 
-/// The entry, which has so many files. If it can't be made, the row's answer says why.
-fn entry_of<'h>(
+/// What is prepared for an entry, which must have these files. If it is refused, the row's answer
+/// says why.
+fn plan_of<'h>(
     row: &mut Row<'_>,
     heap: &'h Refusing,
-    read: &RowEntry,
-    files: usize,
-) -> Option<Entry<&'h Refusing>>
-    ensures files { IfSome result (λ entry. files ≡ file_count entry) }
-    ensures limits { IfSome result IsWithinLimits }
+    machine: &Machine<&'h Refusing>,
+    entry: &Entry<&'h Refusing>,
+    files: &[SliceView<'_>],
+) -> Option<Plan<&'h Refusing>>
+    ensures { IfSome result (IsLoadable
+        (lengths_of (map (λ file. file.bytes.now) files.now)) machine.now.size) }
 {
-    let Ok(entry) = read.entry.entry_over(heap) else {
-        row.say("no memory");
-        return None;
-    };
-    if entry.file_count() != files || !entry.is_within_limits() {
+    if entry.file_count() != files.len() || !entry.is_within_limits() {
         row.refuse();
         return None;
     }
-    Some(entry)
+    match prepare(heap, machine, entry, files) {
+        Ok(plan) => Some(plan),
+        Err(fault) => {
+            say_fault(row, "refused ", fault);
+            None
+        }
+    }
 }
 
-/// What is prepared for an entry. If it is refused, the row's answer says why.
+/// What is prepared for an entry that was read. If it is refused, the row's answer says why.
 fn prepare_entry<'h>(
     row: &mut Row<'_>,
     heap: &'h Refusing,
@@ -107,11 +111,10 @@ fn prepare_entry<'h>(
     ensures { IfSome result (IsLoadable
         (lengths_of (map (λ file. file.bytes.now) files.now)) machine.now.size) }
 {
-    let entry = entry_of(row, heap, read, files.len())?;
-    match prepare(heap, machine, &entry, files) {
-        Ok(plan) => Some(plan),
-        Err(fault) => {
-            say_fault(row, "refused ", fault);
+    match read.entry.entry_over(heap) {
+        Ok(entry) => plan_of(row, heap, machine, &entry, files),
+        Err(_) => {
+            row.say("no memory");
             None
         }
     }
@@ -123,8 +126,10 @@ pub fn prepared_entry<'a>(row: &mut Row<'a>) -> Option<Plan<&'a Refusing>> {
     let heap = row.heap;
     let read = read_entry(row);
     let files = read.views(row);
-    let machine = row.machine_over(heap)?;
-    prepare_entry(row, heap, &machine, &read, files.as_slice())
+    match row.machine_over(heap) {
+        Some(machine) => prepare_entry(row, heap, &machine, &read, files.as_slice()),
+        None => None,
+    }
 }
 
 /// Memory that holds an entry's parts, what the kernel is handed, and how many requests for memory
@@ -177,6 +182,8 @@ pub fn loaded_entry<'a>(row: &mut Row<'a>) -> Option<LoadedEntry<'a>>
     let heap = row.heap;
     let fill = row.byte_field("fill");
     let read = read_entry(row);
-    let machine = row.machine_over(heap)?;
-    load_entry(row, heap, &machine, fill, &read)
+    match row.machine_over(heap) {
+        Some(machine) => load_entry(row, heap, &machine, fill, &read),
+        None => None,
+    }
 }

@@ -7,6 +7,7 @@
 //! `fallback=N,N`. All else is of the store.
 
 use crate::entries::entry::{EntryField, ModuleField, protocol_of};
+use crate::line::split_or;
 use crate::menus::store_fields::StoreFields;
 use crate::row::Row;
 
@@ -39,7 +40,7 @@ fn file_of(row: &mut Row<'_>, text: &str) -> FileField {
 
 /// A file by its index, and its line, if it has one.
 fn module_of(row: &mut Row<'_>, text: &str) -> ModuleField {
-    let (file, line) = text.split_once(":").unwrap_or((text, ""));
+    let (file, line) = split_or(text, ":", "");
     ModuleField {
         file: row.number32_of(file),
         line: row.bytes_of(line),
@@ -71,9 +72,14 @@ impl BootFields {
         }
     }
 
+    fn add_file(&mut self, row: &mut Row<'_>, text: &str) {
+        let file = file_of(row, text);
+        row.keep(&mut self.files, file);
+    }
+
     /// Takes an entry, or one so often as stands after a `*`.
     fn add_entry(&mut self, row: &mut Row<'_>, text: &str) {
-        let (entry, count) = text.split_once("*").unwrap_or((text, "1"));
+        let (entry, count) = split_or(text, "*", "1");
         for _ in 0..row.number_of(count) {
             let entry = entry_of(row, entry);
             row.keep(&mut self.entries, entry);
@@ -100,13 +106,11 @@ impl BootFields {
         entry.add_copy(row, key, copy);
     }
 
+    /// Takes a field.
     fn add(&mut self, row: &mut Row<'_>, word: &str) {
         let (key, value) = row.cut(word, "=");
         match key {
-            "file" => {
-                let file = file_of(row, value);
-                row.keep(&mut self.files, file);
-            }
+            "file" => self.add_file(row, value),
             "entry" => self.add_entry(row, value),
             "modules" => self.add_modules(row, value),
             "rsdp_old" | "rsdp_new" => self.add_copy(row, key, value),
