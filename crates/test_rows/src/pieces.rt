@@ -4,22 +4,12 @@ ghost use Rattle.std.specs.Prelude.{◌≤◌};
 use crate::line::split_or;
 use crate::session::Session;
 use hex::FromHexError;
-use std::alloc::AllocError;
 
 /// Bytes that have a name.
 #[derive(Drop)]
 pub struct Named {
     pub name: String,
     pub bytes: Vec<u8>,
-}
-
-impl Named {
-    /// Appends a line and its line feed.
-    pub fn add_line(&mut self, line: &str) -> Result<(), AllocError> {
-        self.bytes.extend_from_slice(line.as_bytes())?;
-        self.bytes.push(b'\n')?;
-        Ok(())
-    }
 }
 
 /// The bytes that got this name last.
@@ -154,18 +144,23 @@ impl<'a> Pieces<'a> {
         }
     }
 
+    /// Makes a change of what stands so far, or appends a piece.
+    fn add_word(&mut self, word: &str) {
+        if let Some(length) = word.strip_prefix("<") {
+            self.resize(length, true);
+        } else if let Some(length) = word.strip_prefix(">") {
+            self.resize(length, false);
+        } else if let Some(change) = word.strip_prefix("@") {
+            self.change(change);
+        } else {
+            self.push_pieces(word);
+        }
+    }
+
     /// Appends the pieces of these words, and makes the changes that stand among them.
     pub fn add(&mut self, words: &str) {
         for word in words.split_whitespace() {
-            if let Some(length) = word.strip_prefix("<") {
-                self.resize(length, true);
-            } else if let Some(length) = word.strip_prefix(">") {
-                self.resize(length, false);
-            } else if let Some(change) = word.strip_prefix("@") {
-                self.change(change);
-            } else {
-                self.push_pieces(word);
-            }
+            self.add_word(word);
         }
     }
 }

@@ -70,7 +70,8 @@ impl Session {
     fn add_line(&mut self, line: &str) -> Result<bool, AllocError> {
         for named in self.names.iter_mut().rev() {
             if named.name.as_str() == self.text.as_str() {
-                named.add_line(line)?;
+                named.bytes.extend_from_slice(line.as_bytes())?;
+                named.bytes.push(b'\n')?;
                 return Ok(true);
             }
         }

@@ -126,10 +126,8 @@ pub fn prepared_entry<'a>(row: &mut Row<'a>) -> Option<Plan<&'a Refusing>> {
     let heap = row.heap;
     let read = read_entry(row);
     let files = read.views(row);
-    match row.machine_over(heap) {
-        Some(machine) => prepare_entry(row, heap, &machine, &read, files.as_slice()),
-        None => None,
-    }
+    let machine = row.machine_over(heap)?;
+    prepare_entry(row, heap, &machine, &read, files.as_slice())
 }
 
 /// Memory that holds an entry's parts, what the kernel is handed, and how many requests for memory
@@ -182,8 +180,6 @@ pub fn loaded_entry<'a>(row: &mut Row<'a>) -> Option<LoadedEntry<'a>>
     let heap = row.heap;
     let fill = row.byte_field("fill");
     let read = read_entry(row);
-    match row.machine_over(heap) {
-        Some(machine) => load_entry(row, heap, &machine, fill, &read),
-        None => None,
-    }
+    let machine = row.machine_over(heap)?;
+    load_entry(row, heap, &machine, fill, &read)
 }

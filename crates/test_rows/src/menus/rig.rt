@@ -60,12 +60,12 @@ impl<'a, 'h> Rig<'a, 'h> {
         plan: &'a Plan<'h>,
         sizes: &[Option<u64>],
     ) -> Option<Rig<'a, 'h>> {
-        let Ok(session) = Session::new(heap, &plan.machine, &plan.menu, sizes) else {
+        let size = plan.machine.size();
+        let Ok(memory) = Sparse::new(heap, size, FILL) else {
             return None;
         };
-        let size = plan.machine.size();
-        match Sparse::new(heap, size, FILL) {
-            Ok(memory) => Some(Rig {
+        match Session::new(heap, &plan.machine, &plan.menu, sizes) {
+            Ok(session) => Some(Rig {
                 size,
                 pool: plan.machine.pool(),
                 session,
