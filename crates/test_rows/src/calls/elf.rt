@@ -2,9 +2,10 @@
 
 use crate::entries::refusal::say_fault;
 use crate::row::Row;
-use bl_elf::read_elf;
+use bl_elf::{Elf, read_elf};
 use bl_load::PrepFault;
 use bl_mem::{Segment, SliceView};
+use test_refusing::Refusing;
 
 /// A segment as `OFFSET,ADDRESS,FILESZ,MEMSZ`.
 pub fn say_segment(row: &mut Row<'_>, before: &str, segment: &Segment) {
@@ -20,22 +21,31 @@ pub fn say_segment(row: &mut Row<'_>, before: &str, segment: &Segment) {
     );
 }
 
-/// Reads the executable over the heap.
-pub fn answer(row: &mut Row<'_>) {
-    let elf = match read_elf(row.heap, &SliceView::new(row.bytes)) {
-        Ok(elf) => elf,
-        Err(fault) => return say_fault(row, "fault ", PrepFault::from(fault)),
-    };
-    if elf.segments().is_empty() {
+/// The segments, or `none`.
+fn say_segments(row: &mut Row<'_>, segments: &[Segment]) {
+    if segments.is_empty() {
         row.say("none");
     }
     let mut before = "";
-    for segment in elf.segments() {
+    for segment in segments {
         say_segment(row, before, segment);
         before = ";";
     }
+}
+
+/// What an executable says: its segments and its entry.
+fn say_elf(row: &mut Row<'_>, elf: &Elf<&Refusing>) {
+    say_segments(row, elf.segments());
     match elf.entry() {
         Ok(entry) => row.say_number(" entry ", entry as u64),
         Err(fault) => say_fault(row, " entry fault ", PrepFault::from(fault)),
+    }
+}
+
+/// Reads the executable over the heap.
+pub fn answer(row: &mut Row<'_>) {
+    match read_elf(row.heap, &SliceView::new(row.bytes)) {
+        Ok(elf) => say_elf(row, &elf),
+        Err(fault) => say_fault(row, "fault ", PrepFault::from(fault)),
     }
 }

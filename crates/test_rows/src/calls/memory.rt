@@ -6,6 +6,7 @@ ghost use Rattle.bl_mem.specs.Memory.{HasRoom};
 
 use crate::row::Row;
 use bl_mem::{Flat, PhysMem, SliceMemory, Sparse};
+use std::alloc::AllocError;
 use std::ops::Range;
 
 /// Whether these ranges go forward, and end at most at the size.
@@ -49,6 +50,13 @@ pub fn read<M: PhysMem>(row: &mut Row<'_>, memory: &M, at: u64, count: u64) -> V
     let mut bytes = row.zeros(count);
     memory.read(at, bytes.as_mut_slice());
     bytes
+}
+
+fn say_read<M: PhysMem>(row: &mut Row<'_>, memory: &M) {
+    let at = row.number();
+    let count = row.number();
+    let bytes = read(row, memory, at, count);
+    row.say_bytes("", bytes.as_slice());
 }
 
 fn lend<M: PhysMem>(row: &mut Row<'_>, memory: &M) {
@@ -126,12 +134,7 @@ fn reserve<M: PhysMem>(row: &mut Row<'_>, memory: &mut M) {
 pub fn step<M: PhysMem>(row: &mut Row<'_>, memory: &mut M, name: &str) {
     match name {
         "size" => row.say_number("", memory.size()),
-        "read" => {
-            let at = row.number();
-            let count = row.number();
-            let bytes = read(row, memory, at, count);
-            row.say_bytes("", bytes.as_slice());
-        }
+        "read" => say_read(row, memory),
         "lend" => lend(row, memory),
         "write" => write(row, memory),
         "copy" => copy(row, memory),
@@ -151,20 +154,22 @@ fn make_steps<M: PhysMem>(row: &mut Row<'_>, memory: &mut M) {
     }
 }
 
+/// Makes the steps on new memory, if there was enough for it.
+fn make_steps_on<M: PhysMem + Drop>(row: &mut Row<'_>, memory: Result<M, AllocError>) {
+    match memory {
+        Ok(mut memory) => make_steps(row, &mut memory),
+        Err(_) => row.lack(),
+    }
+}
+
 /// Makes the steps on memory that keeps only some frames, or in one block.
 pub fn answer(row: &mut Row<'_>, is_sparse: bool) {
     let size = row.number_field("size");
     let fill = row.byte_field("fill");
     if is_sparse {
-        match Sparse::new(row.heap, size, fill) {
-            Ok(mut memory) => make_steps(row, &mut memory),
-            Err(_) => row.lack(),
-        }
+        make_steps_on(row, Sparse::new(row.heap, size, fill));
     } else {
-        match Flat::new(row.heap, size, fill) {
-            Ok(mut memory) => make_steps(row, &mut memory),
-            Err(_) => row.lack(),
-        }
+        make_steps_on(row, Flat::new(row.heap, size, fill));
     }
 }
 

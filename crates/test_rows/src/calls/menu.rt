@@ -1,6 +1,6 @@
 //! `menu MENU ..`: the order of its attempts and how many files it names, or its fault.
 
-use crate::menus::boot_fields::read_fields;
+use crate::menus::boot_fields::{BootFields, read_fields};
 use crate::row::Row;
 use bl_session::{Menu, MenuFault};
 use test_refusing::Refusing;
@@ -14,13 +14,18 @@ fn say_menu(row: &mut Row<'_>, menu: &Menu<&Refusing>) {
     row.say_number(", files ", menu.files() as u64);
 }
 
-/// Makes the menu over the heap.
-pub fn answer(row: &mut Row<'_>) {
-    let words = row.rest();
-    let fields = read_fields(row, words);
+/// The menu of these fields, made over the heap.
+fn answer_over(row: &mut Row<'_>, fields: &BootFields) {
     match fields.menu_over(row.heap) {
         Ok(menu) => say_menu(row, &menu),
         Err(MenuFault::NoMemory) => row.say("no memory"),
         Err(fault) => row.say_decimal("fault ", fault.number() as u64),
     }
+}
+
+/// Makes the menu over the heap.
+pub fn answer(row: &mut Row<'_>) {
+    let words = row.rest();
+    let fields = read_fields(row, words);
+    answer_over(row, &fields);
 }

@@ -1,6 +1,7 @@
 //! `run MENU ..`: a whole boot over a store, on the last machine.
+ghost use Rattle.std.specs.Prelude.{◌≡◌, length};
 
-use crate::menus::boot_end::{parts_of, say_end};
+use crate::menus::boot_end::{End, parts_of, say_end};
 use crate::menus::boot_fields::{BootFields, read_fields};
 use crate::menus::building::Plan;
 use crate::menus::dry_store::DryStore;
@@ -8,13 +9,42 @@ use crate::menus::memory_after::{FILL, say_outside};
 use crate::menus::script_store::ScriptStore;
 use crate::menus::store_fields::StoreKind;
 use crate::row::Row;
-use bl_mem::Sparse;
+use bl_mem::{PhysMem, Sparse};
 use bl_session::{FileStore, Store, run};
 use std::alloc::AllocError;
+use std::ops::Range;
 use test_refusing::Refusing;
 
-/// Boots over the heap, and over a store that gives so many answers alone. Says what memory outside
-/// holds then, and what it ended in.
+/// What memory outside holds after a boot, and what it ended in.
+fn say_booted<M: PhysMem>(row: &mut Row<'_>, memory: &M, pool: &Range<u64>, end: End<'_, '_>) {
+    say_outside(row, memory, pool, parts_of(end));
+    row.say(", ");
+    say_end(row, memory, pool, end);
+}
+
+/// Boots over the heap, in this memory, and says what came of it.
+fn boot_in<'h, M: PhysMem, S: Store>(
+    row: &mut Row<'_>,
+    heap: &'h Refusing,
+    plan: &Plan<'h>,
+    memory: &mut M,
+    store: &mut S,
+)
+    requires { length (M.bytes memory.old) ≡ plan.now.machine.size }
+{
+    let end = run(heap, memory, store, &plan.machine, &plan.menu);
+    say_booted(row, memory, &plan.machine.pool(), end.as_ref());
+}
+
+/// Boots over the heap and a store, and says what came of it.
+fn boot_over<'h, S: Store>(row: &mut Row<'_>, heap: &'h Refusing, plan: &Plan<'h>, store: &mut S) {
+    match Sparse::new(heap, plan.machine.size(), FILL) {
+        Ok(mut memory) => boot_in(row, heap, plan, &mut memory, store),
+        Err(_) => row.say("no memory"),
+    }
+}
+
+/// Boots over the heap, and over a store that gives so many answers alone.
 fn say_run<'h, S: Store + Drop>(
     row: &mut Row<'_>,
     heap: &'h Refusing,
@@ -22,15 +52,8 @@ fn say_run<'h, S: Store + Drop>(
     store: S,
     answers: u64,
 ) {
-    let Ok(mut memory) = Sparse::new(heap, plan.machine.size(), FILL) else {
-        return row.say("no memory");
-    };
     let mut store = DryStore::new(heap, store, answers);
-    let end = run(heap, &mut memory, &mut store, &plan.machine, &plan.menu);
-    let pool = plan.machine.pool();
-    say_outside(row, &memory, &pool, parts_of(end.as_ref()));
-    row.say(", ");
-    say_end(row, &memory, &pool, end.as_ref());
+    boot_over(row, heap, plan, &mut store);
 }
 
 /// Boots with a store of the files, or one that answers as it is told, which gives so many answers

@@ -11,6 +11,7 @@ use crate::row::Row;
 use bl_map::{FRAME_SIZE, Machine, frames_for};
 use bl_mem::{Flat, PhysMem, Sparse};
 use bl_stage::{Stage, StageFault};
+use std::alloc::AllocError;
 use std::ops::Range;
 use test_refusing::Refusing;
 
@@ -75,17 +76,34 @@ fn begin<'a>(
     begin_at(row, machine, sizes, frames.as_slice())
 }
 
-/// Makes the steps on a stage over the heap.
-fn answer_on<M: PhysMem>(row: &mut Row<'_>, machine: &Machine<&Refusing>, memory: &mut M) {
-    let sizes = row.field("sizes");
-    let sizes = row.numbers_of(sizes);
-    match begin(row, machine, sizes.as_slice()) {
+/// Makes the steps on a stage over the heap, for files of these sizes.
+fn make_steps_on<M: PhysMem>(
+    row: &mut Row<'_>,
+    machine: &Machine<&Refusing>,
+    memory: &mut M,
+    sizes: &[u64],
+) {
+    match begin(row, machine, sizes) {
         Ok(mut stage) => make_steps(row, machine, memory, &mut stage),
         Err(fault) => {
             row.say(fault_text(fault));
             let _steps = row.rest();
         }
     }
+}
+
+/// The answer on this machine, over new memory, if there was enough for it.
+fn answer_on<M: PhysMem + Drop>(
+    row: &mut Row<'_>,
+    machine: &Machine<&Refusing>,
+    memory: Result<M, AllocError>,
+) {
+    let Ok(mut memory) = memory else {
+        return row.lack();
+    };
+    let sizes = row.field("sizes");
+    let sizes = row.numbers_of(sizes);
+    make_steps_on(row, machine, &mut memory, sizes.as_slice());
 }
 
 /// The answer over memory that keeps only some frames, or in one block. The machine and the memory
@@ -95,15 +113,10 @@ pub fn answer(row: &mut Row<'_>, is_sparse: bool) {
     let Some(machine) = row.machine_over(beside) else {
         return;
     };
+    let size = machine.size();
     if is_sparse {
-        match Sparse::new(beside, machine.size(), FILL) {
-            Ok(mut memory) => answer_on(row, &machine, &mut memory),
-            Err(_) => row.lack(),
-        }
+        answer_on(row, &machine, Sparse::new(beside, size, FILL));
     } else {
-        match Flat::new(beside, machine.size(), FILL) {
-            Ok(mut memory) => answer_on(row, &machine, &mut memory),
-            Err(_) => row.lack(),
-        }
+        answer_on(row, &machine, Flat::new(beside, size, FILL));
     }
 }

@@ -6,42 +6,63 @@
 //! `read AT LENGTH`.
 
 use crate::calls::memory;
-use crate::menus::boot_fields::read_fields;
+use crate::menus::boot_fields::{BootFields, read_fields};
+use crate::menus::building::Plan;
 use crate::menus::rig::Rig;
 use crate::menus::store_fields::ticket_of;
 use crate::row::Row;
-use bl_session::Event;
+use bl_session::{Event, Ticket};
 use test_refusing::Refusing;
+
+/// The ticket that is the next word.
+fn ticket(row: &mut Row<'_>) -> Ticket {
+    let word = row.word();
+    ticket_of(row, word)
+}
+
+/// Gives the session the piece of a ticket.
+fn give_piece(row: &mut Row<'_>, rig: &mut Rig<'_, '_>) {
+    let ticket = ticket(row);
+    let bytes = row.rest_bytes();
+    rig.event(row, Event::Piece(ticket, bytes.as_slice()));
+}
+
+/// Tells the session of a fault at a ticket.
+fn give_fault(row: &mut Row<'_>, rig: &mut Rig<'_, '_>) {
+    let ticket = ticket(row);
+    rig.event(row, Event::Fault(ticket));
+}
+
+/// Says which piece is awaited, first of all or after that of a ticket.
+fn say_missing(row: &mut Row<'_>, rig: &Rig<'_, '_>) {
+    let word = row.word();
+    let after = if word.is_empty() {
+        None
+    } else {
+        Some(ticket_of(row, word))
+    };
+    rig.say_missing(row, after);
+}
+
+/// Says what a step of this name asks for.
+fn ask(row: &mut Row<'_>, rig: &Rig<'_, '_>, name: &str) {
+    match name {
+        "waiting" => rig.say_waiting(row),
+        "missing" => say_missing(row, rig),
+        "outcome" => rig.say_end(row),
+        "outside" => rig.say_outside(row),
+        _ => row.refuse(),
+    }
+}
 
 /// Makes the step of the row's words.
 fn step(row: &mut Row<'_>, rig: &mut Rig<'_, '_>) {
     match row.word() {
         "start" => rig.start(row),
-        "piece" => {
-            let word = row.word();
-            let ticket = ticket_of(row, word);
-            let bytes = row.rest_bytes();
-            rig.event(row, Event::Piece(ticket, bytes.as_slice()));
-        }
-        "fault" => {
-            let word = row.word();
-            let ticket = ticket_of(row, word);
-            rig.event(row, Event::Fault(ticket));
-        }
-        "waiting" => rig.say_waiting(row),
-        "missing" => {
-            let word = row.word();
-            let after = if word.is_empty() {
-                None
-            } else {
-                Some(ticket_of(row, word))
-            };
-            rig.say_missing(row, after);
-        }
-        "outcome" => rig.say_end(row),
-        "outside" => rig.say_outside(row),
+        "piece" => give_piece(row, rig),
+        "fault" => give_fault(row, rig),
         "read" => memory::step(row, rig.memory(), "read"),
-        _ => row.refuse(),
+        name => ask(row, rig, name),
     }
 }
 
@@ -54,25 +75,35 @@ fn tell<'w>(row: &mut Row<'w>, rig: &mut Rig<'_, '_>, steps: &'w str) {
     }
 }
 
-/// Tells a session over the heap each letter. Its machine and its menu stand over another heap, so
-/// that their requests are not refused.
-fn answer_over(row: &mut Row<'_>, heap: &Refusing) {
-    let words = row.rest();
-    let (words, steps) = row.cut(words, " do ");
-    let fields = read_fields(row, words);
-    let beside = Refusing::new(row.alloc, 0);
-    let Some(plan) = fields.plan_over(row, &beside) else {
-        return;
-    };
-    let sizes = fields.sizes(row);
-    match Rig::new(heap, &plan, sizes.as_slice()) {
+/// Tells a session of this plan, over the heap, each letter.
+fn tell_session<'w, 'h>(
+    row: &mut Row<'w>,
+    heap: &'h Refusing,
+    plan: &Plan<'h>,
+    sizes: &[Option<u64>],
+    steps: &'w str,
+) {
+    match Rig::new(heap, plan, sizes) {
         Some(mut rig) => tell(row, &mut rig, steps),
         None => row.say("no memory"),
+    }
+}
+
+/// Tells a session over the heap each letter. Its machine and its menu stand over another heap, so
+/// that their requests are not refused.
+fn answer_over<'w>(row: &mut Row<'w>, heap: &Refusing, fields: &BootFields, steps: &'w str) {
+    let beside = Refusing::new(row.alloc, 0);
+    if let Some(plan) = fields.plan_over(row, &beside) {
+        let sizes = fields.sizes(row);
+        tell_session(row, heap, &plan, sizes.as_slice(), steps);
     }
 }
 
 /// Tells a session each letter.
 pub fn answer(row: &mut Row<'_>) {
     let heap = row.heap;
-    answer_over(row, heap);
+    let words = row.rest();
+    let (words, steps) = row.cut(words, " do ");
+    let fields = read_fields(row, words);
+    answer_over(row, heap, &fields, steps);
 }

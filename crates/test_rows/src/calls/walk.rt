@@ -2,6 +2,7 @@
 
 use crate::calls::read_image::read_row_image;
 use crate::row::Row;
+use bl_image::Image;
 use bl_mem::Bytes;
 use bl_walk::{Seen, WalkFault, walk};
 use test_refusing::Refusing;
@@ -27,13 +28,18 @@ fn say_copy(row: &mut Row<'_>, before: &str, copy: &Option<Bytes<&Refusing>>) {
     }
 }
 
-fn say_seen(row: &mut Row<'_>, seen: &Seen<'_, &Refusing>) {
+/// The protocol, the entry, the line, and the kernel's parts, as ` kernel=ADDRESS+LENGTH`.
+fn say_kernel(row: &mut Row<'_>, seen: &Seen<'_, &Refusing>) {
     row.say_decimal("protocol ", seen.protocol.number() as u64);
     row.say_number(" entry=", seen.entry as u64);
     row.say_bytes(" line=", seen.line.as_slice());
     for part in &seen.kernel {
         row.say_numbers(" kernel=#+#", &[part.address, part.length]);
     }
+}
+
+fn say_seen(row: &mut Row<'_>, seen: &Seen<'_, &Refusing>) {
+    say_kernel(row, seen);
     say_files(row, seen);
     for run in &seen.map {
         row.say_region(" run=", run);
@@ -42,14 +48,18 @@ fn say_seen(row: &mut Row<'_>, seen: &Seen<'_, &Refusing>) {
     say_copy(row, " rsdp_new=", &seen.rsdp_new);
 }
 
-/// Reads an image and walks it, both over the heap.
-pub fn answer(row: &mut Row<'_>) {
-    let Some(image) = read_row_image(row) else {
-        return;
-    };
-    match walk(row.heap, &image) {
+/// Walks an image over the heap.
+fn say_walk<'h>(row: &mut Row<'h>, image: &Image<&'h Refusing>) {
+    match walk(row.heap, image) {
         Ok(seen) => say_seen(row, &seen),
         Err(WalkFault::NoMemory) => row.say("no memory"),
         Err(fault) => row.say_decimal("fault ", fault.number() as u64),
+    }
+}
+
+/// Reads an image and walks it, both over the heap.
+pub fn answer(row: &mut Row<'_>) {
+    if let Some(image) = read_row_image(row) {
+        say_walk(row, &image);
     }
 }
