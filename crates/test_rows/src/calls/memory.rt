@@ -1,7 +1,7 @@
 //! `memory size=SIZE fill=BYTE STEP; STEP ..`, `sparse ..` and `slice_memory base=ADDRESS ..`: one
 //! step after the other on new memory in one block, on memory that keeps only the frames which have
 //! room, or on a slice from a base address on.
-ghost use Rattle.std.specs.Prelude.{All, IsTrue, length, ◌≤◌};
+ghost use Rattle.std.specs.Prelude.{All, IsTrue, length, ◌+◌, ◌≤◌};
 ghost use Rattle.bl_mem.specs.Memory.{HasRoom};
 
 use crate::row::Row;
@@ -40,10 +40,16 @@ pub fn give_room<M: PhysMem>(row: &mut Row<'_>, memory: &mut M, range: &Range<u6
     }
 }
 
+/// Whether so many bytes from an address on lie in memory of this size.
+fn is_within(size: u64, at: u64, count: u64) -> bool
+    ensures { IsTrue result → at + count ≤ size }
+{
+    at <= size && count <= size - at
+}
+
 /// Reads bytes, if they lie in memory.
 pub fn read<M: PhysMem>(row: &mut Row<'_>, memory: &M, at: u64, count: u64) -> Vec<u8> {
-    let size = memory.size();
-    if size < at || size - at < count {
+    if !is_within(memory.size(), at, count) {
         row.refuse();
         return Vec::new(row.alloc);
     }
@@ -62,8 +68,7 @@ fn say_read<M: PhysMem>(row: &mut Row<'_>, memory: &M) {
 fn lend<M: PhysMem>(row: &mut Row<'_>, memory: &M) {
     let at = row.number();
     let count = row.number();
-    let size = memory.size();
-    if size < at || size - at < count {
+    if !is_within(memory.size(), at, count) {
         return row.refuse();
     }
     match memory.lend(at, count as usize) {
@@ -111,8 +116,7 @@ fn copy<M: PhysMem>(row: &mut Row<'_>, memory: &mut M) {
     if !give_room(row, memory, &(to..end)) {
         return;
     }
-    let size = memory.size();
-    if count > 4096 || size < from || size - from < count {
+    if count > 4096 || !is_within(memory.size(), from, count) {
         return row.refuse();
     }
     memory.copy(from, to, count as usize);
@@ -144,13 +148,18 @@ pub fn step<M: PhysMem>(row: &mut Row<'_>, memory: &mut M, name: &str) {
     }
 }
 
+/// Makes the step of these words.
+fn make_step<'a, M: PhysMem>(row: &mut Row<'a>, memory: &mut M, words: &'a str) {
+    let refused = row.begin_step(words);
+    let name = row.word();
+    step(row, memory, name);
+    row.mark_unasked(refused);
+}
+
 /// Makes the steps on memory.
 fn make_steps<M: PhysMem>(row: &mut Row<'_>, memory: &mut M) {
     for words in row.rest().split(";") {
-        let refused = row.begin_step(words);
-        let name = row.word();
-        step(row, memory, name);
-        row.mark_unasked(refused);
+        make_step(row, memory, words);
     }
 }
 

@@ -12,7 +12,6 @@ use crate::menus::rig::Rig;
 use crate::menus::store_fields::ticket_of;
 use crate::row::Row;
 use bl_session::{Event, Ticket};
-use test_refusing::Refusing;
 
 /// The ticket that is the next word.
 fn ticket(row: &mut Row<'_>) -> Ticket {
@@ -76,14 +75,8 @@ fn tell<'w>(row: &mut Row<'w>, rig: &mut Rig<'_, '_>, steps: &'w str) {
 }
 
 /// Tells a session of this plan, over the heap, each letter.
-fn tell_session<'w, 'h>(
-    row: &mut Row<'w>,
-    heap: &'h Refusing,
-    plan: &Plan<'h>,
-    sizes: &[Option<u64>],
-    steps: &'w str,
-) {
-    match Rig::new(heap, plan, sizes) {
+fn tell_session<'a>(row: &mut Row<'a>, plan: &Plan<'a>, sizes: &[Option<u64>], steps: &'a str) {
+    match Rig::new(row.heap, plan, sizes) {
         Some(mut rig) => tell(row, &mut rig, steps),
         None => row.say("no memory"),
     }
@@ -91,19 +84,18 @@ fn tell_session<'w, 'h>(
 
 /// Tells a session over the heap each letter. Its machine and its menu stand over another heap, so
 /// that their requests are not refused.
-fn answer_over<'w>(row: &mut Row<'w>, heap: &Refusing, fields: &BootFields, steps: &'w str) {
-    let beside = Refusing::new(row.alloc, 0);
-    if let Some(plan) = fields.plan_over(row, &beside) {
+fn answer_over<'a>(row: &mut Row<'a>, fields: &BootFields, steps: &'a str) {
+    let beside = &row.session.beside;
+    if let Some(plan) = fields.plan_over(row, beside) {
         let sizes = fields.sizes(row);
-        tell_session(row, heap, &plan, sizes.as_slice(), steps);
+        tell_session(row, &plan, sizes.as_slice(), steps);
     }
 }
 
 /// Tells a session each letter.
 pub fn answer(row: &mut Row<'_>) {
-    let heap = row.heap;
     let words = row.rest();
     let (words, steps) = row.cut(words, " do ");
     let fields = read_fields(row, words);
-    answer_over(row, heap, &fields, steps);
+    answer_over(row, &fields, steps);
 }

@@ -48,12 +48,18 @@ fn say_seen(row: &mut Row<'_>, seen: &Seen<'_, &Refusing>) {
     say_copy(row, " rsdp_new=", &seen.rsdp_new);
 }
 
+fn say_fault(row: &mut Row<'_>, fault: WalkFault) {
+    match fault {
+        WalkFault::NoMemory => row.say("no memory"),
+        _ => row.say_decimal("fault ", fault.number() as u64),
+    }
+}
+
 /// Walks an image over the heap.
 fn say_walk<'h>(row: &mut Row<'h>, image: &Image<&'h Refusing>) {
     match walk(row.heap, image) {
         Ok(seen) => say_seen(row, &seen),
-        Err(WalkFault::NoMemory) => row.say("no memory"),
-        Err(fault) => row.say_decimal("fault ", fault.number() as u64),
+        Err(fault) => say_fault(row, fault),
     }
 }
 
