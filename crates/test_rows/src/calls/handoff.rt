@@ -1,7 +1,7 @@
 //! `prepare ENTRY of KERNEL` and `load fill=VV ENTRY of KERNEL`, on the last machine.
 
 use crate::calls::memory::read;
-use crate::entries::row_entry::{LoadedEntry, loaded_entry, prepared_entry};
+use crate::entries::row_entry::{loaded_entry, prepared_entry};
 use crate::row::Row;
 use bl_load::Registers;
 use bl_mem::PhysMem;
@@ -49,8 +49,12 @@ pub fn answer_prepare(row: &mut Row<'_>) {
     }
 }
 
-/// The handoff of a loaded entry, how often loading asked for memory, and all of memory.
-fn say_loaded(row: &mut Row<'_>, loaded: &LoadedEntry<'_>) {
+/// Prepares the entry and loads it, both over the heap; the handoff, how often loading asked for
+/// memory, and all of memory.
+pub fn answer_load(row: &mut Row<'_>) {
+    let Some(loaded) = loaded_entry(row) else {
+        return;
+    };
     let handoff = &loaded.handoff;
     row.say_decimal("protocol ", handoff.protocol().number() as u64);
     say_registers(row, &handoff.registers());
@@ -61,11 +65,4 @@ fn say_loaded(row: &mut Row<'_>, loaded: &LoadedEntry<'_>) {
     let size = loaded.memory.size();
     let memory = read(row, &loaded.memory, 0, size);
     row.say_bytes(", memory ", memory.as_slice());
-}
-
-/// Prepares the entry and loads it, both over the heap.
-pub fn answer_load(row: &mut Row<'_>) {
-    if let Some(loaded) = loaded_entry(row) {
-        say_loaded(row, &loaded);
-    }
 }

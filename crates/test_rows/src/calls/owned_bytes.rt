@@ -2,14 +2,6 @@
 
 use crate::row::Row;
 use bl_mem::Bytes;
-use test_refusing::Refusing;
-
-/// What is seen of a copy.
-fn say_copy(row: &mut Row<'_>, copy: &Bytes<&Refusing>) {
-    row.say_number("length ", copy.len() as u64);
-    row.say_either(copy.is_empty(), " empty true", " empty false");
-    row.say_digits("; ", copy.as_slice());
-}
 
 /// Copies the bytes into the heap: what is seen of the copy, and what the vector has that it is
 /// taken back to, and wrapped again.
@@ -17,7 +9,9 @@ pub fn answer(row: &mut Row<'_>) {
     let Ok(bytes) = Bytes::copy(row.heap, row.bytes) else {
         return row.say("no memory");
     };
-    say_copy(row, &bytes);
+    row.say_number("length ", bytes.len() as u64);
+    row.say_either(bytes.is_empty(), " empty true", " empty false");
+    row.say_digits("; ", bytes.as_slice());
     let again = Bytes::from(bytes.into_vec());
     row.say_digits("; ", again.as_slice());
 }

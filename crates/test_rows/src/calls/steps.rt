@@ -11,24 +11,20 @@ use crate::menus::building::Plan;
 use crate::menus::rig::Rig;
 use crate::menus::store_fields::ticket_of;
 use crate::row::Row;
-use bl_session::{Event, Ticket};
-
-/// The ticket that is the next word.
-fn ticket(row: &mut Row<'_>) -> Ticket {
-    let word = row.word();
-    ticket_of(row, word)
-}
+use bl_session::Event;
 
 /// Gives the session the piece of a ticket.
 fn give_piece(row: &mut Row<'_>, rig: &mut Rig<'_, '_>) {
-    let ticket = ticket(row);
+    let word = row.word();
+    let ticket = ticket_of(row, word);
     let bytes = row.rest_bytes();
     rig.event(row, Event::Piece(ticket, bytes.as_slice()));
 }
 
 /// Tells the session of a fault at a ticket.
 fn give_fault(row: &mut Row<'_>, rig: &mut Rig<'_, '_>) {
-    let ticket = ticket(row);
+    let word = row.word();
+    let ticket = ticket_of(row, word);
     rig.event(row, Event::Fault(ticket));
 }
 
