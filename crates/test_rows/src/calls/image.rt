@@ -76,8 +76,7 @@ fn written_to_each<'h>(
     Some(runs)
 }
 
-/// Writes the image to a sink of this limit and step, and says what came of it and what the sink
-/// took.
+/// Writes the image to a sink of this limit and step, and says what the sink took.
 fn say_written<'h>(row: &mut Row<'h>, loaded: &LoadedEntry<'h>, limit: u64, step: u64)
     requires { All (λ place. place.address + place.length ≤ length loaded.now.memory)
         loaded.now.handoff.places }

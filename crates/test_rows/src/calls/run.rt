@@ -13,6 +13,7 @@ use bl_mem::{PhysMem, Sparse};
 use bl_session::{FileStore, Store, run};
 use std::alloc::AllocError;
 use std::ops::Range;
+use test_refusing::Refusing;
 
 /// What memory outside holds after a boot, and what it ended in.
 fn say_booted<M: PhysMem>(row: &mut Row<'_>, memory: &M, pool: &Range<u64>, end: End<'_, '_>) {
@@ -22,65 +23,72 @@ fn say_booted<M: PhysMem>(row: &mut Row<'_>, memory: &M, pool: &Range<u64>, end:
 }
 
 /// Boots over the heap, in this memory, and says what came of it.
-fn boot_in<'a, M: PhysMem, S: Store>(
-    row: &mut Row<'a>,
-    plan: &Plan<'a>,
+fn boot_in<'h, M: PhysMem, S: Store>(
+    row: &mut Row<'_>,
+    heap: &'h Refusing,
+    plan: &Plan<'h>,
     memory: &mut M,
     store: &mut S,
 )
     requires { length (M.bytes memory.old) ≡ plan.now.machine.size }
 {
-    let end = run(row.heap, memory, store, &plan.machine, &plan.menu);
+    let end = run(heap, memory, store, &plan.machine, &plan.menu);
     say_booted(row, memory, &plan.machine.pool(), end.as_ref());
 }
 
 /// Boots over the heap and a store, and says what came of it.
-fn boot_over<'a, S: Store>(row: &mut Row<'a>, plan: &Plan<'a>, store: &mut S) {
-    match Sparse::new(row.heap, plan.machine.size(), FILL) {
-        Ok(mut memory) => boot_in(row, plan, &mut memory, store),
+fn boot_over<'h, S: Store>(row: &mut Row<'_>, heap: &'h Refusing, plan: &Plan<'h>, store: &mut S) {
+    match Sparse::new(heap, plan.machine.size(), FILL) {
+        Ok(mut memory) => boot_in(row, heap, plan, &mut memory, store),
         Err(_) => row.say("no memory"),
     }
 }
 
 /// Boots over the heap, and over a store that gives so many answers alone.
-fn say_run<'a, S: Store + Drop>(row: &mut Row<'a>, plan: &Plan<'a>, store: S, answers: u64) {
-    let mut store = DryStore::new(row.heap, store, answers);
-    boot_over(row, plan, &mut store);
+fn say_run<'h, S: Store + Drop>(
+    row: &mut Row<'_>,
+    heap: &'h Refusing,
+    plan: &Plan<'h>,
+    store: S,
+    answers: u64,
+) {
+    let mut store = DryStore::new(heap, store, answers);
+    boot_over(row, heap, plan, &mut store);
 }
 
 /// Boots with a store of the files, or one that answers as it is told, which gives so many answers
-/// alone. The files and what a script says stand over another heap, so that their requests are not
-/// refused.
-fn say_store<'a>(
-    row: &mut Row<'a>,
-    plan: &Plan<'a>,
+/// alone.
+fn say_store<'h>(
+    row: &mut Row<'_>,
+    heap: &'h Refusing,
+    beside: &'h Refusing,
+    plan: &Plan<'h>,
     fields: &BootFields,
 ) -> Result<(), AllocError> {
-    let heap = row.heap;
-    let beside = &row.session.beside;
     let files = fields.files_over(beside)?;
     let answers = fields.store.answers;
     match fields.store.kind {
         StoreKind::Files(order) => {
-            say_run(row, plan, FileStore::new(heap, files, order), answers);
+            say_run(row, heap, plan, FileStore::new(heap, files, order), answers);
         }
         StoreKind::Script => {
             let twice = Vec::from_slice(beside, fields.store.twice.as_slice())?;
             let fail = Vec::from_slice(beside, fields.store.fail.as_slice())?;
             let picks = Vec::from_slice(beside, fields.store.picks.as_slice())?;
             let store = ScriptStore::new(heap, files, twice, fail, picks);
-            say_run(row, plan, store, answers);
+            say_run(row, heap, plan, store, answers);
         }
     }
     Ok(())
 }
 
-/// Boots over the heap. The machine and the menu stand over another, so that their requests are not
-/// refused.
+/// Boots over the heap. The machine, the menu and the files stand over another, so that their
+/// requests are not refused, and what a script says.
 fn answer_over(row: &mut Row<'_>, fields: &BootFields) -> Result<(), AllocError> {
+    let heap = row.heap;
     let beside = &row.session.beside;
     match fields.plan_over(row, beside) {
-        Some(plan) => say_store(row, &plan, fields),
+        Some(plan) => say_store(row, heap, beside, &plan, fields),
         None => Ok(()),
     }
 }
