@@ -21,21 +21,16 @@ pub fn say_segment(row: &mut Row<'_>, before: &str, segment: &Segment) {
     );
 }
 
-/// The segments, or `none`.
-fn say_segments(row: &mut Row<'_>, segments: &[Segment]) {
-    if segments.is_empty() {
+/// The segments of an executable, or `none`, and its entry.
+fn say_elf(row: &mut Row<'_>, elf: &Elf<&Refusing>) {
+    if elf.segments().is_empty() {
         row.say("none");
     }
     let mut before = "";
-    for segment in segments {
+    for segment in elf.segments() {
         say_segment(row, before, segment);
         before = ";";
     }
-}
-
-/// What an executable says: its segments and its entry.
-fn say_elf(row: &mut Row<'_>, elf: &Elf<&Refusing>) {
-    say_segments(row, elf.segments());
     match elf.entry() {
         Ok(entry) => row.say_number(" entry ", entry as u64),
         Err(fault) => say_fault(row, " entry fault ", PrepFault::from(fault)),

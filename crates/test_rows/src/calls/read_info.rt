@@ -22,20 +22,15 @@ fn say_modules(row: &mut Row<'_>, info: &Info<&Refusing>) {
     }
 }
 
-/// The sizes of memory, and the runs of its map.
-fn say_memory(row: &mut Row<'_>, info: &Info<&Refusing>) {
+fn say_info(row: &mut Row<'_>, info: &Info<&Refusing>) {
+    row.say_bytes("name=", info.name.as_slice());
+    row.say_bytes(" line=", info.line.as_slice());
+    say_modules(row, info);
     let sizes = [info.mem_lower as u64, info.mem_upper as u64];
     row.say_numbers(" lower=# upper=#", &sizes);
     for run in &info.runs {
         row.say_region(" run=", run);
     }
-}
-
-fn say_info(row: &mut Row<'_>, info: &Info<&Refusing>) {
-    row.say_bytes("name=", info.name.as_slice());
-    row.say_bytes(" line=", info.line.as_slice());
-    say_modules(row, info);
-    say_memory(row, info);
     say_copy(row, " old=", &info.rsdp_old);
     say_copy(row, " new=", &info.rsdp_new);
     match info.load_base {
