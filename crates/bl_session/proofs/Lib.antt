@@ -1,5 +1,4 @@
 pub mod menu_lemmas
 pub mod attempt_lemmas
 pub mod session_lemmas
-pub mod store_lemmas
 pub mod run_lemmas

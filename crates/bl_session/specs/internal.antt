@@ -1,4 +1,3 @@
 pub mod attempt
 pub mod session
-pub mod store
 pub mod runs

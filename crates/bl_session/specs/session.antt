@@ -5,3 +5,4 @@ pub mod BootMemory
 pub mod Outcome
 pub mod Schedules
 pub mod Requests
+pub mod Submissions

@@ -15,17 +15,13 @@ use bl_stage::Stage;
 use std::alloc::{AllocError, Allocator};
 
 pub(crate) mod cursor;
-pub(crate) mod event;
 mod handing_over;
 pub(crate) mod missing_pieces;
 pub(crate) mod request;
 mod stage_beginning;
-pub(crate) mod ticket;
 
-pub use event::Event;
 pub use handing_over::finish_attempt;
 pub use request::Request;
-pub use ticket::Ticket;
 
 /// How an attempt ended: its entry is handed over, or refused.
 #[derive(Drop)]

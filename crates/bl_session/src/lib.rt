@@ -6,13 +6,16 @@ mod laws;
 mod menu;
 mod runs;
 mod session;
-mod store;
 
-pub use attempt::{Event, Request, Ticket, finish_attempt};
+pub use attempt::{Request, finish_attempt};
 pub use bl_load::RefusedEntry;
 pub use bl_map::frames_for;
 pub use bl_plan::{MAX_ENTRIES, MAX_MODULES};
 pub use bl_stage::{FILE_LIMIT, Fetched};
+pub use bl_store::{
+    Completion, Event, FileStore, History, Ledger, Order, SliceFiles, SliceStore, Store,
+    StoredFiles, Submission, Ticket,
+};
 pub use laws::{
     each_attempt_ends, each_step_leads_on, ends_are_determined, first_entry_not_refused,
     steps_are_determined, two_outcomes, values_are_well_formed,
@@ -23,7 +26,3 @@ pub use runs::{
     runs_end_with_the_first_entry_not_refused,
 };
 pub use session::{BootFault, Outcome, OwnedSession, Progress, Session};
-pub use store::{
-    Completion, FileStore, History, Ledger, Order, SliceFiles, SliceStore, Store, StoredFiles,
-    Submission,
-};

@@ -6,12 +6,12 @@ ghost use Rattle.bl_session.specs.session.BootSteps.{StepsToOrFails, StartsOrFai
 ghost use Rattle.bl_session.specs.session.BootSteps.{attempt_number};
 ghost use Rattle.bl_session.specs.session.BootSteps as boot;
 ghost use Rattle.bl_session.specs.session.BootMemory.{IsMemoryAt};
-ghost use Rattle.bl_session.specs.session.Phases.{boot_facts, event_facts, state_at, is_waiting};
+ghost use Rattle.bl_session.specs.session.Phases.{boot_facts, state_at, is_waiting};
+ghost use Rattle.bl_store.specs.Events.{event_facts};
 ghost use Rattle.bl_session.specs.session.Phases.{phase_facts, end_facts, told_end, not_started};
 ghost use Rattle.bl_session.specs.session.Phases.{LiesWithin};
 ghost use Rattle.bl_session.specs.runs.Run.{final_phase};
 
-use crate::attempt::event::Event;
 use crate::menu::Menu;
 use crate::session::boot_end::{boot_end, into_boot_end};
 use crate::session::event_taking::take_event;
@@ -19,6 +19,7 @@ use crate::session::phase::{BootContext, Phase};
 use crate::session::starting::begin_first;
 use bl_map::Machine;
 use bl_mem::PhysMem;
+use bl_store::Event;
 use std::alloc::{AllocError, Allocator};
 use std::marker::Model;
 

@@ -1,6 +1,6 @@
 //! The files of a menu.
 ghost use Rattle.std.specs.Prelude.{◌≡◌, ◌++◌, IfOk, OnOk, map, option_copied};
-ghost use Rattle.bl_session.specs.store.Ledger.{sliced_file};
+ghost use Rattle.bl_store.specs.Ledger.{sliced_file};
 ghost use Rattle.c_abi.specs.Boot as spec;
 ghost use Rattle.c_records.specs.Given.{files_given};
 ghost use Rattle.c_records.specs.MenuGiven.{menu_files};

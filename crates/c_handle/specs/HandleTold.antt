@@ -5,7 +5,7 @@ use Rattle.bl_session.specs.declared.session.outcome.Progress.{Progress}
 use Rattle.bl_session.specs.declared.session.outcome.Progress.TheVariants.{Waiting, Next, Done}
 use Rattle.bl_session.specs.declared.session.outcome.Progress.TheVariants.{Failed}
 use Rattle.bl_session.specs.declared.attempt.request.Request.{Request}
-use Rattle.bl_session.specs.declared.attempt.ticket.Ticket.{Ticket}
+use Rattle.bl_store.specs.declared.ticket.Ticket.{Ticket}
 use Rattle.c_handle.specs.declared.handle_fault.HandleFault.{HandleFault}
 use Rattle.c_handle.specs.declared.handle_fault.HandleFault.TheVariants.{NoSession, WrongSize}
 use Rattle.c_handle.specs.declared.handle_fault.HandleFault.TheVariants.{BelowBase}

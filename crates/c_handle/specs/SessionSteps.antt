@@ -3,7 +3,8 @@ use Rattle.std.specs.Prelude.{◌≡◌, ◌≢◌, ℕ, List, Option, MatchBool
 use Rattle.std.specs.Prelude.{Result, length}
 use Rattle.bl_mem.specs.Memory.{memory_from}
 use Rattle.bl_session.specs.declared.session.outcome.Progress.{Progress}
-use Rattle.bl_session.specs.session.BootSteps.{EventFacts, StepsToOrFails, StartsOrFails, is_taken}
+use Rattle.bl_session.specs.session.BootSteps.{StepsToOrFails, StartsOrFails, is_taken}
+use Rattle.bl_store.specs.Events.{EventFacts}
 use Rattle.bl_session.specs.session.BootSteps.{attempt_number}
 use Rattle.bl_session.specs.session.BootSteps as steps
 use Rattle.bl_session.specs.session.BootMemory.{IsMemoryAt}

@@ -2,7 +2,7 @@
 ghost use Rattle.std.specs.Prelude.{◌≡◌, ℕ, List, [], None, Result};
 ghost use Rattle.std.specs.Option.{MatchOption};
 ghost use Rattle.bl_session.specs.declared.session.outcome.Progress.{Progress as Progressed};
-ghost use Rattle.bl_session.specs.session.BootSteps.{piece, fault};
+ghost use Rattle.bl_store.specs.Events.{piece, fault};
 ghost use Rattle.bl_session.specs.session.Phases.{state_at};
 ghost use Rattle.bl_session.specs.session.Requests.{first_request, request_after};
 ghost use Rattle.c_handle.specs.declared.handle_fault.HandleFault.{HandleFault as Faulted};

@@ -5,7 +5,8 @@ ghost use Rattle.bl_session.specs.session.BootSteps.{StepsToOrFails, StartsOrFai
 ghost use Rattle.bl_session.specs.session.BootSteps.{attempt_number};
 ghost use Rattle.bl_session.specs.session.BootSteps as boot;
 ghost use Rattle.bl_session.specs.session.BootMemory.{IsMemoryAt};
-ghost use Rattle.bl_session.specs.session.Phases.{event_facts, state_at, not_started};
+ghost use Rattle.bl_session.specs.session.Phases.{state_at, not_started};
+ghost use Rattle.bl_store.specs.Events.{event_facts};
 ghost use Rattle.c_handle.specs.Faults.{IsHandleFault, IsMachineMemory};
 ghost use Rattle.c_handle.specs.Handles.{RelatesKept};
 

@@ -2,7 +2,7 @@
 ghost use Rattle.std.specs.Prelude.{◌≡◌, ◌+◌, ◌≤◌, length, map, None, option_copied};
 ghost use Rattle.std.specs.Prelude.{All, IfOk};
 ghost use Rattle.bl_stage.specs.Files as menu_files;
-ghost use Rattle.bl_session.specs.store.Ledger.{sliced_file};
+ghost use Rattle.bl_store.specs.Ledger.{sliced_file};
 ghost use Rattle.bl_session.specs.session.Outcome.{IsOutcome, HasEnded};
 ghost use Rattle.bl_session.specs.session.Phases.{boot_facts, state_at};
 ghost use Rattle.bl_session.specs.runs.Run.{final_phase};

@@ -1,6 +1,6 @@
 -- One thing more that a store was asked.
 use Rattle.std.proofs.Common.{◌≡◌, ◌∷◌, ◌++◌, [], List, refl}
-use Rattle.bl_session.specs.store.History.{HistoryItem}
+use Rattle.bl_store.specs.History.{HistoryItem}
 use Rattle.test_rows.specs.Asked.{item_of, asked_after}
 use Rattle.test_rows.specs.declared.menus.dry_store.Asked.{Asked}
 

@@ -1,9 +1,9 @@
 -- What a store's contract says of an answer of a `ScriptStore`.
 use Rattle.std.proofs.Common.{◌≡◌, ◌<◌, length, Option, Result, Ok, Err, IfOk, OnErr, ap, arith}
 use Rattle.std.specs.Prelude.{option_map}
-use Rattle.bl_session.specs.declared.store.Completion.{Completion}
-use Rattle.bl_session.specs.store.Stores.{event_of}
-use Rattle.bl_session.proofs.store_lemmas.ToldLemmas.{Tells, tells_taken}
+use Rattle.bl_store.specs.declared.store.Completion.{Completion}
+use Rattle.bl_store.specs.Stores.{event_of}
+use Rattle.bl_store.proofs.ToldLemmas.{Tells, tells_taken}
 use Rattle.test_rows.specs.Scripts.{ScriptStoreFacts, event_of_reply, picked_place}
 use Rattle.test_rows.specs.Scripts.{next_script_event, after_script_answer}
 

@@ -1,7 +1,7 @@
 -- What a store that gives so many answers was asked after the last of them, and how many it still
 -- gives. Own.
 use Rattle.std.specs.Prelude.{ℕ, List, [], ◌∷◌, ◌++◌, min}
-use Rattle.bl_session.specs.store.History.{HistoryItem, submitted, nothing}
+use Rattle.bl_store.specs.History.{HistoryItem, submitted, nothing}
 use Rattle.test_rows.specs.declared.menus.dry_store.Asked.{Asked}
 use Rattle.test_rows.specs.declared.menus.dry_store.Asked.TheVariants.{Piece}
 use Rattle.test_rows.specs.declared.menus.dry_store.Asked.TheVariants.{More}

@@ -4,15 +4,15 @@ use Rattle.std.specs.Prelude.{slice_get, slice_index_or, Option, option_map}
 use Rattle.std.specs.List.{list_any}
 use Rattle.std.specs.Int.Bits.{bit_xor}
 use Rattle.bl_stage.specs.Files.{File}
-use Rattle.bl_session.specs.declared.attempt.ticket.Ticket.{Ticket}
-use Rattle.bl_session.specs.declared.store.submission.Submission.{Submission}
+use Rattle.bl_store.specs.declared.ticket.Ticket.{Ticket}
+use Rattle.bl_store.specs.declared.submission.Submission.{Submission}
 use Rattle.test_rows.specs.declared.menus.script_reply.ScriptReply.{ScriptReply}
 use Rattle.test_rows.specs.declared.menus.script_reply.ScriptReply.TheVariants.{Answer}
 use Rattle.test_rows.specs.declared.menus.script_reply.ScriptReply.TheVariants.{Altered}
 use Rattle.test_rows.specs.declared.menus.script_reply.ScriptReply.TheVariants.{Fault}
-use Rattle.bl_session.specs.session.BootSteps.{EventFacts, piece, fault}
-use Rattle.bl_session.specs.store.History.{HistoryItem, submitted, is_same}
-use Rattle.bl_session.specs.store.Stores.{answer_to, item_of_answer, without_index}
+use Rattle.bl_store.specs.Events.{EventFacts, piece, fault}
+use Rattle.bl_store.specs.History.{HistoryItem, submitted, is_same}
+use Rattle.bl_store.specs.Stores.{answer_to, item_of_answer, without_index}
 
 -- each byte of a piece exclusive-or 0xFF
 abbrev pub altered : EventFacts → EventFacts

@@ -7,7 +7,7 @@ use Rattle.std.proofs.lemmas.List.{length-set, get_or-map, get_or_past, length-m
 use Rattle.std.proofs.lemmas.List.FromFn.{get_or-map-range_with_len, length-map-range_with_len}
 use Rattle.bl_map.specs.PoolFrames.{frames_of}
 use Rattle.bl_stage.specs.PieceStates.{PieceState, lacks, has, waiting_pieces}
-use Rattle.bl_session.specs.declared.attempt.ticket.Ticket.{Ticket}
+use Rattle.bl_store.specs.declared.ticket.Ticket.{Ticket}
 use Rattle.bl_session.specs.attempt.AwaitedTickets.{ticket_of, first_awaited_piece, first_ticket}
 use Rattle.bl_session.specs.attempt.AwaitedTickets.{ticket_or}
 use Rattle.bl_session.specs.attempt.AwaitedPieces.{is_awaited, awaits, piece_state_of, with_piece}

@@ -9,7 +9,7 @@ use Rattle.std.proofs.lemmas.Bool.{cases_lt}
 use Rattle.bl_stage.specs.Staged.{Staging}
 use Rattle.bl_stage.specs.Pieces.{is_missing}
 use Rattle.bl_stage.specs.PieceStates.{PieceState, lacks, has, piece_states}
-use Rattle.bl_session.specs.declared.attempt.ticket.Ticket.{Ticket}
+use Rattle.bl_store.specs.declared.ticket.Ticket.{Ticket}
 use Rattle.bl_session.specs.attempt.AwaitedPieces.{is_awaited, piece_state_of, with_piece}
 use Rattle.bl_session.specs.attempt.AwaitedTickets.{ticket_of, first_awaited_piece, first_ticket}
 use Rattle.bl_session.specs.attempt.AwaitedTickets.{ticket_or}

@@ -9,9 +9,10 @@ use Rattle.bl_map.specs.PoolFrames.{frames_of}
 use Rattle.bl_load.specs.declared.refused_entry.RefusedEntry.{RefusedEntry}
 use Rattle.bl_stage.specs.Staged.{Staging}
 use Rattle.bl_stage.specs.PieceStates.{PieceState, lacks, has, piece_states}
-use Rattle.bl_session.specs.declared.attempt.ticket.Ticket.{Ticket}
+use Rattle.bl_store.specs.declared.ticket.Ticket.{Ticket}
 use Rattle.bl_session.specs.attempt.AwaitedPieces.{is_awaited, piece_state_of, are_whole}
-use Rattle.bl_session.specs.session.BootSteps.{fault, is_wanted}
+use Rattle.bl_session.specs.session.BootSteps.{is_wanted}
+use Rattle.bl_store.specs.Events.{fault}
 use Rattle.bl_session.specs.attempt.AwaitedTickets.{ticket_of, first_awaited_piece, first_ticket}
 use Rattle.bl_session.specs.attempt.AwaitedTickets.{ticket_or}
 use Rattle.bl_session.proofs.attempt_lemmas.PieceStateLemmas.{length-piece_states_of}

@@ -12,7 +12,7 @@ use Rattle.bl_stage.specs.Pieces.{is_missing, slot_in}
 use Rattle.bl_stage.specs.PieceStates as stage
 use Rattle.bl_stage.specs.PieceStates.{PieceState, piece_states, piece_of}
 use Rattle.bl_session.specs.declared.attempt.request.Request.{Request}
-use Rattle.bl_session.specs.declared.attempt.ticket.Ticket.{Ticket}
+use Rattle.bl_store.specs.declared.ticket.Ticket.{Ticket}
 use Rattle.bl_session.specs.session.BootSteps.{BootFacts}
 use Rattle.bl_session.specs.menu.Menu.{entry_at}
 use Rattle.bl_session.specs.session.Phases.{PhaseFacts, waits, state_at}

@@ -13,7 +13,8 @@ use Rattle.bl_session.specs.attempt.AttemptResult.{size_refusal}
 use Rattle.bl_session.specs.attempt.AttemptResult.{known_lengths}
 use Rattle.bl_session.specs.menu.Menu.{MenuFacts, entry_at, value_with}
 use Rattle.bl_session.specs.attempt.AwaitedPieces.{are_whole, waiting_files, with_piece}
-use Rattle.bl_session.specs.session.BootSteps.{BootFacts, EventFacts, piece, fault, State}
+use Rattle.bl_session.specs.session.BootSteps.{BootFacts, State}
+use Rattle.bl_store.specs.Events.{EventFacts, piece, fault}
 use Rattle.bl_session.specs.session.BootSteps.{unstarted}
 use Rattle.bl_session.specs.session.BootSteps.{running}
 use Rattle.bl_session.specs.session.BootSteps.{handed_over, none_left, out_of_memory, sizes_of}
@@ -22,9 +23,9 @@ use Rattle.bl_session.specs.session.BootSteps.{TextsHaveResult, RestOfBoot, Afte
 use Rattle.bl_session.specs.session.BootSteps.{BeginsUnless, Begins, is_wanted, TakesEvent, StepsTo}
 use Rattle.bl_session.specs.session.BootSteps.{StepsToOrFails}
 use Rattle.bl_session.specs.session.BootSteps.{Starts, StartsOrFails, attempt_number}
-use Rattle.bl_session.specs.store.History.{HistoryItem}
-use Rattle.bl_session.specs.store.Submissions.{submissions_for_files, attempt_submissions}
-use Rattle.bl_session.specs.store.Submissions.{new_submissions}
+use Rattle.bl_store.specs.History.{HistoryItem}
+use Rattle.bl_session.specs.session.Submissions.{submissions_for_files, attempt_submissions}
+use Rattle.bl_session.specs.session.Submissions.{new_submissions}
 
 -- equal machines and menus, and equal sizes wherever an entry looks
 pub record AreAlike (f g : BootFacts) : Type 0 where

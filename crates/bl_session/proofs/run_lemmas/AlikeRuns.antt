@@ -8,7 +8,7 @@ use Rattle.bl_stage.specs.Files.{File, missing, size_of}
 use Rattle.bl_session.specs.menu.Menu.{EntryFacts, MenuFacts, entry_at, no_entry}
 use Rattle.bl_session.specs.menu.NamedFiles.{index_bound, named_file_count}
 use Rattle.bl_session.specs.session.BootSteps.{BootFacts, State, unstarted}
-use Rattle.bl_session.specs.store.History.{HistoryItem}
+use Rattle.bl_store.specs.History.{HistoryItem}
 use Rattle.bl_session.specs.runs.Run.{RunState, run_state_of, Delivers, ItemsLeadTo, IsRun}
 use Rattle.bl_session.specs.session.Phases.{boot_facts}
 use Rattle.bl_session.proofs.attempt_lemmas.EntryEndLemmas.{size_at}

@@ -6,18 +6,19 @@ use Rattle.std.specs.declared.ops.Range.{Range}
 use Rattle.bl_stage.specs.Ranges.{IsSameOutside}
 use Rattle.bl_stage.specs.PieceStates.{piece_states}
 use Rattle.bl_stage.specs.Files.{File}
-use Rattle.bl_session.specs.declared.attempt.ticket.Ticket.{Ticket}
+use Rattle.bl_store.specs.declared.ticket.Ticket.{Ticket}
 use Rattle.bl_session.specs.declared.session.outcome.Progress.{Progress}
 use Rattle.bl_session.specs.declared.session.outcome.Progress.TheVariants.{Waiting}
-use Rattle.bl_session.specs.session.BootSteps.{BootFacts, EventFacts, piece, fault, State}
+use Rattle.bl_session.specs.session.BootSteps.{BootFacts, State}
+use Rattle.bl_store.specs.Events.{EventFacts, piece, fault}
 use Rattle.bl_session.specs.session.BootSteps.{StepsToOrFails}
 use Rattle.bl_session.specs.session.BootSteps.{attempt_number, is_running, progress}
-use Rattle.bl_session.specs.store.History.{HistoryItem, came, failed, nothing, file_under}
-use Rattle.bl_session.specs.store.History.{IsPieceOf, IsItemOfAnswer}
-use Rattle.bl_session.specs.store.Stores.{event_of}
-use Rattle.bl_session.specs.declared.store.Completion.{Completion}
-use Rattle.bl_session.specs.declared.store.Completion.TheVariants.{Piece, Fault}
-use Rattle.bl_session.specs.store.Submissions.{attempt_submissions, new_submissions}
+use Rattle.bl_store.specs.History.{HistoryItem, came, failed, nothing, file_under}
+use Rattle.bl_store.specs.History.{IsPieceOf, IsItemOfAnswer}
+use Rattle.bl_store.specs.Stores.{event_of}
+use Rattle.bl_store.specs.declared.store.Completion.{Completion}
+use Rattle.bl_store.specs.declared.store.Completion.TheVariants.{Piece, Fault}
+use Rattle.bl_session.specs.session.Submissions.{attempt_submissions, new_submissions}
 use Rattle.bl_session.specs.session.BootMemory.{IsMemoryAt}
 use Rattle.bl_session.specs.session.Phases.{PhaseFacts, not_started, waits, hands_over, has_none}
 use Rattle.bl_session.specs.session.Phases.{lacks_memory, state_at, is_waiting}

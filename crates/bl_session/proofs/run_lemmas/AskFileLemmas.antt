@@ -7,11 +7,11 @@ use Rattle.bl_map.specs.PoolFrames.{frames_of}
 use Rattle.bl_load.specs.declared.refused_entry.RefusedEntry.{RefusedEntry}
 use Rattle.bl_stage.specs.Staged.{Staging}
 use Rattle.bl_stage.specs.PieceStates.{PieceState, piece_states, piece_states_of}
-use Rattle.bl_session.specs.store.History.{HistoryItem}
+use Rattle.bl_store.specs.History.{HistoryItem}
 use Rattle.bl_session.specs.session.BootSteps.{BootFacts}
 use Rattle.bl_session.specs.menu.Menu.{entry_at}
-use Rattle.bl_session.specs.store.Submissions.{piece_submissions, submissions_for_files}
-use Rattle.bl_session.specs.store.Submissions.{attempt_submissions}
+use Rattle.bl_session.specs.session.Submissions.{piece_submissions, submissions_for_files}
+use Rattle.bl_session.specs.session.Submissions.{attempt_submissions}
 use Rattle.bl_session.specs.session.Phases.{PhaseFacts, waits, state_at}
 use Rattle.bl_session.specs.internal.runs.RunParts.{AreAskedButRest, AreSubmitted}
 use Rattle.bl_session.proofs.attempt_lemmas.PieceStateLemmas.{length-piece_states_of}

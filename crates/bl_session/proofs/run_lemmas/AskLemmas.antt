@@ -3,9 +3,9 @@ use Rattle.std.proofs.Common.{◌≡◌, ℕ, ◌+◌, ◌<◌, ◌≤◌, List,
 use Rattle.std.proofs.Common.{ap, subst, ◌∙◌, arith, append_assoc}
 use Rattle.std.proofs.lemmas.List.{append-nil, drop_more, drop_all}
 use Rattle.std.proofs.lemmas.List.FromFn.{length-map-range_with_len, get_or-map-range_with_len}
-use Rattle.bl_session.specs.store.History.{HistoryItem, submitted, nothing}
+use Rattle.bl_store.specs.History.{HistoryItem, submitted, nothing}
 use Rattle.bl_session.specs.attempt.AwaitedTickets.{ticket_of}
-use Rattle.bl_session.specs.store.Submissions.{piece_submissions, attempt_submissions}
+use Rattle.bl_session.specs.session.Submissions.{piece_submissions, attempt_submissions}
 use Rattle.bl_session.specs.internal.runs.RunParts.{AreAskedButRest}
 
 -- ---- one part of the orders after the other

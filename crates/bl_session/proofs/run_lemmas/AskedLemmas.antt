@@ -6,16 +6,17 @@ use Rattle.std.proofs.lemmas.Bool.Decides.{nat_tests}
 use Rattle.std.proofs.lemmas.List.{append-nil}
 use Rattle.bl_load.specs.declared.refused_entry.RefusedEntry.{RefusedEntry}
 use Rattle.bl_stage.specs.PieceStates.{PieceState}
-use Rattle.bl_session.specs.declared.attempt.ticket.Ticket.{Ticket}
+use Rattle.bl_store.specs.declared.ticket.Ticket.{Ticket}
 use Rattle.bl_session.specs.menu.Menu.{entry_at}
 use Rattle.bl_session.specs.attempt.AwaitedPieces.{with_piece}
-use Rattle.bl_session.specs.session.BootSteps.{BootFacts, EventFacts, State, unstarted, running}
+use Rattle.bl_session.specs.session.BootSteps.{BootFacts, State, unstarted, running}
+use Rattle.bl_store.specs.Events.{EventFacts}
 use Rattle.bl_session.specs.session.BootSteps.{handed_over}
 use Rattle.bl_session.specs.session.BootSteps.{none_left, out_of_memory, StepsTo, attempt_number}
-use Rattle.bl_session.specs.store.History.{HistoryItem, file_under}
+use Rattle.bl_store.specs.History.{HistoryItem, file_under}
 use Rattle.bl_session.specs.attempt.AwaitedTickets.{ticket_of}
-use Rattle.bl_session.specs.store.Submissions.{attempt_submissions, new_submissions}
-use Rattle.bl_session.proofs.store_lemmas.TicketLemmas.{file_both}
+use Rattle.bl_session.specs.session.Submissions.{attempt_submissions, new_submissions}
+use Rattle.bl_store.proofs.TicketLemmas.{file_both}
 use Rattle.bl_session.proofs.run_lemmas.OrderLemmas.{found_files}
 use Rattle.bl_session.proofs.attempt_lemmas.AwaitedLemmas.{as_many_files, as_many_pieces}
 use Rattle.bl_session.proofs.run_lemmas.WentLemmas.{IsNewFrom, step_went, fresh_length}

@@ -6,19 +6,20 @@ use Rattle.bl_load.specs.declared.refused_entry.RefusedEntry.{RefusedEntry}
 use Rattle.bl_stage.specs.PieceStates.{PieceState, lacks, piece_of}
 use Rattle.bl_stage.proofs.PieceStateLemmas.{piece_long}
 use Rattle.bl_stage.specs.Files.{File, size_of}
-use Rattle.bl_session.specs.declared.attempt.ticket.Ticket.{Ticket}
+use Rattle.bl_store.specs.declared.ticket.Ticket.{Ticket}
 use Rattle.bl_session.specs.attempt.AwaitedPieces.{is_awaited, awaits, piece_state_of}
-use Rattle.bl_session.specs.session.BootSteps.{BootFacts, EventFacts, piece, fault, running}
+use Rattle.bl_session.specs.session.BootSteps.{BootFacts, running}
+use Rattle.bl_store.specs.Events.{EventFacts, piece, fault}
 use Rattle.bl_session.specs.session.BootSteps.{is_wanted}
-use Rattle.bl_session.specs.store.History.{HistoryItem, submitted, came, failed, nothing, is_same}
-use Rattle.bl_session.specs.store.History.{file_under}
-use Rattle.bl_session.specs.store.History.{IsPieceOf}
+use Rattle.bl_store.specs.History.{HistoryItem, submitted, came, failed, nothing, is_same}
+use Rattle.bl_store.specs.History.{file_under}
+use Rattle.bl_store.specs.History.{IsPieceOf}
 use Rattle.bl_session.specs.session.Schedules.{EventAgreesWithFaults}
 use Rattle.bl_session.specs.attempt.AwaitedTickets.{first_ticket}
 use Rattle.bl_session.specs.runs.Run.{IsAnswer, IsMarked}
-use Rattle.bl_session.specs.store.Faithful.{times_asked, times_answered, HasPiece, IsFaithfulItem}
-use Rattle.bl_session.proofs.store_lemmas.TicketLemmas.{both, IsAskedOnce, same_ticket}
-use Rattle.bl_session.proofs.store_lemmas.TicketLemmas.{other_ticket}
+use Rattle.bl_store.specs.Faithful.{times_asked, times_answered, HasPiece, IsFaithfulItem}
+use Rattle.bl_store.proofs.TicketLemmas.{both, IsAskedOnce, same_ticket}
+use Rattle.bl_store.proofs.TicketLemmas.{other_ticket}
 use Rattle.bl_session.proofs.attempt_lemmas.AwaitedLemmas.{first_is_awaited, awaits_is_awaited}
 use Rattle.bl_session.proofs.run_lemmas.SteadyLemmas.{file_at, Steady, text_at, awaited_piece}
 

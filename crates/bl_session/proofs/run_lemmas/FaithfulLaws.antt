@@ -3,15 +3,16 @@ use Rattle.std.proofs.Common.{◌≡◌, List, [], ◌∷◌, ◌++◌, map, Non
 use Rattle.std.proofs.Common.{inr, length, append_assoc}
 use Rattle.std.proofs.lemmas.List.{append-nil}
 use Rattle.bl_stage.specs.Files.{File, size_of}
-use Rattle.bl_session.specs.session.BootSteps.{BootFacts, EventFacts, State, unstarted, running}
+use Rattle.bl_session.specs.session.BootSteps.{BootFacts, State, unstarted, running}
+use Rattle.bl_store.specs.Events.{EventFacts}
 use Rattle.bl_session.specs.session.BootSteps.{handed_over}
 use Rattle.bl_session.specs.session.BootSteps.{none_left, out_of_memory, StepsToOrFails}
 use Rattle.bl_session.specs.session.BootSteps.{StartsOrFails}
-use Rattle.bl_session.specs.store.History.{HistoryItem}
-use Rattle.bl_session.specs.store.Submissions.{attempt_submissions, new_submissions}
+use Rattle.bl_store.specs.History.{HistoryItem}
+use Rattle.bl_session.specs.session.Submissions.{attempt_submissions, new_submissions}
 use Rattle.bl_session.specs.runs.Run.{RunState, IsEventOf, IsGenuineItem, IsGenuineRun}
 use Rattle.bl_session.specs.runs.Run.{EachAnswerIs}
-use Rattle.bl_session.specs.store.Faithful.{IsFaithfulItem, IsFaithfulAfter, IsFaithful}
+use Rattle.bl_store.specs.Faithful.{IsFaithfulItem, IsFaithfulAfter, IsFaithful}
 use Rattle.bl_session.proofs.run_lemmas.SteadyLemmas.{Steady, steady_new}
 use Rattle.bl_session.proofs.run_lemmas.WentLemmas.{new_begins}
 use Rattle.bl_session.proofs.run_lemmas.AwaitedAnswers.{tell_true}

@@ -4,13 +4,14 @@ use Rattle.std.proofs.Common.{length, refl, sym, ap, subst, ◌∙◌, inl, inr,
 use Rattle.bl_load.specs.declared.refused_entry.RefusedEntry.{RefusedEntry}
 use Rattle.bl_stage.specs.PieceStates.{PieceState}
 use Rattle.bl_stage.specs.Files.{File}
-use Rattle.bl_session.specs.session.BootSteps.{BootFacts, EventFacts, State, unstarted, running}
+use Rattle.bl_session.specs.session.BootSteps.{BootFacts, State, unstarted, running}
+use Rattle.bl_store.specs.Events.{EventFacts}
 use Rattle.bl_session.specs.session.BootSteps.{handed_over}
 use Rattle.bl_session.specs.session.BootSteps.{none_left, out_of_memory, is_wanted, TakesEvent}
 use Rattle.bl_session.specs.session.BootSteps.{StepsTo}
 use Rattle.bl_session.specs.session.Schedules.{Faults, EventAgreesWithFaults}
-use Rattle.bl_session.specs.store.History.{HistoryItem}
-use Rattle.bl_session.specs.store.Submissions.{new_submissions}
+use Rattle.bl_store.specs.History.{HistoryItem}
+use Rattle.bl_session.specs.session.Submissions.{new_submissions}
 use Rattle.bl_session.specs.runs.Run.{IsAnswer, RunState, Delivers, IsMarked, IsGenuineItem}
 use Rattle.bl_session.specs.runs.Run.{EachAnswerIs}
 use Rattle.bl_session.proofs.session_lemmas.BootLaws.{one_step}

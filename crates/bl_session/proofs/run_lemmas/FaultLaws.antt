@@ -1,12 +1,13 @@
 -- A history whose wanted pieces are marked is genuine, with the faults that came of it.
 use Rattle.std.proofs.Common.{◌≡◌, List, [], ◌∷◌, ◌++◌, None, refl, sym, ap, subst, ◌∙◌, inl, inr}
 use Rattle.bl_stage.specs.Files.{File}
-use Rattle.bl_session.specs.session.BootSteps.{BootFacts, EventFacts, State, unstarted, running}
+use Rattle.bl_session.specs.session.BootSteps.{BootFacts, State, unstarted, running}
+use Rattle.bl_store.specs.Events.{EventFacts}
 use Rattle.bl_session.specs.session.BootSteps.{handed_over}
 use Rattle.bl_session.specs.session.BootSteps.{none_left, out_of_memory, StartsOrFails}
 use Rattle.bl_session.specs.session.Schedules.{Faults}
-use Rattle.bl_session.specs.store.History.{HistoryItem}
-use Rattle.bl_session.specs.store.Submissions.{attempt_submissions}
+use Rattle.bl_store.specs.History.{HistoryItem}
+use Rattle.bl_session.specs.session.Submissions.{attempt_submissions}
 use Rattle.bl_session.specs.runs.Run.{IsEventOf, RunState, run_state_of, Delivers, ItemsLeadTo}
 use Rattle.bl_session.specs.runs.Run.{IsRun}
 use Rattle.bl_session.specs.runs.Run.{IsGenuineRun}

@@ -9,12 +9,13 @@ use Rattle.bl_stage.specs.PieceStates.{PieceState, came_bytes}
 use Rattle.bl_stage.specs.Files.{File}
 use Rattle.bl_session.specs.attempt.AttemptResult.{AttemptResult, refused}
 use Rattle.bl_session.specs.attempt.AwaitedPieces.{are_whole, with_piece}
-use Rattle.bl_session.specs.session.BootSteps.{BootFacts, EventFacts, piece, fault, State, running}
+use Rattle.bl_session.specs.session.BootSteps.{BootFacts, State, running}
+use Rattle.bl_store.specs.Events.{EventFacts, piece, fault}
 use Rattle.bl_session.specs.session.BootSteps.{TextsHaveResult, AfterAttempt, Begins, TakesEvent}
 use Rattle.bl_session.specs.session.Schedules.{Faults, EventAgreesWithFaults}
-use Rattle.bl_session.specs.store.History.{HistoryItem, submitted, came, failed, nothing}
-use Rattle.bl_session.specs.store.History.{file_under}
-use Rattle.bl_session.specs.store.History.{IsPieceOf}
+use Rattle.bl_store.specs.History.{HistoryItem, submitted, came, failed, nothing}
+use Rattle.bl_store.specs.History.{file_under}
+use Rattle.bl_store.specs.History.{IsPieceOf}
 use Rattle.bl_session.specs.runs.Run.{IsAnswer, IsMarked}
 use Rattle.bl_session.proofs.run_lemmas.WentLemmas.{IsNewFrom, new_begins, new_goes}
 

@@ -7,17 +7,18 @@ use Rattle.std.proofs.lemmas.List.{get_or_past, get_or-map}
 use Rattle.bl_load.specs.declared.refused_entry.RefusedEntry.{RefusedEntry}
 use Rattle.bl_stage.specs.PieceStates.{PieceState, has, piece_of}
 use Rattle.bl_stage.specs.Files.{File, missing, file_bytes}
-use Rattle.bl_session.specs.declared.attempt.ticket.Ticket.{Ticket}
+use Rattle.bl_store.specs.declared.ticket.Ticket.{Ticket}
 use Rattle.bl_session.specs.menu.Menu.{entry_at}
 use Rattle.bl_session.specs.attempt.AwaitedPieces.{awaits, piece_state_of}
-use Rattle.bl_session.specs.session.BootSteps.{BootFacts, EventFacts, piece, running, is_wanted}
+use Rattle.bl_session.specs.session.BootSteps.{BootFacts, running, is_wanted}
+use Rattle.bl_store.specs.Events.{EventFacts, piece}
 use Rattle.bl_session.specs.menu.EntryContents.{texts_of}
 use Rattle.bl_session.specs.session.Schedules.{IsGenuineEvent, EventAgreesWithFaults}
-use Rattle.bl_session.specs.store.History.{HistoryItem, submitted, came, failed, nothing}
-use Rattle.bl_session.specs.store.History.{file_under}
-use Rattle.bl_session.specs.store.History.{IsPieceOf}
+use Rattle.bl_store.specs.History.{HistoryItem, submitted, came, failed, nothing}
+use Rattle.bl_store.specs.History.{file_under}
+use Rattle.bl_store.specs.History.{IsPieceOf}
 use Rattle.bl_session.specs.runs.Run.{IsEventOf, IsGenuineItem}
-use Rattle.bl_session.proofs.store_lemmas.TicketLemmas.{both, file_both}
+use Rattle.bl_store.proofs.TicketLemmas.{both, file_both}
 use Rattle.bl_session.proofs.run_lemmas.AskedLemmas.{AreAsked}
 
 -- ---- what is wanted

@@ -6,7 +6,8 @@ use Rattle.bl_load.specs.declared.refused_entry.RefusedEntry.{RefusedEntry}
 use Rattle.bl_stage.specs.PieceStates.{PieceState, piece_states}
 use Rattle.bl_session.specs.declared.session.outcome.Progress.{Progress}
 use Rattle.bl_session.specs.declared.session.outcome.Progress.TheVariants.{Waiting}
-use Rattle.bl_session.specs.session.BootSteps.{BootFacts, EventFacts, unstarted, running, is_taken}
+use Rattle.bl_session.specs.session.BootSteps.{BootFacts, unstarted, running, is_taken}
+use Rattle.bl_store.specs.Events.{EventFacts}
 use Rattle.bl_session.specs.session.BootSteps.{StepsToOrFails, attempt_number, progress}
 use Rattle.bl_session.specs.session.BootMemory.{IsMemoryAt}
 use Rattle.bl_session.specs.session.Phases.{SessionFacts, PhaseFacts, not_started, waits}

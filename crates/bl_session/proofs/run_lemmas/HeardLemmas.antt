@@ -6,22 +6,23 @@ use Rattle.std.proofs.lemmas.List.{append-nil}
 use Rattle.bl_load.specs.declared.refused_entry.RefusedEntry.{RefusedEntry}
 use Rattle.bl_stage.specs.PieceStates.{PieceState}
 use Rattle.bl_stage.specs.Files.{File, size_of}
-use Rattle.bl_session.specs.declared.attempt.ticket.Ticket.{Ticket}
+use Rattle.bl_store.specs.declared.ticket.Ticket.{Ticket}
 use Rattle.bl_session.specs.attempt.AwaitedPieces.{is_awaited, piece_state_of, with_piece}
-use Rattle.bl_session.specs.session.BootSteps.{BootFacts, EventFacts, piece, fault, State}
+use Rattle.bl_session.specs.session.BootSteps.{BootFacts, State}
+use Rattle.bl_store.specs.Events.{EventFacts, piece, fault}
 use Rattle.bl_session.specs.session.BootSteps.{unstarted}
 use Rattle.bl_session.specs.session.BootSteps.{running}
 use Rattle.bl_session.specs.session.BootSteps.{handed_over, none_left, out_of_memory, StepsTo}
 use Rattle.bl_session.specs.session.BootSteps.{StepsToOrFails}
-use Rattle.bl_session.specs.store.History.{HistoryItem, submitted, came, failed, nothing}
-use Rattle.bl_session.specs.store.History.{file_under}
-use Rattle.bl_session.specs.store.History.{IsPieceOf}
-use Rattle.bl_session.specs.store.Submissions.{attempt_submissions, new_submissions}
+use Rattle.bl_store.specs.History.{HistoryItem, submitted, came, failed, nothing}
+use Rattle.bl_store.specs.History.{file_under}
+use Rattle.bl_store.specs.History.{IsPieceOf}
+use Rattle.bl_session.specs.session.Submissions.{attempt_submissions, new_submissions}
 use Rattle.bl_session.specs.runs.Run.{IsAnswer}
-use Rattle.bl_session.specs.store.Faithful.{IsFaithfulItem}
-use Rattle.bl_session.proofs.store_lemmas.TicketLemmas.{IsUntouched, same_ticket, other_ticket}
-use Rattle.bl_session.proofs.store_lemmas.TicketLemmas.{untouched_both}
-use Rattle.bl_session.proofs.store_lemmas.TicketLemmas.{once_first}
+use Rattle.bl_store.specs.Faithful.{IsFaithfulItem}
+use Rattle.bl_store.proofs.TicketLemmas.{IsUntouched, same_ticket, other_ticket}
+use Rattle.bl_store.proofs.TicketLemmas.{untouched_both}
+use Rattle.bl_store.proofs.TicketLemmas.{once_first}
 use Rattle.bl_session.proofs.run_lemmas.OrderLemmas.{untouched_piece, untouched_fault}
 use Rattle.bl_session.proofs.run_lemmas.WentLemmas.{IsNewFrom, step_went}
 use Rattle.bl_session.proofs.attempt_lemmas.AwaitedLemmas.{still_awaited}

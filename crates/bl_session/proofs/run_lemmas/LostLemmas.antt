@@ -3,8 +3,8 @@ use Rattle.std.proofs.Common.{◌≡◌, ◌==◌, Bool, true, false, if◌then�
 use Rattle.std.proofs.Common.{subst, ◌∙◌}
 use Rattle.bl_stage.specs.Files.{File}
 use Rattle.bl_session.specs.session.BootSteps.{BootFacts, State, out_of_memory, attempt_number}
-use Rattle.bl_session.specs.store.History.{HistoryItem}
-use Rattle.bl_session.specs.store.Submissions.{attempt_submissions, new_submissions}
+use Rattle.bl_store.specs.History.{HistoryItem}
+use Rattle.bl_session.specs.session.Submissions.{attempt_submissions, new_submissions}
 use Rattle.bl_session.specs.runs.Run.{RunState, Delivers, ItemsLeadTo}
 
 -- memory ran out, and nothing is to be asked for

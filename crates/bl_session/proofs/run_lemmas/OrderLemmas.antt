@@ -5,15 +5,15 @@ use Rattle.std.specs.List.{range_with_len}
 use Rattle.std.proofs.lemmas.Bool.{cases_lt}
 use Rattle.std.proofs.lemmas.List.{get_or_past}
 use Rattle.bl_stage.specs.PieceStates.{PieceState}
-use Rattle.bl_session.specs.declared.attempt.ticket.Ticket.{Ticket}
-use Rattle.bl_session.specs.store.History.{HistoryItem, submitted, came, failed, is_same}
-use Rattle.bl_session.specs.store.History.{last_submitted_file}
+use Rattle.bl_store.specs.declared.ticket.Ticket.{Ticket}
+use Rattle.bl_store.specs.History.{HistoryItem, submitted, came, failed, is_same}
+use Rattle.bl_store.specs.History.{last_submitted_file}
 use Rattle.bl_session.specs.attempt.AwaitedTickets.{ticket_of}
-use Rattle.bl_session.specs.store.Submissions.{piece_submissions, submissions_for_files}
-use Rattle.bl_session.proofs.store_lemmas.TicketLemmas.{same_fields, is_same_self, other_ticket}
-use Rattle.bl_session.proofs.store_lemmas.TicketLemmas.{IsUntouched}
-use Rattle.bl_session.proofs.store_lemmas.TicketLemmas.{IsAskedOnce, untouched_both, once_first}
-use Rattle.bl_session.proofs.store_lemmas.TicketLemmas.{once_last}
+use Rattle.bl_session.specs.session.Submissions.{piece_submissions, submissions_for_files}
+use Rattle.bl_store.proofs.TicketLemmas.{same_fields, is_same_self, other_ticket}
+use Rattle.bl_store.proofs.TicketLemmas.{IsUntouched}
+use Rattle.bl_store.proofs.TicketLemmas.{IsAskedOnce, untouched_both, once_first}
+use Rattle.bl_store.proofs.TicketLemmas.{once_last}
 
 -- ---- one order
 

@@ -11,9 +11,9 @@ use Rattle.bl_session.specs.session.BootSteps.{BootFacts, State, unstarted, out_
 use Rattle.bl_session.specs.session.BootSteps.{is_running, StartsOrFails}
 use Rattle.bl_session.specs.menu.NamedFiles.{named_file_count}
 use Rattle.bl_session.specs.menu.Menu.{MenuFacts}
-use Rattle.bl_session.specs.store.History.{HistoryItem}
+use Rattle.bl_store.specs.History.{HistoryItem}
 use Rattle.bl_session.specs.session.BootMemory.{IsMemoryAt}
-use Rattle.bl_session.specs.store.Submissions.{attempt_submissions}
+use Rattle.bl_session.specs.session.Submissions.{attempt_submissions}
 use Rattle.bl_session.specs.session.Phases.{PhaseFacts, not_started, state_at, is_waiting}
 use Rattle.bl_session.specs.session.Phases.{boot_facts}
 use Rattle.bl_session.specs.runs.Run.{RunState, run_state_of, IsRun}

@@ -3,15 +3,16 @@ use Rattle.std.proofs.Common.{◌≡◌, ℕ, List, [], ◌∷◌, ◌++◌, len
 use Rattle.std.proofs.Common.{subst, ◌∙◌, ◌⊎◌, inl, inr, append_assoc}
 use Rattle.std.proofs.lemmas.List.{append-nil}
 use Rattle.bl_stage.specs.Files.{File, size_of}
-use Rattle.bl_session.specs.session.BootSteps.{BootFacts, EventFacts, State, unstarted, running}
+use Rattle.bl_session.specs.session.BootSteps.{BootFacts, State, unstarted, running}
+use Rattle.bl_store.specs.Events.{EventFacts}
 use Rattle.bl_session.specs.session.BootSteps.{handed_over}
 use Rattle.bl_session.specs.session.BootSteps.{none_left, out_of_memory, Begins, StepsTo}
 use Rattle.bl_session.specs.session.BootSteps.{StartsOrFails}
 use Rattle.bl_session.specs.session.BootSteps.{LeadsTo}
 use Rattle.bl_session.specs.session.Schedules.{IsGenuineAt, IsGenuine}
 use Rattle.bl_session.specs.session.Outcome.{IsOutcome, HasEnded}
-use Rattle.bl_session.specs.store.History.{HistoryItem}
-use Rattle.bl_session.specs.store.Submissions.{attempt_submissions}
+use Rattle.bl_store.specs.History.{HistoryItem}
+use Rattle.bl_session.specs.session.Submissions.{attempt_submissions}
 use Rattle.bl_session.specs.runs.Run.{IsEventOf, RunState, run_state_of, Delivers, ItemsLeadTo}
 use Rattle.bl_session.specs.runs.Run.{IsRun}
 use Rattle.bl_session.specs.runs.Run.{IsGenuineItem}

@@ -4,19 +4,19 @@ use Rattle.std.proofs.Common.{get_or, None, refl, ap, ◌∙◌, arith}
 use Rattle.std.proofs.lemmas.List.{get_or-map}
 use Rattle.bl_stage.specs.PieceStates.{lacks}
 use Rattle.bl_stage.specs.Files.{File, missing, size_of, file_bytes}
-use Rattle.bl_session.specs.declared.attempt.ticket.Ticket.{Ticket}
+use Rattle.bl_store.specs.declared.ticket.Ticket.{Ticket}
 use Rattle.bl_session.specs.attempt.AttemptResult.{size_refusal, known_lengths}
 use Rattle.bl_session.specs.menu.Menu.{entry_at}
 use Rattle.bl_session.specs.attempt.AwaitedPieces.{is_awaited, piece_state_of}
 use Rattle.bl_session.specs.session.BootSteps.{BootFacts, State, unstarted, running, handed_over}
 use Rattle.bl_session.specs.session.BootSteps.{none_left}
 use Rattle.bl_session.specs.session.BootSteps.{out_of_memory, sizes_of, fresh}
-use Rattle.bl_session.specs.store.History.{HistoryItem}
+use Rattle.bl_store.specs.History.{HistoryItem}
 use Rattle.bl_session.specs.menu.EntryContents.{texts_of}
-use Rattle.bl_session.specs.store.Submissions.{attempt_submissions, submissions_for_files}
+use Rattle.bl_session.specs.session.Submissions.{attempt_submissions, submissions_for_files}
 use Rattle.bl_session.proofs.attempt_lemmas.EntryEndLemmas.{are_read, length_read}
-use Rattle.bl_session.proofs.store_lemmas.TicketLemmas.{IsUntouched, IsAskedOnce, untouched_both}
-use Rattle.bl_session.proofs.store_lemmas.TicketLemmas.{once_last}
+use Rattle.bl_store.proofs.TicketLemmas.{IsUntouched, IsAskedOnce, untouched_both}
+use Rattle.bl_store.proofs.TicketLemmas.{once_last}
 use Rattle.bl_session.proofs.run_lemmas.OrderLemmas.{untouched_files, once_files}
 use Rattle.bl_session.proofs.run_lemmas.WentLemmas.{IsNewFrom, fresh_length}
 use Rattle.bl_session.proofs.attempt_lemmas.AwaitedLemmas.{is_piece}

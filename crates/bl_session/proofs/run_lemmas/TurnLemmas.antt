@@ -4,13 +4,14 @@ use Rattle.std.proofs.Common.{◌∷◌, ◌++◌, length, refl, sym, ap, subst,
 use Rattle.std.proofs.lemmas.List.{append-nil}
 use Rattle.bl_stage.specs.Files.{File}
 use Rattle.bl_session.specs.declared.session.outcome.Progress.TheVariants.{Waiting, Next}
-use Rattle.bl_session.specs.session.BootSteps.{BootFacts, EventFacts, State, unstarted, running}
+use Rattle.bl_session.specs.session.BootSteps.{BootFacts, State, unstarted, running}
+use Rattle.bl_store.specs.Events.{EventFacts}
 use Rattle.bl_session.specs.session.BootSteps.{handed_over}
 use Rattle.bl_session.specs.session.BootSteps.{none_left, out_of_memory, is_running, attempt_number}
 use Rattle.bl_session.specs.session.BootSteps.{progress}
 use Rattle.bl_session.specs.session.BootSteps.{StepsToOrFails}
-use Rattle.bl_session.specs.store.History.{HistoryItem}
-use Rattle.bl_session.specs.store.Submissions.{attempt_submissions, new_submissions}
+use Rattle.bl_store.specs.History.{HistoryItem}
+use Rattle.bl_session.specs.session.Submissions.{attempt_submissions, new_submissions}
 use Rattle.bl_session.specs.runs.Run.{RunState, run_state_of, ItemsLeadTo, IsEventOf}
 use Rattle.bl_session.specs.internal.runs.RunParts.{AreAskedButRest, LeadsOn, HistoryLeadsOn}
 

@@ -8,7 +8,8 @@ use Rattle.bl_stage.specs.PieceStates.{PieceState, came_bytes}
 use Rattle.bl_session.specs.attempt.AttemptResult.{AttemptResult, handed, refused, size_refusal}
 use Rattle.bl_session.specs.menu.Menu.{entry_at, value_with}
 use Rattle.bl_session.specs.attempt.AwaitedPieces.{are_whole, with_piece}
-use Rattle.bl_session.specs.session.BootSteps.{BootFacts, EventFacts, piece, fault, State}
+use Rattle.bl_session.specs.session.BootSteps.{BootFacts, State}
+use Rattle.bl_store.specs.Events.{EventFacts, piece, fault}
 use Rattle.bl_session.specs.session.BootSteps.{unstarted}
 use Rattle.bl_session.specs.session.BootSteps.{running}
 use Rattle.bl_session.specs.session.BootSteps.{handed_over, none_left, out_of_memory, sizes_of}

@@ -10,7 +10,8 @@ use Rattle.bl_session.specs.attempt.AttemptResult.{AttemptResult, handed, refuse
 use Rattle.bl_session.specs.attempt.AttemptResult.{HasWholeFilesResult}
 use Rattle.bl_session.specs.attempt.AttemptResult.{size_refusal}
 use Rattle.bl_session.specs.attempt.AwaitedPieces.{are_whole, with_piece}
-use Rattle.bl_session.specs.session.BootSteps.{BootFacts, EventFacts, piece, fault, State}
+use Rattle.bl_session.specs.session.BootSteps.{BootFacts, State}
+use Rattle.bl_store.specs.Events.{EventFacts, piece, fault}
 use Rattle.bl_session.specs.session.BootSteps.{unstarted}
 use Rattle.bl_session.specs.session.BootSteps.{running}
 use Rattle.bl_session.specs.session.BootSteps.{handed_over, none_left, out_of_memory, sizes_of}

@@ -8,11 +8,12 @@ use Rattle.bl_load.specs.declared.refusal.Refusal.TheVariants.{FileFault}
 use Rattle.bl_load.specs.declared.refused_entry.RefusedEntry.{RefusedEntry}
 use Rattle.bl_stage.specs.Ranges.{IsSameOutside}
 use Rattle.bl_stage.specs.PieceStates.{PieceState}
-use Rattle.bl_session.specs.declared.attempt.ticket.Ticket.{Ticket}
+use Rattle.bl_store.specs.declared.ticket.Ticket.{Ticket}
 use Rattle.bl_session.specs.declared.session.outcome.Progress.TheVariants.{Waiting, Next}
 use Rattle.bl_session.specs.attempt.AttemptResult.{refused}
 use Rattle.bl_session.specs.attempt.AwaitedPieces.{with_piece}
-use Rattle.bl_session.specs.session.BootSteps.{BootFacts, EventFacts, fault, State, unstarted}
+use Rattle.bl_session.specs.session.BootSteps.{BootFacts, State, unstarted}
+use Rattle.bl_store.specs.Events.{EventFacts, fault}
 use Rattle.bl_session.specs.session.BootSteps.{running}
 use Rattle.bl_session.specs.session.BootSteps.{handed_over, none_left, out_of_memory, is_wanted}
 use Rattle.bl_session.specs.session.BootSteps.{is_taken}

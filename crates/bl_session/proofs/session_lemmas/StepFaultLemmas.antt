@@ -6,9 +6,10 @@ use Rattle.bl_load.specs.declared.refusal.Refusal.TheVariants.{FileFault}
 use Rattle.bl_load.specs.declared.refused_entry.RefusedEntry.{RefusedEntry}
 use Rattle.bl_stage.specs.Ranges.{IsSameOutside}
 use Rattle.bl_stage.specs.PieceStates.{PieceState}
-use Rattle.bl_session.specs.declared.attempt.ticket.Ticket.{Ticket}
+use Rattle.bl_store.specs.declared.ticket.Ticket.{Ticket}
 use Rattle.bl_session.specs.attempt.AwaitedPieces.{with_piece, are_whole}
-use Rattle.bl_session.specs.session.BootSteps.{BootFacts, EventFacts, piece, fault, State}
+use Rattle.bl_session.specs.session.BootSteps.{BootFacts, State}
+use Rattle.bl_store.specs.Events.{EventFacts, piece, fault}
 use Rattle.bl_session.specs.session.BootSteps.{unstarted}
 use Rattle.bl_session.specs.session.BootSteps.{running}
 use Rattle.bl_session.specs.session.BootSteps.{handed_over, none_left, out_of_memory, Begins}

@@ -12,9 +12,10 @@ use Rattle.bl_stage.specs.Pieces.{put_answer}
 use Rattle.bl_stage.specs.declared.stage.putting.Put.{Put}
 use Rattle.bl_stage.specs.declared.stage.putting.Put.TheVariants.{Stored, Strange}
 use Rattle.bl_stage.specs.PieceStates.{PieceState, piece_states, piece_states_after_put}
-use Rattle.bl_session.specs.declared.attempt.ticket.Ticket.{Ticket}
+use Rattle.bl_store.specs.declared.ticket.Ticket.{Ticket}
 use Rattle.bl_session.specs.attempt.AwaitedPieces.{awaits, piece_state_of, with_piece, are_whole}
-use Rattle.bl_session.specs.session.BootSteps.{BootFacts, EventFacts, piece, State, running, Begins}
+use Rattle.bl_session.specs.session.BootSteps.{BootFacts, State, running, Begins}
+use Rattle.bl_store.specs.Events.{EventFacts, piece}
 use Rattle.bl_session.specs.session.BootSteps.{Continues}
 use Rattle.bl_session.specs.session.BootSteps.{StepsTo, is_wanted, ends_attempt}
 use Rattle.bl_session.specs.session.BootMemory.{IsMemoryAt}

@@ -3,7 +3,7 @@ use Rattle.std.proofs.Common.{◌≡◌, ◌≢◌, ℕ, true, false, List, Opti
 use Rattle.std.proofs.Common.{ap, drop, inl, inr, refl}
 use Rattle.bl_load.specs.declared.refusal.Refusal.TheVariants.{FileFault}
 use Rattle.bl_stage.specs.PieceStates.{piece_states}
-use Rattle.bl_session.specs.declared.attempt.ticket.Ticket.{Ticket}
+use Rattle.bl_store.specs.declared.ticket.Ticket.{Ticket}
 use Rattle.bl_session.specs.declared.session.phase.BootContext.{BootContext}
 use Rattle.bl_session.specs.declared.session.phase.Running.{Running}
 use Rattle.bl_session.specs.declared.session.phase.Phase.{Phase}
@@ -11,7 +11,8 @@ use Rattle.bl_session.specs.declared.session.phase.Phase.TheVariants.{Failed, Ha
 use Rattle.bl_session.specs.declared.session.phase.Phase.TheVariants.{Waits}
 use Rattle.bl_session.specs.declared.session.outcome.BootFault.TheVariants.{NoEntryLeft, NoMemory}
 use Rattle.bl_session.specs.declared.session.outcome.Progress.{Progress}
-use Rattle.bl_session.specs.session.BootSteps.{EventFacts, attempt_number, fault, is_taken}
+use Rattle.bl_session.specs.session.BootSteps.{attempt_number, is_taken}
+use Rattle.bl_store.specs.Events.{EventFacts, fault}
 use Rattle.bl_session.specs.session.BootSteps.{is_wanted, progress}
 use Rattle.bl_session.specs.internal.session.KeptPhases.{IsPhaseKept, facts_of_boot, phase_by}
 use Rattle.bl_session.specs.internal.session.KeptPhases.{running_in, state_in}

@@ -1,7 +1,7 @@
 -- Tickets of an attempt's pieces: which one is awaited first, or next, and what is asked for. Own.
 use Rattle.std.specs.Prelude.{ℕ, ◌+◌, List, [], ◌∷◌, drop, slice_index_or, Option, None, Some}
 use Rattle.bl_stage.specs.PieceStates.{PieceState, lacks, has}
-use Rattle.bl_session.specs.declared.attempt.ticket.Ticket.{Ticket}
+use Rattle.bl_store.specs.declared.ticket.Ticket.{Ticket}
 use Rattle.bl_session.specs.declared.attempt.request.Request.{Request}
 use Rattle.bl_session.specs.attempt.AwaitedPieces.{piece_state_of}
 

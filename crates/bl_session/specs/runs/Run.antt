@@ -4,19 +4,20 @@ use Rattle.std.specs.Prelude.{Err}
 use Rattle.bl_load.specs.declared.refused_entry.RefusedEntry.{RefusedEntry}
 use Rattle.bl_stage.specs.PieceStates.{PieceState}
 use Rattle.bl_stage.specs.Files.{File}
-use Rattle.bl_session.specs.declared.attempt.ticket.Ticket.{Ticket}
+use Rattle.bl_store.specs.declared.ticket.Ticket.{Ticket}
 use Rattle.bl_session.specs.declared.session.outcome.BootFault.{BootFault}
 use Rattle.bl_session.specs.declared.session.outcome.Outcome.{Outcome}
-use Rattle.bl_session.specs.session.BootSteps.{BootFacts, EventFacts, piece, fault, State}
+use Rattle.bl_session.specs.session.BootSteps.{BootFacts, State}
+use Rattle.bl_store.specs.Events.{EventFacts, piece, fault}
 use Rattle.bl_session.specs.session.BootSteps.{unstarted}
 use Rattle.bl_session.specs.session.BootSteps.{out_of_memory, is_running, is_wanted, StartsOrFails}
 use Rattle.bl_session.specs.session.BootSteps.{StepsToOrFails}
 use Rattle.bl_session.specs.session.BootSteps.{on_running}
 use Rattle.bl_session.specs.session.Schedules.{Faults, EventAgreesWithFaults}
-use Rattle.bl_session.specs.store.History.{HistoryItem, submitted, came, failed, nothing}
-use Rattle.bl_session.specs.store.History.{file_under}
-use Rattle.bl_session.specs.store.History.{IsPieceOf}
-use Rattle.bl_session.specs.store.Submissions.{attempt_submissions, new_submissions}
+use Rattle.bl_store.specs.History.{HistoryItem, submitted, came, failed, nothing}
+use Rattle.bl_store.specs.History.{file_under}
+use Rattle.bl_store.specs.History.{IsPieceOf}
+use Rattle.bl_session.specs.session.Submissions.{attempt_submissions, new_submissions}
 use Rattle.bl_session.specs.attempt.AwaitedTickets.{first_ticket}
 use Rattle.bl_session.specs.session.Phases.{PhaseFacts, outcome_facts, fault_facts}
 

@@ -7,7 +7,7 @@ use Rattle.bl_load.specs.declared.refusal.Refusal.TheVariants.{FileFault}
 use Rattle.bl_load.specs.Handover.{Handover}
 use Rattle.bl_load.specs.declared.refused_entry.RefusedEntry.{RefusedEntry}
 use Rattle.bl_stage.specs.PieceStates.{PieceState, came_bytes}
-use Rattle.bl_session.specs.declared.attempt.ticket.Ticket.{Ticket}
+use Rattle.bl_store.specs.Events.{EventFacts, piece, fault}
 use Rattle.bl_session.specs.declared.session.outcome.Progress.{Progress}
 use Rattle.bl_session.specs.declared.session.outcome.Progress.TheVariants.{Waiting, Next, Done}
 use Rattle.bl_session.specs.declared.session.outcome.Progress.TheVariants.{Failed}
@@ -26,11 +26,6 @@ pub record BootFacts : Type 0 where
   pub machine : MachineFacts
   pub menu : MenuFacts
   pub sizes : List (Option ℕ)
-
--- one piece came, or a fault in its place
-pub data EventFacts : Type 0 where
-  piece : Ticket → (bytes : List ℕ) → EventFacts
-  fault : Ticket → EventFacts
 
 -- where a boot stands. While an attempt runs: its entry, the entries that are left, the refusals so
 -- far (how many they are is the attempt's number), and what came of each of its files

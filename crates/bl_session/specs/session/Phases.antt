@@ -12,14 +12,12 @@ use Rattle.bl_stage.specs.PieceStates.{piece_states}
 use Rattle.bl_session.specs.declared.session.outcome.BootFault.{BootFault}
 use Rattle.bl_session.specs.declared.session.outcome.BootFault.TheVariants.{NoEntryLeft, NoMemory}
 use Rattle.bl_session.specs.declared.session.outcome.Outcome.{Outcome}
-use Rattle.bl_session.specs.declared.attempt.event.Event.{Event}
-use Rattle.bl_session.specs.declared.attempt.event.Event.TheVariants.{Piece, Fault}
 use Rattle.bl_session.specs.declared.session.phase.Running.{Running}
 use Rattle.bl_session.specs.declared.session.phase.Phase.{Phase}
 use Rattle.bl_session.specs.declared.session.phase.Phase.TheVariants.{Unstarted, Waits, HandedOver}
 use Rattle.bl_session.specs.declared.session.phase.Phase.TheVariants.{Failed}
 use Rattle.bl_session.specs.menu.Menu.{MenuFacts}
-use Rattle.bl_session.specs.session.BootSteps.{BootFacts, EventFacts, piece, fault, State}
+use Rattle.bl_session.specs.session.BootSteps.{BootFacts, State}
 use Rattle.bl_session.specs.session.BootSteps.{unstarted}
 use Rattle.bl_session.specs.session.BootSteps.{running}
 use Rattle.bl_session.specs.session.BootSteps.{handed_over, none_left, out_of_memory}
@@ -98,8 +96,3 @@ boot_facts machine menu sizes = record { machine = machine; menu = menu; sizes =
 -- each part that is handed over lies within a memory of this size
 abbrev pub LiesWithin : ℕ → HandoffFacts → Type 0
 LiesWithin size handoff = All (λ place. place.address + place.length ≤ size) handoff.places
-
--- an event as it is passed
-abbrev pub event_facts : Event → EventFacts
-event_facts (Piece ticket bytes) = piece ticket bytes.now
-event_facts (Fault ticket) = fault ticket

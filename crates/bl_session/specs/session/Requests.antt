@@ -2,7 +2,7 @@
 -- ascending, and in each of them pieces ascending. Own.
 use Rattle.std.specs.Prelude.{length, Option, None}
 use Rattle.std.specs.Prelude.{option_map}
-use Rattle.bl_session.specs.declared.attempt.ticket.Ticket.{Ticket}
+use Rattle.bl_store.specs.declared.ticket.Ticket.{Ticket}
 use Rattle.bl_session.specs.declared.attempt.request.Request.{Request}
 use Rattle.bl_session.specs.menu.Menu.{entry_at}
 use Rattle.bl_session.specs.session.BootSteps.{BootFacts, State, on_running}

@@ -5,7 +5,8 @@ use Rattle.bl_load.specs.declared.refused_entry.RefusedEntry.{RefusedEntry}
 use Rattle.bl_stage.specs.PieceStates.{PieceState, piece_of}
 use Rattle.bl_stage.specs.Files.{File}
 use Rattle.bl_session.specs.attempt.AwaitedPieces.{are_whole, with_piece}
-use Rattle.bl_session.specs.session.BootSteps.{BootFacts, EventFacts, piece, fault, State}
+use Rattle.bl_session.specs.session.BootSteps.{BootFacts, State}
+use Rattle.bl_store.specs.Events.{EventFacts, piece, fault}
 use Rattle.bl_session.specs.session.BootSteps.{is_wanted}
 use Rattle.bl_session.specs.session.BootSteps.{StepsTo}
 use Rattle.bl_session.specs.session.BootSteps.{on_running}

@@ -4,8 +4,8 @@ ghost use Rattle.bl_session.specs.internal.attempt.Cursors.{NoneMissingBelow};
 ghost use Rattle.bl_session.specs.internal.attempt.MissingPieces.{CanSearchFrom, FindsMissing};
 
 use crate::attempt::missing_pieces::missing_from;
-use crate::attempt::ticket::Ticket;
 use bl_stage::Stage;
+use bl_store::Ticket;
 use std::alloc::Allocator;
 
 /// A place among the pieces of an attempt, below which none is missing.

@@ -14,11 +14,11 @@ ghost use Rattle.bl_session.specs.attempt.AwaitedTickets.{length_awaited, reques
 ghost use Rattle.bl_session.specs.attempt.AwaitedTickets.{ticket_after};
 
 use crate::attempt::request::Request;
-use crate::attempt::ticket::Ticket;
 use crate::menu::entry_files::file_at;
 use bl_load::Entry;
 use bl_map::frames_of;
 use bl_stage::Stage;
+use bl_store::Ticket;
 use std::alloc::Allocator;
 
 /// The most bytes that a piece has.

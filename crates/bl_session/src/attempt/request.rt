@@ -1,6 +1,6 @@
 //! What is asked for: a piece, by its ticket.
 
-use crate::attempt::ticket::Ticket;
+use bl_store::Ticket;
 
 /// A piece that an attempt awaits: the index of its file in the menu, its ticket, and how many
 /// bytes it has.

@@ -5,11 +5,10 @@ ghost use Rattle.bl_session.specs.internal.runs.AnswerSteps.{WaitsInMemory, Goes
 ghost use Rattle.bl_session.specs.internal.runs.AnswerSteps.{TakesAnswer, EndsOrStops};
 ghost use Rattle.bl_session.specs.internal.runs.AnswerSteps.{EndsAllOrStops};
 
-use crate::attempt::event::Event;
 use crate::session::Session;
 use crate::session::outcome::Progress;
-use crate::store::Store;
 use bl_mem::PhysMem;
+use bl_store::{Event, Store};
 use std::alloc::{AllocError, Allocator};
 
 /// Takes one answer of the store. With nothing more to come, the first missing piece is lost.

@@ -2,16 +2,15 @@
 ghost use Rattle.std.specs.Prelude.{◌≡◌, ℕ, List, length};
 ghost use Rattle.bl_stage.specs.PieceStates.{piece_states};
 ghost use Rattle.bl_session.specs.menu.Menu.{files_of};
-ghost use Rattle.bl_session.specs.store.Submissions.{piece_submissions, submissions_for_files};
+ghost use Rattle.bl_session.specs.session.Submissions.{piece_submissions, submissions_for_files};
 ghost use Rattle.bl_session.specs.internal.attempt.MissingPieces.{HasCountablePieces};
 ghost use Rattle.bl_session.specs.internal.runs.RunParts.{AreSubmitted};
 
 use crate::attempt::missing_pieces::pieces_of;
-use crate::attempt::ticket::Ticket;
 use crate::menu::entry_files::file_at;
-use crate::store::Store;
 use bl_load::Entry;
 use bl_stage::Stage;
+use bl_store::{Store, Ticket};
 use std::alloc::{AllocError, Allocator};
 
 /// Asks for a file, one piece after the other.

@@ -1,12 +1,13 @@
 //! Laws of a boot over a store.
 ghost use Rattle.std.specs.Prelude.{◌≡◌, List, [], map, None};
 ghost use Rattle.bl_stage.specs.Files.{File, size_of};
-ghost use Rattle.bl_session.specs.session.BootSteps.{BootFacts, EventFacts, State, Begins, LeadsTo};
+ghost use Rattle.bl_session.specs.session.BootSteps.{BootFacts, State, Begins, LeadsTo};
+ghost use Rattle.bl_store.specs.Events.{EventFacts};
 ghost use Rattle.bl_session.specs.session.Schedules.{Faults, IsGenuine};
 ghost use Rattle.bl_session.specs.session.Outcome.{IsOutcome, HasEnded};
-ghost use Rattle.bl_session.specs.store.History.{HistoryItem};
+ghost use Rattle.bl_store.specs.History.{HistoryItem};
 ghost use Rattle.bl_session.specs.runs.Run.{IsRun, IsMarkedRun, IsGenuineRun};
-ghost use Rattle.bl_session.specs.store.Faithful.{IsFaithful};
+ghost use Rattle.bl_store.specs.Faithful.{IsFaithful};
 
 /// A boot over a store that answers genuinely and comes to an end ends with the first entry that
 /// is not refused, and with the refusals before it; if each entry is refused, with all

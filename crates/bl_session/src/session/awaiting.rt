@@ -1,15 +1,14 @@
 //! What a session awaits, and what it asks a store for.
 ghost use Rattle.std.specs.Prelude.{◌≡◌, ℕ, List, Some, true};
-ghost use Rattle.bl_session.specs.store.Submissions.{attempt_submissions};
+ghost use Rattle.bl_session.specs.session.Submissions.{attempt_submissions};
 ghost use Rattle.bl_session.specs.session.Phases.{state_at, is_waiting};
 ghost use Rattle.bl_session.specs.session.Requests.{first_request, request_after};
 ghost use Rattle.bl_session.specs.internal.runs.RunParts.{AreSubmitted, first_awaited_ticket};
 
 use crate::attempt::request::Request;
-use crate::attempt::ticket::Ticket;
 use crate::session::Session;
 use crate::session::phase::{BootContext, awaits_pieces};
-use crate::store::Store;
+use bl_store::{Store, Ticket};
 use std::alloc::{AllocError, Allocator};
 
 impl<'a, A: Allocator + Copy> Session<'a, A> {

@@ -1,6 +1,6 @@
 //! What a boot awaits at a phase, and what it asks a store for.
 ghost use Rattle.std.specs.Prelude.{◌≡◌, ℕ, List, Some, true};
-ghost use Rattle.bl_session.specs.store.Submissions.{attempt_submissions};
+ghost use Rattle.bl_session.specs.session.Submissions.{attempt_submissions};
 ghost use Rattle.bl_session.specs.session.Phases.{phase_facts, is_waiting};
 ghost use Rattle.bl_session.specs.internal.session.KeptPhases.{IsPhaseKept, facts_of_boot};
 ghost use Rattle.bl_session.specs.internal.session.KeptPhases.{state_in};
@@ -10,10 +10,9 @@ ghost use Rattle.bl_session.specs.internal.runs.RunParts.{AreSubmitted, first_aw
 use crate::attempt::cursor::first_missing;
 use crate::attempt::missing_pieces::{next_missing, request_of};
 use crate::attempt::request::Request;
-use crate::attempt::ticket::Ticket;
 use crate::runs::attempt_submissions::submit_files;
 use crate::session::phase::{BootContext, Phase};
-use crate::store::Store;
+use bl_store::{Store, Ticket};
 use std::alloc::{AllocError, Allocator};
 
 impl<'a, A: Allocator + Copy> BootContext<'a, A> {

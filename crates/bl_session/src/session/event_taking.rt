@@ -2,8 +2,9 @@
 ghost use Rattle.std.specs.Prelude.{◌≡◌, ◌≢◌, ◌==◌, ℕ, List, MatchBool, length};
 ghost use Rattle.bl_mem.specs.Memory.{KeepsSizeAndRoom};
 ghost use Rattle.bl_stage.specs.PieceStates.{piece_states};
-ghost use Rattle.bl_session.specs.session.BootSteps.{fault, is_wanted};
-ghost use Rattle.bl_session.specs.session.Phases.{event_facts};
+ghost use Rattle.bl_session.specs.session.BootSteps.{is_wanted};
+ghost use Rattle.bl_store.specs.Events.{fault};
+ghost use Rattle.bl_store.specs.Events.{event_facts};
 ghost use Rattle.bl_session.specs.declared.session.phase.Phase.TheVariants.{Waits};
 ghost use Rattle.bl_session.specs.internal.session.KeptPhases.{IsPhaseKept};
 ghost use Rattle.bl_session.specs.internal.session.PhaseMoves.{phase_after};
@@ -11,14 +12,13 @@ ghost use Rattle.bl_session.specs.internal.attempt.AttemptStates.{HasPoolRoom};
 ghost use Rattle.bl_session.specs.internal.session.BootCalls.{TakesEventOn};
 ghost use Rattle.bl_session.specs.internal.session.BootCalls.{HasRoomWhileWaiting, HasTakenEvent};
 
-use crate::attempt::event::Event;
-use crate::attempt::ticket::Ticket;
 use crate::session::falling_back::{continue_attempt, refuse};
 use crate::session::outcome::{BootFault, Progress};
 use crate::session::phase::{BootContext, Phase, Running, number_of, progress_of};
 use bl_load::Refusal;
 use bl_mem::PhysMem;
 use bl_stage::Put;
+use bl_store::{Event, Ticket};
 use std::alloc::{AllocError, Allocator};
 
 /// Whether a ticket is of this attempt.

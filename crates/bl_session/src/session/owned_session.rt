@@ -5,14 +5,13 @@ ghost use Rattle.bl_mem.specs.Memory.{HasRoom, KeepsSizeAndRoom};
 ghost use Rattle.bl_session.specs.session.BootSteps.{StepsToOrFails, StartsOrFails, is_taken};
 ghost use Rattle.bl_session.specs.session.BootSteps as boot;
 ghost use Rattle.bl_session.specs.session.BootMemory.{IsMemoryAt};
-ghost use Rattle.bl_session.specs.session.Phases.{boot_facts, event_facts, state_at, is_waiting};
+ghost use Rattle.bl_session.specs.session.Phases.{boot_facts, state_at, is_waiting};
+ghost use Rattle.bl_store.specs.Events.{event_facts};
 ghost use Rattle.bl_session.specs.session.Phases.{end_facts, told_end, not_started, LiesWithin};
 ghost use Rattle.bl_session.specs.session.Requests.{first_request, request_after};
 ghost use Rattle.bl_session.specs.runs.Run.{final_phase};
 
-use crate::attempt::event::Event;
 use crate::attempt::request::Request;
-use crate::attempt::ticket::Ticket;
 use crate::menu::Menu;
 use crate::session::boot_end::{boot_end, into_boot_end};
 use crate::session::event_taking::take_event;
@@ -21,6 +20,7 @@ use crate::session::phase::{BootContext, Phase, awaits_pieces};
 use crate::session::starting::begin_first;
 use bl_map::Machine;
 use bl_mem::PhysMem;
+use bl_store::{Event, Ticket};
 use std::alloc::Allocator;
 use std::marker::Model;
 

@@ -1,7 +1,7 @@
 //! The order of pieces.
 ghost use Rattle.std.specs.Prelude.{◌≡◌};
 ghost use Rattle.program_line.specs.declared.job.Order.TheVariants as line;
-ghost use Rattle.bl_session.specs.declared.store.order.Order.TheVariants as store;
+ghost use Rattle.bl_store.specs.declared.order.Order.TheVariants as store;
 
 use bl_session as session;
 use program_line::Order;

@@ -1,7 +1,7 @@
 //! What a script store is still to answer.
 ghost use Rattle.std.specs.Prelude.{◌≡◌, ◌++◌, map, IfOk, OnOk, OnErr};
 ghost use Rattle.std.specs.Int.Bits.{bit_xor};
-ghost use Rattle.bl_session.specs.store.Stores.{answer_to, event_of};
+ghost use Rattle.bl_store.specs.Stores.{answer_to, event_of};
 ghost use Rattle.test_rows.specs.Scripts.{event_of_reply, replies_to};
 
 use bl_session::{Completion, StoredFiles, Submission, Ticket};

@@ -38,7 +38,7 @@ impl<A: Allocator + Copy> Model for ScriptStore<A> {
 impl<A: Allocator + Copy> ScriptStore<A> {
     ghost use Rattle.std.specs.Prelude.{◌≡◌, [], slice_get, IfOk, option_map};
     ghost use Rattle.bl_stage.specs.Files.{stored_files};
-    ghost use Rattle.bl_session.specs.store.Stores.{event_of};
+    ghost use Rattle.bl_store.specs.Stores.{event_of};
     ghost use Rattle.test_rows.specs.Scripts.{next_script_event, picked_place};
 
     /// A store of these files, by their index in the menu. A ticket of `fail` comes as a fault, and
@@ -100,7 +100,7 @@ impl<A: Allocator + Copy> Store for ScriptStore<A> {
     ghost use Rattle.std.specs.Prelude.{◌≡◌, length, Ok, IfOk, OnOk, OnErr, option_map};
     ghost use Rattle.std.specs.Prelude.{slice_index_or};
     ghost use Rattle.bl_stage.specs.Files.{missing, size_of};
-    ghost use Rattle.bl_session.specs.store.Stores.{event_of};
+    ghost use Rattle.bl_store.specs.Stores.{event_of};
     ghost use Rattle.test_rows.specs.Scripts.{next_script_event, after_script_submission};
     ghost use Rattle.test_rows.specs.Scripts.{after_script_answer};
 

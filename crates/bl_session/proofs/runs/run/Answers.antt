@@ -1,6 +1,6 @@
 use Rattle.std.proofs.Common.{List, [], None, map, refl, sym, subst, ap, option_map}
 use Rattle.bl_stage.specs.Files.{size_of}
-use Rattle.bl_session.specs.store.History.{HistoryItem}
+use Rattle.bl_store.specs.History.{HistoryItem}
 use Rattle.bl_session.specs.session.Phases.{PhaseFacts, boot_facts, state_at}
 use Rattle.bl_session.specs.runs.Run.{IsRun, final_phase}
 use Rattle.bl_session.specs.session.BootMemory.{IsMemoryAt}

@@ -3,7 +3,7 @@ use Rattle.std.specs.Prelude.{◌≡◌, ℕ, ◌+◌, ◌<◌, false, List, [],
 use Rattle.bl_stage.specs.Staged.{Staging}
 use Rattle.bl_stage.specs.Pieces.{is_missing}
 use Rattle.bl_stage.specs.PieceStates.{PieceState}
-use Rattle.bl_session.specs.declared.attempt.ticket.Ticket.{Ticket}
+use Rattle.bl_store.specs.declared.ticket.Ticket.{Ticket}
 use Rattle.bl_session.specs.attempt.AwaitedTickets.{first_awaited_piece, first_ticket, ticket_or}
 
 -- none is missing of the files before this one, nor in it before this piece

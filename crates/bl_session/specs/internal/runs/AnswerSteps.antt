@@ -10,7 +10,7 @@ use Rattle.bl_session.specs.declared.session.outcome.Progress.TheVariants.{Waiti
 use Rattle.bl_session.specs.session.BootSteps.{BootFacts, attempt_number, is_running}
 use Rattle.bl_session.specs.session.BootSteps.{out_of_memory}
 use Rattle.bl_session.specs.session.BootSteps as steps
-use Rattle.bl_session.specs.store.History.{HistoryItem}
+use Rattle.bl_store.specs.History.{HistoryItem}
 use Rattle.bl_session.specs.menu.Menu.{MenuFacts}
 use Rattle.bl_session.specs.session.BootMemory.{IsMemoryAt}
 use Rattle.bl_session.specs.session.Phases.{SessionFacts, boot_facts, state_at, is_waiting}

@@ -4,11 +4,11 @@ use Rattle.std.specs.Prelude.{Result, Ok, Err}
 use Rattle.std.specs.Prelude.{map, slice_index_or}
 use Rattle.std.specs.List.{range_with_len}
 use Rattle.bl_stage.specs.Files.{File, missing, size_of}
-use Rattle.bl_session.specs.declared.attempt.ticket.Ticket.{Ticket}
+use Rattle.bl_store.specs.declared.ticket.Ticket.{Ticket}
 use Rattle.bl_session.specs.session.BootSteps.{BootFacts, State, on_running}
-use Rattle.bl_session.specs.store.History.{HistoryItem}
+use Rattle.bl_store.specs.History.{HistoryItem}
 use Rattle.bl_session.specs.attempt.AwaitedTickets.{first_ticket}
-use Rattle.bl_session.specs.store.Submissions.{new_submissions}
+use Rattle.bl_session.specs.session.Submissions.{new_submissions}
 use Rattle.bl_session.specs.runs.Run.{RunState, Delivers}
 
 -- the sizes of so many files, by their index, as a run asks for them

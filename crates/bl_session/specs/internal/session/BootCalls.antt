@@ -11,7 +11,8 @@ use Rattle.bl_session.specs.declared.session.phase.BootContext.{BootContext}
 use Rattle.bl_session.specs.declared.session.phase.Running.{Running}
 use Rattle.bl_session.specs.declared.session.phase.Phase.{Phase}
 use Rattle.bl_session.specs.declared.session.outcome.Progress.{Progress}
-use Rattle.bl_session.specs.session.BootSteps.{EventFacts, State, StepsTo, is_taken, ends_attempt}
+use Rattle.bl_session.specs.session.BootSteps.{State, StepsTo, is_taken, ends_attempt}
+use Rattle.bl_store.specs.Events.{EventFacts}
 use Rattle.bl_session.specs.session.BootSteps.{Begins, Continues, StepsToOrFails, StartsOrFails}
 use Rattle.bl_session.specs.session.BootSteps.{attempt_number}
 use Rattle.bl_session.specs.session.BootSteps as steps

@@ -1,7 +1,7 @@
 use Rattle.std.proofs.Common.{◌∙◌, ap, map}
 use Rattle.std.proofs.lemmas.List.{take_all}
 use Rattle.std.specs.Prelude.{option_copied}
-use Rattle.bl_session.specs.store.Ledger.{sliced_file}
+use Rattle.bl_store.specs.Ledger.{sliced_file}
 use Rattle.c_abi.specs.Boot.{stored_given}
 use Rattle.c_records.proofs.ListLemmas.{one_more_mapped}
 use Rattle.c_abi.proofs.menu_files.stored_files.Goals as goal

@@ -1,6 +1,6 @@
 use Rattle.std.proofs.Common.{◌≡◌, map, take}
 use Rattle.std.specs.Prelude.{option_copied}
-use Rattle.bl_session.specs.store.Ledger.{sliced_file}
+use Rattle.bl_store.specs.Ledger.{sliced_file}
 use Rattle.c_abi.specs.Boot.{stored_given}
 use Rattle.c_abi.proofs.menu_files.stored_files.Given as goal
 

@@ -2,7 +2,8 @@ use Rattle.std.proofs.Common.{◌≡◌, MatchBool, rules}
 use Rattle.bl_session.specs.session.BootSteps.{StepsToOrFails, attempt_number, is_taken}
 use Rattle.bl_session.specs.session.BootSteps as boot
 use Rattle.bl_session.specs.session.BootMemory.{IsMemoryAt}
-use Rattle.bl_session.specs.session.Phases.{event_facts, state_at}
+use Rattle.bl_session.specs.session.Phases.{state_at}
+use Rattle.bl_store.specs.Events.{event_facts}
 use Rattle.c_handle.proofs.SliceSteps.{over_slice, slice_size}
 use Rattle.c_handle.proofs.session_over_slice.event_in_slice.Goals as goal
 

@@ -1,7 +1,8 @@
 use Rattle.std.proofs.Common.{refl, arith, subst, sym}
 use Rattle.std.proofs.lemmas.Result.{err_from_is_err_and}
-use Rattle.bl_session.specs.session.BootSteps.{EventFacts, fault}
-use Rattle.bl_session.specs.session.Phases.{event_facts, state_at}
+use Rattle.bl_store.specs.Events.{EventFacts, fault}
+use Rattle.bl_session.specs.session.Phases.{state_at}
+use Rattle.bl_store.specs.Events.{event_facts}
 use Rattle.bl_session.specs.runs.Run.{IsEventOf}
 use Rattle.bl_session.proofs.run_lemmas.AnswerLemmas.{event_answered, event_lost, heard_answer}
 use Rattle.bl_session.proofs.run_lemmas.AnswerLemmas.{lost}

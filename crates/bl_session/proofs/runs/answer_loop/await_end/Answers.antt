@@ -4,7 +4,7 @@ use Rattle.bl_stage.specs.Ranges.{IsSameOutside}
 use Rattle.bl_session.specs.session.BootSteps.{BootFacts}
 use Rattle.bl_session.specs.session.BootMemory.{IsMemoryAt}
 use Rattle.bl_session.specs.session.Phases.{state_at}
-use Rattle.bl_session.specs.store.History.{HistoryItem}
+use Rattle.bl_store.specs.History.{HistoryItem}
 use Rattle.bl_session.specs.internal.runs.RunParts.{HistoryLeadsOn, all_asked, attempts_left}
 use Rattle.bl_session.proofs.session_lemmas.KeptMemoryLemmas.{memory_on, same_on, keeps_on}
 use Rattle.bl_session.proofs.run_lemmas.AnswerLemmas.{heard_more, heard_waiting, heard_ended}

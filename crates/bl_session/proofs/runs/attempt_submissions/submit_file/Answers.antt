@@ -1,7 +1,7 @@
 use Rattle.std.proofs.Common.{◌∙◌, drop, refl, subst, sym, List, arith}
 use Rattle.std.proofs.lemmas.Result.{err_from_is_err_and}
-use Rattle.bl_session.specs.store.History.{HistoryItem}
-use Rattle.bl_session.specs.store.Submissions.{piece_submissions}
+use Rattle.bl_store.specs.History.{HistoryItem}
+use Rattle.bl_session.specs.session.Submissions.{piece_submissions}
 use Rattle.bl_session.specs.internal.runs.RunParts.{AreAskedButRest}
 use Rattle.bl_session.proofs.run_lemmas.AskLemmas.{asked_none, asked_piece, asked_pieces}
 use Rattle.bl_session.proofs.runs.attempt_submissions.submit_file.Goals as goal

@@ -1,5 +1,5 @@
 use Rattle.std.proofs.Common.{◌≡◌, drop}
-use Rattle.bl_session.specs.store.Submissions.{piece_submissions}
+use Rattle.bl_session.specs.session.Submissions.{piece_submissions}
 use Rattle.bl_session.specs.internal.runs.RunParts.{AreAskedButRest}
 use Rattle.bl_session.proofs.runs.attempt_submissions.submit_file.Given as goal
 

@@ -1,5 +1,5 @@
 use Rattle.std.proofs.Common.{ℕ, List, subst}
-use Rattle.bl_session.specs.store.Submissions.{attempt_submissions}
+use Rattle.bl_session.specs.session.Submissions.{attempt_submissions}
 use Rattle.bl_session.specs.session.Phases.{SessionFacts, state_at}
 use Rattle.bl_session.specs.internal.runs.RunParts.{AreSubmitted}
 use Rattle.bl_session.proofs.session.Session.submit_attempt.Goals as goal

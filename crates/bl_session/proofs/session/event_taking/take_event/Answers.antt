@@ -1,5 +1,5 @@
 use Rattle.std.proofs.Common.{◌∙◌, ap, refl}
-use Rattle.bl_session.specs.session.Phases.{event_facts}
+use Rattle.bl_store.specs.Events.{event_facts}
 use Rattle.bl_session.proofs.attempt_lemmas.EarlyReturnLemmas.{keeps_same}
 use Rattle.bl_session.proofs.session_lemmas.TakenLemmas.{goes_on, goes_to_kept, stays}
 use Rattle.bl_session.proofs.session.event_taking.take_event.Goals.{in-Waits, in_default}

@@ -2,7 +2,8 @@ use Rattle.std.proofs.Common.{◌∙◌, ap, drop, arith, length, refl, rules, s
 use Rattle.bl_map.proofs.PoolLemmas.{pool_in_memory}
 use Rattle.bl_stage.specs.PieceStates.{piece_states}
 use Rattle.bl_stage.specs.Staged.{Staging}
-use Rattle.bl_session.specs.session.BootSteps.{fault, piece, is_wanted}
+use Rattle.bl_session.specs.session.BootSteps.{is_wanted}
+use Rattle.bl_store.specs.Events.{fault, piece}
 use Rattle.bl_session.specs.session.Phases.{boot_facts}
 use Rattle.bl_session.specs.internal.session.KeptPhases.{state_of, phase_by, HasSmallFiles}
 use Rattle.bl_session.specs.internal.session.KeptPhases.{IsPhaseKept}

@@ -1,0 +1,9 @@
+pub mod FetchedLemmas
+pub mod LedgerLemmas
+pub mod ListedLemmas
+pub mod PendingLemmas
+pub mod StoreLemmas
+pub mod SubmissionLemmas
+pub mod SubmissionRangeLemmas
+pub mod TicketLemmas
+pub mod ToldLemmas
