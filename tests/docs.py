@@ -19,7 +19,7 @@ MANUAL_PAGE = TOP / "docs/bootcore.1"
 
 DRAWN_BY_PROGRAM = ["first", "second", "boot"]
 TOOLS = [
-    ("each link to a definition or a clause has its line", "tools/anchors", "--check"),
+    ("each link to a definition or a clause names one that its file declares", "tools/anchors", "--check"),
     ("no name is declared more than once but those of tools/names.txt", "tools/names"),
     ("each quoted line stands in its source", "tools/quotes"),
     ("each file of definitions or proofs that a crate's page lists is there", "tools/listed"),
