@@ -11,11 +11,11 @@
 int main(int argc, char **argv)
 {
     static bootcore_place places[BOOTCORE_MAX_PLACES];
-    const bootcore_region regions[] = {{0, 0x9F000, BOOTCORE_USABLE, 0}, {0x100000, SIZE - 0x100000, BOOTCORE_USABLE, 0}};
+    const bootcore_region regions[] = {{0, 0x9F000, BOOTCORE_KIND_USABLE, 0}, {0x100000, SIZE - 0x100000, BOOTCORE_KIND_USABLE, 0}};
     const bootcore_machine machine = {.size = SIZE, .regions = regions, .region_count = 2};
     bootcore_refusal refusal = {0};
     bootcore_outcome outcome = {.places = places, .place_room = BOOTCORE_MAX_PLACES, .refusals = &refusal, .refusal_room = 1};
-    bootcore_entry entry = {.protocol = BOOTCORE_LINUX};
+    bootcore_entry entry = {.protocol = BOOTCORE_PROTOCOL_LINUX};
     bootcore_memory memory = {0, calloc(SIZE, 1), SIZE};
     input kernel, initrd;
     unsigned char *last;
@@ -28,7 +28,7 @@ int main(int argc, char **argv)
     entry.initrd = (bootcore_bytes){read_file(&initrd), initrd.length};
     for (round = 0; round < rounds; round++) {
         uint32_t status = bootcore_load(&memory, &machine, &entry, &outcome);
-        if (status != BOOTCORE_DONE) {
+        if (status != BOOTCORE_STATUS_DONE) {
             fprintf(stderr, "status %u, refusal %u\n", (unsigned)status, (unsigned)refusal.number);
             return 1;
         }

@@ -19,9 +19,9 @@ static void carry_out(const bootcore_layout *layout, const unsigned char *kernel
     for (i = 0; i < layout->step_count; i++) {
         const bootcore_step *step = &layout->steps[i];
         unsigned char *to = memory + step->address;
-        if (step->source == BOOTCORE_ZEROS) {
+        if (step->source == BOOTCORE_SOURCE_ZEROS) {
             memset(to, 0, step->length);
-        } else if (step->source == BOOTCORE_FROM_LAYOUT) {
+        } else if (step->source == BOOTCORE_SOURCE_LAYOUT) {
             memcpy(to, layout->own + step->offset, step->length);
         } else if (step->file == 0) {
             memcpy(to, kernel + step->offset, step->length);
@@ -36,11 +36,11 @@ int main(int argc, char **argv)
     static bootcore_place places[BOOTCORE_MAX_PLACES];
     static bootcore_step steps[STEPS];
     static uint8_t own[OWN];
-    const bootcore_region regions[] = {{0, 0x9F000, BOOTCORE_USABLE, 0}, {0x100000, SIZE - 0x100000, BOOTCORE_USABLE, 0}};
+    const bootcore_region regions[] = {{0, 0x9F000, BOOTCORE_KIND_USABLE, 0}, {0x100000, SIZE - 0x100000, BOOTCORE_KIND_USABLE, 0}};
     const bootcore_machine machine = {.size = SIZE, .regions = regions, .region_count = 2};
     bootcore_layout layout = {.places = places, .place_room = BOOTCORE_MAX_PLACES, .steps = steps, .step_room = STEPS,
                               .own = own, .own_room = OWN};
-    bootcore_entry entry = {.protocol = BOOTCORE_LINUX};
+    bootcore_entry entry = {.protocol = BOOTCORE_PROTOCOL_LINUX};
     unsigned char *memory = calloc(SIZE, 1), *kernel_bytes;
     input kernel, initrd;
     long rounds, round;
@@ -53,7 +53,7 @@ int main(int argc, char **argv)
     entry.initrd.length = initrd.length;
     for (round = 0; round < rounds; round++) {
         uint32_t status = bootcore_plan(&machine, &entry, &layout);
-        if (status != BOOTCORE_DONE) {
+        if (status != BOOTCORE_STATUS_DONE) {
             fprintf(stderr, "status %u, refusal %u\n", (unsigned)status, (unsigned)layout.refusal.number);
             return 1;
         }

@@ -22,10 +22,10 @@ static uint32_t tell_pieces(const bootcore_memory *memory, const bootcore_machin
     bootcore_request request;
     uint32_t status = bootcore_session_make(&session, machine, menu);
     bool is_missing;
-    if (status != BOOTCORE_DONE) return status;
+    if (status != BOOTCORE_STATUS_DONE) return status;
     status = bootcore_session_start(&session, memory);
     is_missing = bootcore_session_missing(&session, BOOTCORE_PIECE, &request);
-    while (status == BOOTCORE_WAITING && is_missing) {
+    while (status == BOOTCORE_STATUS_WAITING && is_missing) {
         const unsigned char *file = request.file ? entry->modules[0].file.bytes : entry->kernel.bytes;
         status = bootcore_session_pieces(&session, memory, &request, file + (size_t)request.piece * BOOTCORE_PIECE,
                                          (size_t)request.length);
@@ -39,13 +39,13 @@ static uint32_t tell_pieces(const bootcore_memory *memory, const bootcore_machin
 int main(int argc, char **argv)
 {
     static bootcore_place places[BOOTCORE_MAX_PLACES];
-    const bootcore_region region = {0x1000, 0xBFFFF000, BOOTCORE_USABLE, 0};
+    const bootcore_region region = {0x1000, 0xBFFFF000, BOOTCORE_KIND_USABLE, 0};
     const bootcore_machine machine = {
         .size = GUEST, .pool_base = POOL, .pool_length = POOL_LENGTH, .regions = &region, .region_count = 1};
     bootcore_refusal refusal = {0};
     bootcore_outcome outcome = {.places = places, .place_room = BOOTCORE_MAX_PLACES, .refusals = &refusal, .refusal_room = 1};
     bootcore_module module = {{NULL, 0}, {NULL, 0}};
-    bootcore_entry entry = {.protocol = BOOTCORE_MULTIBOOT2, .modules = &module, .module_count = 1};
+    bootcore_entry entry = {.protocol = BOOTCORE_PROTOCOL_MULTIBOOT2, .modules = &module, .module_count = 1};
     const bootcore_menu menu = {.entries = &entry, .entry_count = 1};
     bootcore_memory memory = {0, calloc(GUEST, 1), GUEST};
     input kernel, file;
@@ -61,7 +61,7 @@ int main(int argc, char **argv)
     for (round = 0; round < rounds; round++) {
         uint32_t status = by_pieces ? tell_pieces(&memory, &machine, &menu, &outcome)
                                     : bootcore_boot(&memory, &machine, &menu, &outcome);
-        if (status != BOOTCORE_DONE) {
+        if (status != BOOTCORE_STATUS_DONE) {
             fprintf(stderr, "status %u, refusal %u\n", (unsigned)status, (unsigned)refusal.number);
             return 1;
         }

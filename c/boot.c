@@ -12,18 +12,18 @@ uint32_t bootcore_boot(const bootcore_memory *memory, const bootcore_machine *ma
     uint32_t status;
     if (bootcore_memory_has_null(memory) || bootcore_machine_has_null(machine) ||
         bootcore_menu_has_null(menu, BOOTCORE_READS_ALL) || bootcore_outcome_has_null(outcome)) {
-        return BOOTCORE_NULL;
+        return BOOTCORE_STATUS_NULL;
     }
     if (bootcore_machine_has_reserved(machine) || bootcore_menu_has_reserved(menu)) {
-        return BOOTCORE_BAD_RESERVED;
+        return BOOTCORE_STATUS_BAD_RESERVED;
     }
     /* the core looks at it too, but after memory may have run out here */
     if (outcome->place_room < BOOTCORE_MAX_PLACES) {
-        return BOOTCORE_SMALL_ROOM;
+        return BOOTCORE_STATUS_SMALL_ROOM;
     }
     entries = bootcore_menu_crossing(menu, BOOTCORE_READS_ALL);
     if (!entries) {
-        return BOOTCORE_NO_MEMORY;
+        return BOOTCORE_STATUS_NO_MEMORY;
     }
     given_memory = bootcore_memory_crossing(memory);
     given_machine = bootcore_machine_crossing(machine);
@@ -35,11 +35,11 @@ uint32_t bootcore_boot(const bootcore_memory *memory, const bootcore_machine *ma
         outcome->refusal_room ? outcome->refusals : &no_refusal, outcome->refusal_room, &count);
     rattle_dealloc(entries);
     /* the core says of such a pool that memory ran out, before it writes any */
-    if (status == BOOTCORE_NO_MEMORY && machine->pool_length &&
+    if (status == BOOTCORE_STATUS_NO_MEMORY && machine->pool_length &&
         machine->pool_base < memory->address) {
-        return BOOTCORE_LOW_POOL;
+        return BOOTCORE_STATUS_LOW_POOL;
     }
-    if (status == BOOTCORE_DONE || status == BOOTCORE_REFUSED) {
+    if (status == BOOTCORE_STATUS_DONE || status == BOOTCORE_STATUS_REFUSED) {
         outcome->refusal_count = (size_t)count;
     }
     return status;

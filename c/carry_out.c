@@ -43,16 +43,16 @@ static bool has_source(const bootcore_step *step, const bootcore_layout *layout,
                        const bootcore_bytes *files, size_t file_count) {
     uint64_t length;
     switch (step->source) {
-    case BOOTCORE_FROM_FILE:
+    case BOOTCORE_SOURCE_FILE:
         if (step->file >= file_count) {
             return false;
         }
         length = files[step->file].length;
         break;
-    case BOOTCORE_FROM_LAYOUT:
+    case BOOTCORE_SOURCE_LAYOUT:
         length = layout->own_length;
         break;
-    case BOOTCORE_ZEROS:
+    case BOOTCORE_SOURCE_ZEROS:
         return true;
     default:
         return false;
@@ -63,9 +63,9 @@ static bool has_source(const bootcore_step *step, const bootcore_layout *layout,
 static const uint8_t *source_of(const bootcore_step *step, const bootcore_layout *layout,
                                 const bootcore_bytes *files) {
     switch (step->source) {
-    case BOOTCORE_FROM_FILE:
+    case BOOTCORE_SOURCE_FILE:
         return (const uint8_t *)files[step->file].bytes + step->offset;
-    case BOOTCORE_FROM_LAYOUT:
+    case BOOTCORE_SOURCE_LAYOUT:
         return layout->own + step->offset;
     default:
         return NULL;
@@ -127,31 +127,31 @@ static bool has_null(const bootcore_layout *layout, const bootcore_bytes *files,
     return false;
 }
 
-/* The first that stands of a call without null, or BOOTCORE_DONE. */
+/* The first that stands of a call without null, or BOOTCORE_STATUS_DONE. */
 static uint32_t find_fault(const bootcore_layout *layout, const bootcore_bytes *files,
                            size_t file_count, const bootcore_memory *memory, size_t memory_count) {
     size_t i;
     for (i = 0; i < file_count; i++) {
         if (files[i].length == BOOTCORE_UNREADABLE) {
-            return BOOTCORE_BAD_FILE;
+            return BOOTCORE_STATUS_BAD_FILE;
         }
     }
     /* without enough room a layout has no steps yet, but says how many it wants; each plan has one */
     if (!layout->step_count || layout->step_count > layout->step_room ||
         layout->own_length > layout->own_room) {
-        return BOOTCORE_SMALL_ROOM;
+        return BOOTCORE_STATUS_SMALL_ROOM;
     }
     for (i = 0; i < layout->step_count; i++) {
         if (!has_source(&layout->steps[i], layout, files, file_count)) {
-            return BOOTCORE_BAD_FILE;
+            return BOOTCORE_STATUS_BAD_FILE;
         }
     }
     for (i = 0; i < layout->step_count; i++) {
         if (!is_inside(&layout->steps[i], memory, memory_count)) {
-            return BOOTCORE_OUTSIDE;
+            return BOOTCORE_STATUS_OUTSIDE;
         }
     }
-    return BOOTCORE_DONE;
+    return BOOTCORE_STATUS_DONE;
 }
 
 BOOTCORE_CALL
@@ -161,15 +161,15 @@ uint32_t bootcore_carry_out(const bootcore_layout *layout, const bootcore_bytes 
     uint32_t status;
     size_t i;
     if (has_null(layout, files, file_count, memory, memory_count)) {
-        return BOOTCORE_NULL;
+        return BOOTCORE_STATUS_NULL;
     }
     status = find_fault(layout, files, file_count, memory, memory_count);
-    if (status != BOOTCORE_DONE) {
+    if (status != BOOTCORE_STATUS_DONE) {
         return status;
     }
     for (i = 0; i < layout->step_count; i++) {
         carry_out(&layout->steps[i], source_of(&layout->steps[i], layout, files), memory,
                   memory_count);
     }
-    return BOOTCORE_DONE;
+    return BOOTCORE_STATUS_DONE;
 }

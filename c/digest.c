@@ -9,10 +9,10 @@ uint32_t bootcore_digest_make(bootcore_digest *digest, const bootcore_machine *m
     uint32_t status;
     if (!digest || bootcore_machine_has_null(machine) ||
         bootcore_entry_has_null(entry, BOOTCORE_READS_KERNEL) || !refusal) {
-        return BOOTCORE_NULL;
+        return BOOTCORE_STATUS_NULL;
     }
     status = bootcore_entry_misuse(machine, entry);
-    if (status != BOOTCORE_DONE) {
+    if (status != BOOTCORE_STATUS_DONE) {
         return status;
     }
     given_machine = bootcore_machine_crossing(machine);
@@ -34,7 +34,7 @@ bool bootcore_digest_wanted(const bootcore_digest *digest, bootcore_file_range *
 BOOTCORE_CALL
 uint32_t bootcore_digest_feed(bootcore_digest *digest, const void *bytes, size_t length) {
     if (!digest || bootcore_is_null(bytes, length)) {
-        return BOOTCORE_NULL;
+        return BOOTCORE_STATUS_NULL;
     }
     return bootcore_digest_feed_array(digest, bootcore_given_array(bytes), length);
 }
@@ -45,7 +45,7 @@ uint32_t bootcore_digest_told(const bootcore_digest *digest, bootcore_digests *d
     bootcore_digest copy;
     bootcore_part_digest no_part;
     if (!digest || !digests || bootcore_is_null(parts, room)) {
-        return BOOTCORE_NULL;
+        return BOOTCORE_STATUS_NULL;
     }
     copy = *digest;
     return bootcore_digest_told_arrays(&copy, digests, room ? parts : &no_part, room);
@@ -69,16 +69,16 @@ uint32_t bootcore_digest_entry(const bootcore_machine *machine, const bootcore_e
     uint32_t status;
     if (bootcore_machine_has_null(machine) || bootcore_entry_has_null(entry, BOOTCORE_READS_ALL) ||
         !digests || bootcore_is_null(parts, room) || !refusal) {
-        return BOOTCORE_NULL;
+        return BOOTCORE_STATUS_NULL;
     }
     status = bootcore_entry_misuse(machine, entry);
-    if (status != BOOTCORE_DONE) {
+    if (status != BOOTCORE_STATUS_DONE) {
         return status;
     }
     /* not on the stack, since of all calls the core needs most of it here */
     given = bootcore_menu_crossing(&menu, BOOTCORE_READS_ALL);
     if (!given) {
-        return BOOTCORE_NO_MEMORY;
+        return BOOTCORE_STATUS_NO_MEMORY;
     }
     given_machine = bootcore_machine_crossing(machine);
     status = bootcore_digest_entry_arrays(&given_machine, bootcore_regions_crossing(machine),

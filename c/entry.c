@@ -3,10 +3,10 @@
 
 /* What an outcome tells of a load or a preparation. */
 static void tell_end(uint32_t status, const bootcore_refusal *refusal, bootcore_outcome *outcome) {
-    if (status == BOOTCORE_DONE) {
+    if (status == BOOTCORE_STATUS_DONE) {
         outcome->refusal_count = 0;
     }
-    if (status == BOOTCORE_REFUSED) {
+    if (status == BOOTCORE_STATUS_REFUSED) {
         outcome->refusal_count = 1;
         if (outcome->refusal_room) {
             outcome->refusals[0] = *refusal;
@@ -30,10 +30,10 @@ uint32_t bootcore_load(const bootcore_memory *memory, const bootcore_machine *ma
     uint32_t status;
     if (bootcore_memory_has_null(memory) || bootcore_machine_has_null(machine) ||
         bootcore_entry_has_null(entry, BOOTCORE_READS_ALL) || bootcore_outcome_has_null(outcome)) {
-        return BOOTCORE_NULL;
+        return BOOTCORE_STATUS_NULL;
     }
     status = bootcore_entry_misuse(machine, entry);
-    if (status != BOOTCORE_DONE) {
+    if (status != BOOTCORE_STATUS_DONE) {
         return status;
     }
     given_memory = bootcore_memory_crossing(memory);
@@ -58,10 +58,10 @@ uint32_t bootcore_prepare(const bootcore_machine *machine, const bootcore_entry 
     if (bootcore_machine_has_null(machine) ||
         bootcore_entry_has_null(entry, BOOTCORE_READS_KERNEL) ||
         bootcore_outcome_has_null(outcome)) {
-        return BOOTCORE_NULL;
+        return BOOTCORE_STATUS_NULL;
     }
     status = bootcore_entry_misuse(machine, entry);
-    if (status != BOOTCORE_DONE) {
+    if (status != BOOTCORE_STATUS_DONE) {
         return status;
     }
     given_machine = bootcore_machine_crossing(machine);
@@ -90,15 +90,15 @@ uint32_t bootcore_plan(const bootcore_machine *machine, const bootcore_entry *en
     uint32_t status;
     if (bootcore_machine_has_null(machine) ||
         bootcore_entry_has_null(entry, BOOTCORE_READS_KERNEL) || has_null_layout(layout)) {
-        return BOOTCORE_NULL;
+        return BOOTCORE_STATUS_NULL;
     }
     status = bootcore_entry_misuse(machine, entry);
-    if (status != BOOTCORE_DONE) {
+    if (status != BOOTCORE_STATUS_DONE) {
         return status;
     }
     /* the core's same answer further on says how much room is wanted */
     if (layout->place_room < BOOTCORE_MAX_PLACES) {
-        return BOOTCORE_SMALL_ROOM;
+        return BOOTCORE_STATUS_SMALL_ROOM;
     }
     given_machine = bootcore_machine_crossing(machine);
     bootcore_entry_crossing(entry, BOOTCORE_READS_KERNEL, &given);
@@ -107,12 +107,12 @@ uint32_t bootcore_plan(const bootcore_machine *machine, const bootcore_entry *en
         &layout->handoff, &counts, layout->places, layout->place_room,
         layout->step_room ? layout->steps : &no_step, layout->step_room,
         layout->own_room ? layout->own : &no_byte, layout->own_room, &layout->refusal);
-    if (status == BOOTCORE_DONE || status == BOOTCORE_SMALL_ROOM) {
+    if (status == BOOTCORE_STATUS_DONE || status == BOOTCORE_STATUS_SMALL_ROOM) {
         layout->step_count = (size_t)counts.steps;
         layout->own_length = (size_t)counts.own;
     }
     /* steps of an older plan may stand there: none of them is of this one */
-    if (status == BOOTCORE_REFUSED || status == BOOTCORE_NO_MEMORY) {
+    if (status == BOOTCORE_STATUS_REFUSED || status == BOOTCORE_STATUS_NO_MEMORY) {
         layout->step_count = 0;
         layout->own_length = 0;
     }

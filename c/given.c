@@ -24,7 +24,7 @@ static bool is_null_file(bootcore_bytes file, bool is_read) {
 }
 
 static bool is_linux(const bootcore_entry *entry) {
-    return entry->protocol == BOOTCORE_LINUX || entry->protocol == BOOTCORE_LINUX64;
+    return entry->protocol == BOOTCORE_PROTOCOL_LINUX || entry->protocol == BOOTCORE_PROTOCOL_LINUX64;
 }
 
 static bool has_initrd(const bootcore_entry *entry) {
@@ -33,7 +33,7 @@ static bool has_initrd(const bootcore_entry *entry) {
 
 /* What an entry of another protocol has of modules is not looked at. */
 static size_t count_modules(const bootcore_entry *entry) {
-    return entry->protocol == BOOTCORE_MULTIBOOT2 ? entry->module_count : 0;
+    return entry->protocol == BOOTCORE_PROTOCOL_MULTIBOOT2 ? entry->module_count : 0;
 }
 
 /* ---- null */
@@ -66,7 +66,7 @@ bool bootcore_entry_has_null(const bootcore_entry *entry, bootcore_reading readi
         is_null_file(entry->kernel, reading != BOOTCORE_READS_NONE)) {
         return true;
     }
-    if (entry->protocol == BOOTCORE_MULTIBOOT2) {
+    if (entry->protocol == BOOTCORE_PROTOCOL_MULTIBOOT2) {
         return is_null_bytes(entry->rsdp_old) || is_null_bytes(entry->rsdp_new) ||
                has_null_modules(entry, are_read);
     }
@@ -126,9 +126,9 @@ bool bootcore_entry_has_unreadable(const bootcore_entry *entry) {
 
 uint32_t bootcore_entry_misuse(const bootcore_machine *machine, const bootcore_entry *entry) {
     if (entry->reserved || bootcore_machine_has_reserved(machine)) {
-        return BOOTCORE_BAD_RESERVED;
+        return BOOTCORE_STATUS_BAD_RESERVED;
     }
-    return bootcore_entry_has_unreadable(entry) ? BOOTCORE_BAD_FILE : BOOTCORE_DONE;
+    return bootcore_entry_has_unreadable(entry) ? BOOTCORE_STATUS_BAD_FILE : BOOTCORE_STATUS_DONE;
 }
 
 /* ---- what crosses */
@@ -186,7 +186,7 @@ static size_t count_crossing_modules(const bootcore_entry *entry) {
 static void cross_entry(const bootcore_entry *entry, bootcore_reading reading,
                         bootcore_crossing_entry *crossing, bootcore_crossing_module *modules) {
     const bootcore_bytes none = {NULL, 0};
-    bool is_multiboot2 = entry->protocol == BOOTCORE_MULTIBOOT2;
+    bool is_multiboot2 = entry->protocol == BOOTCORE_PROTOCOL_MULTIBOOT2;
     bool are_read = reading == BOOTCORE_READS_ALL;
     size_t count = count_crossing_modules(entry), i;
     crossing->protocol = entry->protocol;

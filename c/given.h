@@ -47,7 +47,7 @@ bool bootcore_menu_has_reserved(const bootcore_menu *menu);
 bool bootcore_entry_has_unreadable(const bootcore_entry *entry);
 
 /* The first that stands of an entry without null: a reserved word of it or its machine, a file that
- * can't be read; or BOOTCORE_DONE. */
+ * can't be read; or BOOTCORE_STATUS_DONE. */
 uint32_t bootcore_entry_misuse(const bootcore_machine *machine, const bootcore_entry *entry);
 
 /* What crosses of what was tested. */

@@ -9,14 +9,14 @@ uint32_t bootcore_session_make(bootcore_session *session, const bootcore_machine
     uint32_t status;
     if (!session || bootcore_machine_has_null(machine) ||
         bootcore_menu_has_null(menu, BOOTCORE_READS_NONE)) {
-        return BOOTCORE_NULL;
+        return BOOTCORE_STATUS_NULL;
     }
     if (bootcore_machine_has_reserved(machine) || bootcore_menu_has_reserved(menu)) {
-        return BOOTCORE_BAD_RESERVED;
+        return BOOTCORE_STATUS_BAD_RESERVED;
     }
     entries = bootcore_menu_crossing(menu, BOOTCORE_READS_NONE);
     if (!entries) {
-        return BOOTCORE_NO_MEMORY;
+        return BOOTCORE_STATUS_NO_MEMORY;
     }
     given_machine = bootcore_machine_crossing(machine);
     status = bootcore_session_make_arrays(
@@ -39,10 +39,10 @@ BOOTCORE_CALL
 uint32_t bootcore_session_start(bootcore_session *session, const bootcore_memory *memory) {
     bootcore_given_memory given;
     if (!session || bootcore_memory_has_null(memory)) {
-        return BOOTCORE_NULL;
+        return BOOTCORE_STATUS_NULL;
     }
     if (is_high(memory)) {
-        return BOOTCORE_BAD_MEMORY;
+        return BOOTCORE_STATUS_BAD_MEMORY;
     }
     given = bootcore_memory_crossing(memory);
     return bootcore_session_start_array(session, given.bytes, given.length, given.base);
@@ -69,10 +69,10 @@ uint32_t bootcore_session_pieces(bootcore_session *session, const bootcore_memor
     uint32_t status;
     if (!session || bootcore_memory_has_null(memory) || !request ||
         bootcore_is_null(bytes, length)) {
-        return BOOTCORE_NULL;
+        return BOOTCORE_STATUS_NULL;
     }
     if (is_high(memory)) {
-        return BOOTCORE_BAD_MEMORY;
+        return BOOTCORE_STATUS_BAD_MEMORY;
     }
     given = bootcore_memory_crossing(memory);
     at = bootcore_given_array(bytes);
@@ -83,7 +83,7 @@ uint32_t bootcore_session_pieces(bootcore_session *session, const bootcore_memor
                                                &piece, at, piece.length);
         length -= piece.length;
         /* behind the last piece that has an index there is none */
-        if (status != BOOTCORE_WAITING || length == 0 || piece.piece == UINT32_MAX) {
+        if (status != BOOTCORE_STATUS_WAITING || length == 0 || piece.piece == UINT32_MAX) {
             return status;
         }
         at += piece.length;
@@ -97,10 +97,10 @@ uint32_t bootcore_session_fault(bootcore_session *session, const bootcore_memory
     bootcore_given_memory given;
     bootcore_crossing_request piece;
     if (!session || bootcore_memory_has_null(memory) || !request) {
-        return BOOTCORE_NULL;
+        return BOOTCORE_STATUS_NULL;
     }
     if (is_high(memory)) {
-        return BOOTCORE_BAD_MEMORY;
+        return BOOTCORE_STATUS_BAD_MEMORY;
     }
     given = bootcore_memory_crossing(memory);
     piece = first_piece(request, BOOTCORE_PIECE);
@@ -180,16 +180,16 @@ uint32_t bootcore_session_outcome(const bootcore_session *session, bootcore_outc
     uint64_t count = 0;
     uint32_t status;
     if (!session || bootcore_outcome_has_null(outcome)) {
-        return BOOTCORE_NULL;
+        return BOOTCORE_STATUS_NULL;
     }
     if (outcome->place_room < BOOTCORE_MAX_PLACES) {
-        return BOOTCORE_SMALL_ROOM;
+        return BOOTCORE_STATUS_SMALL_ROOM;
     }
     copy = *session;
     status = bootcore_session_outcome_arrays(
         &copy, &outcome->handoff, outcome->places, outcome->place_room,
         outcome->refusal_room ? outcome->refusals : &no_refusal, outcome->refusal_room, &count);
-    if (status == BOOTCORE_DONE || status == BOOTCORE_REFUSED) {
+    if (status == BOOTCORE_STATUS_DONE || status == BOOTCORE_STATUS_REFUSED) {
         outcome->refusal_count = (size_t)count;
     }
     return status;

@@ -73,13 +73,13 @@ static void put_carried(struct text *text, enum carried carried, const bootcore_
 }
 
 BOOTCORE_CALL
-const char *bootcore_text(uint32_t number) {
+const char *bootcore_refusal_text(uint32_t number) {
     const struct refusal_text *found = find(number);
     return found ? found->meaning : "no refusal has this number";
 }
 
 BOOTCORE_CALL
-size_t bootcore_describe(const bootcore_refusal *refusal, char *buffer, size_t length) {
+size_t bootcore_refusal_line(const bootcore_refusal *refusal, char *buffer, size_t length) {
     const struct refusal_text *found = refusal ? find(refusal->number) : NULL;
     struct text text = {buffer, 0, 0};
     if (!buffer) {
@@ -97,7 +97,7 @@ size_t bootcore_describe(const bootcore_refusal *refusal, char *buffer, size_t l
             put_carried(&text, found->carried, refusal);
         }
         put_words(&text, ": ");
-        put_words(&text, bootcore_text(refusal->number));
+        put_words(&text, bootcore_refusal_text(refusal->number));
     }
     if (length) {
         buffer[text.length < text.room ? text.length : text.room] = 0;

@@ -5,7 +5,7 @@ BOOTCORE_CALL
 uint32_t bootcore_walk(const void *image, size_t image_length, bootcore_seen *seen,
                        bootcore_refusal *fault) {
     if (!seen || !fault || bootcore_is_null(image, image_length)) {
-        return BOOTCORE_NULL;
+        return BOOTCORE_STATUS_NULL;
     }
     return bootcore_walk_array(bootcore_given_array(image), image_length, seen, fault);
 }
@@ -22,7 +22,7 @@ uint32_t bootcore_walk_all(const void *image, size_t image_length, bootcore_seen
         bootcore_is_null(arrays->modules, arrays->module_room) ||
         bootcore_is_null(arrays->runs, arrays->run_room) ||
         bootcore_is_null(arrays->text, arrays->text_room)) {
-        return BOOTCORE_NULL;
+        return BOOTCORE_STATUS_NULL;
     }
     return bootcore_walk_all_arrays(
         bootcore_given_array(image), image_length, seen,

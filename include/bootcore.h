@@ -76,39 +76,39 @@ enum {
     BOOTCORE_STACK = 24576      /* with libbootcore.a 16384 is enough */
 };
 
-/* What a call answers. A misuse, from 101 on, has changed nothing; only BOOTCORE_SMALL_ROOM of a
- * plan or a walk may tell how much is wanted. Of several the first is told (carry_out: there). */
+/* What a call answers, in comments without BOOTCORE_STATUS_. A misuse, from 101 on, has changed
+ * nothing; SMALL_ROOM of a plan or a walk tells the room. Of several the first is told. */
 enum {
-    BOOTCORE_DONE = 0,
-    BOOTCORE_REFUSED = 1,   /* the entry is refused; a boot: no entry is left; a walk: the image */
-    BOOTCORE_WAITING = 2,   /* a session awaits pieces, or was not started; a digest wants bytes */
-    BOOTCORE_NEXT = 3,      /* a session: entries were refused, pieces of another are awaited */
-    BOOTCORE_NO_MEMORY = 4, /* malloc or realloc gave none. BOOTCORE_NULL, BAD_RESERVED, BAD_FILE
-                             * and too few places are told before it; it may replace the others */
-    BOOTCORE_FAILED = 5,    /* a session: no entry is left, or memory ran out; see its outcome */
-    BOOTCORE_OUTSIDE = 6,   /* a load: a part begins below the memory that is given; of
-                             * bootcore_carry_out: not all of a step lies in it */
+    BOOTCORE_STATUS_DONE = 0,
+    BOOTCORE_STATUS_REFUSED = 1,   /* the entry is refused; a boot: all are; a walk: the image */
+    BOOTCORE_STATUS_WAITING = 2,   /* a session awaits pieces, or its start; a digest wants bytes */
+    BOOTCORE_STATUS_NEXT = 3,      /* a session: an entry was refused, it awaits another's pieces */
+    BOOTCORE_STATUS_NO_MEMORY = 4, /* malloc or realloc gave none. NULL, BAD_RESERVED, BAD_FILE and
+                                    * too few places are told before it; it may replace others */
+    BOOTCORE_STATUS_FAILED = 5,    /* a session: no entry is left, or memory ran out */
+    BOOTCORE_STATUS_OUTSIDE = 6,   /* a load: a part begins below the memory that is given; of
+                                    * bootcore_carry_out: not all of a step lies in it */
 
-    BOOTCORE_NULL = 101,         /* a pointer is null that may not be */
-    BOOTCORE_BAD_RESERVED = 102, /* a reserved word is not 0 */
-    BOOTCORE_BAD_FILE = 103,     /* a file has the length BOOTCORE_UNREADABLE, where all are
-                                  * wanted; of bootcore_carry_out: see there */
-    BOOTCORE_SMALL_ROOM = 104,   /* an array of the caller's has too little room: too few places are
-                                  * told here, all others last; of bootcore_carry_out: see there */
-    BOOTCORE_BAD_KIND = 105,     /* a region's kind is none of BOOTCORE_USABLE and so on */
-    BOOTCORE_BAD_SIZE = 106,     /* the size is no multiple of 4096 from 1 MiB to 4 GiB */
-    BOOTCORE_TOO_MANY_REGIONS = 107,
-    BOOTCORE_BAD_REGION = 108,   /* a region ends above 2^52 */
-    BOOTCORE_BAD_POOL = 109,     /* the pool is not of whole frames, or not all of it is usable */
-    BOOTCORE_BAD_MEMORY = 110,   /* memory ends below the machine's size (of a boot: not at it), or
-                                  * begins at 4 GiB or above */
-    BOOTCORE_BAD_PROTOCOL = 111, /* an entry's protocol is none of BOOTCORE_MULTIBOOT2 and so on */
-    BOOTCORE_TOO_MANY = 112,     /* too many entries or modules, or too long a copy of an RSDP */
-    BOOTCORE_BAD_INDEX = 113,    /* a menu's first entry or a fallback is no entry */
-    BOOTCORE_NO_SESSION = 114,   /* no session, no digest is kept: it was not made, or was freed */
-    BOOTCORE_LOW_POOL = 115,     /* a boot or a session: the pool begins below the memory that is
-                                  * given; a boot tells it also in place of BOOTCORE_NO_MEMORY */
-    BOOTCORE_UNWANTED = 116      /* a digest: more bytes than are wanted */
+    BOOTCORE_STATUS_NULL = 101,         /* a pointer is null that may not be */
+    BOOTCORE_STATUS_BAD_RESERVED = 102, /* a reserved word is not 0 */
+    BOOTCORE_STATUS_BAD_FILE = 103,     /* a file has the length BOOTCORE_UNREADABLE, where all are
+                                         * wanted; of bootcore_carry_out: see there */
+    BOOTCORE_STATUS_SMALL_ROOM = 104,   /* an array has too little room: too few places are told
+                                         * here, others last; of bootcore_carry_out: see there */
+    BOOTCORE_STATUS_BAD_KIND = 105,     /* a region's kind is no BOOTCORE_KIND_.. */
+    BOOTCORE_STATUS_BAD_SIZE = 106,     /* the size is no multiple of 4096 from 1 MiB to 4 GiB */
+    BOOTCORE_STATUS_TOO_MANY_REGIONS = 107,
+    BOOTCORE_STATUS_BAD_REGION = 108,   /* a region ends above 2^52 */
+    BOOTCORE_STATUS_BAD_POOL = 109,     /* the pool is not of whole frames, or not all is usable */
+    BOOTCORE_STATUS_BAD_MEMORY = 110,   /* memory ends below the machine's size (of a boot: not at
+                                         * it), or begins at 4 GiB or above */
+    BOOTCORE_STATUS_BAD_PROTOCOL = 111, /* an entry's protocol is no BOOTCORE_PROTOCOL_.. */
+    BOOTCORE_STATUS_TOO_MANY_ENTRIES = 112, /* or modules, or too long a copy of an RSDP */
+    BOOTCORE_STATUS_BAD_INDEX = 113,    /* a menu's first entry or a fallback is no entry */
+    BOOTCORE_STATUS_NO_SESSION = 114,   /* no session, no digest is kept: not made, or freed */
+    BOOTCORE_STATUS_LOW_POOL = 115,     /* a boot or a session: the pool begins below the memory
+                                         * that is given; a boot tells it also for NO_MEMORY */
+    BOOTCORE_STATUS_UNWANTED = 116      /* a digest: more bytes than are wanted */
 };
 
 /* What a status means, in a sentence; of any other number that there is none. Constant text. */
@@ -124,11 +124,11 @@ typedef struct bootcore_bytes { const void *bytes; size_t length; } bootcore_byt
 #define BOOTCORE_UNREADABLE (~(size_t)0)
 
 /* Kinds of memory: the numbers of an e820 entry. Where regions overlap, the greatest counts. An
- * address is usable if its kind is BOOTCORE_USABLE and it lies from 4096 on, below the machine's
- * size and below 0xFFFFF000; an address in no region is not. */
+ * address is usable if its kind is BOOTCORE_KIND_USABLE and it lies from 4096 on, below the
+ * machine's size and below 0xFFFFF000; an address in no region is not. */
 enum {
-    BOOTCORE_USABLE = 1, BOOTCORE_RESERVED = 2, BOOTCORE_ACPI = 3, BOOTCORE_NVS = 4,
-    BOOTCORE_UNUSABLE = 5
+    BOOTCORE_KIND_USABLE = 1, BOOTCORE_KIND_RESERVED = 2, BOOTCORE_KIND_ACPI = 3,
+    BOOTCORE_KIND_NVS = 4,    BOOTCORE_KIND_BAD = 5
 };
 
 typedef struct bootcore_region {
@@ -153,9 +153,9 @@ typedef struct bootcore_machine {
 /* How a kernel is entered. Both Linux entries want two usable frames between 0x1000 and 0xA0000:
  * the lowest one there gets the boot parameters, another one the line. */
 enum {
-    BOOTCORE_MULTIBOOT2 = 1,
-    BOOTCORE_LINUX = 2,  /* the 32-bit entry of the Linux boot protocol */
-    BOOTCORE_LINUX64 = 3 /* its 64-bit entry */
+    BOOTCORE_PROTOCOL_MULTIBOOT2 = 1,
+    BOOTCORE_PROTOCOL_LINUX = 2,  /* the 32-bit entry of the Linux boot protocol */
+    BOOTCORE_PROTOCOL_LINUX64 = 3 /* its 64-bit entry */
 };
 
 typedef struct bootcore_module {
@@ -218,9 +218,9 @@ BOOTCORE_CALL void bootcore_segments(const bootcore_registers *registers,
 
 /* What a part in memory is. */
 enum {
-    BOOTCORE_KERNEL = 1,        BOOTCORE_MODULE = 2,        BOOTCORE_INFORMATION = 3,
-    BOOTCORE_BOOT_PARAMS = 4,   BOOTCORE_COMMAND_LINE = 5,  BOOTCORE_GDT = 6,
-    BOOTCORE_INITRD = 7,        BOOTCORE_PAGE_TABLES = 8
+    BOOTCORE_ROLE_KERNEL = 1,       BOOTCORE_ROLE_MODULE = 2,     BOOTCORE_ROLE_INFORMATION = 3,
+    BOOTCORE_ROLE_BOOT_PARAMS = 4,  BOOTCORE_ROLE_COMMAND_LINE = 5, BOOTCORE_ROLE_GDT = 6,
+    BOOTCORE_ROLE_INITRD = 7,       BOOTCORE_ROLE_PAGE_TABLES = 8
 };
 
 /* A part in memory: its bytes, then zeros. But for a kernel's its length is a multiple of 4096. */
@@ -261,35 +261,35 @@ typedef struct bootcore_outcome {
  * `memory` reaches at least to the machine's size. It may begin above 0 if no part lies below; the
  * two low frames of a Linux entry do. Memory is yours afterwards, also to change a part; but a walk
  * of such an image refuses what the rules do not give (82).
- * - BOOTCORE_DONE: memory holds each part at its place, and each other byte as before; the call
+ * - DONE: memory holds each part at its place, and each other byte as before; the call
  *   tells the handoff and the first places (with entry 0), and refusal_count is 0.
- * - BOOTCORE_REFUSED: refusal_count is 1, and the call tells the refusal, if there is room.
- * - BOOTCORE_OUTSIDE, BOOTCORE_NO_MEMORY, or a misuse.
- * All that is not told is as before, and so is all of memory after any answer but BOOTCORE_DONE. */
+ * - REFUSED: refusal_count is 1, and the call tells the refusal, if there is room.
+ * - OUTSIDE, NO_MEMORY, or a misuse.
+ * All that is not told is as before, and so is all of memory after any answer but DONE. */
 BOOTCORE_CALL uint32_t bootcore_load(const bootcore_memory *memory, const bootcore_machine *machine,
     const bootcore_entry *entry, bootcore_outcome *outcome);
 
 /* Tells what bootcore_load would hand over, or why it would not, from the kernel's bytes and the
  * other files' lengths: it reads no other byte of a file, and no memory. The answers are those of
- * bootcore_load, but BOOTCORE_OUTSIDE and BOOTCORE_BAD_MEMORY. After BOOTCORE_DONE a load of the
+ * bootcore_load, but OUTSIDE and BAD_MEMORY. After DONE a load of the
  * same entry, with files of these lengths, into memory from address 0 up to the machine's size,
- * tells the same handoff and places, or memory runs out. After BOOTCORE_REFUSED no such load is
+ * tells the same handoff and places, or memory runs out. After REFUSED no such load is
  * done, and one that is refused has the same refusal. */
 BOOTCORE_CALL uint32_t bootcore_prepare(const bootcore_machine *machine,
     const bootcore_entry *entry, bootcore_outcome *outcome);
 
 /* Where the bytes of a step come from. */
 enum {
-    BOOTCORE_FROM_FILE = 1,   /* file 0 is the kernel, k module k - 1, or 1 the initial ramdisk */
-    BOOTCORE_FROM_LAYOUT = 2, /* the bytes `own` of the layout */
-    BOOTCORE_ZEROS = 3
+    BOOTCORE_SOURCE_FILE = 1,   /* file 0 is the kernel, k module k - 1, or 1 the initial ramdisk */
+    BOOTCORE_SOURCE_LAYOUT = 2, /* the bytes `own` of the layout */
+    BOOTCORE_SOURCE_ZEROS = 3
 };
 
 /* `length` bytes, at least 1, from `offset` of the source on, go to an address. */
 typedef struct bootcore_step {
     uint64_t address, length, offset;
     uint32_t source;
-    uint32_t file; /* of BOOTCORE_FROM_FILE, else 0 */
+    uint32_t file; /* of BOOTCORE_SOURCE_FILE, else 0 */
 } bootcore_step;
 
 /* Where a call tells a plan: set the arrays and their room; the call sets the rest. */
@@ -298,7 +298,7 @@ typedef struct bootcore_layout {
     size_t place_room;      /* at least BOOTCORE_MAX_PLACES */
     bootcore_step *steps;   /* by ascending address, none meets another */
     size_t step_room;
-    uint8_t *own;           /* the bytes of parts that no file has: those of BOOTCORE_FROM_LAYOUT */
+    uint8_t *own;           /* the bytes of parts that no file has: of BOOTCORE_SOURCE_LAYOUT */
     size_t own_room;
     bootcore_handoff handoff;
     size_t step_count, own_length;
@@ -311,24 +311,24 @@ typedef struct bootcore_layout {
  * its place then, and each other byte as before. Together the steps are exactly the parts. Steps of
  * zeros may be left out where memory is known to be zero, as a fresh mapping is, and nowhere else.
  * If the kernel's file may change meanwhile, read from a copy of it, for which the plan was made.
- * - BOOTCORE_DONE: the call tells all but the refusal (with entry 0).
- * - BOOTCORE_REFUSED: it tells the refusal, and step_count and own_length are 0.
- * - BOOTCORE_SMALL_ROOM: with places for BOOTCORE_MAX_PLACES, step_count and own_length say how
+ * - DONE: the call tells all but the refusal (with entry 0).
+ * - REFUSED: it tells the refusal, and step_count and own_length are 0.
+ * - SMALL_ROOM: with places for BOOTCORE_MAX_PLACES, step_count and own_length say how
  *   much is wanted, and nothing else is told: a call without room for steps and bytes asks for it.
- * - BOOTCORE_NO_MEMORY: step_count and own_length are 0.
+ * - NO_MEMORY: step_count and own_length are 0.
  * - Another misuse.
  * What is not told is as before. Equal machines, entries, kernels and lengths have equal plans. */
 BOOTCORE_CALL uint32_t bootcore_plan(const bootcore_machine *machine, const bootcore_entry *entry,
     bootcore_layout *layout);
 
-/* Carries out the steps of a plan: call it after bootcore_plan answered BOOTCORE_DONE for this
+/* Carries out the steps of a plan: call it after bootcore_plan answered DONE for this
  * layout. Files are in memory; the machine's memory is in one piece or more, which may lie anywhere
  * and in any order, and may have holes where no part goes. `files` are the entry's: the kernel,
  * then the modules or the initial ramdisk, of at least the lengths that were planned for. Either
- * all steps are carried out (BOOTCORE_DONE), or nothing is written, for the first of these that
- * stands: BOOTCORE_NULL; BOOTCORE_BAD_FILE if a file is unreadable; BOOTCORE_SMALL_ROOM if the
- * layout holds no whole plan: it has no steps, or wants more room than it has; BOOTCORE_BAD_FILE if
- * a step's source is none or has no such bytes; BOOTCORE_OUTSIDE if a byte of a step lies in no
+ * all steps are carried out (DONE), or nothing is written, for the first of these that
+ * stands: NULL; BAD_FILE if a file is unreadable; SMALL_ROOM if the
+ * layout holds no whole plan: it has no steps, or wants more room than it has; BAD_FILE if
+ * a step's source is none or has no such bytes; OUTSIDE if a byte of a step lies in no
  * piece. A step may go over several pieces; a byte that is in two goes to the first. */
 BOOTCORE_CALL uint32_t bootcore_carry_out(const bootcore_layout *layout,
     const bootcore_bytes *files, size_t file_count, const bootcore_memory *memory,
@@ -351,10 +351,10 @@ typedef struct bootcore_menu {
  * into the machine's pool, a piece at a time, and from there to their places, as if a disk gave
  * them. `memory` is in one piece, and ends at the machine's size. Let no usable byte lie below it:
  * if a part would begin there, the boot ends as if memory ran out, and a pool there is a misuse.
- * - BOOTCORE_DONE: memory holds each part at its place, 0 elsewhere in the pool, and each other
+ * - DONE: memory holds each part at its place, 0 elsewhere in the pool, and each other
  *   byte as before; the call tells the handoff and the places.
- * - BOOTCORE_REFUSED: no entry is left. Memory holds 0 in the pool, and each other byte as before.
- * - BOOTCORE_NO_MEMORY: bytes of the pool may have changed, and no other.
+ * - REFUSED: no entry is left. Memory holds 0 in the pool, and each other byte as before.
+ * - NO_MEMORY: bytes of the pool may have changed, and no other.
  * - A misuse.
  * After the first two the call tells the refusals in order, as many as there is room for, and their
  * number. All that is not told is as before. */
@@ -385,7 +385,7 @@ typedef struct bootcore_request {
 
 /* Makes a session of a menu, and keeps it; one that was kept before is freed then. It is not yet
  * started. Of each file the length is looked at; its bytes come later. What is given is read during
- * this call alone. BOOTCORE_DONE: the session is kept. After any other answer what was kept before
+ * this call alone. DONE: the session is kept. After any other answer what was kept before
  * is still kept. */
 BOOTCORE_CALL uint32_t bootcore_session_make(bootcore_session *session,
     const bootcore_machine *machine, const bootcore_menu *menu);
@@ -395,14 +395,14 @@ BOOTCORE_CALL uint32_t bootcore_session_make(bootcore_session *session,
  * of a session, and don't write to its pool before the boot ended. The call that begins an attempt
  * refuses an entry for its files' lengths (1, 3, 21), and judges one of empty files; else the one
  * that brings the last piece of all its files judges it. This call and the next two answer:
- * - BOOTCORE_WAITING: pieces are awaited. No byte outside the pool changed.
- * - BOOTCORE_NEXT: the same, after one refusal or more. Ask again what is missing.
- * - BOOTCORE_DONE: an entry is handed over. Memory is as after bootcore_boot.
- * - BOOTCORE_FAILED: no entry is left, and the pool is 0; or memory ran out. No byte outside the
+ * - WAITING: pieces are awaited. No byte outside the pool changed.
+ * - NEXT: the same, after one refusal or more. Ask again what is missing.
+ * - DONE: an entry is handed over. Memory is as after bootcore_boot.
+ * - FAILED: no entry is left, and the pool is 0; or memory ran out. No byte outside the
  *   pool changed.
- * - BOOTCORE_NULL, BOOTCORE_BAD_MEMORY, BOOTCORE_NO_SESSION, BOOTCORE_LOW_POOL: all is as before.
- * After the end each further call without a misuse answers BOOTCORE_DONE or BOOTCORE_FAILED again,
- * and changes nothing. Pieces or a fault before the start answer BOOTCORE_WAITING, and change
+ * - NULL, BAD_MEMORY, NO_SESSION, LOW_POOL: all is as before.
+ * After the end each further call without a misuse answers DONE or FAILED again,
+ * and changes nothing. Pieces or a fault before the start answer WAITING, and change
  * nothing. */
 BOOTCORE_CALL uint32_t bootcore_session_start(bootcore_session *session,
     const bootcore_memory *memory);
@@ -430,12 +430,12 @@ BOOTCORE_CALL bool bootcore_session_missing(const bootcore_session *session, siz
     bootcore_request *request);
 
 /* Tells the first ones behind those of *request, so that repeated calls tell all of them; behind a
- * request of another attempt, as after BOOTCORE_NEXT, the first of the running one. */
+ * request of another attempt, as after NEXT, the first of the running one. */
 BOOTCORE_CALL bool bootcore_session_missing_after(const bootcore_session *session, size_t most,
     bootcore_request *request);
 
-/* Tells how a session ended; it stays as it is. BOOTCORE_DONE and BOOTCORE_REFUSED are as by
- * bootcore_boot; BOOTCORE_WAITING: not ended; BOOTCORE_NO_MEMORY: memory ran out; or a misuse. */
+/* Tells how a session ended; it stays as it is. DONE and REFUSED are as by
+ * bootcore_boot; WAITING: not ended; NO_MEMORY: memory ran out; or a misuse. */
 BOOTCORE_CALL uint32_t bootcore_session_outcome(const bootcore_session *session,
     bootcore_outcome *outcome);
 
@@ -446,9 +446,9 @@ BOOTCORE_CALL void bootcore_session_free(bootcore_session *session);
 /* ---- refusals, and what an image has wrong */
 
 /* Why an entry is refused: the numbers of a bootcore_refusal. docs/REFUSALS.md says more of each,
- * and what to do; bootcore_text says it in words. `first` is of 1 to 3 a file's place in its entry,
- * of which the kernel's is 0; of 7 a tag's offset in the kernel's file, of 8 and 9 a tag's type; of
- * 13 to 15 the index of a program header, and `second` of 15 that of another. */
+ * and what to do; bootcore_refusal_text says it in words. `first` is of 1 to 3 a file's place in
+ * its entry, of which the kernel's is 0; of 7 a tag's offset in the kernel's file, of 8 and 9 a
+ * tag's type; of 13 to 15 the index of a program header, and `second` of 15 that of another. */
 enum {
     BOOTCORE_REFUSAL_NO_FILE = 1,               BOOTCORE_REFUSAL_NO_ENTRY = 16,
     BOOTCORE_REFUSAL_FILE_FAULT = 2,            BOOTCORE_REFUSAL_ENTRY_OUTSIDE = 17,
@@ -480,14 +480,14 @@ enum {
 /* What a refusal's number means, not a status's, in the words of `bootcore explain`; of a walk's
  * fault, in those of docs/REFUSALS.md. Of any other number it says that there is none. The text is
  * constant. */
-BOOTCORE_CALL const char *bootcore_text(uint32_t number);
+BOOTCORE_CALL const char *bootcore_refusal_text(uint32_t number);
 
 /* Writes a refusal, or a walk's fault, as a line of text without its end: as `bootcore explain` has
  * it, `refused NUMBER NAME(WHAT IT CARRIES): MEANING`, or `bad image ..`. At most `length` bytes
  * are written, the last one a zero byte; the answer is the whole text's length without that byte,
  * so a buffer that is longer than the answer has all of it. A null buffer counts as one of length
  * 0. A null refusal gives an empty text. */
-BOOTCORE_CALL size_t bootcore_describe(const bootcore_refusal *refusal, char *buffer,
+BOOTCORE_CALL size_t bootcore_refusal_line(const bootcore_refusal *refusal, char *buffer,
     size_t length);
 
 #ifdef __cplusplus

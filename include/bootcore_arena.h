@@ -21,7 +21,7 @@ enum { BOOTCORE_ARENA = 1048576 };
 
 /* Gives the arena its memory, in place of what it had before: first free the sessions and digests
  * that are kept in that. Before this call, and with a length of 0, each call that wants memory
- * answers BOOTCORE_NO_MEMORY. */
+ * answers NO_MEMORY. */
 BOOTCORE_CALL void bootcore_arena(void *memory, size_t length);
 
 /* How long an arena at the same address is enough for the same calls as since it was given. */

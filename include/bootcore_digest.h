@@ -38,10 +38,10 @@ typedef struct bootcore_digests {
 
 /* Makes the digest of an entry, and keeps it; one that was kept before is freed then. Read are the
  * kernel's bytes and the other files' lengths, during this call alone. The answers are those of
- * bootcore_plan, but BOOTCORE_SMALL_ROOM.
- * - BOOTCORE_DONE: the digest is kept. Feed it until nothing is wanted.
- * - BOOTCORE_REFUSED: *refusal is told, with entry 0.
- * After any answer but BOOTCORE_DONE what was kept before is still kept. What is not told is as
+ * bootcore_plan, but SMALL_ROOM.
+ * - DONE: the digest is kept. Feed it until nothing is wanted.
+ * - REFUSED: *refusal is told, with entry 0.
+ * After any answer but DONE what was kept before is still kept. What is not told is as
  * before. */
 BOOTCORE_CALL uint32_t bootcore_digest_make(bootcore_digest *digest,
     const bootcore_machine *machine, const bootcore_entry *entry, bootcore_refusal *refusal);
@@ -54,18 +54,18 @@ BOOTCORE_CALL bool bootcore_digest_wanted(const bootcore_digest *digest,
     bootcore_file_range *range);
 
 /* Feeds a digest the first bytes of what is wanted, or all of it.
- * - BOOTCORE_DONE: they were taken.
- * - BOOTCORE_NULL, BOOTCORE_NO_SESSION, or BOOTCORE_UNWANTED, if they are more than are wanted.
+ * - DONE: they were taken.
+ * - NULL, NO_SESSION, or UNWANTED, if they are more than are wanted.
  *   Nothing was changed. */
 BOOTCORE_CALL uint32_t bootcore_digest_feed(bootcore_digest *digest, const void *bytes,
     size_t length);
 
 /* Tells the digests; the digest stays as it is.
- * - BOOTCORE_DONE: *digests is told, and the first parts, by ascending address, as many as there is
+ * - DONE: *digests is told, and the first parts, by ascending address, as many as there is
  *   room for. BOOTCORE_MAX_PLACES is always enough, and 0 is allowed. These are the digests of what
  *   a load of the same entry, with files of the bytes that were fed, would hand over.
- * - BOOTCORE_WAITING: bytes are wanted.
- * - BOOTCORE_NULL or BOOTCORE_NO_SESSION.
+ * - WAITING: bytes are wanted.
+ * - NULL or NO_SESSION.
  * What is not told is as before. */
 BOOTCORE_CALL uint32_t bootcore_digest_told(const bootcore_digest *digest,
     bootcore_digests *digests, bootcore_part_digest *parts, size_t room);
@@ -74,8 +74,8 @@ BOOTCORE_CALL uint32_t bootcore_digest_told(const bootcore_digest *digest,
 BOOTCORE_CALL void bootcore_digest_free(bootcore_digest *digest);
 
 /* Tells the digests of an entry whose files all lie in memory, at once. The answers are those of
- * bootcore_plan, but BOOTCORE_SMALL_ROOM; after BOOTCORE_DONE *digests and parts are told as by
- * bootcore_digest_told, after BOOTCORE_REFUSED *refusal. What is not told is as before. */
+ * bootcore_plan, but SMALL_ROOM; after DONE *digests and parts are told as by
+ * bootcore_digest_told, after REFUSED *refusal. What is not told is as before. */
 BOOTCORE_CALL uint32_t bootcore_digest_entry(const bootcore_machine *machine,
     const bootcore_entry *entry, bootcore_digests *digests, bootcore_part_digest *parts,
     size_t room, bootcore_refusal *refusal);

@@ -77,23 +77,23 @@ typedef struct bootcore_seen_arrays {
 /* Walks an image in memory, as a measured boot does before it trusts what an image hands over:
  * reads it, and follows the addresses in its registers as its kernel would. Its parts are copied on
  * the way.
- * - BOOTCORE_DONE: the bytes are an image, a kernel can be entered with it, and *seen is told.
- * - BOOTCORE_REFUSED: fault->number is 71 to 75 if the bytes are no image (with 74 `first` is the
+ * - DONE: the bytes are an image, a kernel can be entered with it, and *seen is told.
+ * - REFUSED: fault->number is 71 to 75 if the bytes are no image (with 74 `first` is the
  *   index of the part), 81 to 83 if no kernel can be entered with it; docs/REFUSALS.md says which
  *   is which. (76, a source that can't be read, does not come: memory can be.)
- * - BOOTCORE_NO_MEMORY: fault->number is 77 or 84.
- * - BOOTCORE_NULL.
+ * - NO_MEMORY: fault->number is 77 or 84.
+ * - NULL.
  * What is not told is as before. */
 BOOTCORE_CALL uint32_t bootcore_walk(const void *image, size_t image_length, bootcore_seen *seen,
     bootcore_refusal *fault);
 
 /* Walks an image in memory as bootcore_walk does, and tells all that its kernel sees.
- * - BOOTCORE_DONE: as bootcore_walk; besides, the first elements of the arrays are told, as many as
+ * - DONE: as bootcore_walk; besides, the first elements of the arrays are told, as many as
  *   *seen says. The others are as before.
- * - BOOTCORE_SMALL_ROOM: an array has room for fewer elements than there are. *seen is told, and
+ * - SMALL_ROOM: an array has room for fewer elements than there are. *seen is told, and
  *   says how many there are; all arrays are as before. So a call without any room asks how much is
  *   wanted.
- * - BOOTCORE_REFUSED, BOOTCORE_NO_MEMORY, BOOTCORE_NULL: as bootcore_walk, and the arrays are as
+ * - REFUSED, NO_MEMORY, NULL: as bootcore_walk, and the arrays are as
  *   before.
  * The bytes of modules and of an initial ramdisk are not told. They lie in the image, in the part
  * that has their address. */

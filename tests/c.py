@@ -139,7 +139,7 @@ class Texts(CoreChecks):
             self.assertGreaterEqual(len(numbers), 25, f"numbers: {sorted(map(int, numbers))}")
         ran = run(made, stdin="\n".join([*asked, *self.BAD_IMAGES]).encode())
         said = b"\n".join([*wanted, *map(str.encode, self.BAD_IMAGES.values()), b""]).decode()
-        self.ends("bootcore_describe says of each refusal of the cases what explain says", ran, 0, said)
+        self.ends("bootcore_refusal_line says of each refusal of the cases what explain says", ran, 0, said)
 
 
 class Statuses(CoreChecks):

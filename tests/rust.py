@@ -136,9 +136,10 @@ def has_reason(lines: List[str], at: int) -> bool:
 def numbers() -> Iterator[Tuple[str, str]]:
     """The numbers of the header as the crate has them: name and value."""
     variant = re.compile(r"\b([A-Z]\w+)(?: \{[^{}]*\})? = (\d+),")
-    said = {"NO_BYTES": "NULL", "NO64_ENTRY": "NO_64_ENTRY"}
-    for file in ("refusal", "error", "entry", "handoff", "machine"):
-        prefix = "BOOTCORE_"
+    said = {"NO_BYTES": "NULL", "NO64_ENTRY": "NO_64_ENTRY", "TOO_MANY": "TOO_MANY_ENTRIES", "UNUSABLE": "BAD"}
+    kinds = {"error": "STATUS", "entry": "PROTOCOL", "handoff": "ROLE", "machine": "KIND"}
+    for file in ("refusal", *kinds):
+        prefix = f"BOOTCORE_{kinds.get(file)}_"
         for line in re.split(r"(?m)^(?=    \w+ \{$)", source(f"src/{file}.rs")):
             if file == "refusal":
                 prefix = "BOOTCORE_FAULT_" if line.startswith("    Fault") else "BOOTCORE_REFUSAL_"
@@ -147,7 +148,8 @@ def numbers() -> Iterator[Tuple[str, str]]:
                 yield prefix + said.get(name, name), number
     for file in ("raw", "lib"):
         for name, value in re.findall(r"(?m)^(?:pub(?:\(crate\))? )?const (\w+): \w+ = ([\w:]+);", source(f"src/{file}.rs")):
-            yield f"BOOTCORE_{name}", {"usize::MAX": "SIZE_MAX", "u64::MAX": "UINT64_MAX"}.get(value, value)
+            prefix = "BOOTCORE_" if re.match("SOURCE_|MAX_|PIECE$|UNREADABLE$|ABSENT$", name) else "BOOTCORE_STATUS_"
+            yield prefix + name, {"usize::MAX": "SIZE_MAX", "u64::MAX": "UINT64_MAX"}.get(value, value)
 
 
 class Built(CrateChecks):

@@ -64,7 +64,7 @@ static void print_digests(const bootcore_digests *digests, const bootcore_part_d
         char index[16], address[24];
         snprintf(index, sizeof index, "%" PRIu32, place->index);
         snprintf(address, sizeof address, "%08" PRIx64, place->address);
-        print_line(place->role <= BOOTCORE_PAGE_TABLES ? roles[place->role] : "?", index, address,
+        print_line(place->role <= BOOTCORE_ROLE_PAGE_TABLES ? roles[place->role] : "?", index, address,
                    place->length, parts[i].sha256);
     }
 }
@@ -75,11 +75,11 @@ int main(int argc, char **argv) {
     static uint8_t buffer[BUFFER];
     int files[MAX_FILES], count = argc - 4;
     const char *name = count < 1 ? "" : argv[2];
-    uint32_t protocol = !strcmp(name, "multiboot2") ? BOOTCORE_MULTIBOOT2
-                        : !strcmp(name, "linux")    ? BOOTCORE_LINUX
-                        : !strcmp(name, "linux64")  ? BOOTCORE_LINUX64
+    uint32_t protocol = !strcmp(name, "multiboot2") ? BOOTCORE_PROTOCOL_MULTIBOOT2
+                        : !strcmp(name, "linux")    ? BOOTCORE_PROTOCOL_LINUX
+                        : !strcmp(name, "linux64")  ? BOOTCORE_PROTOCOL_LINUX64
                                                     : 0;
-    check(protocol && count <= (protocol == BOOTCORE_MULTIBOOT2 ? MAX_FILES : 2), "usage",
+    check(protocol && count <= (protocol == BOOTCORE_PROTOCOL_MULTIBOOT2 ? MAX_FILES : 2), "usage",
           "digest SIZE multiboot2 KERNEL LINE [MODULE..], digest SIZE linux|linux64 KERNEL LINE [INITRD]");
     char **paths = argv + 4; /* of the files behind the kernel, from paths[1] on */
     bootcore_entry entry = {.protocol = protocol, .line = {argv[4], strlen(argv[4])},
@@ -99,20 +99,20 @@ int main(int argc, char **argv) {
     }
     entry.initrd = modules[0].file; /* one protocol looks at modules, the other two at this */
     uint64_t size = strtoull(argv[1], NULL, 0);
-    const bootcore_region regions[] = {{0, 0x9F000, BOOTCORE_USABLE, 0},
-                                       {0x100000, size - 0x100000, BOOTCORE_USABLE, 0}};
+    const bootcore_region regions[] = {{0, 0x9F000, BOOTCORE_KIND_USABLE, 0},
+                                       {0x100000, size - 0x100000, BOOTCORE_KIND_USABLE, 0}};
     const bootcore_machine machine = {.size = size, .regions = regions, .region_count = 2};
     bootcore_refusal refusal;
     bootcore_digest digest = {NULL};
     uint32_t status = bootcore_digest_make(&digest, &machine, &entry, &refusal);
-    if (status == BOOTCORE_REFUSED) {
+    if (status == BOOTCORE_STATUS_REFUSED) {
         char words[256];
-        bootcore_describe(&refusal, words, sizeof words);
+        bootcore_refusal_line(&refusal, words, sizeof words);
         puts(words);
         exit(1);
     }
     bootcore_file_range range;
-    while (status == BOOTCORE_DONE && bootcore_digest_wanted(&digest, &range)) {
+    while (status == BOOTCORE_STATUS_DONE && bootcore_digest_wanted(&digest, &range)) {
         const uint8_t *bytes = kernel + range.offset; /* for which the digest was made */
         size_t length = range.length;
         if (range.file) {
@@ -122,11 +122,11 @@ int main(int argc, char **argv) {
         status = bootcore_digest_feed(&digest, bytes, length);
     }
     bootcore_digests digests;
-    if (status == BOOTCORE_DONE) {
+    if (status == BOOTCORE_STATUS_DONE) {
         status = bootcore_digest_told(&digest, &digests, parts, BOOTCORE_MAX_PLACES);
     }
     bootcore_digest_free(&digest);
-    check(status == BOOTCORE_DONE, "digest", bootcore_status_text(status));
+    check(status == BOOTCORE_STATUS_DONE, "digest", bootcore_status_text(status));
     print_digests(&digests, parts);
     free(kernel);
     return 0;

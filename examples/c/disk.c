@@ -89,14 +89,14 @@ int main(int argc, char **argv) {
     memset(memory, 0xA5, SIZE);
     memset(other, 0xA5, SIZE);
 
-    const bootcore_region usable[] = {{0, SIZE, BOOTCORE_USABLE, 0}};
+    const bootcore_region usable[] = {{0, SIZE, BOOTCORE_KIND_USABLE, 0}};
     const bootcore_machine machine = {.size = SIZE, .pool_base = POOL, .pool_length = SIZE - POOL,
                                       .regions = usable, .region_count = 1};
     bootcore_module modules[] = {{{files[0], 20000}, {"first", 5}}, {{files[1], 40000}, {"second", 6}}};
     const bootcore_entry entries[] = {
-        {.protocol = BOOTCORE_MULTIBOOT2, .kernel = {kernel, kernel_length},
+        {.protocol = BOOTCORE_PROTOCOL_MULTIBOOT2, .kernel = {kernel, kernel_length},
          .modules = &modules[0], .module_count = 1},
-        {.protocol = BOOTCORE_MULTIBOOT2, .kernel = {kernel, kernel_length},
+        {.protocol = BOOTCORE_PROTOCOL_MULTIBOOT2, .kernel = {kernel, kernel_length},
          .modules = &modules[1], .module_count = 1}};
     const uint32_t fallbacks[] = {1};
     const bootcore_menu menu = {.entries = entries, .entry_count = 2, .first = 0,
@@ -110,21 +110,21 @@ int main(int argc, char **argv) {
 
     bootcore_session session = {NULL};
     uint32_t status = bootcore_session_make(&session, &machine, &menu);
-    if (status == BOOTCORE_DONE) {
+    if (status == BOOTCORE_STATUS_DONE) {
         status = bootcore_session_start(&session, &all);
         ask(&session);
     }
     int answers = 0;
-    while ((status == BOOTCORE_WAITING || status == BOOTCORE_NEXT) && waiting) {
+    while ((status == BOOTCORE_STATUS_WAITING || status == BOOTCORE_STATUS_NEXT) && waiting) {
         status = answer(&session, &all);
         answers++;
-        if (status == BOOTCORE_NEXT) {
+        if (status == BOOTCORE_STATUS_NEXT) {
             ask(&session);
         }
     }
     status = bootcore_session_outcome(&session, &outcome);
     bootcore_session_free(&session);
-    if (status != BOOTCORE_DONE) {
+    if (status != BOOTCORE_STATUS_DONE) {
         printf("status %" PRIu32 "\n", status);
         return 1;
     }
@@ -132,7 +132,7 @@ int main(int argc, char **argv) {
     printf("%d answers\n", answers);
 
     modules[0].file.length = BOOTCORE_UNREADABLE;
-    bool same = bootcore_boot(&all_other, &machine, &menu, &wanted) == BOOTCORE_DONE &&
+    bool same = bootcore_boot(&all_other, &machine, &menu, &wanted) == BOOTCORE_STATUS_DONE &&
                 !memcmp(&outcome.handoff, &wanted.handoff, sizeof wanted.handoff) &&
                 !memcmp(places, wanted_places, wanted.handoff.place_count * sizeof places[0]) &&
                 !memcmp(memory, other, SIZE);

@@ -14,10 +14,10 @@ enum { SIZE = 0x20000000 };
 
 static uint32_t load_guest(void *memory, bootcore_bytes kernel, bootcore_bytes initrd,
                            bootcore_outcome *outcome) {
-    const bootcore_region regions[] = {{0, 0x9F000, BOOTCORE_USABLE, 0},
-                                       {0x100000, SIZE - 0x100000, BOOTCORE_USABLE, 0}};
+    const bootcore_region regions[] = {{0, 0x9F000, BOOTCORE_KIND_USABLE, 0},
+                                       {0x100000, SIZE - 0x100000, BOOTCORE_KIND_USABLE, 0}};
     const bootcore_machine machine = {.size = SIZE, .regions = regions, .region_count = 2};
-    const bootcore_entry entry = {.protocol = BOOTCORE_LINUX, .kernel = kernel, .initrd = initrd,
+    const bootcore_entry entry = {.protocol = BOOTCORE_PROTOCOL_LINUX, .kernel = kernel, .initrd = initrd,
                                   .line = {"console=ttyS0", 13}};
     const bootcore_memory guest = {0, memory, SIZE};
     return bootcore_load(&guest, &machine, &entry, outcome);
@@ -52,12 +52,12 @@ int main(int argc, char **argv) {
     void *kernel = read_file(argv[1], &kernel_length), *initrd = read_file(argv[2], &initrd_length);
     uint32_t status = load_guest(memory, (bootcore_bytes){kernel, kernel_length},
                                  (bootcore_bytes){initrd, initrd_length}, &outcome);
-    if (status == BOOTCORE_DONE) {
+    if (status == BOOTCORE_STATUS_DONE) {
         const bootcore_registers *registers = &outcome.handoff.registers;
         printf("entered at %" PRIx64 ", boot parameters at %" PRIx64 "\n", registers->rip, registers->rsi);
-    } else if (status == BOOTCORE_REFUSED) {
+    } else if (status == BOOTCORE_STATUS_REFUSED) {
         char words[256];
-        bootcore_describe(&refusal, words, sizeof words);
+        bootcore_refusal_line(&refusal, words, sizeof words);
         puts(words);
     } else {
         fprintf(stderr, "first: status %" PRIu32 "\n", status);
@@ -65,5 +65,5 @@ int main(int argc, char **argv) {
     free(kernel);
     free(initrd);
     free(memory);
-    return status == BOOTCORE_DONE ? 0 : status == BOOTCORE_REFUSED ? 1 : 2;
+    return status == BOOTCORE_STATUS_DONE ? 0 : status == BOOTCORE_STATUS_REFUSED ? 1 : 2;
 }

@@ -65,11 +65,11 @@ int main(int argc, char **argv) {
     static bootcore_place places[BOOTCORE_MAX_PLACES];
     int files[MAX_FILES], count = argc - 3;
     const char *name = count < 1 ? "" : argv[1];
-    uint32_t protocol = !strcmp(name, "multiboot2") ? BOOTCORE_MULTIBOOT2
-                        : !strcmp(name, "linux")    ? BOOTCORE_LINUX
-                        : !strcmp(name, "linux64")  ? BOOTCORE_LINUX64
+    uint32_t protocol = !strcmp(name, "multiboot2") ? BOOTCORE_PROTOCOL_MULTIBOOT2
+                        : !strcmp(name, "linux")    ? BOOTCORE_PROTOCOL_LINUX
+                        : !strcmp(name, "linux64")  ? BOOTCORE_PROTOCOL_LINUX64
                                                     : 0;
-    check(protocol && count <= (protocol == BOOTCORE_MULTIBOOT2 ? MAX_FILES : 2), "usage",
+    check(protocol && count <= (protocol == BOOTCORE_PROTOCOL_MULTIBOOT2 ? MAX_FILES : 2), "usage",
           "guest multiboot2 KERNEL LINE [MODULE..], guest linux|linux64 KERNEL LINE [INITRD]");
     bootcore_entry entry = {.protocol = protocol, .line = {argv[3], strlen(argv[3])},
                             .modules = modules, .module_count = (size_t)count - 1};
@@ -83,33 +83,33 @@ int main(int argc, char **argv) {
         files[i] = open_file(argv[i + 3], &modules[i - 1].file.length);
     }
     entry.initrd = modules[0].file; /* one protocol looks at modules, the other two at this */
-    const bootcore_region regions[] = {{0, 0x9F000, BOOTCORE_USABLE, 0},
-                                       {0x100000, GUEST_SIZE - 0x100000, BOOTCORE_USABLE, 0}};
+    const bootcore_region regions[] = {{0, 0x9F000, BOOTCORE_KIND_USABLE, 0},
+                                       {0x100000, GUEST_SIZE - 0x100000, BOOTCORE_KIND_USABLE, 0}};
     const bootcore_machine machine = {.size = GUEST_SIZE, .regions = regions, .region_count = 2};
     bootcore_layout layout = {.places = places, .place_room = BOOTCORE_MAX_PLACES};
     uint32_t status = bootcore_plan(&machine, &entry, &layout);
-    if (status == BOOTCORE_SMALL_ROOM) { /* now it is known how much room is wanted */
+    if (status == BOOTCORE_STATUS_SMALL_ROOM) { /* now it is known how much room is wanted */
         layout.steps = calloc(layout.step_room = layout.step_count, sizeof *layout.steps);
         layout.own = calloc(layout.own_room = layout.own_length, 1);
         check(layout.steps && layout.own, "plan", strerror(errno));
         status = bootcore_plan(&machine, &entry, &layout);
     }
-    if (status == BOOTCORE_REFUSED) {
+    if (status == BOOTCORE_STATUS_REFUSED) {
         char words[256];
-        bootcore_describe(&layout.refusal, words, sizeof words);
+        bootcore_refusal_line(&layout.refusal, words, sizeof words);
         puts(words);
         exit(1);
     }
-    check(status == BOOTCORE_DONE, "plan", status == BOOTCORE_NO_MEMORY ? "memory ran out" : "a misuse");
+    check(status == BOOTCORE_STATUS_DONE, "plan", status == BOOTCORE_STATUS_NO_MEMORY ? "memory ran out" : "a misuse");
     uint8_t *memory = mmap(NULL, GUEST_SIZE, PROT_READ | PROT_WRITE,
                            MAP_PRIVATE | MAP_ANONYMOUS | MAP_NORESERVE, -1, 0);
     check(memory != MAP_FAILED, "the guest's memory", strerror(errno));
     for (const bootcore_step *step = layout.steps; step < layout.steps + layout.step_count; step++) {
-        if (step->source == BOOTCORE_FROM_LAYOUT) {
+        if (step->source == BOOTCORE_SOURCE_LAYOUT) {
             memcpy(memory + step->address, layout.own + step->offset, step->length);
-        } else if (step->source == BOOTCORE_FROM_FILE && step->file == 0) {
+        } else if (step->source == BOOTCORE_SOURCE_FILE && step->file == 0) {
             memcpy(memory + step->address, kernel + step->offset, step->length);
-        } else if (step->source == BOOTCORE_FROM_FILE) {
+        } else if (step->source == BOOTCORE_SOURCE_FILE) {
             read_at(argv[step->file + 3], files[step->file], step->offset, memory + step->address,
                     step->length);
         } /* zeros: the mapping is fresh */

@@ -72,7 +72,7 @@ static void read_map(const char *path) {
 /* Plans the entry, in arrays that are as long as it wants. */
 static void plan(const bootcore_entry *entry) {
     uint32_t status = bootcore_plan(&machine, entry, &layout);
-    if (status == BOOTCORE_SMALL_ROOM) {
+    if (status == BOOTCORE_STATUS_SMALL_ROOM) {
         layout.step_room = layout.step_count;
         layout.steps = allocate(layout.step_room * sizeof *layout.steps);
         layout.own_room = layout.own_length;
@@ -80,12 +80,12 @@ static void plan(const bootcore_entry *entry) {
         status = bootcore_plan(&machine, entry, &layout);
     }
     char words[256] = "no memory";
-    if (status == BOOTCORE_REFUSED) {
-        bootcore_describe(&layout.refusal, words, sizeof words);
-    } else if (status != BOOTCORE_NO_MEMORY) {
+    if (status == BOOTCORE_STATUS_REFUSED) {
+        bootcore_refusal_line(&layout.refusal, words, sizeof words);
+    } else if (status != BOOTCORE_STATUS_NO_MEMORY) {
         snprintf(words, sizeof words, "a misuse of bootcore_plan, %" PRIu32, status);
     }
-    if (status != BOOTCORE_DONE) {
+    if (status != BOOTCORE_STATUS_DONE) {
         give_up(words);
     }
 }
@@ -112,8 +112,8 @@ static bool is_image(void) {
     bool same = goes_on("head", 0, head, length);
     for (size_t i = 0; same && i < layout.step_count; i++) {
         const bootcore_step *step = &layout.steps[i];
-        const uint8_t *source = step->source == BOOTCORE_FROM_FILE     ? files[step->file].bytes
-                                : step->source == BOOTCORE_FROM_LAYOUT ? layout.own
+        const uint8_t *source = step->source == BOOTCORE_SOURCE_FILE     ? files[step->file].bytes
+                                : step->source == BOOTCORE_SOURCE_LAYOUT ? layout.own
                                                                        : NULL;
         same = goes_on("memory", step->address, source ? source + step->offset : NULL, step->length);
     }
@@ -133,10 +133,10 @@ int main(int argc, char **argv) {
     machine.size = strtoull(argv[1], NULL, 0);
     read_map(argv[2]);
     image = read_file(argv[3]);
-    bootcore_entry entry = {.protocol = BOOTCORE_MULTIBOOT2, .line = {argv[5], strlen(argv[5])},
+    bootcore_entry entry = {.protocol = BOOTCORE_PROTOCOL_MULTIBOOT2, .line = {argv[5], strlen(argv[5])},
                             .modules = modules};
     if (is_linux) {
-        entry.protocol = argv[4][5] ? BOOTCORE_LINUX64 : BOOTCORE_LINUX;
+        entry.protocol = argv[4][5] ? BOOTCORE_PROTOCOL_LINUX64 : BOOTCORE_PROTOCOL_LINUX;
     }
     entry.kernel = files[0] = read_file(argv[6]);
     for (int i = 7; i < argc; i += 2) {
@@ -150,7 +150,7 @@ int main(int argc, char **argv) {
     rest = image.bytes;
     rest_length = image.length;
     bool same = is_image();
-    if (bootcore_walk(image.bytes, image.length, &seen, &fault) == BOOTCORE_DONE) {
+    if (bootcore_walk(image.bytes, image.length, &seen, &fault) == BOOTCORE_STATUS_DONE) {
         printf("a kernel sees: entry %" PRIx64 ", line of %" PRIu64 " bytes, %" PRIu64 " modules, %"
                PRIu64 " runs\n", seen.entry_address, seen.line_length, seen.module_count, seen.run_count);
     } else {

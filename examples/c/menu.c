@@ -29,7 +29,7 @@ typedef struct ending {
     uint32_t number;
 } ending;
 
-static const bootcore_region usable[] = {{0, SIZE, BOOTCORE_USABLE, 0}};
+static const bootcore_region usable[] = {{0, SIZE, BOOTCORE_KIND_USABLE, 0}};
 static const uint32_t second[] = {1, 0};
 static uint8_t memory[SIZE], kernel[MOST];
 static size_t kernel_length;
@@ -43,8 +43,8 @@ static call right(void) {
         .machine = {.size = SIZE, .pool_base = POOL, .pool_length = SIZE - POOL,
                     .regions = usable, .region_count = 1},
         .menu = {.entry_count = 2, .fallbacks = second, .fallback_count = 2},
-        .entries = {{.protocol = BOOTCORE_LINUX, .kernel = {"no kernel", 9}, .line = {"quiet", 5}},
-                    {.protocol = BOOTCORE_MULTIBOOT2, .kernel = {kernel, kernel_length},
+        .entries = {{.protocol = BOOTCORE_PROTOCOL_LINUX, .kernel = {"no kernel", 9}, .line = {"quiet", 5}},
+                    {.protocol = BOOTCORE_PROTOCOL_MULTIBOOT2, .kernel = {kernel, kernel_length},
                      .line = {"kernel", 6}, .module_count = 1}},
         .module = {.file = {"hello", 5}, .line = {"module", 6}},
         .outcome = {.places = places, .place_room = BOOTCORE_MAX_PLACES,
@@ -61,10 +61,10 @@ static void expect(const char *name, call c, ending wanted) {
     uint32_t status = bootcore_boot(&c.memory, &c.machine, &c.menu, &c.outcome);
     ending got = {status, c.outcome.handoff.entry, c.outcome.refusal_count, refusals[0].number};
     /* each byte of the pool is 0 once a boot ended, and else as it was; all others are, but of parts */
-    uint8_t pool = status <= BOOTCORE_REFUSED && c.machine.pool_length ? 0 : 0xA5;
+    uint8_t pool = status <= BOOTCORE_STATUS_REFUSED && c.machine.pool_length ? 0 : 0xA5;
     bool is_right = true;
-    for (size_t i = status == BOOTCORE_DONE ? POOL : 0; i < SIZE; i++) {
-        is_right = is_right && (memory[i] == (i < POOL ? 0xA5 : pool) || status == BOOTCORE_NO_MEMORY);
+    for (size_t i = status == BOOTCORE_STATUS_DONE ? POOL : 0; i < SIZE; i++) {
+        is_right = is_right && (memory[i] == (i < POOL ? 0xA5 : pool) || status == BOOTCORE_STATUS_NO_MEMORY);
     }
     if (got.status != wanted.status || got.entry != wanted.entry || got.refused != wanted.refused ||
         got.number != wanted.number || !is_right) {
@@ -94,36 +94,36 @@ int main(int argc, char **argv) {
         fputs("menu: the kernel can't be read, or is too long\n", stderr);
         return 2;
     }
-    CHANGED(BOOTCORE_DONE, 1, 1, 22, (void)c);
-    CHANGED(BOOTCORE_DONE, 1, 1, 0, c.outcome.refusal_room = 0);
-    CHANGED(BOOTCORE_DONE, 1, 1, 0, c.outcome.refusal_room = 0; c.outcome.refusals = NULL);
-    CHANGED(BOOTCORE_DONE, 1, 0, 0, c.menu.first = 1);
-    CHANGED(BOOTCORE_DONE, 1, 1, 1, c.entries[0].kernel.length = BOOTCORE_UNREADABLE);
-    CHANGED(BOOTCORE_REFUSED, 0, 1, 22, c.menu.fallback_count = 0);
-    CHANGED(BOOTCORE_REFUSED, 0, 2, 22, c.module.file.length = BOOTCORE_UNREADABLE);
-    CHANGED(BOOTCORE_REFUSED, 0, 2, 21, c.machine.pool_length = 0; c.machine.pool_base = SIZE);
-    CHANGED(BOOTCORE_NO_MEMORY, 0, 0, 0, /* a part would lie below this memory */
+    CHANGED(BOOTCORE_STATUS_DONE, 1, 1, 22, (void)c);
+    CHANGED(BOOTCORE_STATUS_DONE, 1, 1, 0, c.outcome.refusal_room = 0);
+    CHANGED(BOOTCORE_STATUS_DONE, 1, 1, 0, c.outcome.refusal_room = 0; c.outcome.refusals = NULL);
+    CHANGED(BOOTCORE_STATUS_DONE, 1, 0, 0, c.menu.first = 1);
+    CHANGED(BOOTCORE_STATUS_DONE, 1, 1, 1, c.entries[0].kernel.length = BOOTCORE_UNREADABLE);
+    CHANGED(BOOTCORE_STATUS_REFUSED, 0, 1, 22, c.menu.fallback_count = 0);
+    CHANGED(BOOTCORE_STATUS_REFUSED, 0, 2, 22, c.module.file.length = BOOTCORE_UNREADABLE);
+    CHANGED(BOOTCORE_STATUS_REFUSED, 0, 2, 21, c.machine.pool_length = 0; c.machine.pool_base = SIZE);
+    CHANGED(BOOTCORE_STATUS_NO_MEMORY, 0, 0, 0, /* a part would lie below this memory */
             c.memory = ((bootcore_memory){0x2000, memory + 0x2000, SIZE - 0x2000}));
-    MISUSE(BOOTCORE_NULL, c.entries[0].kernel.bytes = NULL);
-    MISUSE(BOOTCORE_NULL, c.entries[1].line.bytes = NULL);
-    MISUSE(BOOTCORE_NULL, c.module.line.bytes = NULL);
-    MISUSE(BOOTCORE_NULL, c.menu.fallbacks = NULL);
-    MISUSE(BOOTCORE_NULL, c.outcome.refusals = NULL);
-    MISUSE(BOOTCORE_BAD_RESERVED, c.menu.reserved = 1);
-    MISUSE(BOOTCORE_BAD_RESERVED, c.entries[1].reserved = 1);
-    MISUSE(BOOTCORE_SMALL_ROOM, c.outcome.place_room = BOOTCORE_MAX_PLACES - 1);
-    MISUSE(BOOTCORE_BAD_SIZE, c.machine.size = SIZE + 1);
-    MISUSE(BOOTCORE_BAD_POOL, c.machine.pool_length = SIZE);
-    MISUSE(BOOTCORE_BAD_MEMORY, c.memory.length = SIZE - 1);
-    MISUSE(BOOTCORE_BAD_MEMORY, c.machine.size = SIZE - 4096; c.machine.pool_length -= 4096);
-    MISUSE(BOOTCORE_BAD_PROTOCOL, c.entries[1].protocol = 4);
-    MISUSE(BOOTCORE_BAD_PROTOCOL, c.entries[1].protocol = 4; /* comes before an earlier entry's size */
-           c.entries[0] = ((bootcore_entry){.protocol = BOOTCORE_MULTIBOOT2,
+    MISUSE(BOOTCORE_STATUS_NULL, c.entries[0].kernel.bytes = NULL);
+    MISUSE(BOOTCORE_STATUS_NULL, c.entries[1].line.bytes = NULL);
+    MISUSE(BOOTCORE_STATUS_NULL, c.module.line.bytes = NULL);
+    MISUSE(BOOTCORE_STATUS_NULL, c.menu.fallbacks = NULL);
+    MISUSE(BOOTCORE_STATUS_NULL, c.outcome.refusals = NULL);
+    MISUSE(BOOTCORE_STATUS_BAD_RESERVED, c.menu.reserved = 1);
+    MISUSE(BOOTCORE_STATUS_BAD_RESERVED, c.entries[1].reserved = 1);
+    MISUSE(BOOTCORE_STATUS_SMALL_ROOM, c.outcome.place_room = BOOTCORE_MAX_PLACES - 1);
+    MISUSE(BOOTCORE_STATUS_BAD_SIZE, c.machine.size = SIZE + 1);
+    MISUSE(BOOTCORE_STATUS_BAD_POOL, c.machine.pool_length = SIZE);
+    MISUSE(BOOTCORE_STATUS_BAD_MEMORY, c.memory.length = SIZE - 1);
+    MISUSE(BOOTCORE_STATUS_BAD_MEMORY, c.machine.size = SIZE - 4096; c.machine.pool_length -= 4096);
+    MISUSE(BOOTCORE_STATUS_BAD_PROTOCOL, c.entries[1].protocol = 4);
+    MISUSE(BOOTCORE_STATUS_BAD_PROTOCOL, c.entries[1].protocol = 4; /* comes before an earlier entry's size */
+           c.entries[0] = ((bootcore_entry){.protocol = BOOTCORE_PROTOCOL_MULTIBOOT2,
                                             .rsdp_new = {kernel, BOOTCORE_MAX_RSDP + 1}}));
-    MISUSE(BOOTCORE_TOO_MANY, c.entries[1].rsdp_old = ((bootcore_bytes){kernel, BOOTCORE_MAX_RSDP + 1}));
-    MISUSE(BOOTCORE_BAD_INDEX, c.menu.first = 2);
-    MISUSE(BOOTCORE_BAD_INDEX, c.menu.entry_count = 0);
-    MISUSE(BOOTCORE_LOW_POOL,
+    MISUSE(BOOTCORE_STATUS_TOO_MANY_ENTRIES, c.entries[1].rsdp_old = ((bootcore_bytes){kernel, BOOTCORE_MAX_RSDP + 1}));
+    MISUSE(BOOTCORE_STATUS_BAD_INDEX, c.menu.first = 2);
+    MISUSE(BOOTCORE_STATUS_BAD_INDEX, c.menu.entry_count = 0);
+    MISUSE(BOOTCORE_STATUS_LOW_POOL,
            c.memory = ((bootcore_memory){POOL + 4096, memory + POOL + 4096, SIZE - POOL - 4096}));
     printf("%d tried, %d wrong\n", tried, wrong);
     return wrong != 0;

@@ -10,10 +10,10 @@
 
 enum { SIZE = 0x200000, POOL = 0x100000 };
 
-static const bootcore_region usable[] = {{0, SIZE, BOOTCORE_USABLE, 0}};
+static const bootcore_region usable[] = {{0, SIZE, BOOTCORE_KIND_USABLE, 0}};
 static const bootcore_region no_kind[] = {{0, SIZE, 6, 0}};
-static const bootcore_region high[] = {{0, SIZE, BOOTCORE_USABLE, 0},
-                                       {UINT64_MAX, 1, BOOTCORE_USABLE, 0}};
+static const bootcore_region high[] = {{0, SIZE, BOOTCORE_KIND_USABLE, 0},
+                                       {UINT64_MAX, 1, BOOTCORE_KIND_USABLE, 0}};
 static bootcore_region many[BOOTCORE_MAX_REGIONS + 1];
 static bootcore_module modules[BOOTCORE_MAX_MODULES + 1];
 static bootcore_entry entries[BOOTCORE_MAX_ENTRIES + 1];
@@ -39,7 +39,7 @@ static void right(void) {
     machine = (bootcore_machine){.size = SIZE, .pool_base = POOL, .pool_length = SIZE - POOL,
                                  .regions = usable, .region_count = 1};
     for (int i = 0; i <= BOOTCORE_MAX_ENTRIES; i++) {
-        entries[i] = (bootcore_entry){.protocol = BOOTCORE_MULTIBOOT2, .line = {"line", 4},
+        entries[i] = (bootcore_entry){.protocol = BOOTCORE_PROTOCOL_MULTIBOOT2, .line = {"line", 4},
                                       .kernel = {NULL, BOOTCORE_PIECE + 9}};
     }
     menu = (bootcore_menu){.entries = entries, .entry_count = 1};
@@ -76,51 +76,51 @@ static void expect(int line, uint32_t status, uint32_t wanted) {
         right();                                                                        \
         change;                                                                         \
         EXPECT(wanted, MAKE());                                                         \
-        EXPECT(true, ((uintptr_t)session.kept == kept) == ((wanted) != BOOTCORE_DONE)); \
+        EXPECT(true, ((uintptr_t)session.kept == kept) == ((wanted) != BOOTCORE_STATUS_DONE)); \
     } while (0)
 
 static void try_make(void) {
     for (int i = 0; i <= BOOTCORE_MAX_REGIONS; i++) {
         many[i] = usable[0];
     }
-    CHANGED(BOOTCORE_DONE, (void)0);
-    CHANGED(BOOTCORE_DONE, entries[0].kernel.length = BOOTCORE_UNREADABLE);
-    CHANGED(BOOTCORE_DONE, entries[0].initrd.length = 1; entries[0].protocol = BOOTCORE_LINUX);
-    CHANGED(BOOTCORE_NULL, machine.regions = NULL);
-    CHANGED(BOOTCORE_NULL, entries[0].modules = NULL; entries[0].module_count = 1);
-    CHANGED(BOOTCORE_NULL, entries[0].line.bytes = NULL);
-    CHANGED(BOOTCORE_NULL, menu.entries = NULL);
-    CHANGED(BOOTCORE_NULL, menu.fallback_count = 1);
-    CHANGED(BOOTCORE_BAD_RESERVED, machine.reserved = 1);
-    CHANGED(BOOTCORE_BAD_RESERVED, entries[0].reserved = 1);
-    CHANGED(BOOTCORE_BAD_RESERVED, menu.reserved = 1);
-    CHANGED(BOOTCORE_BAD_KIND, machine.regions = no_kind);
-    CHANGED(BOOTCORE_BAD_SIZE, machine.size = SIZE + 1);
-    CHANGED(BOOTCORE_TOO_MANY_REGIONS, machine.regions = many;
+    CHANGED(BOOTCORE_STATUS_DONE, (void)0);
+    CHANGED(BOOTCORE_STATUS_DONE, entries[0].kernel.length = BOOTCORE_UNREADABLE);
+    CHANGED(BOOTCORE_STATUS_DONE, entries[0].initrd.length = 1; entries[0].protocol = BOOTCORE_PROTOCOL_LINUX);
+    CHANGED(BOOTCORE_STATUS_NULL, machine.regions = NULL);
+    CHANGED(BOOTCORE_STATUS_NULL, entries[0].modules = NULL; entries[0].module_count = 1);
+    CHANGED(BOOTCORE_STATUS_NULL, entries[0].line.bytes = NULL);
+    CHANGED(BOOTCORE_STATUS_NULL, menu.entries = NULL);
+    CHANGED(BOOTCORE_STATUS_NULL, menu.fallback_count = 1);
+    CHANGED(BOOTCORE_STATUS_BAD_RESERVED, machine.reserved = 1);
+    CHANGED(BOOTCORE_STATUS_BAD_RESERVED, entries[0].reserved = 1);
+    CHANGED(BOOTCORE_STATUS_BAD_RESERVED, menu.reserved = 1);
+    CHANGED(BOOTCORE_STATUS_BAD_KIND, machine.regions = no_kind);
+    CHANGED(BOOTCORE_STATUS_BAD_SIZE, machine.size = SIZE + 1);
+    CHANGED(BOOTCORE_STATUS_TOO_MANY_REGIONS, machine.regions = many;
             machine.region_count = BOOTCORE_MAX_REGIONS + 1);
-    CHANGED(BOOTCORE_BAD_REGION, machine.regions = high; machine.region_count = 2);
-    CHANGED(BOOTCORE_BAD_POOL, machine.pool_length = 1);
-    CHANGED(BOOTCORE_BAD_PROTOCOL, entries[0].protocol = 4);
-    CHANGED(BOOTCORE_TOO_MANY, menu.entry_count = BOOTCORE_MAX_ENTRIES + 1);
-    CHANGED(BOOTCORE_TOO_MANY, entries[0].modules = modules;
+    CHANGED(BOOTCORE_STATUS_BAD_REGION, machine.regions = high; machine.region_count = 2);
+    CHANGED(BOOTCORE_STATUS_BAD_POOL, machine.pool_length = 1);
+    CHANGED(BOOTCORE_STATUS_BAD_PROTOCOL, entries[0].protocol = 4);
+    CHANGED(BOOTCORE_STATUS_TOO_MANY_ENTRIES, menu.entry_count = BOOTCORE_MAX_ENTRIES + 1);
+    CHANGED(BOOTCORE_STATUS_TOO_MANY_ENTRIES, entries[0].modules = modules;
             entries[0].module_count = BOOTCORE_MAX_MODULES + 1);
-    CHANGED(BOOTCORE_BAD_INDEX, menu.first = 1);
-    CHANGED(BOOTCORE_BAD_INDEX, menu.fallbacks = second; menu.fallback_count = 1);
+    CHANGED(BOOTCORE_STATUS_BAD_INDEX, menu.first = 1);
+    CHANGED(BOOTCORE_STATUS_BAD_INDEX, menu.fallbacks = second; menu.fallback_count = 1);
     right();
-    EXPECT(BOOTCORE_NULL, bootcore_session_make(NULL, &machine, &menu));
-    EXPECT(BOOTCORE_NULL, bootcore_session_make(&session, NULL, &menu));
-    EXPECT(BOOTCORE_NULL, bootcore_session_make(&session, &machine, NULL));
+    EXPECT(BOOTCORE_STATUS_NULL, bootcore_session_make(NULL, &machine, &menu));
+    EXPECT(BOOTCORE_STATUS_NULL, bootcore_session_make(&session, NULL, &menu));
+    EXPECT(BOOTCORE_STATUS_NULL, bootcore_session_make(&session, &machine, NULL));
 }
 
 /* A struct that keeps no session. */
 static void try_none(void) {
     right();
-    EXPECT(BOOTCORE_NO_SESSION, START(0, SIZE));
-    EXPECT(BOOTCORE_NO_SESSION, START(0, 0));
-    EXPECT(BOOTCORE_BAD_MEMORY, START((uint64_t)1 << 32, SIZE));
-    EXPECT(BOOTCORE_NO_SESSION, PIECES(bytes, 1));
-    EXPECT(BOOTCORE_NO_SESSION, FAULT(SIZE));
-    EXPECT(BOOTCORE_NO_SESSION, OUTCOME());
+    EXPECT(BOOTCORE_STATUS_NO_SESSION, START(0, SIZE));
+    EXPECT(BOOTCORE_STATUS_NO_SESSION, START(0, 0));
+    EXPECT(BOOTCORE_STATUS_BAD_MEMORY, START((uint64_t)1 << 32, SIZE));
+    EXPECT(BOOTCORE_STATUS_NO_SESSION, PIECES(bytes, 1));
+    EXPECT(BOOTCORE_STATUS_NO_SESSION, FAULT(SIZE));
+    EXPECT(BOOTCORE_STATUS_NO_SESSION, OUTCOME());
     EXPECT(false, MISSING(SIZE));
     EXPECT(false, MISSING_AFTER(SIZE));
     bootcore_session_free(&session);
@@ -129,29 +129,29 @@ static void try_none(void) {
 static void try_null(void) {
     const bootcore_memory whole = {0, memory, SIZE}, none = {0, NULL, SIZE};
     right();
-    EXPECT(BOOTCORE_NULL, bootcore_session_start(NULL, &whole));
-    EXPECT(BOOTCORE_NULL, bootcore_session_start(&session, NULL));
-    EXPECT(BOOTCORE_NULL, bootcore_session_start(&session, &none));
-    EXPECT(BOOTCORE_NULL, bootcore_session_pieces(NULL, &whole, &request, bytes, 1));
-    EXPECT(BOOTCORE_NULL, bootcore_session_pieces(&session, NULL, &request, bytes, 1));
-    EXPECT(BOOTCORE_NULL, bootcore_session_pieces(&session, &none, &request, bytes, 1));
-    EXPECT(BOOTCORE_NULL, bootcore_session_pieces(&session, &whole, NULL, bytes, 1));
-    EXPECT(BOOTCORE_NULL, bootcore_session_pieces(&session, &whole, &request, NULL, 1));
-    EXPECT(BOOTCORE_NULL, bootcore_session_fault(NULL, &whole, &request));
-    EXPECT(BOOTCORE_NULL, bootcore_session_fault(&session, NULL, &request));
-    EXPECT(BOOTCORE_NULL, bootcore_session_fault(&session, &none, &request));
-    EXPECT(BOOTCORE_NULL, bootcore_session_fault(&session, &whole, NULL));
+    EXPECT(BOOTCORE_STATUS_NULL, bootcore_session_start(NULL, &whole));
+    EXPECT(BOOTCORE_STATUS_NULL, bootcore_session_start(&session, NULL));
+    EXPECT(BOOTCORE_STATUS_NULL, bootcore_session_start(&session, &none));
+    EXPECT(BOOTCORE_STATUS_NULL, bootcore_session_pieces(NULL, &whole, &request, bytes, 1));
+    EXPECT(BOOTCORE_STATUS_NULL, bootcore_session_pieces(&session, NULL, &request, bytes, 1));
+    EXPECT(BOOTCORE_STATUS_NULL, bootcore_session_pieces(&session, &none, &request, bytes, 1));
+    EXPECT(BOOTCORE_STATUS_NULL, bootcore_session_pieces(&session, &whole, NULL, bytes, 1));
+    EXPECT(BOOTCORE_STATUS_NULL, bootcore_session_pieces(&session, &whole, &request, NULL, 1));
+    EXPECT(BOOTCORE_STATUS_NULL, bootcore_session_fault(NULL, &whole, &request));
+    EXPECT(BOOTCORE_STATUS_NULL, bootcore_session_fault(&session, NULL, &request));
+    EXPECT(BOOTCORE_STATUS_NULL, bootcore_session_fault(&session, &none, &request));
+    EXPECT(BOOTCORE_STATUS_NULL, bootcore_session_fault(&session, &whole, NULL));
     EXPECT(false, bootcore_session_missing(NULL, SIZE, &request));
     EXPECT(false, bootcore_session_missing(&session, SIZE, NULL));
     EXPECT(false, bootcore_session_missing_after(NULL, SIZE, &request));
     EXPECT(false, bootcore_session_missing_after(&session, SIZE, NULL));
-    EXPECT(BOOTCORE_NULL, bootcore_session_outcome(NULL, &outcome));
-    EXPECT(BOOTCORE_NULL, bootcore_session_outcome(&session, NULL));
+    EXPECT(BOOTCORE_STATUS_NULL, bootcore_session_outcome(NULL, &outcome));
+    EXPECT(BOOTCORE_STATUS_NULL, bootcore_session_outcome(&session, NULL));
     outcome.places = NULL;
-    EXPECT(BOOTCORE_NULL, OUTCOME());
+    EXPECT(BOOTCORE_STATUS_NULL, OUTCOME());
     right();
     outcome.refusals = NULL;
-    EXPECT(BOOTCORE_NULL, OUTCOME());
+    EXPECT(BOOTCORE_STATUS_NULL, OUTCOME());
     bootcore_session_free(NULL);
 }
 
@@ -160,19 +160,19 @@ static void try_start(void) {
     right();
     machine.pool_base = 4096;
     machine.pool_length = POOL;
-    EXPECT(BOOTCORE_DONE, MAKE());
-    EXPECT(BOOTCORE_LOW_POOL, START(8192, SIZE - 8192));
+    EXPECT(BOOTCORE_STATUS_DONE, MAKE());
+    EXPECT(BOOTCORE_STATUS_LOW_POOL, START(8192, SIZE - 8192));
     right();
-    EXPECT(BOOTCORE_DONE, MAKE());
-    EXPECT(BOOTCORE_WAITING, PIECES(bytes, 9));
-    EXPECT(BOOTCORE_WAITING, FAULT(SIZE));
-    EXPECT(BOOTCORE_WAITING, OUTCOME());
+    EXPECT(BOOTCORE_STATUS_DONE, MAKE());
+    EXPECT(BOOTCORE_STATUS_WAITING, PIECES(bytes, 9));
+    EXPECT(BOOTCORE_STATUS_WAITING, FAULT(SIZE));
+    EXPECT(BOOTCORE_STATUS_WAITING, OUTCOME());
     EXPECT(false, MISSING(SIZE));
-    EXPECT(BOOTCORE_BAD_MEMORY, START(0, SIZE - 1));
-    EXPECT(BOOTCORE_BAD_MEMORY, START(4096, SIZE));
-    EXPECT(BOOTCORE_BAD_MEMORY, START((uint64_t)1 << 32, SIZE));
-    EXPECT(BOOTCORE_WAITING, START(0, SIZE));
-    EXPECT(BOOTCORE_WAITING, START(0, SIZE));
+    EXPECT(BOOTCORE_STATUS_BAD_MEMORY, START(0, SIZE - 1));
+    EXPECT(BOOTCORE_STATUS_BAD_MEMORY, START(4096, SIZE));
+    EXPECT(BOOTCORE_STATUS_BAD_MEMORY, START((uint64_t)1 << 32, SIZE));
+    EXPECT(BOOTCORE_STATUS_WAITING, START(0, SIZE));
+    EXPECT(BOOTCORE_STATUS_WAITING, START(0, SIZE));
 }
 
 /* What is awaited, how pieces are told, and a fault of the only entry. */
@@ -182,30 +182,30 @@ static void try_refused(void) {
     EXPECT(true, MISSING(BOOTCORE_PIECE + 8) && IS_REQUEST(0, BOOTCORE_PIECE));
     EXPECT(true, MISSING(0) && IS_REQUEST(0, BOOTCORE_PIECE));
     EXPECT(true, MISSING_AFTER(0) && IS_REQUEST(1, 9));
-    EXPECT(BOOTCORE_WAITING, PIECES(bytes, 8)); /* of another length */
-    EXPECT(BOOTCORE_WAITING, PIECES(NULL, 0));
-    EXPECT(BOOTCORE_WAITING, PIECES(bytes, BOOTCORE_PIECE - 1)); /* cut */
+    EXPECT(BOOTCORE_STATUS_WAITING, PIECES(bytes, 8)); /* of another length */
+    EXPECT(BOOTCORE_STATUS_WAITING, PIECES(NULL, 0));
+    EXPECT(BOOTCORE_STATUS_WAITING, PIECES(bytes, BOOTCORE_PIECE - 1)); /* cut */
     request.piece = 1;
-    EXPECT(BOOTCORE_WAITING, PIECES(bytes, BOOTCORE_PIECE)); /* padded */
+    EXPECT(BOOTCORE_STATUS_WAITING, PIECES(bytes, BOOTCORE_PIECE)); /* padded */
     EXPECT(true, MISSING(SIZE) && IS_REQUEST(0, BOOTCORE_PIECE + 9));
-    EXPECT(BOOTCORE_WAITING, PIECES(bytes, BOOTCORE_PIECE + 8)); /* the second one is */
+    EXPECT(BOOTCORE_STATUS_WAITING, PIECES(bytes, BOOTCORE_PIECE + 8)); /* the second one is */
     EXPECT(true, MISSING(SIZE) && IS_REQUEST(1, 9));
     request.piece = 0;
-    EXPECT(BOOTCORE_WAITING, FAULT(SIZE)); /* of a piece that came */
+    EXPECT(BOOTCORE_STATUS_WAITING, FAULT(SIZE)); /* of a piece that came */
     request.piece = 1;
-    EXPECT(BOOTCORE_WAITING, OUTCOME());
-    EXPECT(BOOTCORE_BAD_MEMORY, FAULT(SIZE - 1));
-    EXPECT(BOOTCORE_FAILED, FAULT(SIZE));
-    EXPECT(BOOTCORE_FAILED, PIECES(bytes, 9));
-    EXPECT(BOOTCORE_FAILED, START(0, SIZE));
+    EXPECT(BOOTCORE_STATUS_WAITING, OUTCOME());
+    EXPECT(BOOTCORE_STATUS_BAD_MEMORY, FAULT(SIZE - 1));
+    EXPECT(BOOTCORE_STATUS_FAILED, FAULT(SIZE));
+    EXPECT(BOOTCORE_STATUS_FAILED, PIECES(bytes, 9));
+    EXPECT(BOOTCORE_STATUS_FAILED, START(0, SIZE));
     EXPECT(false, MISSING(SIZE));
-    EXPECT(BOOTCORE_REFUSED, OUTCOME());
+    EXPECT(BOOTCORE_STATUS_REFUSED, OUTCOME());
     EXPECT(true, outcome.refusal_count == 1 && refusals[0].entry == 0 && refusals[0].number == 2);
     outcome.refusals = NULL;
     outcome.refusal_room = 0;
-    EXPECT(BOOTCORE_REFUSED, OUTCOME());
+    EXPECT(BOOTCORE_STATUS_REFUSED, OUTCOME());
     outcome.place_room = BOOTCORE_MAX_PLACES - 1;
-    EXPECT(BOOTCORE_SMALL_ROOM, OUTCOME());
+    EXPECT(BOOTCORE_STATUS_SMALL_ROOM, OUTCOME());
 }
 
 /* An entry that can't be read, one that is none, and one that is handed over. */
@@ -216,21 +216,21 @@ static void try_done(void) {
     menu.entry_count = 3;
     menu.fallbacks = (const uint32_t[]){1, 2};
     menu.fallback_count = 2;
-    EXPECT(BOOTCORE_DONE, MAKE());
-    EXPECT(BOOTCORE_NEXT, START(0, SIZE));
+    EXPECT(BOOTCORE_STATUS_DONE, MAKE());
+    EXPECT(BOOTCORE_STATUS_NEXT, START(0, SIZE));
     EXPECT(true, MISSING(SIZE) && request.entry == 1 && request.attempt == 1);
     request.entry = 9; /* of a request neither its entry nor its length is looked at */
     request.length = 9;
-    EXPECT(BOOTCORE_NEXT, PIECES(bytes, BOOTCORE_PIECE + 9));
+    EXPECT(BOOTCORE_STATUS_NEXT, PIECES(bytes, BOOTCORE_PIECE + 9));
     EXPECT(true, MISSING_AFTER(SIZE) && IS_REQUEST(0, sizeof kernel)); /* of the attempt before */
     EXPECT(true, request.entry == 2 && request.attempt == 2);
     EXPECT(false, MISSING_AFTER(SIZE));
     EXPECT(true, MISSING(SIZE) && request.entry == 2 && request.attempt == 2);
-    EXPECT(BOOTCORE_DONE, PIECES(kernel, sizeof kernel));
-    EXPECT(BOOTCORE_DONE, START(0, SIZE));
-    EXPECT(BOOTCORE_DONE, PIECES(bytes, 9));
-    EXPECT(BOOTCORE_DONE, FAULT(SIZE));
-    EXPECT(BOOTCORE_DONE, OUTCOME());
+    EXPECT(BOOTCORE_STATUS_DONE, PIECES(kernel, sizeof kernel));
+    EXPECT(BOOTCORE_STATUS_DONE, START(0, SIZE));
+    EXPECT(BOOTCORE_STATUS_DONE, PIECES(bytes, 9));
+    EXPECT(BOOTCORE_STATUS_DONE, FAULT(SIZE));
+    EXPECT(BOOTCORE_STATUS_DONE, OUTCOME());
     EXPECT(true, outcome.handoff.entry == 2 && outcome.refusal_count == 2);
     EXPECT(true, refusals[0].number == 1 && refusals[1].entry == 1 && refusals[1].number == 4);
 }

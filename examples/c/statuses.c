@@ -17,11 +17,11 @@ static const uint32_t kernel[] = {0xE85250D6, 0, 64, 0u - 0xE85250D6 - 64,
                                   2, 24, 0x100000, 0x100000, 0, 0x102000,
                                   3, 12, 0x100000, 0,
                                   0, 8};
-static const bootcore_region usable[] = {{0, SIZE, BOOTCORE_USABLE, 0}};
-static const bootcore_region reserved[] = {{0, SIZE, BOOTCORE_USABLE, 1}};
+static const bootcore_region usable[] = {{0, SIZE, BOOTCORE_KIND_USABLE, 0}};
+static const bootcore_region reserved[] = {{0, SIZE, BOOTCORE_KIND_USABLE, 1}};
 static const bootcore_region no_kind[] = {{0, SIZE, 6, 0}};
-static const bootcore_region high[] = {{0, SIZE, BOOTCORE_USABLE, 0},
-                                       {UINT64_MAX, 1, BOOTCORE_USABLE, 0}};
+static const bootcore_region high[] = {{0, SIZE, BOOTCORE_KIND_USABLE, 0},
+                                       {UINT64_MAX, 1, BOOTCORE_KIND_USABLE, 0}};
 static bootcore_region many[BOOTCORE_MAX_REGIONS + 1];
 static const bootcore_module one[] = {{{"hello", 5}, {"m", 1}}};
 static const bootcore_module no_file[] = {{{NULL, 5}, {"m", 1}}};
@@ -58,7 +58,7 @@ static call right(void) {
     c.machine.size = SIZE;
     c.machine.regions = usable;
     c.machine.region_count = 1;
-    c.entry.protocol = BOOTCORE_MULTIBOOT2;
+    c.entry.protocol = BOOTCORE_PROTOCOL_MULTIBOOT2;
     c.entry.kernel = (bootcore_bytes){kernel, sizeof kernel};
     c.entry.line = (bootcore_bytes){"line", 4};
     c.entry.modules = one;
@@ -92,7 +92,7 @@ static void count(const char *call_name, const char *name, uint32_t status, uint
  * numbers, `was` what stood there. */
 static bool is_kept(uint32_t status, bool are_numbers_told, const void *now, const void *was,
                     size_t length) {
-    return status == BOOTCORE_DONE ||
+    return status == BOOTCORE_STATUS_DONE ||
            (!memcmp(told.memory, before.memory, SIZE) &&
             !memcmp(told.places, before.places, sizeof told.places) &&
             !memcmp(told.steps, before.steps, sizeof told.steps) &&
@@ -100,7 +100,7 @@ static bool is_kept(uint32_t status, bool are_numbers_told, const void *now, con
 }
 
 static bool is_outcome(uint32_t status, const bootcore_outcome *now, const bootcore_outcome *was) {
-    bool is_told = status <= BOOTCORE_REFUSED;
+    bool is_told = status <= BOOTCORE_STATUS_REFUSED;
     return is_kept(status, is_told, now, was, sizeof *now) && (!is_told || now->refusal_count == status);
 }
 
@@ -122,15 +122,15 @@ static void expect(const char *name, call c, uint32_t loads, uint32_t prepares, 
     told = before;
     status = bootcore_plan(&plan.machine, &plan.entry, &plan.layout);
     const bootcore_layout *layout = &plan.layout;
-    if (status == BOOTCORE_DONE && prepares == plans) {
+    if (status == BOOTCORE_STATUS_DONE && prepares == plans) {
         same = !memcmp(&layout->handoff, &prepare.outcome.handoff, sizeof layout->handoff);
     } else {
-        same = status != BOOTCORE_REFUSED ||
+        same = status != BOOTCORE_STATUS_REFUSED ||
                (!layout->step_count && !layout->own_length &&
                 (!c.outcome.refusal_room || !memcmp(&layout->refusal, &refusal, sizeof refusal)));
     }
-    bool is_told = status == BOOTCORE_REFUSED ||
-                   (status == BOOTCORE_SMALL_ROOM && layout->place_room == BOOTCORE_MAX_PLACES);
+    bool is_told = status == BOOTCORE_STATUS_REFUSED ||
+                   (status == BOOTCORE_STATUS_SMALL_ROOM && layout->place_room == BOOTCORE_MAX_PLACES);
     count("plan", name, status, plans,
           same && !memcmp(told.memory, before.memory, SIZE) &&
               is_kept(status, is_told, layout, &c.layout, sizeof *layout));
@@ -143,61 +143,61 @@ static void expect(const char *name, call c, uint32_t loads, uint32_t prepares, 
         expect(#change, c, loads, prepares, plans); \
     } while (0)
 #define ALL(wanted, change) EACH(wanted, wanted, wanted, change)
-#define LOAD(wanted, change) EACH(wanted, BOOTCORE_DONE, BOOTCORE_DONE, change)
-#define PLAN(wanted, change) EACH(BOOTCORE_DONE, BOOTCORE_DONE, wanted, change)
+#define LOAD(wanted, change) EACH(wanted, BOOTCORE_STATUS_DONE, BOOTCORE_STATUS_DONE, change)
+#define PLAN(wanted, change) EACH(BOOTCORE_STATUS_DONE, BOOTCORE_STATUS_DONE, wanted, change)
 
 static void try_changes(void) {
-    ALL(BOOTCORE_DONE, (void)c);
-    ALL(BOOTCORE_DONE, c.entry.initrd.length = 5); /* is not looked at */
-    ALL(BOOTCORE_DONE, c.outcome.refusals = NULL; c.outcome.refusal_room = 0);
-    ALL(BOOTCORE_DONE, c.machine.size = SIZE - 4096);
-    ALL(BOOTCORE_REFUSED, c.entry.kernel.length = 9);
-    ALL(BOOTCORE_REFUSED, c.entry.kernel.length = 9; c.outcome.refusals = NULL;
+    ALL(BOOTCORE_STATUS_DONE, (void)c);
+    ALL(BOOTCORE_STATUS_DONE, c.entry.initrd.length = 5); /* is not looked at */
+    ALL(BOOTCORE_STATUS_DONE, c.outcome.refusals = NULL; c.outcome.refusal_room = 0);
+    ALL(BOOTCORE_STATUS_DONE, c.machine.size = SIZE - 4096);
+    ALL(BOOTCORE_STATUS_REFUSED, c.entry.kernel.length = 9);
+    ALL(BOOTCORE_STATUS_REFUSED, c.entry.kernel.length = 9; c.outcome.refusals = NULL;
         c.outcome.refusal_room = 0);
-    ALL(BOOTCORE_REFUSED, c.entry.protocol = BOOTCORE_LINUX64);
-    ALL(BOOTCORE_REFUSED, c.entry.protocol = BOOTCORE_LINUX; c.entry.modules = NULL);
-    ALL(BOOTCORE_NULL, c.machine.regions = NULL);
-    ALL(BOOTCORE_NULL, c.outcome.places = c.layout.places = NULL);
-    ALL(BOOTCORE_NULL, c.entry.kernel.bytes = NULL);
-    ALL(BOOTCORE_NULL, c.entry.line.bytes = NULL);
-    ALL(BOOTCORE_NULL, c.entry.rsdp_old.length = 20);
-    ALL(BOOTCORE_NULL, c.entry.modules = NULL);
-    ALL(BOOTCORE_NULL, c.entry.modules = no_line);
-    LOAD(BOOTCORE_NULL, c.entry.modules = no_file);
-    LOAD(BOOTCORE_NULL, c.memory.bytes = NULL);
-    EACH(BOOTCORE_NULL, BOOTCORE_REFUSED, BOOTCORE_REFUSED, c.entry.protocol = BOOTCORE_LINUX;
+    ALL(BOOTCORE_STATUS_REFUSED, c.entry.protocol = BOOTCORE_PROTOCOL_LINUX64);
+    ALL(BOOTCORE_STATUS_REFUSED, c.entry.protocol = BOOTCORE_PROTOCOL_LINUX; c.entry.modules = NULL);
+    ALL(BOOTCORE_STATUS_NULL, c.machine.regions = NULL);
+    ALL(BOOTCORE_STATUS_NULL, c.outcome.places = c.layout.places = NULL);
+    ALL(BOOTCORE_STATUS_NULL, c.entry.kernel.bytes = NULL);
+    ALL(BOOTCORE_STATUS_NULL, c.entry.line.bytes = NULL);
+    ALL(BOOTCORE_STATUS_NULL, c.entry.rsdp_old.length = 20);
+    ALL(BOOTCORE_STATUS_NULL, c.entry.modules = NULL);
+    ALL(BOOTCORE_STATUS_NULL, c.entry.modules = no_line);
+    LOAD(BOOTCORE_STATUS_NULL, c.entry.modules = no_file);
+    LOAD(BOOTCORE_STATUS_NULL, c.memory.bytes = NULL);
+    EACH(BOOTCORE_STATUS_NULL, BOOTCORE_STATUS_REFUSED, BOOTCORE_STATUS_REFUSED, c.entry.protocol = BOOTCORE_PROTOCOL_LINUX;
          c.entry.initrd.length = 5);
-    EACH(BOOTCORE_NULL, BOOTCORE_NULL, BOOTCORE_DONE, c.outcome.refusals = NULL);
-    PLAN(BOOTCORE_NULL, c.layout.steps = NULL);
-    PLAN(BOOTCORE_NULL, c.layout.own = NULL);
-    ALL(BOOTCORE_BAD_RESERVED, c.machine.reserved = 1);
-    ALL(BOOTCORE_BAD_RESERVED, c.machine.regions = reserved);
-    ALL(BOOTCORE_BAD_RESERVED, c.entry.reserved = 1);
-    ALL(BOOTCORE_BAD_FILE, c.entry.kernel.length = BOOTCORE_UNREADABLE);
-    ALL(BOOTCORE_BAD_FILE, c.entry.modules = unreadable);
-    ALL(BOOTCORE_BAD_FILE, c.entry.protocol = BOOTCORE_LINUX; c.entry.initrd = unreadable[0].file);
-    ALL(BOOTCORE_SMALL_ROOM, c.outcome.place_room = c.layout.place_room = BOOTCORE_MAX_PLACES - 1);
-    PLAN(BOOTCORE_SMALL_ROOM, c.layout.step_room = 1);
-    PLAN(BOOTCORE_SMALL_ROOM, c.layout.own_room = 0; c.layout.own = NULL);
-    ALL(BOOTCORE_BAD_KIND, c.machine.regions = no_kind);
-    ALL(BOOTCORE_BAD_SIZE, c.machine.size = SIZE + 1);
-    ALL(BOOTCORE_BAD_SIZE, c.machine.size = UINT64_MAX);
-    ALL(BOOTCORE_TOO_MANY_REGIONS, c.machine.regions = many;
+    EACH(BOOTCORE_STATUS_NULL, BOOTCORE_STATUS_NULL, BOOTCORE_STATUS_DONE, c.outcome.refusals = NULL);
+    PLAN(BOOTCORE_STATUS_NULL, c.layout.steps = NULL);
+    PLAN(BOOTCORE_STATUS_NULL, c.layout.own = NULL);
+    ALL(BOOTCORE_STATUS_BAD_RESERVED, c.machine.reserved = 1);
+    ALL(BOOTCORE_STATUS_BAD_RESERVED, c.machine.regions = reserved);
+    ALL(BOOTCORE_STATUS_BAD_RESERVED, c.entry.reserved = 1);
+    ALL(BOOTCORE_STATUS_BAD_FILE, c.entry.kernel.length = BOOTCORE_UNREADABLE);
+    ALL(BOOTCORE_STATUS_BAD_FILE, c.entry.modules = unreadable);
+    ALL(BOOTCORE_STATUS_BAD_FILE, c.entry.protocol = BOOTCORE_PROTOCOL_LINUX; c.entry.initrd = unreadable[0].file);
+    ALL(BOOTCORE_STATUS_SMALL_ROOM, c.outcome.place_room = c.layout.place_room = BOOTCORE_MAX_PLACES - 1);
+    PLAN(BOOTCORE_STATUS_SMALL_ROOM, c.layout.step_room = 1);
+    PLAN(BOOTCORE_STATUS_SMALL_ROOM, c.layout.own_room = 0; c.layout.own = NULL);
+    ALL(BOOTCORE_STATUS_BAD_KIND, c.machine.regions = no_kind);
+    ALL(BOOTCORE_STATUS_BAD_SIZE, c.machine.size = SIZE + 1);
+    ALL(BOOTCORE_STATUS_BAD_SIZE, c.machine.size = UINT64_MAX);
+    ALL(BOOTCORE_STATUS_TOO_MANY_REGIONS, c.machine.regions = many;
         c.machine.region_count = BOOTCORE_MAX_REGIONS + 1);
-    ALL(BOOTCORE_BAD_REGION, c.machine.regions = high; c.machine.region_count = 2);
-    ALL(BOOTCORE_BAD_POOL, c.machine.pool_length = 1);
-    ALL(BOOTCORE_BAD_POOL, c.machine.pool_base = 1);
-    ALL(BOOTCORE_BAD_POOL, c.machine.pool_base = 4096; c.machine.pool_length = UINT64_MAX);
-    LOAD(BOOTCORE_BAD_MEMORY, c.memory.length = SIZE - 1);
-    LOAD(BOOTCORE_BAD_MEMORY, c.memory.address = (uint64_t)1 << 32);
-    LOAD(BOOTCORE_OUTSIDE, c.memory = ((bootcore_memory){0x2000, told.memory, SIZE - 0x2000}));
-    ALL(BOOTCORE_BAD_PROTOCOL, c.entry.protocol = 0);
-    ALL(BOOTCORE_BAD_PROTOCOL, c.entry.protocol = 4);
-    ALL(BOOTCORE_TOO_MANY, c.entry.modules = none; c.entry.module_count = BOOTCORE_MAX_MODULES + 1);
-    ALL(BOOTCORE_TOO_MANY, c.entry.rsdp_new = ((bootcore_bytes){many, BOOTCORE_MAX_RSDP + 1}));
+    ALL(BOOTCORE_STATUS_BAD_REGION, c.machine.regions = high; c.machine.region_count = 2);
+    ALL(BOOTCORE_STATUS_BAD_POOL, c.machine.pool_length = 1);
+    ALL(BOOTCORE_STATUS_BAD_POOL, c.machine.pool_base = 1);
+    ALL(BOOTCORE_STATUS_BAD_POOL, c.machine.pool_base = 4096; c.machine.pool_length = UINT64_MAX);
+    LOAD(BOOTCORE_STATUS_BAD_MEMORY, c.memory.length = SIZE - 1);
+    LOAD(BOOTCORE_STATUS_BAD_MEMORY, c.memory.address = (uint64_t)1 << 32);
+    LOAD(BOOTCORE_STATUS_OUTSIDE, c.memory = ((bootcore_memory){0x2000, told.memory, SIZE - 0x2000}));
+    ALL(BOOTCORE_STATUS_BAD_PROTOCOL, c.entry.protocol = 0);
+    ALL(BOOTCORE_STATUS_BAD_PROTOCOL, c.entry.protocol = 4);
+    ALL(BOOTCORE_STATUS_TOO_MANY_ENTRIES, c.entry.modules = none; c.entry.module_count = BOOTCORE_MAX_MODULES + 1);
+    ALL(BOOTCORE_STATUS_TOO_MANY_ENTRIES, c.entry.rsdp_new = ((bootcore_bytes){many, BOOTCORE_MAX_RSDP + 1}));
 }
 
-#define NO_POINTER(call) count(#call, "", call, BOOTCORE_NULL, true)
+#define NO_POINTER(call) count(#call, "", call, BOOTCORE_STATUS_NULL, true)
 
 static void try_no_pointers(void) {
     call c = right();
@@ -233,7 +233,7 @@ static carrying right_carrying(void) {
 static void carry_out(const char *name, carrying c, uint32_t wanted) {
     uint32_t status = bootcore_carry_out(&c.layout, c.files, c.file_count, c.pieces, c.piece_count);
     count("carry_out", name, status, wanted,
-          !memcmp(told.memory, wanted == BOOTCORE_DONE ? loaded : before.memory, SIZE) &&
+          !memcmp(told.memory, wanted == BOOTCORE_STATUS_DONE ? loaded : before.memory, SIZE) &&
               !memcmp(told.second, before.second, SIZE));
 }
 
@@ -248,41 +248,41 @@ static void try_carrying(void) {
     call c = right();
     told = before;
     uint32_t status = bootcore_load(&c.memory, &c.machine, &c.entry, &c.outcome);
-    count("load", "what carrying out is compared with", status, BOOTCORE_DONE, true);
+    count("load", "what carrying out is compared with", status, BOOTCORE_STATUS_DONE, true);
     memcpy(loaded, told.memory, SIZE);
     carrying cut = right_carrying();
     cut.pieces[1] = (bootcore_memory){0, told.second, SIZE}; /* of use up to the first piece alone */
     status = bootcore_carry_out(&cut.layout, cut.files, 2, cut.pieces, 2);
-    count("carry_out", "a piece that an earlier one cuts", status, BOOTCORE_DONE,
+    count("carry_out", "a piece that an earlier one cuts", status, BOOTCORE_STATUS_DONE,
           !memcmp(told.memory, before.memory, CUT) && !memcmp(told.second, loaded, CUT) &&
               !memcmp(told.memory + CUT, loaded + CUT, SIZE - CUT) &&
               !memcmp(told.second + CUT, before.second + CUT, SIZE - CUT));
-    CARRY(BOOTCORE_DONE, (void)c);
-    CARRY(BOOTCORE_DONE, c.pieces[c.piece_count++] = ((bootcore_memory){0, told.second, SIZE}));
-    CARRY(BOOTCORE_DONE, c.pieces[c.piece_count++] = c.pieces[0];
+    CARRY(BOOTCORE_STATUS_DONE, (void)c);
+    CARRY(BOOTCORE_STATUS_DONE, c.pieces[c.piece_count++] = ((bootcore_memory){0, told.second, SIZE}));
+    CARRY(BOOTCORE_STATUS_DONE, c.pieces[c.piece_count++] = c.pieces[0];
           c.pieces[0] = ((bootcore_memory){UINT64_MAX, told.second, SIZE}));
-    CARRY(BOOTCORE_DONE, c.pieces[0] = ((bootcore_memory){0x100000, told.memory + 0x100000, 0x3000});
+    CARRY(BOOTCORE_STATUS_DONE, c.pieces[0] = ((bootcore_memory){0x100000, told.memory + 0x100000, 0x3000});
           c.pieces[1] = ((bootcore_memory){0x1000, told.memory + 0x1000, 0x1000}));
-    CARRY(BOOTCORE_DONE, c.files[1] = ((bootcore_bytes){"hello again", 11})); /* longer than planned */
-    CARRY(BOOTCORE_OUTSIDE, c.layout.steps[0].address = UINT64_MAX;
+    CARRY(BOOTCORE_STATUS_DONE, c.files[1] = ((bootcore_bytes){"hello again", 11})); /* longer than planned */
+    CARRY(BOOTCORE_STATUS_OUTSIDE, c.layout.steps[0].address = UINT64_MAX;
           c.pieces[c.piece_count++] = ((bootcore_memory){UINT64_MAX, told.second, SIZE}));
-    CARRY(BOOTCORE_OUTSIDE, c.pieces[1].length--);
-    CARRY(BOOTCORE_OUTSIDE, c.piece_count = 1);
-    CARRY(BOOTCORE_OUTSIDE, c.piece_count = 0);
-    CARRY(BOOTCORE_BAD_FILE, c.file_count = 1);
-    CARRY(BOOTCORE_BAD_FILE, c.files[1].length = 4);
-    CARRY(BOOTCORE_BAD_FILE, c.files[1].length = BOOTCORE_UNREADABLE);
-    CARRY(BOOTCORE_BAD_FILE, c.layout.steps[0].source = 0);
-    CARRY(BOOTCORE_BAD_FILE, c.layout.own_length = 1);
-    CARRY(BOOTCORE_SMALL_ROOM, c.layout.step_room = 0);
-    CARRY(BOOTCORE_SMALL_ROOM, c.layout.own_room = 0);
-    CARRY(BOOTCORE_SMALL_ROOM, c.layout.step_count = 0);
-    CARRY(BOOTCORE_SMALL_ROOM, call d = right(); d.entry.kernel.length = 9; /* refused */
+    CARRY(BOOTCORE_STATUS_OUTSIDE, c.pieces[1].length--);
+    CARRY(BOOTCORE_STATUS_OUTSIDE, c.piece_count = 1);
+    CARRY(BOOTCORE_STATUS_OUTSIDE, c.piece_count = 0);
+    CARRY(BOOTCORE_STATUS_BAD_FILE, c.file_count = 1);
+    CARRY(BOOTCORE_STATUS_BAD_FILE, c.files[1].length = 4);
+    CARRY(BOOTCORE_STATUS_BAD_FILE, c.files[1].length = BOOTCORE_UNREADABLE);
+    CARRY(BOOTCORE_STATUS_BAD_FILE, c.layout.steps[0].source = 0);
+    CARRY(BOOTCORE_STATUS_BAD_FILE, c.layout.own_length = 1);
+    CARRY(BOOTCORE_STATUS_SMALL_ROOM, c.layout.step_room = 0);
+    CARRY(BOOTCORE_STATUS_SMALL_ROOM, c.layout.own_room = 0);
+    CARRY(BOOTCORE_STATUS_SMALL_ROOM, c.layout.step_count = 0);
+    CARRY(BOOTCORE_STATUS_SMALL_ROOM, call d = right(); d.entry.kernel.length = 9; /* refused */
           (void)bootcore_plan(&d.machine, &d.entry, &c.layout));
-    CARRY(BOOTCORE_NULL, c.files[1].bytes = NULL);
-    CARRY(BOOTCORE_NULL, c.pieces[0].bytes = NULL);
-    CARRY(BOOTCORE_NULL, c.layout.steps = NULL);
-    CARRY(BOOTCORE_NULL, c.layout.own = NULL);
+    CARRY(BOOTCORE_STATUS_NULL, c.files[1].bytes = NULL);
+    CARRY(BOOTCORE_STATUS_NULL, c.pieces[0].bytes = NULL);
+    CARRY(BOOTCORE_STATUS_NULL, c.layout.steps = NULL);
+    CARRY(BOOTCORE_STATUS_NULL, c.layout.own = NULL);
     NO_POINTER(bootcore_carry_out(NULL, &c.entry.kernel, 1, &c.memory, 1));
     NO_POINTER(bootcore_carry_out(&c.layout, NULL, 1, &c.memory, 1));
     NO_POINTER(bootcore_carry_out(&c.layout, &c.entry.kernel, 1, NULL, 1));
@@ -291,10 +291,10 @@ static void try_carrying(void) {
 /* Each status has a sentence of its own, and no other number has one. */
 static void try_texts(void) {
     const char *none = bootcore_status_text(UINT32_MAX);
-    for (uint32_t status = 0; status <= BOOTCORE_UNWANTED + 1; status++) {
+    for (uint32_t status = 0; status <= BOOTCORE_STATUS_UNWANTED + 1; status++) {
         const char *text = bootcore_status_text(status);
-        bool is_one = status <= BOOTCORE_OUTSIDE ||
-                      (status >= BOOTCORE_NULL && status <= BOOTCORE_UNWANTED);
+        bool is_one = status <= BOOTCORE_STATUS_OUTSIDE ||
+                      (status >= BOOTCORE_STATUS_NULL && status <= BOOTCORE_STATUS_UNWANTED);
         bool holds = text[0] && !strcmp(text, none) != is_one;
         for (uint32_t other = 0; is_one && other < status; other++) {
             holds = holds && strcmp(text, bootcore_status_text(other));

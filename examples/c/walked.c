@@ -91,11 +91,11 @@ static void print_seen(const bootcore_seen *seen, const bootcore_seen_arrays *ar
 /* Prints what is seen, or why nothing is; the status that the program ends with. */
 static int tell(uint32_t status, const bootcore_seen *seen, const bootcore_seen_arrays *arrays,
                 const bootcore_refusal *fault) {
-    if (status == BOOTCORE_DONE) {
+    if (status == BOOTCORE_STATUS_DONE) {
         print_seen(seen, arrays);
         return 0;
     }
-    if (status == BOOTCORE_REFUSED) {
+    if (status == BOOTCORE_STATUS_REFUSED) {
         fprintf(stderr, "bad image %" PRIu32 "\n", fault->number);
         return 2;
     }
@@ -114,7 +114,7 @@ int main(int argc, char **argv) {
         return 3;
     }
     uint32_t status = bootcore_walk_all(image, length, &seen, &arrays, &fault);
-    if (status == BOOTCORE_SMALL_ROOM) {
+    if (status == BOOTCORE_STATUS_SMALL_ROOM) {
         arrays = arrays_for(&seen);
         status = bootcore_walk_all(image, length, &seen, &arrays, &fault);
     }

@@ -57,11 +57,11 @@ static int tried, wrong;
 
 static void expect(const char *name, call c, uint32_t wanted) {
     uint32_t status = walk_all(c);
-    telling after = wanted == BOOTCORE_DONE ? all : before;
-    if (wanted == BOOTCORE_SMALL_ROOM) {
+    telling after = wanted == BOOTCORE_STATUS_DONE ? all : before;
+    if (wanted == BOOTCORE_STATUS_SMALL_ROOM) {
         after.seen = all.seen;
     }
-    if (wanted == BOOTCORE_REFUSED) {
+    if (wanted == BOOTCORE_STATUS_REFUSED) {
         after.fault = (bootcore_refusal){0, 75, 0, 0}; /* the bytes end too soon */
     }
     if (status != wanted || memcmp(&told, &after, sizeof told)) {
@@ -82,8 +82,8 @@ static void expect(const char *name, call c, uint32_t wanted) {
 static int is_right(void) {
     bootcore_seen seen;
     bootcore_refusal fault;
-    if (bootcore_walk(image, length, &seen, &fault) != BOOTCORE_DONE ||
-        walk_all(right()) != BOOTCORE_DONE || seen.kernel_part_count > ROOM || seen.module_count > ROOM ||
+    if (bootcore_walk(image, length, &seen, &fault) != BOOTCORE_STATUS_DONE ||
+        walk_all(right()) != BOOTCORE_STATUS_DONE || seen.kernel_part_count > ROOM || seen.module_count > ROOM ||
         seen.run_count > ROOM || seen.text_length > ROOM || !seen.module_count || !seen.text_length) {
         return 0;
     }
@@ -105,27 +105,27 @@ int main(int argc, char **argv) {
         return 2;
     }
     bootcore_seen seen = all.seen;
-    CHANGED(BOOTCORE_DONE, (void)c);
-    CHANGED(BOOTCORE_DONE, c.arrays.kernel_part_room = seen.kernel_part_count);
-    CHANGED(BOOTCORE_DONE, c.arrays.module_room = seen.module_count);
-    CHANGED(BOOTCORE_DONE, c.arrays.run_room = seen.run_count);
-    CHANGED(BOOTCORE_DONE, c.arrays.text_room = seen.text_length);
-    CHANGED(BOOTCORE_NULL, c.image = NULL);
-    CHANGED(BOOTCORE_NULL, c.seen = NULL);
-    CHANGED(BOOTCORE_NULL, c.has_arrays = 0);
-    CHANGED(BOOTCORE_NULL, c.arrays.kernel_parts = NULL);
-    CHANGED(BOOTCORE_NULL, c.arrays.modules = NULL);
-    CHANGED(BOOTCORE_NULL, c.arrays.runs = NULL);
-    CHANGED(BOOTCORE_NULL, c.arrays.text = NULL);
-    CHANGED(BOOTCORE_NULL, c.fault = NULL);
-    CHANGED(BOOTCORE_SMALL_ROOM, c.arrays.kernel_part_room = seen.kernel_part_count - 1);
-    CHANGED(BOOTCORE_SMALL_ROOM, c.arrays.module_room = seen.module_count - 1);
-    CHANGED(BOOTCORE_SMALL_ROOM, c.arrays.run_room = seen.run_count - 1);
-    CHANGED(BOOTCORE_SMALL_ROOM, c.arrays.text_room = seen.text_length - 1);
-    CHANGED(BOOTCORE_SMALL_ROOM, memset(&c.arrays, 0, sizeof c.arrays));
-    CHANGED(BOOTCORE_REFUSED, c.length = length - 1);
-    CHANGED(BOOTCORE_REFUSED, c.length = 0; c.image = NULL);
-    CHANGED(BOOTCORE_REFUSED, c.length = 0; memset(&c.arrays, 0, sizeof c.arrays));
+    CHANGED(BOOTCORE_STATUS_DONE, (void)c);
+    CHANGED(BOOTCORE_STATUS_DONE, c.arrays.kernel_part_room = seen.kernel_part_count);
+    CHANGED(BOOTCORE_STATUS_DONE, c.arrays.module_room = seen.module_count);
+    CHANGED(BOOTCORE_STATUS_DONE, c.arrays.run_room = seen.run_count);
+    CHANGED(BOOTCORE_STATUS_DONE, c.arrays.text_room = seen.text_length);
+    CHANGED(BOOTCORE_STATUS_NULL, c.image = NULL);
+    CHANGED(BOOTCORE_STATUS_NULL, c.seen = NULL);
+    CHANGED(BOOTCORE_STATUS_NULL, c.has_arrays = 0);
+    CHANGED(BOOTCORE_STATUS_NULL, c.arrays.kernel_parts = NULL);
+    CHANGED(BOOTCORE_STATUS_NULL, c.arrays.modules = NULL);
+    CHANGED(BOOTCORE_STATUS_NULL, c.arrays.runs = NULL);
+    CHANGED(BOOTCORE_STATUS_NULL, c.arrays.text = NULL);
+    CHANGED(BOOTCORE_STATUS_NULL, c.fault = NULL);
+    CHANGED(BOOTCORE_STATUS_SMALL_ROOM, c.arrays.kernel_part_room = seen.kernel_part_count - 1);
+    CHANGED(BOOTCORE_STATUS_SMALL_ROOM, c.arrays.module_room = seen.module_count - 1);
+    CHANGED(BOOTCORE_STATUS_SMALL_ROOM, c.arrays.run_room = seen.run_count - 1);
+    CHANGED(BOOTCORE_STATUS_SMALL_ROOM, c.arrays.text_room = seen.text_length - 1);
+    CHANGED(BOOTCORE_STATUS_SMALL_ROOM, memset(&c.arrays, 0, sizeof c.arrays));
+    CHANGED(BOOTCORE_STATUS_REFUSED, c.length = length - 1);
+    CHANGED(BOOTCORE_STATUS_REFUSED, c.length = 0; c.image = NULL);
+    CHANGED(BOOTCORE_STATUS_REFUSED, c.length = 0; memset(&c.arrays, 0, sizeof c.arrays));
     printf("%d tried, %d wrong\n", tried, wrong);
     return wrong != 0;
 }

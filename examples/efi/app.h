@@ -50,7 +50,7 @@ extern struct menu_file {
     size_t text_length;
 } menu;
 extern const char *const protocols[4]; /* their words, by the core's numbers */
-enum { efi_program = BOOTCORE_LINUX64 + 1 }; /* in a protocol's place: no matter of the core's */
+enum { efi_program = BOOTCORE_PROTOCOL_LINUX64 + 1 }; /* in a protocol's place: no matter of the core's */
 
 /* Reads the menu out of a text, which it keeps and changes. NULL, or what is wrong: in a line, or
    with line 0 in the whole. */

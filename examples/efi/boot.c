@@ -25,17 +25,17 @@ int take_plan_room(void) {
 
 const char *refusal_words(const bootcore_refusal *refusal) {
     static char words[512];
-    bootcore_describe(refusal, words, sizeof words);
+    bootcore_refusal_line(refusal, words, sizeof words);
     return words;
 }
 
 static const char *status_words(uint32_t status) {
     switch (status) {
-    case BOOTCORE_DONE: return NULL;
-    case BOOTCORE_REFUSED: return refusal_words(&boot.layout.refusal);
-    case BOOTCORE_NO_MEMORY: return "The core is out of memory: its arena is too small.";
-    case BOOTCORE_SMALL_ROOM: return "The plan is longer than any should be.";
-    case BOOTCORE_BAD_REGION: return "The firmware's map goes beyond 2^52.";
+    case BOOTCORE_STATUS_DONE: return NULL;
+    case BOOTCORE_STATUS_REFUSED: return refusal_words(&boot.layout.refusal);
+    case BOOTCORE_STATUS_NO_MEMORY: return "The core is out of memory: its arena is too small.";
+    case BOOTCORE_STATUS_SMALL_ROOM: return "The plan is longer than any should be.";
+    case BOOTCORE_STATUS_BAD_REGION: return "The firmware's map goes beyond 2^52.";
     default: return "The core was called in a way that it does not allow.";
     }
 }

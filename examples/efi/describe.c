@@ -107,7 +107,7 @@ static bootcore_region find_pool(const bootcore_machine *machine) {
         if (end > highest) end = highest;
         start = (start + page - 1) / page * page;
         end = end / page * page;
-        if (run.kind == BOOTCORE_USABLE && end > start && end - start > pool.length)
+        if (run.kind == BOOTCORE_KIND_USABLE && end > start && end - start > pool.length)
             pool.base = start, pool.length = end - start;
     }
     return pool;
@@ -150,7 +150,7 @@ static void add_entry(const menu_entry *entry) {
     print("protocol = \"%s\"\n", protocols[core->protocol]);
     add_value("kernel", entry->paths[0], strlen(entry->paths[0]));
     add_line(core->line);
-    if (core->protocol == BOOTCORE_MULTIBOOT2) {
+    if (core->protocol == BOOTCORE_PROTOCOL_MULTIBOOT2) {
         add_copy("rsdp_old", core->rsdp_old);
         add_copy("rsdp_new", core->rsdp_new);
         add_modules(entry);

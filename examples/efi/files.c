@@ -142,13 +142,13 @@ void each_file(const char *folder, void (*take)(const char *name)) {
 /* Of an entry's paths from one on, where those end that are one file to its kernel: all ramdisks are
    one. */
 static uint32_t joined_end(const menu_entry *entry, uint32_t from) {
-    int is_alone = from == 0 || entry->core.protocol == BOOTCORE_MULTIBOOT2;
+    int is_alone = from == 0 || entry->core.protocol == BOOTCORE_PROTOCOL_MULTIBOOT2;
     return is_alone ? from + 1 : entry->file_count;
 }
 
 void give_files(menu_entry *entry) {
     entry->core.kernel = files.read[0];
-    if (entry->core.protocol != BOOTCORE_MULTIBOOT2) entry->core.initrd = files.read[1];
+    if (entry->core.protocol != BOOTCORE_PROTOCOL_MULTIBOOT2) entry->core.initrd = files.read[1];
     else
         for (size_t i = 1; i < files.count; i++) entry->modules[i - 1].file = files.read[i];
 }

@@ -44,7 +44,7 @@ static const uint8_t *find_table(const char *signature) {
 static int is_kept(uint64_t start, uint64_t length) {
     for (size_t i = 0; i < boot.map.machine.region_count; i++) {
         const bootcore_region *region = &boot.map.regions[i];
-        if (region->kind == BOOTCORE_USABLE && region->base < start + length &&
+        if (region->kind == BOOTCORE_KIND_USABLE && region->base < start + length &&
             start < region->base + region->length)
             return 0;
     }

@@ -11,11 +11,11 @@ static uint32_t kind_of(const EFI_MEMORY_DESCRIPTOR *d) {
     case EfiBootServicesCode:
     case EfiBootServicesData:
     case EfiLoaderCode:
-    case EfiLoaderData: return BOOTCORE_USABLE;
-    case EfiACPIReclaimMemory: return BOOTCORE_ACPI;
-    case EfiACPIMemoryNVS: return BOOTCORE_NVS;
-    case EfiUnusableMemory: return BOOTCORE_UNUSABLE;
-    default: return BOOTCORE_RESERVED;
+    case EfiLoaderData: return BOOTCORE_KIND_USABLE;
+    case EfiACPIReclaimMemory: return BOOTCORE_KIND_ACPI;
+    case EfiACPIMemoryNVS: return BOOTCORE_KIND_NVS;
+    case EfiUnusableMemory: return BOOTCORE_KIND_BAD;
+    default: return BOOTCORE_KIND_RESERVED;
     }
 }
 
@@ -37,7 +37,7 @@ static int add_region(machine_map *map, const EFI_MEMORY_DESCRIPTOR *d) {
     size_t count = map->machine.region_count;
     bootcore_region made = {d->PhysicalStart, d->NumberOfPages * page, kind_of(d), 0};
     bootcore_region *last = count ? &map->regions[count - 1] : NULL;
-    if (made.kind == BOOTCORE_USABLE) map->usable += made.length;
+    if (made.kind == BOOTCORE_KIND_USABLE) map->usable += made.length;
     if (last && last->kind == made.kind && last->base + last->length == made.base)
         last->length += made.length;
     else if (count < BOOTCORE_MAX_REGIONS)

@@ -96,7 +96,7 @@ const char *measure_handover(const menu_entry *entry) {
     bootcore_digests digests;
     if (tpm == NULL) return NULL;
     is_in_pcr = 0;
-    if (digest_entry(entry, &digests) != BOOTCORE_DONE)
+    if (digest_entry(entry, &digests) != BOOTCORE_STATUS_DONE)
         return fail("not measured: the core's arena is too small");
     size_t length = describe(&boot.map.machine, entry, event.data, sizeof event.data);
     if (length == 0) return fail("not measured: a line or path is no UTF-8, or all is too long");

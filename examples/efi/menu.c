@@ -11,16 +11,16 @@ static void take_protocol(const char *word, bootcore_entry *core) {
     const uint8_t *old = find_rsdp(0), *new = find_rsdp(1);
     uint32_t length = new ? *(const uint32_t *)(new + 20) : 0; /* the table's own field */
     if (!check(core->protocol == 0, "an entry has one protocol")) return;
-    for (uint32_t i = BOOTCORE_MULTIBOOT2; i <= BOOTCORE_LINUX64; i++)
+    for (uint32_t i = BOOTCORE_PROTOCOL_MULTIBOOT2; i <= BOOTCORE_PROTOCOL_LINUX64; i++)
         if (is_word(word, protocols[i])) core->protocol = i;
     check(core->protocol != 0, "no such protocol");
-    if (core->protocol != BOOTCORE_MULTIBOOT2) return;
+    if (core->protocol != BOOTCORE_PROTOCOL_MULTIBOOT2) return;
     if (old) core->rsdp_old = take_bytes(old, 20);
     if (length >= 36 && length <= BOOTCORE_MAX_RSDP) core->rsdp_new = take_bytes(new, length);
 }
 
 static void take_module(char *text, menu_entry *entry) {
-    check(entry->core.protocol == BOOTCORE_MULTIBOOT2, "only a multiboot2 kernel has modules");
+    check(entry->core.protocol == BOOTCORE_PROTOCOL_MULTIBOOT2, "only a multiboot2 kernel has modules");
     check(entry->core.module_count < BOOTCORE_MAX_MODULES, "too many modules of an entry");
     if (mistake != NULL) return;
     entry->core.modules = entry->modules;
@@ -45,7 +45,7 @@ static void take_program(char *path, menu_entry *entry) {
 }
 
 static void take_linux_ramdisk(char *path, menu_entry *entry) {
-    check(entry->core.protocol == BOOTCORE_LINUX || entry->core.protocol == BOOTCORE_LINUX64,
+    check(entry->core.protocol == BOOTCORE_PROTOCOL_LINUX || entry->core.protocol == BOOTCORE_PROTOCOL_LINUX64,
           "only a Linux kernel has ramdisks");
     take_ramdisk(path, entry);
 }

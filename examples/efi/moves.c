@@ -10,7 +10,7 @@ enum { of_no_file = UINT32_MAX };
 
 /* Whether a step takes these bytes, of a file, to where they lie. */
 static int is_in_place(const bootcore_step *step, uint64_t start, uint32_t file) {
-    return step->source == BOOTCORE_FROM_FILE && step->file == file &&
+    return step->source == BOOTCORE_SOURCE_FILE && step->file == file &&
            step->address == start + step->offset;
 }
 
@@ -51,8 +51,8 @@ int clear_sources(void) {
 
 static uint64_t source_of(const bootcore_step *step) {
     switch (step->source) {
-    case BOOTCORE_FROM_FILE: return (UINTN)files.read[step->file].bytes + step->offset;
-    case BOOTCORE_FROM_LAYOUT: return (UINTN)own + step->offset;
+    case BOOTCORE_SOURCE_FILE: return (UINTN)files.read[step->file].bytes + step->offset;
+    case BOOTCORE_SOURCE_LAYOUT: return (UINTN)own + step->offset;
     default: return 0;
     }
 }

@@ -44,8 +44,8 @@ static int append_zeros(EFI_FILE *file, uint64_t length) {
 }
 
 static int append_step(EFI_FILE *file, const bootcore_step *step) {
-    if (step->source == BOOTCORE_ZEROS) return append_zeros(file, step->length);
-    const uint8_t *bytes = step->source == BOOTCORE_FROM_FILE ? files.read[step->file].bytes
+    if (step->source == BOOTCORE_SOURCE_ZEROS) return append_zeros(file, step->length);
+    const uint8_t *bytes = step->source == BOOTCORE_SOURCE_FILE ? files.read[step->file].bytes
                                                               : boot.layout.own;
     return append(file, bytes + step->offset, step->length);
 }

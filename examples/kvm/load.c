@@ -45,17 +45,17 @@ static void read_at(const char *path, int file, uint64_t offset, uint8_t *to, ui
 
 static void make_plan(const bootcore_machine *machine, const bootcore_entry *entry, bootcore_layout *layout) {
     uint32_t status = bootcore_plan(machine, entry, layout);
-    if (status == BOOTCORE_SMALL_ROOM) { /* now it is known how much room is wanted */
+    if (status == BOOTCORE_STATUS_SMALL_ROOM) { /* now it is known how much room is wanted */
         layout->steps = allocated(layout->step_room = layout->step_count, sizeof *layout->steps);
         layout->own = allocated(layout->own_room = layout->own_length, 1);
         status = bootcore_plan(machine, entry, layout);
     }
-    if (status == BOOTCORE_REFUSED) {
+    if (status == BOOTCORE_STATUS_REFUSED) {
         char words[256];
-        bootcore_describe(&layout->refusal, words, sizeof words);
+        bootcore_refusal_line(&layout->refusal, words, sizeof words);
         fail(REFUSED, "%s", words);
     }
-    if (status != BOOTCORE_DONE) {
+    if (status != BOOTCORE_STATUS_DONE) {
         fail(FAILED, "the plan ends with the status %" PRIu32 " of bootcore.h", status);
     }
 }
@@ -64,7 +64,7 @@ bootcore_handoff load_guest(const guest_memory *memory, uint32_t protocol, const
                             int count, bootcore_place *places) {
     int files[MAX_FILES];
     bootcore_module modules[MAX_FILES]; /* the first is the kernel, which is no module */
-    if (count > (protocol == BOOTCORE_MULTIBOOT2 ? MAX_FILES : 2)) {
+    if (count > (protocol == BOOTCORE_PROTOCOL_MULTIBOOT2 ? MAX_FILES : 2)) {
         fail(BAD_WORDS, "there are too many files");
     }
     memset(modules, 0, sizeof modules);
@@ -77,9 +77,9 @@ bootcore_handoff load_guest(const guest_memory *memory, uint32_t protocol, const
     uint8_t *kernel = allocated(length, 1);
     read_at(paths[0], files[0], 0, kernel, length);
 
-    const bootcore_region regions[] = {{0, 0x9F000, BOOTCORE_USABLE, 0}, /* above is a PC's BIOS */
-                                       {0x100000, memory->low_size - 0x100000, BOOTCORE_USABLE, 0},
-                                       {HIGH_BASE, memory->high_size, BOOTCORE_USABLE, 0}};
+    const bootcore_region regions[] = {{0, 0x9F000, BOOTCORE_KIND_USABLE, 0}, /* above is a PC's BIOS */
+                                       {0x100000, memory->low_size - 0x100000, BOOTCORE_KIND_USABLE, 0},
+                                       {HIGH_BASE, memory->high_size, BOOTCORE_KIND_USABLE, 0}};
     const bootcore_machine machine = {.size = memory->low_size, .regions = regions,
                                       .region_count = memory->high_size ? 3 : 2};
     const bootcore_entry entry = {.protocol = protocol, .kernel = {kernel, length},
@@ -89,11 +89,11 @@ bootcore_handoff load_guest(const guest_memory *memory, uint32_t protocol, const
     make_plan(&machine, &entry, &layout);
     for (const bootcore_step *step = layout.steps; step < layout.steps + layout.step_count; step++) {
         uint8_t *to = memory->low + step->address; /* no part ends above the machine's size */
-        if (step->source == BOOTCORE_FROM_LAYOUT) {
+        if (step->source == BOOTCORE_SOURCE_LAYOUT) {
             memcpy(to, layout.own + step->offset, step->length);
-        } else if (step->source == BOOTCORE_FROM_FILE && step->file == 0) {
+        } else if (step->source == BOOTCORE_SOURCE_FILE && step->file == 0) {
             memcpy(to, kernel + step->offset, step->length);
-        } else if (step->source == BOOTCORE_FROM_FILE) {
+        } else if (step->source == BOOTCORE_SOURCE_FILE) {
             read_at(paths[step->file], files[step->file], step->offset, to, step->length);
         } /* zeros are there: the mapping is fresh */
     }

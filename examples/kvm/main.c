@@ -19,9 +19,9 @@ void fail(int status, const char *format, ...) {
 
 int main(int argc, char **argv) {
     const char *name = argc < 5 ? "" : argv[1];
-    uint32_t protocol = !strcmp(name, "multiboot2") ? BOOTCORE_MULTIBOOT2
-                        : !strcmp(name, "linux")    ? BOOTCORE_LINUX
-                        : !strcmp(name, "linux64")  ? BOOTCORE_LINUX64
+    uint32_t protocol = !strcmp(name, "multiboot2") ? BOOTCORE_PROTOCOL_MULTIBOOT2
+                        : !strcmp(name, "linux")    ? BOOTCORE_PROTOCOL_LINUX
+                        : !strcmp(name, "linux64")  ? BOOTCORE_PROTOCOL_LINUX64
                                                     : 0;
     if (!protocol) {
         fail(BAD_WORDS, "usage: vmm multiboot2|linux|linux64 MIB LINE KERNEL [FILE..]");

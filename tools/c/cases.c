@@ -15,7 +15,7 @@
  * - digests of what is handed over, told at once or fed in pieces of odd lengths, that are not those of the image; or another refusal.
  *
  * Before that, if memory is small, the same call is made with each of its requests to malloc and realloc refused in turn, and all
- * after it; of a boot the first MOST. The answer must be BOOTCORE_NO_MEMORY, and memory as before, of a boot outside the pool. So
+ * after it; of a boot the first MOST. The answer must be BOOTCORE_STATUS_NO_MEMORY, and memory as before, of a boot outside the pool. So
  * it is with the walk of an image, with a plan and with digests. The linker is told to wrap the two. With -DARENA, for
  * libbootcore_freestanding.a, no request is refused.
  */
@@ -153,7 +153,7 @@ static int are_seen(void) {
     uint64_t parts = 0;
     uint32_t i;
     for (i = 0; i < outcome.handoff.place_count; i++) {
-        if (places[i].role != BOOTCORE_KERNEL) {
+        if (places[i].role != BOOTCORE_ROLE_KERNEL) {
             continue;
         }
         if (parts >= told.seen.kernel_part_count || told.parts[parts].address != places[i].address ||
@@ -163,7 +163,7 @@ static int are_seen(void) {
         parts++;
     }
     return parts > 0 && parts == told.seen.kernel_part_count &&
-           told.seen.module_count == (entry->protocol == BOOTCORE_MULTIBOOT2 ? entry->module_count : 0);
+           told.seen.module_count == (entry->protocol == BOOTCORE_PROTOCOL_MULTIBOOT2 ? entry->module_count : 0);
 }
 
 /* Whether a walk sees the handoff in its image, and tells nothing if a request was refused. */
@@ -183,12 +183,12 @@ static int is_walked(const char *path) {
         return 0;
     }
     memset(&before, 0xA5, sizeof before);
-    for (grants = 0; length <= 0x40000 && walk(whole, length, grants) == BOOTCORE_NO_MEMORY; grants++) {
+    for (grants = 0; length <= 0x40000 && walk(whole, length, grants) == BOOTCORE_STATUS_NO_MEMORY; grants++) {
         if (memcmp(&told, &before, sizeof told) || text[0] != 0xA5) {
             return 0;
         }
     }
-    is_told = walk(whole, length, SIZE_MAX) == BOOTCORE_DONE && told.seen.protocol == outcome.handoff.protocol &&
+    is_told = walk(whole, length, SIZE_MAX) == BOOTCORE_STATUS_DONE && told.seen.protocol == outcome.handoff.protocol &&
               told.seen.entry_address == outcome.handoff.registers.rip && are_seen();
     free(whole);
     return is_told;
@@ -224,7 +224,7 @@ static int are_segments(void) {
     bootcore_segments(r, NULL);
     bootcore_segments(r, segments);
     for (i = 0; i < 6; i++) {
-        int is_right = outcome.handoff.protocol == BOOTCORE_MULTIBOOT2
+        int is_right = outcome.handoff.protocol == BOOTCORE_PROTOCOL_MULTIBOOT2
                            ? segments[i].base == 0 && segments[i].limit == UINT32_MAX && segments[i].db == 1 && segments[i].l == 0
                            : is_descriptor(&segments[i]);
         if (!is_right || segments[i].selector != selectors[i]) {
@@ -248,7 +248,7 @@ static bootcore_entry without_bytes(const bootcore_entry *entry) {
     size_t i;
     planned_files[0] = entry->kernel;
     planned_file_count = 1;
-    if (entry->protocol != BOOTCORE_MULTIBOOT2) {
+    if (entry->protocol != BOOTCORE_PROTOCOL_MULTIBOOT2) {
         if (entry->initrd.bytes) {
             planned_files[planned_file_count++] = entry->initrd;
         }
@@ -277,7 +277,7 @@ static bootcore_layout empty_layout(void) {
 static bootcore_layout plan(const bootcore_entry *entry, uint32_t *status) {
     bootcore_layout layout = empty_layout(), untold = empty_layout();
     *status = bootcore_plan(&machine, entry, &layout);
-    if (*status == BOOTCORE_SMALL_ROOM) {
+    if (*status == BOOTCORE_STATUS_SMALL_ROOM) {
         untold.step_count = layout.step_count;
         untold.own_length = layout.own_length;
         if (memcmp(&layout, &untold, sizeof layout) || layout.step_count > MOST_STEPS) {
@@ -317,7 +317,7 @@ static void carry_out(const bootcore_layout *layout) {
     whole.bytes = other;
     whole.length = numbers[SIZE];
     fill_other();
-    if (bootcore_carry_out(layout, planned_files, planned_file_count, &whole, 1) != BOOTCORE_DONE) {
+    if (bootcore_carry_out(layout, planned_files, planned_file_count, &whole, 1) != BOOTCORE_STATUS_DONE) {
         puts("a plan is not carried out over one mapping");
     }
     is_loaded("over one mapping");
@@ -329,7 +329,7 @@ static void carry_out(const bootcore_layout *layout) {
         pieces[i].bytes = frames + (count - 1 - frame) * FRAME;
         pieces[i].length = FRAME;
     }
-    if (count % 2 == 0 && bootcore_carry_out(layout, planned_files, planned_file_count, pieces, count) != BOOTCORE_DONE) {
+    if (count % 2 == 0 && bootcore_carry_out(layout, planned_files, planned_file_count, pieces, count) != BOOTCORE_STATUS_DONE) {
         puts("a plan is not carried out over frames");
     }
     for (i = 0; i < count; i++) {
@@ -353,11 +353,11 @@ static void carry_out_by_pread(const bootcore_layout *layout) {
     fill_other();
     for (i = layout->step_count; i > 0; i--) {
         const bootcore_step *step = &layout->steps[i - 1];
-        if (step->source == BOOTCORE_FROM_FILE) {
+        if (step->source == BOOTCORE_SOURCE_FILE) {
             if (pread(fileno(opened[step->file]), other + step->address, step->length, (off_t)step->offset) != (ssize_t)step->length) {
                 puts("a step wants bytes that a file does not have");
             }
-        } else if (step->source == BOOTCORE_FROM_LAYOUT) {
+        } else if (step->source == BOOTCORE_SOURCE_LAYOUT) {
             memcpy(other + step->address, layout->own + step->offset, step->length);
         } else {
             memset(other + step->address, 0, step->length);
@@ -414,7 +414,7 @@ static void compare_plan(const bootcore_entry *entry, uint32_t status) {
         layout.step_count = layout.own_length = 9; /* as an older plan has it */
         came = bootcore_plan(&machine, &bare, &layout);
         granted = SIZE_MAX;
-        if (came != BOOTCORE_NO_MEMORY) {
+        if (came != BOOTCORE_STATUS_NO_MEMORY) {
             break;
         }
         if (memcmp(&layout, &untold, sizeof layout)) {
@@ -424,7 +424,7 @@ static void compare_plan(const bootcore_entry *entry, uint32_t status) {
     layout = plan(&bare, &came);
     if (came != status) {
         printf("a plan ends with the status %" PRIu32 "\n", came);
-    } else if (came == BOOTCORE_REFUSED) {
+    } else if (came == BOOTCORE_STATUS_REFUSED) {
         if (memcmp(&layout.refusal, &refusal, sizeof refusal)) {
             puts("a plan has another refusal");
         }
@@ -448,13 +448,13 @@ static bootcore_bytes file_of(const bootcore_entry *entry, uint64_t index) {
     if (index == 0) {
         return entry->kernel;
     }
-    return entry->protocol == BOOTCORE_MULTIBOOT2 ? entry->modules[index - 1].file : entry->initrd;
+    return entry->protocol == BOOTCORE_PROTOCOL_MULTIBOOT2 ? entry->modules[index - 1].file : entry->initrd;
 }
 
 /* Tells a session its pieces, the last run of what is missing first; each run is one of at most so many bytes. */
 static uint32_t tell_pieces(bootcore_session *session, const bootcore_memory *whole, size_t most) {
     uint32_t status = bootcore_session_start(session, whole);
-    while (status == BOOTCORE_WAITING || status == BOOTCORE_NEXT) {
+    while (status == BOOTCORE_STATUS_WAITING || status == BOOTCORE_STATUS_NEXT) {
         const void *kept = session->kept;
         bootcore_request request, next;
         bootcore_bytes of;
@@ -496,10 +496,10 @@ static void compare_session(uint32_t status) {
         memset(refusals, 0, sizeof refusals);
         ended = empty_outcome();
         came = bootcore_session_make(&session, &machine, &menu);
-        if (came == BOOTCORE_DONE) {
+        if (came == BOOTCORE_STATUS_DONE) {
             came = tell_pieces(&session, &whole, most);
         }
-        if (came != (status == BOOTCORE_DONE ? BOOTCORE_DONE : BOOTCORE_FAILED) ||
+        if (came != (status == BOOTCORE_STATUS_DONE ? BOOTCORE_STATUS_DONE : BOOTCORE_STATUS_FAILED) ||
             bootcore_session_outcome(&session, &ended) != status || memcmp(&ended, &booted, sizeof ended) ||
             memcmp(places, booted_places, booted.handoff.place_count * sizeof *places) ||
             memcmp(refusals, booted_refusals, sizeof refusals)) {
@@ -583,13 +583,13 @@ static uint32_t with_refused(const bootcore_entry *entry, bootcore_digest *diges
                              uint32_t (*of)(const bootcore_entry *, bootcore_digest *)) {
     const void *kept = digest->kept;
     size_t grants;
-    uint32_t status = BOOTCORE_NO_MEMORY;
+    uint32_t status = BOOTCORE_STATUS_NO_MEMORY;
     tell_nothing();
-    for (grants = numbers[SIZE] <= SMALL ? 0 : SIZE_MAX; status == BOOTCORE_NO_MEMORY; grants++) {
+    for (grants = numbers[SIZE] <= SMALL ? 0 : SIZE_MAX; status == BOOTCORE_STATUS_NO_MEMORY; grants++) {
         granted = grants;
         status = of(entry, digest);
         granted = SIZE_MAX;
-        if (status == BOOTCORE_NO_MEMORY &&
+        if (status == BOOTCORE_STATUS_NO_MEMORY &&
             (!is_nothing_told() || memcmp(&digest_refusal, &no_refusal, sizeof no_refusal) || digest->kept != kept)) {
             puts("digests are told, though memory ran out");
         }
@@ -611,20 +611,20 @@ static void feed(bootcore_digest *digest, const bootcore_entry *entry) {
             return;
         }
         if (range.length < sizeof other_bytes &&
-            bootcore_digest_feed(digest, other_bytes, range.length + 1) != BOOTCORE_UNWANTED) {
+            bootcore_digest_feed(digest, other_bytes, range.length + 1) != BOOTCORE_STATUS_UNWANTED) {
             puts("a digest takes more than it wants");
         }
-        if (bootcore_digest_told(digest, &digests, told_parts, BOOTCORE_MAX_PLACES) != BOOTCORE_WAITING || !is_nothing_told()) {
+        if (bootcore_digest_told(digest, &digests, told_parts, BOOTCORE_MAX_PLACES) != BOOTCORE_STATUS_WAITING || !is_nothing_told()) {
             puts("a digest tells something while bytes are wanted");
         }
-        if (bootcore_digest_feed(digest, (const uint8_t *)of.bytes + range.offset, length) != BOOTCORE_DONE ||
-            bootcore_digest_feed(digest, NULL, 0) != BOOTCORE_DONE || digest->kept != kept) {
+        if (bootcore_digest_feed(digest, (const uint8_t *)of.bytes + range.offset, length) != BOOTCORE_STATUS_DONE ||
+            bootcore_digest_feed(digest, NULL, 0) != BOOTCORE_STATUS_DONE || digest->kept != kept) {
             puts("a digest takes no bytes");
             return;
         }
         most = most * 5 % 0xFFFF + 2;
     }
-    if (bootcore_digest_feed(digest, other_bytes, 1) != BOOTCORE_UNWANTED) {
+    if (bootcore_digest_feed(digest, other_bytes, 1) != BOOTCORE_STATUS_UNWANTED) {
         puts("a digest takes bytes when none are wanted");
     }
 }
@@ -637,7 +637,7 @@ static void compare_digests(const bootcore_entry *entry, uint32_t status, const 
     uint32_t at_once, made;
     size_t room;
     at_once = with_refused(entry, &digest, digest_at_once);
-    if (status == BOOTCORE_REFUSED) {
+    if (status == BOOTCORE_STATUS_REFUSED) {
         if (at_once != status || memcmp(&digest_refusal, refusal, sizeof *refusal) || !is_nothing_told()) {
             puts("digests at once have another refusal");
         }
@@ -648,11 +648,11 @@ static void compare_digests(const bootcore_entry *entry, uint32_t status, const 
         return;
     }
     wanted = reckon();
-    if (at_once != BOOTCORE_DONE || !are_told(&wanted) || memcmp(&digest_refusal, &no_refusal, sizeof no_refusal)) {
+    if (at_once != BOOTCORE_STATUS_DONE || !are_told(&wanted) || memcmp(&digest_refusal, &no_refusal, sizeof no_refusal)) {
         printf("digests at once, with status %" PRIu32 ", are not those of the image\n", at_once);
     }
     made = with_refused(&bare, &digest, make_digest);
-    if (made != BOOTCORE_DONE || memcmp(&digest_refusal, &no_refusal, sizeof no_refusal)) {
+    if (made != BOOTCORE_STATUS_DONE || memcmp(&digest_refusal, &no_refusal, sizeof no_refusal)) {
         printf("a digest is made with status %" PRIu32 "\n", made);
         return;
     }
@@ -664,7 +664,7 @@ static void compare_digests(const bootcore_entry *entry, uint32_t status, const 
         made = bootcore_digest_told(&digest, &digests, room ? told_parts : NULL, room);
         granted = SIZE_MAX;
         memcpy(wanted_parts + room, told_parts + BOOTCORE_MAX_PLACES, sizeof *told_parts); /* behind the room nothing is told */
-        if (made != BOOTCORE_DONE || digest.kept != kept || memcmp(&digests, &wanted, sizeof wanted) ||
+        if (made != BOOTCORE_STATUS_DONE || digest.kept != kept || memcmp(&digests, &wanted, sizeof wanted) ||
             memcmp(told_parts, wanted_parts, (room + 1) * sizeof *told_parts)) {
             printf("digests that are fed, with room for %zu parts, are not those of the image\n", room);
         }
@@ -682,7 +682,7 @@ static void compare_digests(const bootcore_entry *entry, uint32_t status, const 
 
 static void tell(uint32_t status, uint32_t entry, const char *image) {
     size_t i;
-    if (status != BOOTCORE_DONE && status != BOOTCORE_REFUSED) {
+    if (status != BOOTCORE_STATUS_DONE && status != BOOTCORE_STATUS_REFUSED) {
         printf("status %" PRIu32 "\n", status);
         return;
     }
@@ -690,7 +690,7 @@ static void tell(uint32_t status, uint32_t entry, const char *image) {
         printf("refused %" PRIu32 " %" PRIu32 " %" PRIu64 " %" PRIu64 "\n", refusals[i].entry + entry, refusals[i].number,
                refusals[i].first, refusals[i].second);
     }
-    if (status == BOOTCORE_REFUSED) {
+    if (status == BOOTCORE_STATUS_REFUSED) {
         puts("no entry left");
         return;
     }
@@ -735,7 +735,7 @@ int main(int argc, char **argv) {
         entry = &menu.entries[number];
     }
     for (grants = 0; numbers[SIZE] <= SMALL && (is_load || grants < number); grants++) {
-        if (call(entry, grants) != BOOTCORE_NO_MEMORY) {
+        if (call(entry, grants) != BOOTCORE_STATUS_NO_MEMORY) {
             break;
         }
         if (!is_as_before(is_load)) {
@@ -747,14 +747,14 @@ int main(int argc, char **argv) {
     memset(refusals, 0, sizeof refusals);
     status = call(entry, SIZE_MAX);
     tell(status, is_load ? (uint32_t)number : 0, argv[3]);
-    if (status == BOOTCORE_DONE || status == BOOTCORE_REFUSED) {
-        outcome.handoff.entry -= is_load && status == BOOTCORE_DONE ? (uint32_t)number : 0;
+    if (status == BOOTCORE_STATUS_DONE || status == BOOTCORE_STATUS_REFUSED) {
+        outcome.handoff.entry -= is_load && status == BOOTCORE_STATUS_DONE ? (uint32_t)number : 0;
         if (is_load) {
             compare_plan(entry, status);
             compare_digests(entry, status, &refusals[0]);
         } else {
             compare_session(status);
-            if (status == BOOTCORE_DONE) {
+            if (status == BOOTCORE_STATUS_DONE) {
                 compare_digests(&menu.entries[outcome.handoff.entry], status, NULL);
             }
         }

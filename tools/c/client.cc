@@ -10,7 +10,7 @@ int main() {
                                0, 8};
     std::vector<uint8_t> bytes(0x200000, 0xA5);
     std::vector<bootcore_place> places(BOOTCORE_MAX_PLACES);
-    bootcore_region region = {0, 0x200000, BOOTCORE_USABLE, 0};
+    bootcore_region region = {0, 0x200000, BOOTCORE_KIND_USABLE, 0};
     bootcore_memory memory = {0, &bytes[0], bytes.size()};
     bootcore_machine machine;
     bootcore_module module = {{"hello", 5}, {"m", 1}};
@@ -23,7 +23,7 @@ int main() {
     machine.regions = &region;
     machine.region_count = 1;
     std::memset(&entry, 0, sizeof entry);
-    entry.protocol = BOOTCORE_MULTIBOOT2;
+    entry.protocol = BOOTCORE_PROTOCOL_MULTIBOOT2;
     entry.kernel.bytes = kernel;
     entry.kernel.length = sizeof kernel;
     entry.line.bytes = "line";

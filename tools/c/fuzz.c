@@ -86,7 +86,7 @@ static void read_input(void) {
     machine.regions = regions;
     regions[0].base = 0;
     regions[0].length = MOST;
-    regions[0].kind = BOOTCORE_USABLE;
+    regions[0].kind = BOOTCORE_KIND_USABLE;
     machine.region_count = 1 + take(1) % 6;
     for (i = 1; i < 6; i++) {
         size_t shift = (size_t)take(1) % 22;
@@ -110,7 +110,7 @@ static void read_input(void) {
     entry.kernel.length = input_length < HEAD ? 0 : input_length - HEAD;
     files[0] = entry.kernel;
     file_count = 1;
-    for (i = 0; i < 4 && (entry.protocol == BOOTCORE_MULTIBOOT2 ? i < entry.module_count : i < 1); i++) {
+    for (i = 0; i < 4 && (entry.protocol == BOOTCORE_PROTOCOL_MULTIBOOT2 ? i < entry.module_count : i < 1); i++) {
         files[file_count++] = modules[i].file;
     }
 }
@@ -132,13 +132,13 @@ static uint32_t kind_of(uint64_t address) {
 static int is_usable(const bootcore_place *place) {
     uint64_t end = place->address + place->length;
     size_t i;
-    if (place->address < 4096 || end < place->address || end > machine.size || kind_of(place->address) != BOOTCORE_USABLE) {
+    if (place->address < 4096 || end < place->address || end > machine.size || kind_of(place->address) != BOOTCORE_KIND_USABLE) {
         return 0;
     }
     for (i = 0; i < machine.region_count; i++) {
         uint64_t begins = regions[i].base, ends = regions[i].base + regions[i].length;
-        if ((place->address < begins && begins < end && kind_of(begins) != BOOTCORE_USABLE) ||
-            (place->address < ends && ends < end && kind_of(ends) != BOOTCORE_USABLE)) {
+        if ((place->address < begins && begins < end && kind_of(begins) != BOOTCORE_KIND_USABLE) ||
+            (place->address < ends && ends < end && kind_of(ends) != BOOTCORE_KIND_USABLE)) {
             return 0;
         }
     }
@@ -181,7 +181,7 @@ static void check_places(const bootcore_outcome *outcome) {
 static void compare_carried_out(const bootcore_layout *layout, const bootcore_memory *pieces, size_t count, uint8_t fill) {
     size_t i;
     memset(planned, fill, MOST);
-    if (bootcore_carry_out(layout, files, file_count, pieces, count) != BOOTCORE_DONE) {
+    if (bootcore_carry_out(layout, files, file_count, pieces, count) != BOOTCORE_STATUS_DONE) {
         found("a plan is not carried out");
     }
     for (i = 0; i < layout->handoff.place_count; i++) {
@@ -218,10 +218,10 @@ static void compare_plan(uint32_t status, const bootcore_outcome *outcome, const
     if (came != status) {
         found("a plan answers otherwise than a load");
     }
-    if (status == BOOTCORE_REFUSED && memcmp(&layout.refusal, refusal, sizeof *refusal)) {
+    if (status == BOOTCORE_STATUS_REFUSED && memcmp(&layout.refusal, refusal, sizeof *refusal)) {
         found("a plan has another refusal");
     }
-    if (status != BOOTCORE_DONE) {
+    if (status != BOOTCORE_STATUS_DONE) {
         return;
     }
     if (memcmp(&layout.handoff, &outcome->handoff, sizeof layout.handoff) ||
@@ -294,7 +294,7 @@ static void check_digests(uint32_t status, const bootcore_outcome *outcome, cons
         memcmp(&made, refusal, sizeof made)) {
         found("digests end otherwise than a load");
     }
-    if (status != BOOTCORE_DONE) {
+    if (status != BOOTCORE_STATUS_DONE) {
         return;
     }
     length = make_image(outcome);
@@ -302,13 +302,13 @@ static void check_digests(uint32_t status, const bootcore_outcome *outcome, cons
     while (bootcore_digest_wanted(&digest, &range)) {
         const uint8_t *of = (const uint8_t *)files[range.file].bytes + range.offset;
         size_t first = cut % (range.length + 1);
-        if (range.offset + range.length > files[range.file].length || bootcore_digest_feed(&digest, of, first) != BOOTCORE_DONE ||
-            bootcore_digest_feed(&digest, of + first, range.length - first) != BOOTCORE_DONE) {
+        if (range.offset + range.length > files[range.file].length || bootcore_digest_feed(&digest, of, first) != BOOTCORE_STATUS_DONE ||
+            bootcore_digest_feed(&digest, of + first, range.length - first) != BOOTCORE_STATUS_DONE) {
             found("a digest is not fed");
         }
     }
     memset(parts, 0, sizeof parts);
-    if (bootcore_digest_told(&digest, &digests, parts, BOOTCORE_MAX_PLACES) != BOOTCORE_DONE) {
+    if (bootcore_digest_told(&digest, &digests, parts, BOOTCORE_MAX_PLACES) != BOOTCORE_STATUS_DONE) {
         found("a digest tells nothing");
     }
     check_told(&digests, parts, length, outcome);
@@ -319,7 +319,7 @@ static void check_walk(const bootcore_outcome *outcome) {
     size_t length = make_image(outcome);
     bootcore_seen seen;
     bootcore_refusal fault;
-    if (bootcore_walk(image, length, &seen, &fault) != BOOTCORE_DONE || seen.entry_address != outcome->handoff.registers.rip) {
+    if (bootcore_walk(image, length, &seen, &fault) != BOOTCORE_STATUS_DONE || seen.entry_address != outcome->handoff.registers.rip) {
         found("a walk does not see what is handed over");
     }
     /* and with a byte changed it ends, whatever it answers */
@@ -353,10 +353,10 @@ static void try_input(const uint8_t *bytes, size_t length) {
     memset(memory, 0xA5, MOST);
     status = bootcore_load(&whole, &machine, &entry, &outcome);
     counts[status < 2 ? status : 2]++;
-    if (status == BOOTCORE_DONE) {
+    if (status == BOOTCORE_STATUS_DONE) {
         check_places(&outcome);
     }
-    if (!is_filled_outside(memory, places, status == BOOTCORE_DONE ? outcome.handoff.place_count : 0, 0xA5)) {
+    if (!is_filled_outside(memory, places, status == BOOTCORE_STATUS_DONE ? outcome.handoff.place_count : 0, 0xA5)) {
         found("a load writes outside the parts");
     }
     if (bootcore_prepare(&machine, &entry, &prepared) != status || memcmp(&refusal, &prepared_refusal, sizeof refusal) ||
@@ -365,7 +365,7 @@ static void try_input(const uint8_t *bytes, size_t length) {
     }
     compare_plan(status, &outcome, &refusal);
     check_digests(status, &outcome, &refusal);
-    if (status == BOOTCORE_DONE) {
+    if (status == BOOTCORE_STATUS_DONE) {
         check_walk(&outcome);
     }
 }

@@ -76,7 +76,7 @@ int main(int argc, char **argv) {
     static bootcore_place places[BOOTCORE_MAX_PLACES];
     uint32_t protocol = 0;
     for (uint32_t i = 0; argc > 5 && i < 3; i++) {
-        protocol = strcmp(argv[2], names[i]) ? protocol : BOOTCORE_MULTIBOOT2 + i;
+        protocol = strcmp(argv[2], names[i]) ? protocol : BOOTCORE_PROTOCOL_MULTIBOOT2 + i;
     }
     if (!protocol) {
         fail(BAD_WORDS, "usage: kvm_state image|ready multiboot2|linux|linux64 MIB LINE KERNEL [FILE..]");

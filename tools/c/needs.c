@@ -140,7 +140,7 @@ static uint32_t segments(void) {
 }
 static uint32_t describe(void) {
     static char line[512];
-    return (uint32_t)bootcore_describe(&refusals[0], line, sizeof line) + (bootcore_text(refusals[0].number) != NULL) +
+    return (uint32_t)bootcore_refusal_line(&refusals[0], line, sizeof line) + (bootcore_refusal_text(refusals[0].number) != NULL) +
            bootcore_version();
 }
 
@@ -149,7 +149,7 @@ static bootcore_bytes file_of(uint32_t index, uint32_t at) {
     if (at == 0) {
         return of->kernel;
     }
-    return of->protocol == BOOTCORE_MULTIBOOT2 ? of->modules[at - 1].file : of->initrd;
+    return of->protocol == BOOTCORE_PROTOCOL_MULTIBOOT2 ? of->modules[at - 1].file : of->initrd;
 }
 
 static uint32_t session_pieces(void) {
@@ -161,10 +161,10 @@ static uint32_t session_pieces(void) {
 /* A whole session; the first entry has a fault at its last file, if another one may follow. */
 static uint32_t session_all(void) {
     uint32_t status = on_stack("session_make", session_make);
-    if (status == BOOTCORE_DONE) {
+    if (status == BOOTCORE_STATUS_DONE) {
         status = on_stack("session_start", session_start);
     }
-    while (status == BOOTCORE_WAITING || status == BOOTCORE_NEXT) {
+    while (status == BOOTCORE_STATUS_WAITING || status == BOOTCORE_STATUS_NEXT) {
         if (!on_stack("session_missing", session_missing)) {
             break;
         }
@@ -197,7 +197,7 @@ static uint32_t digest_entry(void) {
 /* A whole digest of the entry. */
 static uint32_t digest_all(void) {
     uint32_t status = on_stack("digest_make", digest_make);
-    if (status == BOOTCORE_DONE) {
+    if (status == BOOTCORE_STATUS_DONE) {
         while (on_stack("digest_wanted", digest_wanted)) {
             (void)on_stack("digest_feed", digest_feed);
         }
@@ -229,7 +229,7 @@ static uint32_t measure(const char *name, uint32_t (*call)(void)) {
         printf("%s wants more than its peak of %zu bytes\n", name, peak);
     }
     bootcore_arena(arena, 0);
-    if (peak && ask(name, call) != BOOTCORE_NO_MEMORY) {
+    if (peak && ask(name, call) != BOOTCORE_STATUS_NO_MEMORY) {
         printf("%s does without an arena\n", name);
     }
     bootcore_arena(arena, ARENA_LENGTH);
@@ -260,7 +260,7 @@ static void make_image(void) {
 static void measure_entry(void) {
     uint32_t status, i;
     file_count = 0;
-    for (i = 0; i < 1 + (entry->protocol == BOOTCORE_MULTIBOOT2 ? entry->module_count : entry->initrd.bytes != NULL); i++) {
+    for (i = 0; i < 1 + (entry->protocol == BOOTCORE_PROTOCOL_MULTIBOOT2 ? entry->module_count : entry->initrd.bytes != NULL); i++) {
         files[file_count++] = file_of((uint32_t)(entry - menu.entries), i);
     }
     memset(&layout, 0, sizeof layout);
@@ -273,7 +273,7 @@ static void measure_entry(void) {
     set_outcome();
     (void)measure("prepare", prepare);
     status = measure("plan", plan);
-    if (status == BOOTCORE_DONE && measure("carry_out", carry_out) != BOOTCORE_DONE) {
+    if (status == BOOTCORE_STATUS_DONE && measure("carry_out", carry_out) != BOOTCORE_STATUS_DONE) {
         puts("a plan is not carried out");
     }
     if (measure("digest_entry", digest_entry) != status || measure("digest", digest_all) != status) {
@@ -283,10 +283,10 @@ static void measure_entry(void) {
     if (measure("load", load) != status) {
         puts("a load ends otherwise than a plan");
     }
-    if (status == BOOTCORE_DONE) {
+    if (status == BOOTCORE_STATUS_DONE) {
         make_image();
         (void)measure("segments", segments);
-        if (measure("walk", walk) != BOOTCORE_DONE || measure("walk_all", walk_all) != BOOTCORE_DONE) {
+        if (measure("walk", walk) != BOOTCORE_STATUS_DONE || measure("walk_all", walk_all) != BOOTCORE_STATUS_DONE) {
             puts("an image is not walked");
         }
     } else {

@@ -65,11 +65,11 @@ static void right(void) {
     for (i = 0; i < REGION_ROOM; i++) {
         regions[i].base = 0;
         regions[i].length = MEMORY;
-        regions[i].kind = BOOTCORE_USABLE;
+        regions[i].kind = BOOTCORE_KIND_USABLE;
         regions[i].reserved = 0;
     }
     for (i = 0; i <= BOOTCORE_MAX_ENTRIES; i++) {
-        entries[i].protocol = BOOTCORE_MULTIBOOT2;
+        entries[i].protocol = BOOTCORE_PROTOCOL_MULTIBOOT2;
         entries[i].kernel.bytes = kernel;
         entries[i].kernel.length = sizeof kernel;
         entries[i].line.bytes = "line";
@@ -188,97 +188,97 @@ typedef struct change {
 #define CHANGE(make, status) {#make, make, status}
 
 static const change of_load[] = {
-    CHANGE(null_memory, BOOTCORE_NULL), CHANGE(null_regions, BOOTCORE_NULL), CHANGE(null_line, BOOTCORE_NULL),
-    CHANGE(null_kernel, BOOTCORE_NULL), CHANGE(null_module, BOOTCORE_NULL), CHANGE(null_places, BOOTCORE_NULL),
-    CHANGE(set_machine, BOOTCORE_BAD_RESERVED), CHANGE(set_region, BOOTCORE_BAD_RESERVED), CHANGE(set_entry, BOOTCORE_BAD_RESERVED),
-    CHANGE(unreadable_kernel, BOOTCORE_BAD_FILE), CHANGE(unreadable_module, BOOTCORE_BAD_FILE),
-    CHANGE(few_places, BOOTCORE_SMALL_ROOM), CHANGE(bad_kind, BOOTCORE_BAD_KIND), CHANGE(bad_size, BOOTCORE_BAD_SIZE),
-    CHANGE(many_regions, BOOTCORE_TOO_MANY_REGIONS), CHANGE(bad_region, BOOTCORE_BAD_REGION), CHANGE(bad_pool, BOOTCORE_BAD_POOL),
-    CHANGE(short_memory, BOOTCORE_BAD_MEMORY), CHANGE(high_memory, BOOTCORE_BAD_MEMORY),
-    CHANGE(bad_protocol, BOOTCORE_BAD_PROTOCOL), CHANGE(many_modules, BOOTCORE_TOO_MANY), CHANGE(more_modules, BOOTCORE_TOO_MANY),
-    CHANGE(long_rsdp, BOOTCORE_TOO_MANY), CHANGE(no_kernel, BOOTCORE_REFUSED), CHANGE(nothing, BOOTCORE_DONE)};
+    CHANGE(null_memory, BOOTCORE_STATUS_NULL), CHANGE(null_regions, BOOTCORE_STATUS_NULL), CHANGE(null_line, BOOTCORE_STATUS_NULL),
+    CHANGE(null_kernel, BOOTCORE_STATUS_NULL), CHANGE(null_module, BOOTCORE_STATUS_NULL), CHANGE(null_places, BOOTCORE_STATUS_NULL),
+    CHANGE(set_machine, BOOTCORE_STATUS_BAD_RESERVED), CHANGE(set_region, BOOTCORE_STATUS_BAD_RESERVED), CHANGE(set_entry, BOOTCORE_STATUS_BAD_RESERVED),
+    CHANGE(unreadable_kernel, BOOTCORE_STATUS_BAD_FILE), CHANGE(unreadable_module, BOOTCORE_STATUS_BAD_FILE),
+    CHANGE(few_places, BOOTCORE_STATUS_SMALL_ROOM), CHANGE(bad_kind, BOOTCORE_STATUS_BAD_KIND), CHANGE(bad_size, BOOTCORE_STATUS_BAD_SIZE),
+    CHANGE(many_regions, BOOTCORE_STATUS_TOO_MANY_REGIONS), CHANGE(bad_region, BOOTCORE_STATUS_BAD_REGION), CHANGE(bad_pool, BOOTCORE_STATUS_BAD_POOL),
+    CHANGE(short_memory, BOOTCORE_STATUS_BAD_MEMORY), CHANGE(high_memory, BOOTCORE_STATUS_BAD_MEMORY),
+    CHANGE(bad_protocol, BOOTCORE_STATUS_BAD_PROTOCOL), CHANGE(many_modules, BOOTCORE_STATUS_TOO_MANY_ENTRIES), CHANGE(more_modules, BOOTCORE_STATUS_TOO_MANY_ENTRIES),
+    CHANGE(long_rsdp, BOOTCORE_STATUS_TOO_MANY_ENTRIES), CHANGE(no_kernel, BOOTCORE_STATUS_REFUSED), CHANGE(nothing, BOOTCORE_STATUS_DONE)};
 /* the same, but for memory and bytes beside the kernel's, which are not looked at; the room for steps is looked at last */
 static const change of_plan[] = {
-    CHANGE(null_regions, BOOTCORE_NULL), CHANGE(null_line, BOOTCORE_NULL), CHANGE(null_kernel, BOOTCORE_NULL),
-    CHANGE(null_places, BOOTCORE_NULL), CHANGE(null_own, BOOTCORE_NULL), CHANGE(set_machine, BOOTCORE_BAD_RESERVED),
-    CHANGE(set_region, BOOTCORE_BAD_RESERVED), CHANGE(set_entry, BOOTCORE_BAD_RESERVED),
-    CHANGE(unreadable_kernel, BOOTCORE_BAD_FILE), CHANGE(unreadable_module, BOOTCORE_BAD_FILE),
-    CHANGE(few_places, BOOTCORE_SMALL_ROOM), CHANGE(bad_kind, BOOTCORE_BAD_KIND), CHANGE(bad_size, BOOTCORE_BAD_SIZE),
-    CHANGE(many_regions, BOOTCORE_TOO_MANY_REGIONS), CHANGE(bad_region, BOOTCORE_BAD_REGION), CHANGE(bad_pool, BOOTCORE_BAD_POOL),
-    CHANGE(bad_protocol, BOOTCORE_BAD_PROTOCOL), CHANGE(many_modules, BOOTCORE_TOO_MANY), CHANGE(more_modules, BOOTCORE_TOO_MANY),
-    CHANGE(long_rsdp, BOOTCORE_TOO_MANY), CHANGE(no_kernel, BOOTCORE_REFUSED), CHANGE(few_steps, BOOTCORE_SMALL_ROOM),
-    CHANGE(few_bytes, BOOTCORE_SMALL_ROOM), CHANGE(nothing, BOOTCORE_DONE)};
+    CHANGE(null_regions, BOOTCORE_STATUS_NULL), CHANGE(null_line, BOOTCORE_STATUS_NULL), CHANGE(null_kernel, BOOTCORE_STATUS_NULL),
+    CHANGE(null_places, BOOTCORE_STATUS_NULL), CHANGE(null_own, BOOTCORE_STATUS_NULL), CHANGE(set_machine, BOOTCORE_STATUS_BAD_RESERVED),
+    CHANGE(set_region, BOOTCORE_STATUS_BAD_RESERVED), CHANGE(set_entry, BOOTCORE_STATUS_BAD_RESERVED),
+    CHANGE(unreadable_kernel, BOOTCORE_STATUS_BAD_FILE), CHANGE(unreadable_module, BOOTCORE_STATUS_BAD_FILE),
+    CHANGE(few_places, BOOTCORE_STATUS_SMALL_ROOM), CHANGE(bad_kind, BOOTCORE_STATUS_BAD_KIND), CHANGE(bad_size, BOOTCORE_STATUS_BAD_SIZE),
+    CHANGE(many_regions, BOOTCORE_STATUS_TOO_MANY_REGIONS), CHANGE(bad_region, BOOTCORE_STATUS_BAD_REGION), CHANGE(bad_pool, BOOTCORE_STATUS_BAD_POOL),
+    CHANGE(bad_protocol, BOOTCORE_STATUS_BAD_PROTOCOL), CHANGE(many_modules, BOOTCORE_STATUS_TOO_MANY_ENTRIES), CHANGE(more_modules, BOOTCORE_STATUS_TOO_MANY_ENTRIES),
+    CHANGE(long_rsdp, BOOTCORE_STATUS_TOO_MANY_ENTRIES), CHANGE(no_kernel, BOOTCORE_STATUS_REFUSED), CHANGE(few_steps, BOOTCORE_STATUS_SMALL_ROOM),
+    CHANGE(few_bytes, BOOTCORE_STATUS_SMALL_ROOM), CHANGE(nothing, BOOTCORE_STATUS_DONE)};
 static const change of_boot[] = {
-    CHANGE(null_memory, BOOTCORE_NULL), CHANGE(null_regions, BOOTCORE_NULL), CHANGE(null_entries, BOOTCORE_NULL),
-    CHANGE(null_line, BOOTCORE_NULL), CHANGE(null_kernel, BOOTCORE_NULL), CHANGE(null_module, BOOTCORE_NULL),
-    CHANGE(null_places, BOOTCORE_NULL), CHANGE(set_machine, BOOTCORE_BAD_RESERVED), CHANGE(set_region, BOOTCORE_BAD_RESERVED),
-    CHANGE(set_menu, BOOTCORE_BAD_RESERVED), CHANGE(set_last_entry, BOOTCORE_BAD_RESERVED),
-    CHANGE(few_places, BOOTCORE_SMALL_ROOM), CHANGE(bad_kind, BOOTCORE_BAD_KIND), CHANGE(bad_size, BOOTCORE_BAD_SIZE),
-    CHANGE(many_regions, BOOTCORE_TOO_MANY_REGIONS), CHANGE(bad_region, BOOTCORE_BAD_REGION), CHANGE(bad_pool, BOOTCORE_BAD_POOL),
-    CHANGE(short_memory, BOOTCORE_BAD_MEMORY), CHANGE(high_memory, BOOTCORE_BAD_MEMORY),
-    CHANGE(bad_protocol, BOOTCORE_BAD_PROTOCOL), CHANGE(bad_last_protocol, BOOTCORE_BAD_PROTOCOL),
-    CHANGE(many_modules, BOOTCORE_TOO_MANY), CHANGE(more_modules, BOOTCORE_TOO_MANY), CHANGE(long_rsdp, BOOTCORE_TOO_MANY),
-    CHANGE(many_entries, BOOTCORE_TOO_MANY), CHANGE(bad_first, BOOTCORE_BAD_INDEX), CHANGE(bad_fallback, BOOTCORE_BAD_INDEX),
-    CHANGE(low_pool, BOOTCORE_LOW_POOL), CHANGE(no_kernel, BOOTCORE_REFUSED), CHANGE(unreadable_kernel, BOOTCORE_DONE),
-    CHANGE(nothing, BOOTCORE_DONE)};
+    CHANGE(null_memory, BOOTCORE_STATUS_NULL), CHANGE(null_regions, BOOTCORE_STATUS_NULL), CHANGE(null_entries, BOOTCORE_STATUS_NULL),
+    CHANGE(null_line, BOOTCORE_STATUS_NULL), CHANGE(null_kernel, BOOTCORE_STATUS_NULL), CHANGE(null_module, BOOTCORE_STATUS_NULL),
+    CHANGE(null_places, BOOTCORE_STATUS_NULL), CHANGE(set_machine, BOOTCORE_STATUS_BAD_RESERVED), CHANGE(set_region, BOOTCORE_STATUS_BAD_RESERVED),
+    CHANGE(set_menu, BOOTCORE_STATUS_BAD_RESERVED), CHANGE(set_last_entry, BOOTCORE_STATUS_BAD_RESERVED),
+    CHANGE(few_places, BOOTCORE_STATUS_SMALL_ROOM), CHANGE(bad_kind, BOOTCORE_STATUS_BAD_KIND), CHANGE(bad_size, BOOTCORE_STATUS_BAD_SIZE),
+    CHANGE(many_regions, BOOTCORE_STATUS_TOO_MANY_REGIONS), CHANGE(bad_region, BOOTCORE_STATUS_BAD_REGION), CHANGE(bad_pool, BOOTCORE_STATUS_BAD_POOL),
+    CHANGE(short_memory, BOOTCORE_STATUS_BAD_MEMORY), CHANGE(high_memory, BOOTCORE_STATUS_BAD_MEMORY),
+    CHANGE(bad_protocol, BOOTCORE_STATUS_BAD_PROTOCOL), CHANGE(bad_last_protocol, BOOTCORE_STATUS_BAD_PROTOCOL),
+    CHANGE(many_modules, BOOTCORE_STATUS_TOO_MANY_ENTRIES), CHANGE(more_modules, BOOTCORE_STATUS_TOO_MANY_ENTRIES), CHANGE(long_rsdp, BOOTCORE_STATUS_TOO_MANY_ENTRIES),
+    CHANGE(many_entries, BOOTCORE_STATUS_TOO_MANY_ENTRIES), CHANGE(bad_first, BOOTCORE_STATUS_BAD_INDEX), CHANGE(bad_fallback, BOOTCORE_STATUS_BAD_INDEX),
+    CHANGE(low_pool, BOOTCORE_STATUS_LOW_POOL), CHANGE(no_kernel, BOOTCORE_STATUS_REFUSED), CHANGE(unreadable_kernel, BOOTCORE_STATUS_DONE),
+    CHANGE(nothing, BOOTCORE_STATUS_DONE)};
 static const change of_make[] = {
-    CHANGE(null_session, BOOTCORE_NULL), CHANGE(null_regions, BOOTCORE_NULL), CHANGE(null_entries, BOOTCORE_NULL),
-    CHANGE(null_line, BOOTCORE_NULL), CHANGE(set_machine, BOOTCORE_BAD_RESERVED), CHANGE(set_region, BOOTCORE_BAD_RESERVED),
-    CHANGE(set_menu, BOOTCORE_BAD_RESERVED), CHANGE(set_last_entry, BOOTCORE_BAD_RESERVED), CHANGE(bad_kind, BOOTCORE_BAD_KIND),
-    CHANGE(bad_size, BOOTCORE_BAD_SIZE), CHANGE(many_regions, BOOTCORE_TOO_MANY_REGIONS), CHANGE(bad_region, BOOTCORE_BAD_REGION),
-    CHANGE(bad_pool, BOOTCORE_BAD_POOL), CHANGE(bad_protocol, BOOTCORE_BAD_PROTOCOL),
-    CHANGE(bad_last_protocol, BOOTCORE_BAD_PROTOCOL), CHANGE(many_modules, BOOTCORE_TOO_MANY),
-    CHANGE(more_modules, BOOTCORE_TOO_MANY), CHANGE(long_rsdp, BOOTCORE_TOO_MANY), CHANGE(many_entries, BOOTCORE_TOO_MANY),
-    CHANGE(bad_first, BOOTCORE_BAD_INDEX), CHANGE(bad_fallback, BOOTCORE_BAD_INDEX), CHANGE(null_kernel, BOOTCORE_DONE),
-    CHANGE(null_module, BOOTCORE_DONE), CHANGE(unreadable_kernel, BOOTCORE_DONE), CHANGE(nothing, BOOTCORE_DONE)};
+    CHANGE(null_session, BOOTCORE_STATUS_NULL), CHANGE(null_regions, BOOTCORE_STATUS_NULL), CHANGE(null_entries, BOOTCORE_STATUS_NULL),
+    CHANGE(null_line, BOOTCORE_STATUS_NULL), CHANGE(set_machine, BOOTCORE_STATUS_BAD_RESERVED), CHANGE(set_region, BOOTCORE_STATUS_BAD_RESERVED),
+    CHANGE(set_menu, BOOTCORE_STATUS_BAD_RESERVED), CHANGE(set_last_entry, BOOTCORE_STATUS_BAD_RESERVED), CHANGE(bad_kind, BOOTCORE_STATUS_BAD_KIND),
+    CHANGE(bad_size, BOOTCORE_STATUS_BAD_SIZE), CHANGE(many_regions, BOOTCORE_STATUS_TOO_MANY_REGIONS), CHANGE(bad_region, BOOTCORE_STATUS_BAD_REGION),
+    CHANGE(bad_pool, BOOTCORE_STATUS_BAD_POOL), CHANGE(bad_protocol, BOOTCORE_STATUS_BAD_PROTOCOL),
+    CHANGE(bad_last_protocol, BOOTCORE_STATUS_BAD_PROTOCOL), CHANGE(many_modules, BOOTCORE_STATUS_TOO_MANY_ENTRIES),
+    CHANGE(more_modules, BOOTCORE_STATUS_TOO_MANY_ENTRIES), CHANGE(long_rsdp, BOOTCORE_STATUS_TOO_MANY_ENTRIES), CHANGE(many_entries, BOOTCORE_STATUS_TOO_MANY_ENTRIES),
+    CHANGE(bad_first, BOOTCORE_STATUS_BAD_INDEX), CHANGE(bad_fallback, BOOTCORE_STATUS_BAD_INDEX), CHANGE(null_kernel, BOOTCORE_STATUS_DONE),
+    CHANGE(null_module, BOOTCORE_STATUS_DONE), CHANGE(unreadable_kernel, BOOTCORE_STATUS_DONE), CHANGE(nothing, BOOTCORE_STATUS_DONE)};
 /* a struct that keeps no session */
-static const change of_none[] = {CHANGE(null_session, BOOTCORE_NULL), CHANGE(null_memory, BOOTCORE_NULL),
-                                 CHANGE(high_memory, BOOTCORE_BAD_MEMORY), CHANGE(short_memory, BOOTCORE_NO_SESSION),
-                                 CHANGE(nothing, BOOTCORE_NO_SESSION)};
-static const change of_start[] = {CHANGE(null_session, BOOTCORE_NULL), CHANGE(null_memory, BOOTCORE_NULL),
-                                  CHANGE(high_memory, BOOTCORE_BAD_MEMORY), CHANGE(short_memory, BOOTCORE_BAD_MEMORY),
-                                  CHANGE(nothing, BOOTCORE_WAITING)};
-static const change of_pieces[] = {CHANGE(null_session, BOOTCORE_NULL), CHANGE(null_memory, BOOTCORE_NULL),
-                                   CHANGE(null_piece, BOOTCORE_NULL), CHANGE(high_memory, BOOTCORE_BAD_MEMORY),
-                                   CHANGE(short_memory, BOOTCORE_BAD_MEMORY), CHANGE(nothing, BOOTCORE_WAITING)};
-static const change of_outcome[] = {CHANGE(null_session, BOOTCORE_NULL), CHANGE(null_places, BOOTCORE_NULL),
-                                    CHANGE(few_places, BOOTCORE_SMALL_ROOM), CHANGE(nothing, BOOTCORE_NO_SESSION)};
-static const change of_carrying[] = {CHANGE(null_memory, BOOTCORE_NULL), CHANGE(null_files, BOOTCORE_NULL),
-                                     CHANGE(null_own, BOOTCORE_NULL), CHANGE(file_unreadable, BOOTCORE_BAD_FILE),
-                                     CHANGE(few_steps, BOOTCORE_SMALL_ROOM), CHANGE(few_bytes, BOOTCORE_SMALL_ROOM),
-                                     CHANGE(no_steps, BOOTCORE_SMALL_ROOM),
-                                     CHANGE(file_too_short, BOOTCORE_BAD_FILE), CHANGE(file_too_few, BOOTCORE_BAD_FILE),
-                                     CHANGE(no_source, BOOTCORE_BAD_FILE), CHANGE(high_memory, BOOTCORE_OUTSIDE),
-                                     CHANGE(wrapped, BOOTCORE_OUTSIDE), CHANGE(nothing, BOOTCORE_DONE)};
+static const change of_none[] = {CHANGE(null_session, BOOTCORE_STATUS_NULL), CHANGE(null_memory, BOOTCORE_STATUS_NULL),
+                                 CHANGE(high_memory, BOOTCORE_STATUS_BAD_MEMORY), CHANGE(short_memory, BOOTCORE_STATUS_NO_SESSION),
+                                 CHANGE(nothing, BOOTCORE_STATUS_NO_SESSION)};
+static const change of_start[] = {CHANGE(null_session, BOOTCORE_STATUS_NULL), CHANGE(null_memory, BOOTCORE_STATUS_NULL),
+                                  CHANGE(high_memory, BOOTCORE_STATUS_BAD_MEMORY), CHANGE(short_memory, BOOTCORE_STATUS_BAD_MEMORY),
+                                  CHANGE(nothing, BOOTCORE_STATUS_WAITING)};
+static const change of_pieces[] = {CHANGE(null_session, BOOTCORE_STATUS_NULL), CHANGE(null_memory, BOOTCORE_STATUS_NULL),
+                                   CHANGE(null_piece, BOOTCORE_STATUS_NULL), CHANGE(high_memory, BOOTCORE_STATUS_BAD_MEMORY),
+                                   CHANGE(short_memory, BOOTCORE_STATUS_BAD_MEMORY), CHANGE(nothing, BOOTCORE_STATUS_WAITING)};
+static const change of_outcome[] = {CHANGE(null_session, BOOTCORE_STATUS_NULL), CHANGE(null_places, BOOTCORE_STATUS_NULL),
+                                    CHANGE(few_places, BOOTCORE_STATUS_SMALL_ROOM), CHANGE(nothing, BOOTCORE_STATUS_NO_SESSION)};
+static const change of_carrying[] = {CHANGE(null_memory, BOOTCORE_STATUS_NULL), CHANGE(null_files, BOOTCORE_STATUS_NULL),
+                                     CHANGE(null_own, BOOTCORE_STATUS_NULL), CHANGE(file_unreadable, BOOTCORE_STATUS_BAD_FILE),
+                                     CHANGE(few_steps, BOOTCORE_STATUS_SMALL_ROOM), CHANGE(few_bytes, BOOTCORE_STATUS_SMALL_ROOM),
+                                     CHANGE(no_steps, BOOTCORE_STATUS_SMALL_ROOM),
+                                     CHANGE(file_too_short, BOOTCORE_STATUS_BAD_FILE), CHANGE(file_too_few, BOOTCORE_STATUS_BAD_FILE),
+                                     CHANGE(no_source, BOOTCORE_STATUS_BAD_FILE), CHANGE(high_memory, BOOTCORE_STATUS_OUTSIDE),
+                                     CHANGE(wrapped, BOOTCORE_STATUS_OUTSIDE), CHANGE(nothing, BOOTCORE_STATUS_DONE)};
 /* a digest is made as a plan is, and tells no steps; at once it reads all files, as a load does */
 static const change of_digest_make[] = {
-    CHANGE(null_digest, BOOTCORE_NULL), CHANGE(null_regions, BOOTCORE_NULL), CHANGE(null_line, BOOTCORE_NULL),
-    CHANGE(null_kernel, BOOTCORE_NULL), CHANGE(null_refusal, BOOTCORE_NULL), CHANGE(set_machine, BOOTCORE_BAD_RESERVED),
-    CHANGE(set_region, BOOTCORE_BAD_RESERVED), CHANGE(set_entry, BOOTCORE_BAD_RESERVED),
-    CHANGE(unreadable_kernel, BOOTCORE_BAD_FILE), CHANGE(unreadable_module, BOOTCORE_BAD_FILE),
-    CHANGE(bad_kind, BOOTCORE_BAD_KIND), CHANGE(bad_size, BOOTCORE_BAD_SIZE),
-    CHANGE(many_regions, BOOTCORE_TOO_MANY_REGIONS), CHANGE(bad_region, BOOTCORE_BAD_REGION), CHANGE(bad_pool, BOOTCORE_BAD_POOL),
-    CHANGE(bad_protocol, BOOTCORE_BAD_PROTOCOL), CHANGE(many_modules, BOOTCORE_TOO_MANY), CHANGE(more_modules, BOOTCORE_TOO_MANY),
-    CHANGE(long_rsdp, BOOTCORE_TOO_MANY), CHANGE(no_kernel, BOOTCORE_REFUSED), CHANGE(null_module, BOOTCORE_DONE),
-    CHANGE(nothing, BOOTCORE_DONE)};
+    CHANGE(null_digest, BOOTCORE_STATUS_NULL), CHANGE(null_regions, BOOTCORE_STATUS_NULL), CHANGE(null_line, BOOTCORE_STATUS_NULL),
+    CHANGE(null_kernel, BOOTCORE_STATUS_NULL), CHANGE(null_refusal, BOOTCORE_STATUS_NULL), CHANGE(set_machine, BOOTCORE_STATUS_BAD_RESERVED),
+    CHANGE(set_region, BOOTCORE_STATUS_BAD_RESERVED), CHANGE(set_entry, BOOTCORE_STATUS_BAD_RESERVED),
+    CHANGE(unreadable_kernel, BOOTCORE_STATUS_BAD_FILE), CHANGE(unreadable_module, BOOTCORE_STATUS_BAD_FILE),
+    CHANGE(bad_kind, BOOTCORE_STATUS_BAD_KIND), CHANGE(bad_size, BOOTCORE_STATUS_BAD_SIZE),
+    CHANGE(many_regions, BOOTCORE_STATUS_TOO_MANY_REGIONS), CHANGE(bad_region, BOOTCORE_STATUS_BAD_REGION), CHANGE(bad_pool, BOOTCORE_STATUS_BAD_POOL),
+    CHANGE(bad_protocol, BOOTCORE_STATUS_BAD_PROTOCOL), CHANGE(many_modules, BOOTCORE_STATUS_TOO_MANY_ENTRIES), CHANGE(more_modules, BOOTCORE_STATUS_TOO_MANY_ENTRIES),
+    CHANGE(long_rsdp, BOOTCORE_STATUS_TOO_MANY_ENTRIES), CHANGE(no_kernel, BOOTCORE_STATUS_REFUSED), CHANGE(null_module, BOOTCORE_STATUS_DONE),
+    CHANGE(nothing, BOOTCORE_STATUS_DONE)};
 static const change of_digest_entry[] = {
-    CHANGE(null_regions, BOOTCORE_NULL), CHANGE(null_line, BOOTCORE_NULL), CHANGE(null_kernel, BOOTCORE_NULL),
-    CHANGE(null_module, BOOTCORE_NULL), CHANGE(null_digests, BOOTCORE_NULL), CHANGE(null_parts, BOOTCORE_NULL),
-    CHANGE(null_refusal, BOOTCORE_NULL), CHANGE(set_machine, BOOTCORE_BAD_RESERVED), CHANGE(set_region, BOOTCORE_BAD_RESERVED),
-    CHANGE(set_entry, BOOTCORE_BAD_RESERVED), CHANGE(unreadable_kernel, BOOTCORE_BAD_FILE),
-    CHANGE(unreadable_module, BOOTCORE_BAD_FILE), CHANGE(bad_kind, BOOTCORE_BAD_KIND), CHANGE(bad_size, BOOTCORE_BAD_SIZE),
-    CHANGE(many_regions, BOOTCORE_TOO_MANY_REGIONS), CHANGE(bad_region, BOOTCORE_BAD_REGION), CHANGE(bad_pool, BOOTCORE_BAD_POOL),
-    CHANGE(bad_protocol, BOOTCORE_BAD_PROTOCOL), CHANGE(many_modules, BOOTCORE_TOO_MANY), CHANGE(more_modules, BOOTCORE_TOO_MANY),
-    CHANGE(long_rsdp, BOOTCORE_TOO_MANY), CHANGE(no_kernel, BOOTCORE_REFUSED), CHANGE(nothing, BOOTCORE_DONE)};
+    CHANGE(null_regions, BOOTCORE_STATUS_NULL), CHANGE(null_line, BOOTCORE_STATUS_NULL), CHANGE(null_kernel, BOOTCORE_STATUS_NULL),
+    CHANGE(null_module, BOOTCORE_STATUS_NULL), CHANGE(null_digests, BOOTCORE_STATUS_NULL), CHANGE(null_parts, BOOTCORE_STATUS_NULL),
+    CHANGE(null_refusal, BOOTCORE_STATUS_NULL), CHANGE(set_machine, BOOTCORE_STATUS_BAD_RESERVED), CHANGE(set_region, BOOTCORE_STATUS_BAD_RESERVED),
+    CHANGE(set_entry, BOOTCORE_STATUS_BAD_RESERVED), CHANGE(unreadable_kernel, BOOTCORE_STATUS_BAD_FILE),
+    CHANGE(unreadable_module, BOOTCORE_STATUS_BAD_FILE), CHANGE(bad_kind, BOOTCORE_STATUS_BAD_KIND), CHANGE(bad_size, BOOTCORE_STATUS_BAD_SIZE),
+    CHANGE(many_regions, BOOTCORE_STATUS_TOO_MANY_REGIONS), CHANGE(bad_region, BOOTCORE_STATUS_BAD_REGION), CHANGE(bad_pool, BOOTCORE_STATUS_BAD_POOL),
+    CHANGE(bad_protocol, BOOTCORE_STATUS_BAD_PROTOCOL), CHANGE(many_modules, BOOTCORE_STATUS_TOO_MANY_ENTRIES), CHANGE(more_modules, BOOTCORE_STATUS_TOO_MANY_ENTRIES),
+    CHANGE(long_rsdp, BOOTCORE_STATUS_TOO_MANY_ENTRIES), CHANGE(no_kernel, BOOTCORE_STATUS_REFUSED), CHANGE(nothing, BOOTCORE_STATUS_DONE)};
 /* a struct that keeps no digest, and one that does */
-static const change of_no_feed[] = {CHANGE(null_digest, BOOTCORE_NULL), CHANGE(null_fed, BOOTCORE_NULL),
-                                    CHANGE(long_fed, BOOTCORE_NO_SESSION), CHANGE(nothing, BOOTCORE_NO_SESSION)};
-static const change of_no_digest[] = {CHANGE(null_digest, BOOTCORE_NULL), CHANGE(null_digests, BOOTCORE_NULL),
-                                      CHANGE(null_parts, BOOTCORE_NULL), CHANGE(nothing, BOOTCORE_NO_SESSION)};
-static const change of_feed[] = {CHANGE(null_digest, BOOTCORE_NULL), CHANGE(null_fed, BOOTCORE_NULL),
-                                 CHANGE(long_fed, BOOTCORE_UNWANTED)};
-static const change of_told[] = {CHANGE(null_digest, BOOTCORE_NULL), CHANGE(null_digests, BOOTCORE_NULL),
-                                 CHANGE(null_parts, BOOTCORE_NULL), CHANGE(nothing, BOOTCORE_WAITING)};
+static const change of_no_feed[] = {CHANGE(null_digest, BOOTCORE_STATUS_NULL), CHANGE(null_fed, BOOTCORE_STATUS_NULL),
+                                    CHANGE(long_fed, BOOTCORE_STATUS_NO_SESSION), CHANGE(nothing, BOOTCORE_STATUS_NO_SESSION)};
+static const change of_no_digest[] = {CHANGE(null_digest, BOOTCORE_STATUS_NULL), CHANGE(null_digests, BOOTCORE_STATUS_NULL),
+                                      CHANGE(null_parts, BOOTCORE_STATUS_NULL), CHANGE(nothing, BOOTCORE_STATUS_NO_SESSION)};
+static const change of_feed[] = {CHANGE(null_digest, BOOTCORE_STATUS_NULL), CHANGE(null_fed, BOOTCORE_STATUS_NULL),
+                                 CHANGE(long_fed, BOOTCORE_STATUS_UNWANTED)};
+static const change of_told[] = {CHANGE(null_digest, BOOTCORE_STATUS_NULL), CHANGE(null_digests, BOOTCORE_STATUS_NULL),
+                                 CHANGE(null_parts, BOOTCORE_STATUS_NULL), CHANGE(nothing, BOOTCORE_STATUS_WAITING)};
 
 /* ---- the calls */
 
@@ -343,7 +343,7 @@ static void try_two(const char *call_name, uint32_t (*call)(void), const change 
     layout_before = layout;
     kept_before = kept_digest;
     status = call();
-    holds = one->status < BOOTCORE_NULL || is_kept();
+    holds = one->status < BOOTCORE_STATUS_NULL || is_kept();
     if (status != one->status || !holds) {
         printf("%s, %s and %s: %" PRIu32 ", not %" PRIu32 "%s\n", call_name, one->name, two->name, status, one->status,
                holds ? "" : ", and something is told");
@@ -375,7 +375,7 @@ static void try_preparations(void) {
             const change *both[2];
             both[0] = &of_load[i];
             both[1] = &of_load[k];
-            if (both[0]->make == null_memory || both[0]->status == BOOTCORE_BAD_MEMORY || both[0]->make == null_module ||
+            if (both[0]->make == null_memory || both[0]->status == BOOTCORE_STATUS_BAD_MEMORY || both[0]->make == null_module ||
                 both[0]->status == both[1]->status || !can_be_both(both[0], both[1])) {
                 continue;
             }
@@ -401,7 +401,7 @@ int main(void) {
     TRY(end, of_outcome);
     TRY(make, of_make);
     right();
-    if (make() != BOOTCORE_DONE) {
+    if (make() != BOOTCORE_STATUS_DONE) {
         puts("no session is made");
     }
     TRY(start, of_start);
@@ -413,7 +413,7 @@ int main(void) {
     TRY(digest_make, of_digest_make);
     TRY(digest_entry, of_digest_entry);
     right();
-    if (digest_make() != BOOTCORE_DONE) {
+    if (digest_make() != BOOTCORE_STATUS_DONE) {
         puts("no digest is made");
     }
     TRY(digest_feed, of_feed);

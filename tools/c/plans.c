@@ -77,7 +77,7 @@ static uint32_t plan(const bootcore_entry *entry, bootcore_layout *layout) {
     layout->places = places;
     layout->place_room = BOOTCORE_MAX_PLACES;
     status = bootcore_plan(&machine, &bare, layout);
-    if (status == BOOTCORE_SMALL_ROOM) {
+    if (status == BOOTCORE_STATUS_SMALL_ROOM) {
         layout->step_room = layout->step_count;
         layout->own_room = layout->own_length;
         layout->steps = room_for(layout->step_room, sizeof *layout->steps);
@@ -99,7 +99,7 @@ static void print_image(const bootcore_entry *entry, const bootcore_layout *layo
     if (length > LARGE) {
         return;
     }
-    if (bootcore_digest_entry(&machine, entry, &digests, NULL, 0, &refusal) != BOOTCORE_DONE) {
+    if (bootcore_digest_entry(&machine, entry, &digests, NULL, 0, &refusal) != BOOTCORE_STATUS_DONE) {
         stop("an entry that is planned has no digests");
     }
     printf("image %" PRIu64 " ", digests.image_length);
@@ -113,9 +113,9 @@ int main(void) {
         bootcore_layout layout;
         uint32_t status = plan(&entries[i], &layout);
         printf("entry\nstatus %" PRIu32 "\n", status);
-        if (status == BOOTCORE_REFUSED) {
+        if (status == BOOTCORE_STATUS_REFUSED) {
             printf("refusal %" PRIu32 " %" PRIu64 " %" PRIu64 "\n", layout.refusal.number, layout.refusal.first, layout.refusal.second);
-        } else if (status == BOOTCORE_DONE) {
+        } else if (status == BOOTCORE_STATUS_DONE) {
             print_plan(&layout);
             print_image(&entries[i], &layout);
         }

@@ -126,8 +126,8 @@ impl<'p> Iterator for Steps<'p> {
     fn next(&mut self) -> Option<Step<'p>> {
         let step = self.steps.next()?;
         let source = match step.source {
-            raw::FROM_FILE => Source::File { file: step.file as usize, offset: step.offset },
-            raw::FROM_LAYOUT => Source::Own(&self.own[step.offset as usize..][..step.length as usize]),
+            raw::SOURCE_FILE => Source::File { file: step.file as usize, offset: step.offset },
+            raw::SOURCE_LAYOUT => Source::Own(&self.own[step.offset as usize..][..step.length as usize]),
             _ => Source::Zeros,
         };
         Some(Step { address: step.address, length: step.length, source })

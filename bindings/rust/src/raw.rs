@@ -30,8 +30,8 @@ pub(crate) const OUTSIDE: u32 = 6;
 pub(crate) const NULL: u32 = 101; // the first misuse
 const SMALL_ROOM: u32 = 104;
 
-pub(crate) const FROM_FILE: u32 = 1;
-pub(crate) const FROM_LAYOUT: u32 = 2;
+pub(crate) const SOURCE_FILE: u32 = 1;
+pub(crate) const SOURCE_LAYOUT: u32 = 2;
 
 const MAX_PLACES: usize = 256;
 const MAX_REFUSALS: usize = 32;
@@ -207,8 +207,8 @@ extern "sysv64" {
     fn bootcore_session_outcome(session: *const Session, outcome: *mut Outcome) -> u32;
     fn bootcore_session_free(session: *mut Session);
     fn bootcore_status_text(status: u32) -> *const c_char;
-    fn bootcore_text(number: u32) -> *const c_char;
-    fn bootcore_describe(refusal: *const Refusal, buffer: *mut c_char, length: usize) -> usize;
+    fn bootcore_refusal_text(number: u32) -> *const c_char;
+    fn bootcore_refusal_line(refusal: *const Refusal, buffer: *mut c_char, length: usize) -> usize;
     fn bootcore_image_head(handoff: *const Handoff, places: *const Place, head: *mut u8, length: usize) -> usize;
     fn bootcore_walk_all(
         image: *const c_void,
@@ -416,17 +416,17 @@ pub(crate) fn status_text(status: u32) -> &'static str {
 
 pub(crate) fn text(number: u32) -> &'static str {
     // SAFETY: the answer points to constant text that ends in a zero byte, whatever the number is
-    let text = unsafe { CStr::from_ptr(bootcore_text(number)) };
+    let text = unsafe { CStr::from_ptr(bootcore_refusal_text(number)) };
     text.to_str().unwrap_or_default()
 }
 
 pub(crate) fn describe(refusal: Carried) -> String {
     let refusal = Refusal { entry: 0, number: refusal.number, first: refusal.first, second: refusal.second };
     // SAFETY: the refusal stands during the call; without a length nothing is written
-    let length = unsafe { bootcore_describe(&refusal, ptr::null_mut(), 0) };
+    let length = unsafe { bootcore_refusal_line(&refusal, ptr::null_mut(), 0) };
     let mut text = vec![0; length + 1];
     // SAFETY: as before; `text` has as many bytes as are told, and nothing else uses them during the call
-    unsafe { bootcore_describe(&refusal, text.as_mut_ptr().cast(), text.len()) };
+    unsafe { bootcore_refusal_line(&refusal, text.as_mut_ptr().cast(), text.len()) };
     text.truncate(length);
     String::from_utf8_lossy(&text).into_owned()
 }

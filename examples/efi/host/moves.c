@@ -119,15 +119,15 @@ static int draw_plan(void) {
         uint64_t gap = file ? 0 : draw(3 * page), taken = cut + gap + (length - cut);
         uint64_t part = (taken / page + 1) * page, address = draw_place(&next, taken / page + 1);
         if (address == 0) return 0;
-        add(address, cut, BOOTCORE_FROM_FILE, file, 0);
-        add(address + cut, gap, BOOTCORE_ZEROS, 0, 0);
-        add(address + cut + gap, length - cut, BOOTCORE_FROM_FILE, file, cut);
-        add(address + taken, part - taken, BOOTCORE_ZEROS, 0, 0);
+        add(address, cut, BOOTCORE_SOURCE_FILE, file, 0);
+        add(address + cut, gap, BOOTCORE_SOURCE_ZEROS, 0, 0);
+        add(address + cut + gap, length - cut, BOOTCORE_SOURCE_FILE, file, cut);
+        add(address + taken, part - taken, BOOTCORE_SOURCE_ZEROS, 0, 0);
         address = draw_place(&next, 1);
         if (address == 0) return 0;
         uint64_t offset = draw(page), bytes = draw(page - offset);
-        add(address, bytes, BOOTCORE_FROM_LAYOUT, 0, offset);
-        add(address + bytes, page - bytes, BOOTCORE_ZEROS, 0, 0);
+        add(address, bytes, BOOTCORE_SOURCE_LAYOUT, 0, offset);
+        add(address + bytes, page - bytes, BOOTCORE_SOURCE_ZEROS, 0, 0);
     }
     return 1;
 }
@@ -145,8 +145,8 @@ static void want(void) {
     for (size_t i = 0; i < boot.layout.step_count; i++) {
         const bootcore_step *step = &steps[i];
         uint8_t *to = wanted + (step->address - start);
-        if (step->source == BOOTCORE_ZEROS) memset(to, 0, step->length);
-        else if (step->source == BOOTCORE_FROM_LAYOUT) memcpy(to, own + step->offset, step->length);
+        if (step->source == BOOTCORE_SOURCE_ZEROS) memset(to, 0, step->length);
+        else if (step->source == BOOTCORE_SOURCE_LAYOUT) memcpy(to, own + step->offset, step->length);
         else memcpy(to, contents[step->file] + step->offset, step->length);
     }
 }
