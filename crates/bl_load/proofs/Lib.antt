@@ -39,6 +39,7 @@ pub mod StepLemmas
 pub mod StepOrderLemmas
 pub mod StepSourceLemmas
 pub mod StepOriginLemmas
+pub mod AnyOrderLemmas
 pub mod FileLengthLemmas
 pub mod OtherFilesLemmas
 pub mod OtherContentsLemmas

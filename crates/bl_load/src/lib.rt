@@ -58,5 +58,7 @@ pub use segment_descriptor_laws::selectors_name_the_segments;
 pub use segment_descriptors::descriptors_of;
 pub use segment_registers::{SegmentName, SegmentRegister};
 pub use step::{Step, StepSource, Steps};
-pub use step_laws::{carried_out_steps_are_determined, plan_steps_are_determined};
+pub use step_laws::{
+    carried_out_steps_are_determined, plan_steps_are_determined, steps_write_the_same_in_any_order,
+};
 pub use unplaced_row::unplaced;

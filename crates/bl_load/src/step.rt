@@ -24,7 +24,8 @@ pub struct Step {
     pub source: StepSource,
 }
 
-/// A plan told as steps: whoever carries them out, in this order or another, loads the plan.
+/// A plan told as steps: whoever carries them out, in this order or another
+/// (`steps_write_the_same_in_any_order`), loads the plan.
 #[derive(Drop)]
 pub struct Steps<A: Allocator> {
     /// In ascending addresses; none begins before the one before it has ended.

@@ -1,13 +1,14 @@
 //! Laws of steps: which they are, and what they write.
-ghost use Rattle.std.specs.Prelude.{◌≡◌, ◌≤◌, ℕ, List, length, map};
+ghost use Rattle.std.specs.Prelude.{◌≡◌, ◌≤◌, ℕ, List, length, map, All, AllPairs, IsPermutation};
 ghost use Rattle.bl_map.specs.MachineFacts.{MachineFacts};
 ghost use Rattle.bl_load.specs.declared.plan.PlannedPart.{PlannedPart};
 ghost use Rattle.bl_load.specs.declared.step.Step.{Step};
 ghost use Rattle.bl_load.specs.EntryValue.{EntryValue};
+ghost use Rattle.bl_load.specs.Loadable.{lengths_of};
 ghost use Rattle.bl_load.specs.LoadedBySteps.{LoadsEntry};
 ghost use Rattle.bl_load.specs.Origins.{planned_origin, AreOrigins};
 ghost use Rattle.bl_load.specs.PlanSteps.{steps_from, own_bytes};
-ghost use Rattle.bl_load.specs.Steps.{carry_out};
+ghost use Rattle.bl_load.specs.Steps.{carry_out, IsStep, StepsAscend};
 
 use std::alloc::Allocator;
 
@@ -30,4 +31,12 @@ pub fn carried_out_steps_are_determined()
         (own held memory : List ℕ) → LoadsEntry facts value steps own
         → LoadsEntry facts value others held → facts.size ≤ length memory
         → carry_out steps own value.files memory ≡ carry_out others held value.files memory }
+{}
+
+/// Steps that ascend may be carried out in any order: memory is the same afterwards.
+pub fn steps_write_the_same_in_any_order()
+    ensures { (steps others : List Step) (own memory : List ℕ) (texts : List (List ℕ)) (size : ℕ)
+        → All (IsStep (lengths_of texts) (length own) size) steps → AllPairs StepsAscend steps
+        → IsPermutation steps others → size ≤ length memory
+        → carry_out others own texts memory ≡ carry_out steps own texts memory }
 {}
