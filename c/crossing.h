@@ -149,6 +149,13 @@ BOOTCORE_CALL
 void bootcore_session_free_kept(bootcore_session *session);
 
 BOOTCORE_CALL
+size_t bootcore_bad_region_index(const bootcore_region *regions, size_t region_count);
+
+BOOTCORE_CALL
+uint32_t bootcore_image_head_read_arrays(const uint8_t *head, size_t length,
+                                         bootcore_handoff *handoff, bootcore_place *places,
+                                         size_t place_room, bootcore_refusal *fault);
+BOOTCORE_CALL
 uint32_t bootcore_walk_array(const uint8_t *image, size_t image_length, bootcore_seen *seen,
                              bootcore_refusal *fault);
 BOOTCORE_CALL

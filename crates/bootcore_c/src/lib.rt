@@ -9,7 +9,9 @@ ghost use Rattle.c_abi.specs.BootTold.{TellsBoot};
 ghost use Rattle.c_records.specs.declared.given_fault.GivenFault.{GivenFault};
 
 mod digests;
+mod heads;
 mod one_entry;
+mod regions;
 mod sessions;
 mod walks;
 
