@@ -12,6 +12,7 @@ mod digests;
 mod heads;
 mod one_entry;
 mod regions;
+mod segments;
 mod sessions;
 mod walks;
 
