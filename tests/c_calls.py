@@ -21,7 +21,7 @@ ip 100000, cs 10 of type 11
 part 3 at 1000, 4096 bytes
 part 1 at 100000, 8192 bytes
 part 2 at 102000, 4096 bytes
-outcome 114
+outcome 116
 """
 
 
