@@ -101,6 +101,25 @@ class Header(CoreChecks):
             return
         self.reads(sentence, ["clang", "--target=x86_64-unknown-windows", "-ffreestanding"], "c99", "c")
 
+    def test_processors(self) -> None:
+        """include/bootcore.h refuses a processor that the archive is not for, and says so"""
+        wanted = b'error: #error "bootcore is for x86-64'
+        tried = 0
+        for compiler, *words in (["gcc", "-m32"], ["clang", "-m32"], ["clang", "--target=aarch64-linux-gnu"], ["clang", "--target=s390x-linux-gnu"]):
+            if is_at_hand(compiler):
+                ran = run(compiler, *words, "-ffreestanding", "-fsyntax-only", "-x", "c", HEADER)
+                self.assertNotEqual(ran.status, 0, f"ran: {ran}")
+                self.assertIn(wanted, ran.err.replace(b'error: "', b'error: #error "'), f"ran: {ran}")
+                tried += 1
+        if not tried:
+            self.skipTest("neither gcc nor clang is at hand")
+
+    def test_abi(self) -> None:
+        """include/abi.txt is what gcc says of the headers, and clang"""
+        for compiler in ("gcc", "clang"):
+            if is_at_hand(compiler):
+                self.assert_ended(run(TOP / "tools/abi", env={"CC": compiler}))
+
     def test_length(self) -> None:
         """include/bootcore.h has at most 500 lines, of at most 100 columns"""
         lines = HEADER.read_text(encoding="utf-8").splitlines()
