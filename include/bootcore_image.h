@@ -31,7 +31,7 @@ BOOTCORE_CALL size_t bootcore_image_head(const bootcore_handoff *handoff,
  * - NO_MEMORY: fault->number is 77.
  * - NULL.
  * What is not told is as before. */
-BOOTCORE_CALL uint32_t bootcore_image_head_read(const void *head, size_t length,
+BOOTCORE_CHECKED uint32_t bootcore_image_head_read(const void *head, size_t length,
     bootcore_handoff *handoff, bootcore_place *places, size_t place_room, bootcore_refusal *fault);
 
 /* The offset of a copy of an RSDP that is not there. */

@@ -20,7 +20,7 @@ use Rattle.c_records.specs.declared.given_fault.GivenFault.TheVariants.{Misused,
 use Rattle.c_records.specs.declared.given_records.EntryRecord.{EntryRecord}
 use Rattle.c_records.specs.declared.given_records.FileRecord.{FileRecord}
 use Rattle.c_records.specs.Given.{files_given, entry_without_files}
-use Rattle.c_records.specs.GivenChecks.{has_few_modules, have_few_modules}
+use Rattle.c_records.specs.GivenChecks.{are_modules_few, have_few_modules}
 use Rattle.c_records.specs.EntryFaults.{IsEntrySizeFault}
 use Rattle.c_records.specs.MenuGiven.{menu_files, entry_facts_given, entries_facts}
 use Rattle.c_records.specs.MenuGiven.{AreFewGiven, IsNoMenu, are_many, has_many_modules}
@@ -95,7 +95,7 @@ pub size_fault_is : (rows : List EntryRecord) (i : ℕ) (d : EntryRecord) (fault
     → IsEntrySizeFault (get_or rows i d) fault → AreNotTaken rows fault
 size_fault_is rows i d (Misused misuse) within short few (inl (is, many)) =
     let e : true ≡ false =
-    sym (AllPass-from_list_all has_few_modules rows few i d within) ∙ many in absurd cc
+    sym (AllPass-from_list_all are_modules_few rows few i d within) ∙ many in absurd cc
 size_fault_is rows i d (Misused misuse) within short few (inr (is, has, not)) =
     inr (inr (is, short, few, λ all. not (all.1 i d within)))
 size_fault_is rows i d NoMemory within short few is = tt

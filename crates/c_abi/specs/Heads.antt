@@ -23,7 +23,7 @@ pub record IsHeadEnd (bytes : List ℕ) (end : Result FrontFacts ImageFault) : T
 -- the handoff is told with the number of its places, and these, if there is room for them
 pub data TellsHead (handoff : HandoffFacts) (status : ℕ) (told : HandoffRecord)
     (places_old places : List PlaceRecord) : Type 0 where
-  tells_all : length handoff.places ≤ length places_old → status ≡ done_status
+  tells_places : length handoff.places ≤ length places_old → status ≡ done_status
       → told ≡ handoff_told 0 handoff → places ≡ places_told handoff.places places_old
       → TellsHead handoff status told places_old places
   tells_count : length places_old < length handoff.places → status ≡ misuse_status SmallRoom

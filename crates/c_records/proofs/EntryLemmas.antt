@@ -8,7 +8,7 @@ use Rattle.bl_load.specs.EntryValue.{HasLimits, IsWithinLimits, value_of}
 use Rattle.c_records.specs.declared.given_records.EntryRecord.{EntryRecord}
 use Rattle.c_records.specs.declared.given_records.ModuleRecord.{ModuleRecord}
 use Rattle.c_records.specs.Given.{entry_without_files, multiboot2_without_files}
-use Rattle.c_records.specs.GivenChecks.{has_few_modules}
+use Rattle.c_records.specs.GivenChecks.{are_modules_few}
 
 -- an entry that has not its limits is too large
 pub too_large : {A : Type 0} (r : EntryRecord) (entry : Entry A)
@@ -18,7 +18,7 @@ unfolding IsWithinLimits
 too_large r entry is not = λ limits. not (subst HasLimits (sym is) limits)
 
 few_by : (r : EntryRecord) (b : Bool) → (r.protocol == 1) ≡ b
-    → HasLimits (entry_without_files r) → has_few_modules r ≡ true
+    → HasLimits (entry_without_files r) → are_modules_few r ≡ true
 few_by r false is limits = rw is refl
 few_by r true is limits =
     let within : HasLimits (multiboot2_without_files r) = rw is at limits in
@@ -27,14 +27,14 @@ few_by r true is limits =
     rw is (grind (arith, nat_tests, few, size))
 
 -- one within its limits has few modules
-pub few_modules : (r : EntryRecord) → HasLimits (entry_without_files r) → has_few_modules r ≡ true
+pub few_modules : (r : EntryRecord) → HasLimits (entry_without_files r) → are_modules_few r ≡ true
 few_modules r limits = few_by r (r.protocol == 1) refl limits
 
 counted_by : (r : EntryRecord) (b : Bool) → (r.protocol == 1) ≡ b → length r.modules.now ≤ 64
-    → has_few_modules r ≡ true
+    → are_modules_few r ≡ true
 counted_by r false is few = rw is refl
 counted_by r true is few = rw is (grind (arith, nat_tests, few))
 
 -- so has one that has few
-pub few_counted : (r : EntryRecord) → length r.modules.now ≤ 64 → has_few_modules r ≡ true
+pub few_counted : (r : EntryRecord) → length r.modules.now ≤ 64 → are_modules_few r ≡ true
 few_counted r few = counted_by r (r.protocol == 1) refl few

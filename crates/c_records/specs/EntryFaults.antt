@@ -11,7 +11,7 @@ use Rattle.c_records.specs.declared.given_fault.GivenFault.TheVariants as given_
 use Rattle.c_records.specs.declared.load_fault.LoadFault.{LoadFault}
 use Rattle.c_records.specs.declared.load_fault.LoadFault.TheVariants.{Misused, Refused, NoMemory}
 use Rattle.c_records.specs.Given.{entry_without_files}
-use Rattle.c_records.specs.GivenChecks.{entry_misuse, has_few_modules}
+use Rattle.c_records.specs.GivenChecks.{entry_misuse, are_modules_few}
 
 -- no misuse of an entry stands
 pub record IsEntrySound (entry : EntryRecord) : Type 0 where
@@ -21,8 +21,8 @@ pub record IsEntrySound (entry : EntryRecord) : Type 0 where
 -- its first misuse of size: too many modules, or else a copy of an RSDP that is too long
 abbrev pub IsEntrySizeMisuse : EntryRecord → Misuse → Type 0
 IsEntrySizeMisuse entry misuse =
-    ((misuse ≡ TooManyModules) × (has_few_modules entry ≡ false))
-    ⊎ ((misuse ≡ LongRsdp) × (has_few_modules entry ≡ true)
+    ((misuse ≡ TooManyModules) × (are_modules_few entry ≡ false))
+    ⊎ ((misuse ≡ LongRsdp) × (are_modules_few entry ≡ true)
     × (¬ HasLimits (entry_without_files entry)))
 
 -- its first misuse: of what its record names, or else of its size

@@ -31,13 +31,13 @@ entries_misuse [] = None
 entries_misuse (entry ∷ entries) = option_or (entry_misuse entry) (entries_misuse entries)
 
 -- of its modules there are not too many; an entry of another protocol than 1 has none
-abbrev pub has_few_modules : EntryRecord → Bool
-has_few_modules entry =
+abbrev pub are_modules_few : EntryRecord → Bool
+are_modules_few entry =
     if entry.protocol == 1 then nat_le (length entry.modules.now) max_modules else true
 
 -- so of each of these
 abbrev pub have_few_modules : List EntryRecord → Bool
-have_few_modules entries = list_all has_few_modules entries
+have_few_modules entries = list_all are_modules_few entries
 
 -- a check answers this misuse, if it is one
 abbrev pub FindsMisuse : {X : Type 0} → Option Misuse → Result X Misuse → Type 0

@@ -29,8 +29,8 @@ fn is_protocol(protocol: u32) -> bool
 }
 
 /// Whether an entry has not too many modules.
-pub(crate) fn has_few_modules(entry: &EntryRecord) -> bool
-    ensures { result ≡ spec.has_few_modules entry.now }
+pub(crate) fn are_modules_few(entry: &EntryRecord) -> bool
+    ensures { result ≡ spec.are_modules_few entry.now }
 {
     if !entry.is_of(Protocol::Multiboot2) {
         return true;
@@ -42,7 +42,7 @@ pub(crate) fn has_few_modules(entry: &EntryRecord) -> bool
 pub fn have_few_modules(entries: &[EntryRecord]) -> bool
     ensures { result ≡ spec.have_few_modules entries.now }
 {
-    entries.iter().all(|entry| has_few_modules(entry))
+    entries.iter().all(|entry| are_modules_few(entry))
 }
 
 /// Checks an entry, but for its size: the first misuse.

@@ -10,8 +10,8 @@ ghost use Rattle.c_records.specs.SegmentsTold as spec;
 use crate::end_records::RegistersRecord;
 use crate::segment_records::SegmentRecord;
 
-/// Types of segments (Intel SDM, volume 3A, 3.4.5.1 "Code- and Data-Segment Descriptor Types"): code
-/// that may be executed and read, data that may be read and written, both accessed.
+/// Types of segments (Intel SDM, volume 3A, 3.4.5.1 "Code- and Data-Segment Descriptor Types"):
+/// code that may be executed and read, data that may be read and written, both accessed.
 const EXECUTE_READ_ACCESSED: u8 = 11;
 
 const READ_WRITE_ACCESSED: u8 = 3;
