@@ -22,6 +22,18 @@ enum {
 BOOTCORE_CALL size_t bootcore_image_head(const bootcore_handoff *handoff,
     const bootcore_place *places, uint8_t *head, size_t length);
 
+/* Reads the head of a handoff image, of version 1 or 2: what stands before the bytes of the parts,
+ * which need not follow.
+ * - DONE: the handoff is told, with 0 as its entry, and the first places.
+ * - SMALL_ROOM: there are more places than place_room. The handoff is told, and says how many.
+ * - REFUSED: fault->number is 71 to 75 (with 74 `first` is the index of the place): the first that
+ *   is found, as in an image that begins so. A head that is cut is 75.
+ * - NO_MEMORY: fault->number is 77.
+ * - NULL.
+ * What is not told is as before. */
+BOOTCORE_CHECKED uint32_t bootcore_image_head_read(const void *head, size_t length,
+    bootcore_handoff *handoff, bootcore_place *places, size_t place_room, bootcore_refusal *fault);
+
 /* The offset of a copy of an RSDP that is not there. */
 #define BOOTCORE_ABSENT (~(uint64_t)0)
 
@@ -35,7 +47,7 @@ typedef struct bootcore_range {
  * of the RSDP and the new one, one after the other. */
 typedef struct bootcore_seen {
     uint32_t protocol;
-    uint32_t reserved;       /* 0 */
+    uint32_t reserved32;
     uint64_t kernel_part_count;
     uint64_t module_count;   /* of those that it is told of */
     uint64_t run_count;      /* of runs of memory that it is told of */
@@ -46,12 +58,14 @@ typedef struct bootcore_seen {
     uint64_t text_length;
     bootcore_range rsdp_old; /* of the text; its offset is BOOTCORE_ABSENT if there is none */
     bootcore_range rsdp_new;
+    uint64_t reserved[4];
 } bootcore_seen;
 
 /* A part of the kernel that is seen. */
 typedef struct bootcore_seen_part {
     uint64_t address;
     uint64_t length;
+    uint64_t reserved;
 } bootcore_seen_part;
 
 /* A module that is seen. */
@@ -59,6 +73,7 @@ typedef struct bootcore_seen_module {
     uint64_t address;
     uint64_t length;
     bootcore_range line; /* of the text, without a zero byte */
+    uint64_t reserved;
 } bootcore_seen_module;
 
 /* Where a walk tells all that is seen: the caller's arrays, each with the number of elements that
@@ -72,6 +87,7 @@ typedef struct bootcore_seen_arrays {
     size_t run_room;
     uint8_t *text;
     size_t text_room;
+    uint64_t reserved[4]; /* 0 */
 } bootcore_seen_arrays;
 
 /* Walks an image in memory, as a measured boot does before it trusts what an image hands over:
@@ -84,7 +100,7 @@ typedef struct bootcore_seen_arrays {
  * - NO_MEMORY: fault->number is 77 or 84.
  * - NULL.
  * What is not told is as before. */
-BOOTCORE_CALL uint32_t bootcore_walk(const void *image, size_t image_length, bootcore_seen *seen,
+BOOTCORE_CHECKED uint32_t bootcore_walk(const void *image, size_t image_length, bootcore_seen *seen,
     bootcore_refusal *fault);
 
 /* Walks an image in memory as bootcore_walk does, and tells all that its kernel sees.
@@ -97,7 +113,7 @@ BOOTCORE_CALL uint32_t bootcore_walk(const void *image, size_t image_length, boo
  *   before.
  * The bytes of modules and of an initial ramdisk are not told. They lie in the image, in the part
  * that has their address. */
-BOOTCORE_CALL uint32_t bootcore_walk_all(const void *image, size_t image_length,
+BOOTCORE_CHECKED uint32_t bootcore_walk_all(const void *image, size_t image_length,
     bootcore_seen *seen, const bootcore_seen_arrays *arrays, bootcore_refusal *fault);
 
 #ifdef __cplusplus

@@ -1,9 +1,10 @@
-//! The sizes of the records: those that `include/bootcore.h` asserts.
+//! The sizes of the records: those that `c/crossing.h` asserts.
 use crate::digest_records::{DigestsRecord, FileRangeRecord, PartDigestRecord};
 use crate::end_records::{HandoffRecord, PlaceRecord, RefusalRecord, RegistersRecord};
 use crate::given_records::{EntryRecord, FileRecord, MachineRecord, ModuleRecord, RegionRecord};
 use crate::plan_records::{PlanCountsRecord, StepRecord};
 use crate::seen_records::{ByteRange, SeenModuleRecord, SeenPartRecord, SeenRecord};
+use crate::segment_records::SegmentRecord;
 
 const _: () = prove!(size_of::<FileRecord<'_>>() == 24);
 
@@ -17,26 +18,28 @@ const _: () = prove!(size_of::<ModuleRecord<'_>>() == 40);
 
 const _: () = prove!(size_of::<EntryRecord<'_>>() == 120);
 
-const _: () = prove!(size_of::<RegistersRecord>() == 256);
+const _: () = prove!(size_of::<RegistersRecord>() == 288);
 
-const _: () = prove!(size_of::<PlaceRecord>() == 24);
+const _: () = prove!(size_of::<PlaceRecord>() == 32);
 
-const _: () = prove!(size_of::<RefusalRecord>() == 24);
+const _: () = prove!(size_of::<RefusalRecord>() == 32);
 
-const _: () = prove!(size_of::<HandoffRecord>() == 272);
+const _: () = prove!(size_of::<HandoffRecord>() == 304);
 
-const _: () = prove!(size_of::<StepRecord>() == 32);
+const _: () = prove!(size_of::<StepRecord>() == 40);
 
 const _: () = prove!(size_of::<PlanCountsRecord>() == 16);
 
-const _: () = prove!(size_of::<SeenRecord>() == 104);
+const _: () = prove!(size_of::<SeenRecord>() == 136);
 
-const _: () = prove!(size_of::<SeenPartRecord>() == 16);
+const _: () = prove!(size_of::<SeenPartRecord>() == 24);
 
-const _: () = prove!(size_of::<SeenModuleRecord>() == 32);
+const _: () = prove!(size_of::<SeenModuleRecord>() == 40);
 
-const _: () = prove!(size_of::<FileRangeRecord>() == 24);
+const _: () = prove!(size_of::<FileRangeRecord>() == 32);
 
-const _: () = prove!(size_of::<PartDigestRecord>() == 56);
+const _: () = prove!(size_of::<PartDigestRecord>() == 72);
 
-const _: () = prove!(size_of::<DigestsRecord>() == 88);
+const _: () = prove!(size_of::<DigestsRecord>() == 120);
+
+const _: () = prove!(size_of::<SegmentRecord>() == 24);
