@@ -81,7 +81,7 @@ pub fn digest(machine: &Machine, entry: &Entry<'_>) -> Result<Digests, Error> {
 ///         digest.feed(&buffer[..length])?;
 ///     }
 /// }
-/// let digests = digest.finish().expect("nothing is wanted");
+/// let digests = digest.finish()?.expect("nothing is wanted");
 /// println!("{:02x?}", digests.image);
 /// # Ok(())
 /// # }
@@ -126,7 +126,7 @@ impl Digest {
     }
 
     /// The digests; nothing while bytes are wanted.
-    pub fn finish(&self) -> Option<Digests> {
+    pub fn finish(&self) -> Result<Option<Digests>, Error> {
         self.kept.told()
     }
 }

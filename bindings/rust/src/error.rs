@@ -81,7 +81,10 @@ pub enum Error {
     Outside,
     /// The program is to be corrected, or the data that it passes on.
     Misuse(Misuse),
-    /// A status that this version of the crate does not know: a failure.
+    /// A step of a plan takes its bytes from a source of this number, which this version of the crate does not know: take a
+    /// later one.
+    UnknownSource(u32),
+    /// A status that this version of the crate does not know, or not as an answer of this call: a failure.
     Other(u32),
 }
 
@@ -112,6 +115,9 @@ impl fmt::Display for Error {
             Error::NoMemory => to.write_str(raw::status_text(raw::NO_MEMORY)),
             Error::Outside => to.write_str(raw::status_text(raw::OUTSIDE)),
             Error::Misuse(misuse) => misuse.fmt(to),
+            Error::UnknownSource(number) => {
+                write!(to, "a step of the plan has the source {}, which this crate does not know", number)
+            }
             Error::Other(status) => write!(to, "status {}: {}", status, raw::status_text(*status)),
         }
     }

@@ -60,8 +60,24 @@ pub struct Step<'p> {
 #[derive(Clone, Debug, PartialEq, Eq)]
 pub struct Plan {
     pub(crate) handoff: Handoff,
-    pub(crate) steps: Vec<raw::Step>,
+    pub(crate) steps: Vec<Kept>,
     pub(crate) own: Vec<u8>,
+}
+
+/// A step as a plan keeps it.
+#[derive(Clone, Copy, Debug, PartialEq, Eq)]
+pub(crate) struct Kept {
+    pub(crate) address: u64,
+    pub(crate) length: u64,
+    pub(crate) source: KeptSource,
+}
+
+/// A source as a plan keeps it: what is the plan's own begins at an offset.
+#[derive(Clone, Copy, Debug, PartialEq, Eq)]
+pub(crate) enum KeptSource {
+    File { file: u32, offset: u64 },
+    Own { offset: u64 },
+    Zeros,
 }
 
 impl Plan {
@@ -116,7 +132,7 @@ impl<'p> IntoIterator for &'p Plan {
 /// The steps of a [`Plan`].
 #[derive(Clone, Debug)]
 pub struct Steps<'p> {
-    steps: std::slice::Iter<'p, raw::Step>,
+    steps: std::slice::Iter<'p, Kept>,
     own: &'p [u8],
 }
 
@@ -126,9 +142,9 @@ impl<'p> Iterator for Steps<'p> {
     fn next(&mut self) -> Option<Step<'p>> {
         let step = self.steps.next()?;
         let source = match step.source {
-            raw::SOURCE_FILE => Source::File { file: step.file as usize, offset: step.offset },
-            raw::SOURCE_LAYOUT => Source::Own(&self.own[step.offset as usize..][..step.length as usize]),
-            _ => Source::Zeros,
+            KeptSource::File { file, offset } => Source::File { file: file as usize, offset },
+            KeptSource::Own { offset } => Source::Own(&self.own[offset as usize..][..step.length as usize]),
+            KeptSource::Zeros => Source::Zeros,
         };
         Some(Step { address: step.address, length: step.length, source })
     }

@@ -18,6 +18,7 @@ use crate::entry::{File, Protocol};
 use crate::error::{Error, RefusedEntry};
 use crate::handoff::{Registers, Role, Segment};
 use crate::image;
+use crate::plan::{Kept, KeptSource};
 use crate::refusal::{Carried, Fault};
 
 pub(crate) const DONE: u32 = 0;
@@ -30,8 +31,9 @@ pub(crate) const OUTSIDE: u32 = 6;
 pub(crate) const NULL: u32 = 101; // the first misuse
 const SMALL_ROOM: u32 = 104;
 
-pub(crate) const SOURCE_FILE: u32 = 1;
-pub(crate) const SOURCE_LAYOUT: u32 = 2;
+const SOURCE_FILE: u32 = 1;
+const SOURCE_LAYOUT: u32 = 2;
+const SOURCE_ZEROS: u32 = 3;
 
 const MAX_PLACES: usize = 256;
 const MAX_REFUSALS: usize = 32;
@@ -330,7 +332,27 @@ fn memory_of(memory: &mut crate::Memory<'_>) -> Memory {
     Memory { address: memory.address, bytes: memory.bytes.as_mut_ptr().cast(), length: memory.bytes.len() }
 }
 
+fn step_given(step: &Kept) -> Step {
+    let (source, file, offset) = match step.source {
+        KeptSource::File { file, offset } => (SOURCE_FILE, file, offset),
+        KeptSource::Own { offset } => (SOURCE_LAYOUT, 0, offset),
+        KeptSource::Zeros => (SOURCE_ZEROS, 0, 0),
+    };
+    Step { address: step.address, length: step.length, offset, source, file }
+}
+
 // ---- what is told
+
+/// A step, if this version of the crate knows its source: what it does not know is no zeros.
+fn step_told(step: &Step) -> Result<Kept, Error> {
+    let source = match step.source {
+        SOURCE_FILE => KeptSource::File { file: step.file, offset: step.offset },
+        SOURCE_LAYOUT => KeptSource::Own { offset: step.offset },
+        SOURCE_ZEROS => KeptSource::Zeros,
+        other => return Err(Error::UnknownSource(other)),
+    };
+    Ok(Kept { address: step.address, length: step.length, source })
+}
 
 /// A status, and what was told with it; what was not told is empty.
 pub(crate) struct Told {
@@ -488,6 +510,7 @@ pub(crate) fn plan(machine: &crate::Machine, entry: &crate::Entry<'_>) -> Result
             places.truncate(layout.handoff.place_count as usize);
             steps.truncate(layout.step_count);
             own.truncate(layout.own_length);
+            let steps = steps.iter().map(step_told).collect::<Result<_, _>>()?;
             Ok(crate::Plan { handoff: handoff_told(&layout.handoff, &places), steps, own })
         }
         REFUSED => Err(Error::Refused(refusal_told(&layout.refusal))),
@@ -496,16 +519,17 @@ pub(crate) fn plan(machine: &crate::Machine, entry: &crate::Entry<'_>) -> Result
 }
 
 pub(crate) fn carry_out(plan: &crate::Plan, files: &[&[u8]], memory: &mut [crate::Memory<'_>]) -> Result<(), Error> {
+    let steps: Vec<_> = plan.steps.iter().map(step_given).collect();
     let layout = Layout {
         places: ptr::null_mut(),
         place_room: 0,
         // the call only reads what a layout points to
-        steps: plan.steps.as_ptr() as *mut Step,
-        step_room: plan.steps.len(),
+        steps: steps.as_ptr() as *mut Step,
+        step_room: steps.len(),
         own: plan.own.as_ptr() as *mut u8,
         own_room: plan.own.len(),
         handoff: Handoff::default(),
-        step_count: plan.steps.len(),
+        step_count: steps.len(),
         own_length: plan.own.len(),
         refusal: Refusal::default(),
     };
@@ -671,14 +695,17 @@ impl KeptDigest {
         unsafe { bootcore_digest_feed(&mut self.digest, bytes.as_ptr().cast(), bytes.len()) }
     }
 
-    /// The digests, unless bytes are wanted; nothing else can be amiss.
-    pub(crate) fn told(&self) -> Option<crate::Digests> {
+    /// The digests, unless bytes are wanted.
+    pub(crate) fn told(&self) -> Result<Option<crate::Digests>, Error> {
         // SAFETY: the struct is only read, on one thread; there is room for as many parts as are told
         let call = |digests: &mut Digests, parts: &mut [PartDigest]| unsafe {
             bootcore_digest_told(&self.digest, digests, parts.as_mut_ptr(), parts.len())
         };
-        let (status, told) = DigestsTold::by(call);
-        (status == DONE).then(|| told.all())
+        match DigestsTold::by(call) {
+            (DONE, told) => Ok(Some(told.all())),
+            (WAITING, _) => Ok(None),
+            (other, _) => Err(Error::of_status(other)),
+        }
     }
 }
 
@@ -783,5 +810,31 @@ fn seen_told(seen: &Seen, parts: &[SeenPart], modules: &[SeenModule], runs: &[Re
         initrd: (seen.initrd_length != 0).then(|| range(seen.initrd, seen.initrd_length)),
         rsdp_old: copy_of(seen.rsdp_old),
         rsdp_new: copy_of(seen.rsdp_new),
+    }
+}
+
+#[cfg(test)]
+mod tests {
+    use super::*;
+
+    #[test]
+    fn a_source_that_is_not_known_is_no_zeros() {
+        let step = |source| Step { address: 1 << 20, length: 7, offset: 0, source, file: 0 };
+        for source in [SOURCE_FILE, SOURCE_LAYOUT, SOURCE_ZEROS] {
+            assert_eq!(step_given(&step_told(&step(source)).unwrap()), step(source));
+        }
+        for source in [0, 4, u32::MAX] {
+            assert_eq!(step_told(&step(source)), Err(Error::UnknownSource(source)));
+        }
+    }
+
+    #[test]
+    fn a_status_that_is_not_known_is_told_by_its_number() {
+        for status in [DONE, REFUSED, 7, 100] {
+            assert_eq!(Error::of_status(status), Error::Other(status));
+        }
+        for status in [SMALL_ROOM, 199, u32::MAX] {
+            assert_eq!(Error::of_status(status), Error::Misuse(crate::Misuse::Other(status)));
+        }
     }
 }

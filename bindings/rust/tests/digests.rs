@@ -50,14 +50,14 @@ fn they_do_not_depend_on_the_pieces() {
     for most in [1, 7, 4096, 5000, usize::MAX] {
         let mut digest = Digest::new(&machine(), &entry(File::Length(20000))).unwrap();
         while let Some(range) = digest.wanted() {
-            assert_eq!(digest.finish(), None);
+            assert_eq!(digest.finish(), Ok(None));
             let bytes = &files[range.file][range.offset as usize..][..range.length as usize];
             digest.feed(&bytes[..bytes.len().min(most)]).unwrap();
             digest.feed(b"").unwrap();
         }
         assert_eq!(digest.feed(b"1"), Err(Error::Misuse(Misuse::Unwanted)));
-        assert_eq!(digest.finish(), Some(wanted.clone()));
-        assert_eq!(digest.finish(), Some(wanted.clone())); // and again
+        assert_eq!(digest.finish(), Ok(Some(wanted.clone())));
+        assert_eq!(digest.finish(), Ok(Some(wanted.clone()))); // and again
     }
     let mut digest = Digest::new(&machine(), &entry(File::Length(20000))).unwrap();
     let range = digest.wanted().unwrap();
@@ -66,7 +66,7 @@ fn they_do_not_depend_on_the_pieces() {
     assert_eq!(digest.feed_files(&[&kernel, &module[1..]]), Err(Error::Misuse(Misuse::BadFile)));
     assert_eq!(digest.feed_files(&[&kernel]), Err(Error::Misuse(Misuse::BadFile)));
     digest.feed_files(&files).unwrap();
-    assert_eq!(digest.finish(), Some(wanted));
+    assert_eq!(digest.finish(), Ok(Some(wanted)));
 }
 
 #[test]
@@ -93,7 +93,7 @@ fn it_goes_to_another_thread_and_outlives_its_entry() {
     };
     let fed = std::thread::spawn(move || {
         digest.feed_files(&[&kernel, b"hello"]).unwrap();
-        digest.finish().map(|digests| hex(&digests.image))
+        digest.finish().unwrap().map(|digests| hex(&digests.image))
     });
     assert_eq!(fed.join().unwrap(), Some(measured("image").1));
 }
