@@ -17,6 +17,8 @@ TEN_MINUTES = 600.0
 PACKAGED = Path("/usr/share/cargo/registry")
 NO_REFUSALS = {"BOOTCORE_FAULT_READ_NO_MEMORY", "BOOTCORE_FAULT_WALK_NO_MEMORY"}  # an error of its own in the crate
 
+WITH_UNSAFE = {"src/raw.rs", "src/memory.rs", "tests/mapped.rs"}
+
 IN_VM_MEMORY = """\
 entered at 100200, boot parameters at 1000
 BootParams at 1000, 4096 bytes: [0, 0, 0, 0]
@@ -102,14 +104,17 @@ class Declared(CrateChecks):
         self.compiles(asserted)
 
     def test_unsafe(self) -> None:
-        """`unsafe` stands in src/raw.rs alone, each time below its reason"""
+        """`unsafe` stands in few files, each time below its reason"""
         unsafe = re.compile(r"\bunsafe\b(?!_)")
-        others = [path for path in CRATE.rglob("*.rs") if path.name != "raw.rs" and unsafe.search(path.read_text(encoding="utf-8"))]
-        self.assertEqual(others, [])
-        lines = source("src/raw.rs").splitlines()
-        uses = [at for at, line in enumerate(lines) if unsafe.search(line.split("//")[0])]
-        self.assertGreater(len(uses), 15)
-        self.assertEqual([lines[at] for at in uses if not has_reason(lines, at)], [])
+        found = set()
+        for path in (path for path in CRATE.rglob("*.rs") if "target" not in path.parts):
+            lines = path.read_text(encoding="utf-8").splitlines()
+            # of a function that is unsafe to call the documentation says what is asked, which rustdoc and clippy look for
+            uses = [at for at, line in enumerate(lines) if unsafe.search(line.split("//")[0]) and "pub unsafe fn" not in line]
+            self.assertEqual([lines[at] for at in uses if not has_reason(lines, at)], [])
+            if uses:
+                found.add(str(path.relative_to(CRATE)))
+        self.assertEqual(found, WITH_UNSAFE)
 
     def test_lock(self) -> None:
         """the crate rests on no other"""

@@ -8,6 +8,7 @@ use crate::raw;
 
 /// A part, and its digest.
 #[derive(Clone, Copy, Debug, PartialEq, Eq, Hash)]
+#[non_exhaustive]
 pub struct PartDigest {
     /// Where it lies.
     pub place: Place,
@@ -18,6 +19,7 @@ pub struct PartDigest {
 /// The digests of an image of version 2: by SHA-256, of the whole and of each piece of it. Head and parts are all of it, each
 /// byte once.
 #[derive(Clone, Debug, PartialEq, Eq, Hash)]
+#[non_exhaustive]
 pub struct Digests {
     /// How many bytes the image has.
     pub image_length: u64,
@@ -33,6 +35,7 @@ pub struct Digests {
 
 /// Bytes of a file of an entry: `length` of them, at least 1.
 #[derive(Clone, Copy, Debug, PartialEq, Eq, Hash)]
+#[non_exhaustive]
 pub struct FileRange {
     /// 0 is the kernel, k module k - 1, or 1 the initial ramdisk.
     pub file: usize,

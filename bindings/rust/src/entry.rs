@@ -1,5 +1,7 @@
 //! What is booted: entries and menus.
 
+use std::fmt;
+
 use crate::numbers::numbered;
 
 numbered! {
@@ -15,7 +17,8 @@ numbered! {
 }
 
 /// A file of an entry.
-#[derive(Clone, Copy, Debug, PartialEq, Eq, Hash)]
+#[derive(Clone, Copy, PartialEq, Eq, Hash)]
+#[non_exhaustive]
 pub enum File<'a> {
     /// Its bytes.
     Bytes(&'a [u8]),
@@ -27,6 +30,16 @@ pub enum File<'a> {
     Unreadable,
 }
 
+impl fmt::Debug for File<'_> {
+    fn fmt(&self, to: &mut fmt::Formatter<'_>) -> fmt::Result {
+        match self {
+            File::Bytes(bytes) => write!(to, "Bytes({} bytes)", bytes.len()),
+            File::Length(length) => write!(to, "Length({})", length),
+            File::Unreadable => to.write_str("Unreadable"),
+        }
+    }
+}
+
 impl<'a, T: AsRef<[u8]> + ?Sized> From<&'a T> for File<'a> {
     fn from(bytes: &'a T) -> File<'a> {
         File::Bytes(bytes.as_ref())
@@ -35,11 +48,19 @@ impl<'a, T: AsRef<[u8]> + ?Sized> From<&'a T> for File<'a> {
 
 /// A module of a Multiboot2 kernel.
 #[derive(Clone, Copy, Debug, PartialEq, Eq, Hash)]
+#[non_exhaustive]
 pub struct Module<'a> {
     /// Its file.
     pub file: File<'a>,
     /// Its line, without a zero byte.
     pub line: &'a [u8],
+}
+
+impl<'a> Module<'a> {
+    /// A module with this line.
+    pub fn new(file: impl Into<File<'a>>, line: &'a (impl AsRef<[u8]> + ?Sized)) -> Module<'a> {
+        Module { file: file.into(), line: line.as_ref() }
+    }
 }
 
 /// An entry that is entered by Multiboot2.
@@ -52,6 +73,7 @@ pub struct Module<'a> {
 /// assert_eq!(entry.modules.len(), 1);
 /// ```
 #[derive(Clone, Debug, PartialEq, Eq, Hash)]
+#[non_exhaustive]
 pub struct Multiboot2<'a> {
     /// The kernel: an ELF file, or a file with an address tag.
     pub kernel: File<'a>,
@@ -79,13 +101,26 @@ impl<'a> Multiboot2<'a> {
 
     /// With a module more.
     pub fn module(mut self, file: impl Into<File<'a>>, line: &'a (impl AsRef<[u8]> + ?Sized)) -> Multiboot2<'a> {
-        self.modules.push(Module { file: file.into(), line: line.as_ref() });
+        self.modules.push(Module::new(file, line));
+        self
+    }
+
+    /// With this copy of the RSDP of ACPI 1.0.
+    pub fn rsdp_old(mut self, copy: &'a (impl AsRef<[u8]> + ?Sized)) -> Multiboot2<'a> {
+        self.rsdp_old = copy.as_ref();
+        self
+    }
+
+    /// With this copy of that of ACPI 2.0 or later.
+    pub fn rsdp_new(mut self, copy: &'a (impl AsRef<[u8]> + ?Sized)) -> Multiboot2<'a> {
+        self.rsdp_new = copy.as_ref();
         self
     }
 }
 
 /// By which entry a Linux kernel is entered.
 #[derive(Clone, Copy, Debug, PartialEq, Eq, Hash)]
+#[non_exhaustive]
 pub enum LinuxEntry {
     /// The 32-bit entry: boot protocol 2.10 or later.
     Bits32,
@@ -103,6 +138,7 @@ pub enum LinuxEntry {
 /// assert!(entry.initrd.is_some());
 /// ```
 #[derive(Clone, Debug, PartialEq, Eq, Hash)]
+#[non_exhaustive]
 pub struct Linux<'a> {
     /// The kernel: a bzImage, never a vmlinux.
     pub kernel: File<'a>,
@@ -140,6 +176,7 @@ impl<'a> Linux<'a> {
 
 /// An entry: a kernel, and what it is handed.
 #[derive(Clone, Debug, PartialEq, Eq, Hash)]
+#[non_exhaustive]
 pub enum Entry<'a> {
     /// Entered by Multiboot2.
     Multiboot2(Multiboot2<'a>),
@@ -180,6 +217,7 @@ impl<'a> From<Linux<'a>> for Entry<'a> {
 /// assert_eq!((menu.first, menu.fallbacks.as_slice()), (0, &[1][..]));
 /// ```
 #[derive(Clone, Debug, Default, PartialEq, Eq, Hash)]
+#[non_exhaustive]
 pub struct Menu<'a> {
     /// The entries; at most [`MAX_ENTRIES`](crate::MAX_ENTRIES).
     pub entries: Vec<Entry<'a>>,

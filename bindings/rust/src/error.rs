@@ -51,11 +51,19 @@ impl std::error::Error for Misuse {}
 
 /// An entry of a menu that was refused.
 #[derive(Clone, Copy, Debug, PartialEq, Eq, Hash)]
+#[non_exhaustive]
 pub struct RefusedEntry {
     /// Its index.
     pub entry: u32,
     /// Why.
     pub refusal: Refusal,
+}
+
+impl RefusedEntry {
+    /// The entry of this index, and why it was refused.
+    pub fn new(entry: u32, refusal: Refusal) -> RefusedEntry {
+        RefusedEntry { entry, refusal }
+    }
 }
 
 impl fmt::Display for RefusedEntry {

@@ -9,6 +9,7 @@ use crate::raw;
 /// count on them.
 #[derive(Clone, Copy, Debug, Default, PartialEq, Eq, Hash)]
 #[repr(C)]
+#[non_exhaustive]
 pub struct Registers {
     /// 32 or 64.
     pub bits: u64,
@@ -87,6 +88,7 @@ impl Registers {
 /// A segment register whole, as a virtual processor is given it without loading a descriptor.
 #[derive(Clone, Copy, Debug, Default, PartialEq, Eq, Hash)]
 #[repr(C)]
+#[non_exhaustive]
 pub struct Segment {
     /// Where the segment begins.
     pub base: u64,
@@ -153,6 +155,7 @@ numbered! {
 
 /// A part in memory. What a part has no bytes for is zero.
 #[derive(Clone, Copy, Debug, PartialEq, Eq, Hash)]
+#[non_exhaustive]
 pub struct Place {
     /// What it is.
     pub role: Role,
@@ -164,8 +167,16 @@ pub struct Place {
     pub length: u64,
 }
 
+impl Place {
+    /// A part of this role.
+    pub fn new(role: Role, index: u32, address: u64, length: u64) -> Place {
+        Place { role, index, address, length }
+    }
+}
+
 /// What a kernel is handed: registers and parts.
 #[derive(Clone, Debug, PartialEq, Eq, Hash)]
+#[non_exhaustive]
 pub struct Handoff {
     /// The index of the entry in its menu; 0 where there is no menu.
     pub entry: u32,

@@ -55,6 +55,7 @@ mod handoff;
 mod image;
 mod load;
 mod machine;
+mod memory;
 mod numbers;
 mod plan;
 mod raw;
@@ -69,7 +70,8 @@ pub use error::{Error, Misuse, RefusedEntry};
 pub use handoff::{Handoff, Place, Registers, Role, Segment, Segments};
 pub use image::{walk, Range, Run, Seen, SeenModule};
 pub use load::{load, prepare};
-pub use machine::{Kind, Machine, Memory, Region};
+pub use machine::{Kind, Machine, Region};
+pub use memory::Memory;
 pub use plan::{Plan, Source, Step, Steps};
 pub use refusal::{Fault, Refusal};
 

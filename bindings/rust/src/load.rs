@@ -3,7 +3,8 @@
 use crate::entry::Entry;
 use crate::error::Error;
 use crate::handoff::Handoff;
-use crate::machine::{Machine, Memory};
+use crate::machine::Machine;
+use crate::memory::Memory;
 use crate::raw;
 
 /// Loads one entry into memory, and tells how its kernel is entered. There is no menu and no pool.

@@ -1,13 +1,18 @@
 //! What goes where: for a program that reads files straight to their places.
 
+use std::fmt;
+
 use crate::entry::Entry;
 use crate::error::Error;
 use crate::handoff::{Handoff, Place, Registers};
-use crate::machine::{Machine, Memory};
+use crate::machine::Machine;
+use crate::memory::Memory;
 use crate::raw;
 
-/// Where the bytes of a step come from.
-#[derive(Clone, Copy, Debug, PartialEq, Eq, Hash)]
+/// Where the bytes of a step come from. A plan with a source that this version of the crate does not know is
+/// [`Error::UnknownSource`], and never made.
+#[derive(Clone, Copy, PartialEq, Eq, Hash)]
+#[non_exhaustive]
 pub enum Source<'p> {
     /// The bytes of a file from an offset on.
     File {
@@ -22,8 +27,19 @@ pub enum Source<'p> {
     Zeros,
 }
 
+impl fmt::Debug for Source<'_> {
+    fn fmt(&self, to: &mut fmt::Formatter<'_>) -> fmt::Result {
+        match self {
+            Source::File { file, offset } => to.debug_struct("File").field("file", file).field("offset", offset).finish(),
+            Source::Own(bytes) => write!(to, "Own({} bytes)", bytes.len()),
+            Source::Zeros => to.write_str("Zeros"),
+        }
+    }
+}
+
 /// Bytes that go to an address: at least 1.
 #[derive(Clone, Copy, Debug, PartialEq, Eq, Hash)]
+#[non_exhaustive]
 pub struct Step<'p> {
     /// Where they go.
     pub address: u64,
@@ -57,7 +73,7 @@ pub struct Step<'p> {
 /// # Ok(())
 /// # }
 /// ```
-#[derive(Clone, Debug, PartialEq, Eq)]
+#[derive(Clone, PartialEq, Eq)]
 pub struct Plan {
     pub(crate) handoff: Handoff,
     pub(crate) steps: Vec<Kept>,
@@ -113,10 +129,16 @@ impl Plan {
     }
 
     /// Carries out the steps from files in memory, into memory in one piece or more, in any order, and with holes where no
-    /// part goes. `files` are the kernel, then the modules or the initial ramdisk, of the lengths that were planned for.
+    /// part goes. `files` are the kernel, then the modules or the initial ramdisk, of at least the lengths that were planned for.
     /// After an error nothing is written. A byte that is in two pieces goes to the first.
     pub fn carry_out(&self, files: &[&[u8]], memory: &mut [Memory<'_>]) -> Result<(), Error> {
         raw::carry_out(self, files, memory)
+    }
+}
+
+impl fmt::Debug for Plan {
+    fn fmt(&self, to: &mut fmt::Formatter<'_>) -> fmt::Result {
+        to.debug_struct("Plan").field("handoff", &self.handoff).field("steps", &self.steps()).finish_non_exhaustive()
     }
 }
 
@@ -130,7 +152,7 @@ impl<'p> IntoIterator for &'p Plan {
 }
 
 /// The steps of a [`Plan`].
-#[derive(Clone, Debug)]
+#[derive(Clone)]
 pub struct Steps<'p> {
     steps: std::slice::Iter<'p, Kept>,
     own: &'p [u8],
@@ -151,6 +173,12 @@ impl<'p> Iterator for Steps<'p> {
 
     fn size_hint(&self) -> (usize, Option<usize>) {
         self.steps.size_hint()
+    }
+}
+
+impl fmt::Debug for Steps<'_> {
+    fn fmt(&self, to: &mut fmt::Formatter<'_>) -> fmt::Result {
+        to.debug_list().entries(self.clone()).finish()
     }
 }
 

@@ -1,10 +1,11 @@
 //! The calls and the records of `bootcore.h` and of its parts, `bootcore_image.h` and `bootcore_digest.h`, and functions over
-//! them that are safe to call: the one module with `unsafe`.
+//! them that are safe to call: beside `memory` the one module with `unsafe`.
 //!
 //! What the header asks of a caller, and by what it holds here:
 //! - a pointer points to as many elements as are told: each is made from a slice or a vector, with its length, in the function
 //!   that calls; a file without bytes here has a null pointer, which the call tests;
-//! - what a call may change overlaps nothing else: it is borrowed by `&mut`, or made by the function that calls;
+//! - what a call may change overlaps nothing else: it is borrowed by `&mut`, or made by the function that calls, or of memory
+//!   that is no slice the program promises it (`Memory::from_raw`);
 //! - a session's struct and pool are left alone between its calls: the session has both, and lends no more than `&[u8]`; so
 //!   is a digest's struct.
 #![allow(unsafe_code)]
@@ -247,7 +248,8 @@ fn file_of(file: &File<'_>) -> Bytes {
         File::Bytes(bytes) => bytes_of(bytes),
         // a null pointer and no length would be no file; this one has none of its bytes
         File::Length(0) => bytes_of(&[]),
-        File::Length(length) => Bytes { length: length as usize, ..NO_BYTES },
+        // the greatest number means that a file can't be read; no file of a byte less is loaded either, since it is too long
+        File::Length(length) => Bytes { length: (length as usize).min(UNREADABLE - 1), ..NO_BYTES },
         File::Unreadable => Bytes { length: UNREADABLE, ..NO_BYTES },
     }
 }
@@ -329,7 +331,7 @@ fn menu_of(menu: &crate::Menu<'_>, entries: &[Entry]) -> Menu {
 }
 
 fn memory_of(memory: &mut crate::Memory<'_>) -> Memory {
-    Memory { address: memory.address, bytes: memory.bytes.as_mut_ptr().cast(), length: memory.bytes.len() }
+    Memory { address: memory.address(), bytes: memory.first().cast(), length: memory.length() }
 }
 
 fn step_given(step: &Kept) -> Step {
@@ -464,7 +466,8 @@ pub(crate) fn load(memory: &mut crate::Memory<'_>, machine: &crate::Machine, ent
     let (regions, modules) = (regions_of(machine), modules_of(entry));
     let (memory, machine, entry) = (memory_of(memory), machine_of(machine, &regions), entry_of(entry, &modules));
     // SAFETY: each pointer is that of a slice or a vector that stands during the call, with its length, or null; the memory
-    // is borrowed by `&mut`, and the outcome's arrays are this call's own, so that they overlap nothing else
+    // is borrowed by `&mut`, or `Memory::from_raw` says the same of it, and the outcome's arrays are this call's own, so that
+    // they overlap nothing else
     Told::by(|outcome| unsafe { bootcore_load(&memory, &machine, &entry, outcome) })
 }
 
@@ -536,7 +539,7 @@ pub(crate) fn carry_out(plan: &crate::Plan, files: &[&[u8]], memory: &mut [crate
     let files: Vec<_> = files.iter().map(|file| bytes_of(file)).collect();
     let memory: Vec<_> = memory.iter_mut().map(memory_of).collect();
     // SAFETY: each pointer is that of a slice or a vector that stands during the call, with its length; the pieces of memory
-    // are borrowed by `&mut`, so that they overlap neither each other nor a file; the layout is read alone, and whatever its
+    // are as in `load`, so that they overlap neither each other nor a file; the layout is read alone, and whatever its
     // steps are, the call looks whether they lie in files and memory
     let status = unsafe { bootcore_carry_out(&layout, files.as_ptr(), files.len(), memory.as_ptr(), memory.len()) };
     match status {
@@ -554,14 +557,12 @@ pub(crate) fn boot(memory: &mut crate::Memory<'_>, machine: &crate::Machine, men
 }
 
 /// A session that is kept, and the memory that it has.
-#[derive(Debug)]
 pub(crate) struct KeptSession<'m> {
     session: Session,
     memory: crate::Memory<'m>,
 }
 
-// SAFETY: calls on a session may be made on whichever thread, one at a time, and memory that is borrowed by `&mut` may go to
-// another thread. `Sync` it is not: of two calls that only read the header does not say that they may come at once.
+// SAFETY: calls on a session may be made on whichever thread, one at a time, and so may its memory go. `Sync` it is not: of two calls that only read the header does not say that they may come at once.
 unsafe impl Send for KeptSession<'_> {}
 
 impl<'m> KeptSession<'m> {
@@ -584,8 +585,8 @@ impl<'m> KeptSession<'m> {
 
     pub(crate) fn start(&mut self) -> u32 {
         let memory = memory_of(&mut self.memory);
-        // SAFETY: the struct is written by these calls alone, and never copied; the memory is the same in each call, and
-        // nobody else changes it while the session has it
+        // SAFETY: the struct is written by these calls alone, and never copied; the memory is as in `load` and the same in each
+        // call, and nobody else changes it while the session has it
         unsafe { bootcore_session_start(&mut self.session, &memory) }
     }
 
@@ -620,8 +621,8 @@ impl<'m> KeptSession<'m> {
         Told::by(|outcome| unsafe { bootcore_session_outcome(&self.session, outcome) })
     }
 
-    pub(crate) fn memory(&self) -> &[u8] {
-        self.memory.bytes
+    pub(crate) fn memory(&self) -> &crate::Memory<'m> {
+        &self.memory
     }
 }
 

@@ -79,8 +79,7 @@ fn what_is_not_loaded_has_none() {
     assert_eq!(digest(&machine, &of_length), Err(Error::Misuse(Misuse::NoBytes)));
     let unreadable = second(&kernel, File::Unreadable);
     assert_eq!(Digest::new(&machine, &unreadable).map(drop), Err(Error::Misuse(Misuse::BadFile)));
-    let small = Machine { size: 4096, ..machine };
-    assert_eq!(Digest::new(&small, &of_length).map(drop), Err(Error::Misuse(Misuse::BadSize)));
+    assert_eq!(Digest::new(&of_size(4096), &of_length).map(drop), Err(Error::Misuse(Misuse::BadSize)));
 }
 
 #[test]

@@ -26,10 +26,11 @@ fn with_entries(look: impl Fn(&Entry<'_>, &Entry<'_>, &[&[u8]])) {
             _ => unreachable!(),
         };
         let linux = linux.line("console=ttyS0");
-        let entry = |initrd| Entry::from(Linux { initrd, ..linux.clone() });
-        look(&entry(None), &entry(None), &[kernel]);
-        look(&entry(Some((&first).into())), &entry(Some(length(&first))), &[kernel, &first]);
-        look(&entry(Some(b"".into())), &entry(Some(File::Length(0))), &[kernel, b""]);
+        let none = Entry::from(linux.clone());
+        let entry = |initrd: File<'static>| Entry::from(linux.clone().initrd(initrd));
+        look(&none, &none, &[kernel]);
+        look(&linux.clone().initrd(&first).into(), &entry(length(&first)), &[kernel, &first]);
+        look(&entry(b"".into()), &entry(File::Length(0)), &[kernel, b""]);
     }
 }
 
@@ -40,6 +41,7 @@ fn carry_out(plan: &Plan, files: &[&[u8]], memory: &mut [u8]) {
             Source::File { file, offset } => to.copy_from_slice(&files[file][offset as usize..][..to.len()]),
             Source::Own(bytes) => to.copy_from_slice(bytes),
             Source::Zeros => to.fill(0),
+            other => panic!("{:?}", other),
         }
     }
 }

@@ -34,6 +34,13 @@ pub fn machine() -> Machine {
         .pool(POOL as u64, (SIZE - POOL) as u64)
 }
 
+/// The same of another size.
+pub fn of_size(size: u64) -> Machine {
+    let mut machine = machine();
+    machine.size = size;
+    machine
+}
+
 /// Its memory before a boot.
 pub fn memory() -> Vec<u8> {
     vec![0xA5; SIZE]

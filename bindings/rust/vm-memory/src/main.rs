@@ -37,6 +37,7 @@ fn carry_out(plan: &Plan, memory: &GuestMemoryMmap, kernel: &[u8], files: &mut [
                 memory.read_exact_from(address, file, length)?;
             }
             Source::Zeros => {}
+            other => return Err(format!("no bytes of {:?}", other).into()),
         }
     }
     Ok(())
