@@ -14,7 +14,8 @@ uint32_t bootcore_boot(const bootcore_memory *memory, const bootcore_machine *ma
         bootcore_menu_has_null(menu, BOOTCORE_READS_ALL) || bootcore_outcome_has_null(outcome)) {
         return BOOTCORE_STATUS_NULL;
     }
-    if (bootcore_machine_has_reserved(machine) || bootcore_menu_has_reserved(menu)) {
+    if (bootcore_memory_has_reserved(memory) || bootcore_machine_has_reserved(machine) ||
+        bootcore_menu_has_reserved(menu) || bootcore_outcome_has_reserved(outcome)) {
         return BOOTCORE_STATUS_BAD_RESERVED;
     }
     /* the core looks at it too, but after memory may have run out here */
@@ -29,9 +30,9 @@ uint32_t bootcore_boot(const bootcore_memory *memory, const bootcore_machine *ma
     given_machine = bootcore_machine_crossing(machine);
     status = bootcore_boot_arrays(
         given_memory.bytes, given_memory.length, given_memory.base, &given_machine,
-        bootcore_regions_crossing(machine), machine->region_count, entries, menu->entry_count,
-        menu->first, bootcore_given_array(menu->fallbacks), menu->fallback_count,
-        &outcome->handoff, outcome->places, outcome->place_room,
+        bootcore_regions_crossing(machine), bootcore_count_regions(machine), entries,
+        bootcore_count_entries(menu), menu->first, bootcore_given_array(menu->fallbacks),
+        menu->fallback_count, &outcome->handoff, outcome->places, outcome->place_room,
         outcome->refusal_room ? outcome->refusals : &no_refusal, outcome->refusal_room, &count);
     rattle_dealloc(entries);
     /* the core says of such a pool that memory ran out, before it writes any */

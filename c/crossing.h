@@ -73,19 +73,19 @@ BOOTCORE_HAS_SIZE(bootcore_crossing_machine, 24);
 BOOTCORE_HAS_SIZE(bootcore_counts, 16);
 BOOTCORE_HAS_SIZE(bootcore_crossing_request, 20);
 BOOTCORE_HAS_SIZE(bootcore_region, 24);
-BOOTCORE_HAS_SIZE(bootcore_registers, 256);
-BOOTCORE_HAS_SIZE(bootcore_place, 24);
-BOOTCORE_HAS_SIZE(bootcore_handoff, 272);
-BOOTCORE_HAS_SIZE(bootcore_refusal, 24);
-BOOTCORE_HAS_SIZE(bootcore_step, 32);
+BOOTCORE_HAS_SIZE(bootcore_registers, 288);
+BOOTCORE_HAS_SIZE(bootcore_place, 32);
+BOOTCORE_HAS_SIZE(bootcore_handoff, 304);
+BOOTCORE_HAS_SIZE(bootcore_refusal, 32);
+BOOTCORE_HAS_SIZE(bootcore_step, 40);
 BOOTCORE_HAS_SIZE(bootcore_session, 8);
-BOOTCORE_HAS_SIZE(bootcore_seen, 104);
-BOOTCORE_HAS_SIZE(bootcore_seen_part, 16);
-BOOTCORE_HAS_SIZE(bootcore_seen_module, 32);
+BOOTCORE_HAS_SIZE(bootcore_seen, 136);
+BOOTCORE_HAS_SIZE(bootcore_seen_part, 24);
+BOOTCORE_HAS_SIZE(bootcore_seen_module, 40);
 BOOTCORE_HAS_SIZE(bootcore_digest, 8);
-BOOTCORE_HAS_SIZE(bootcore_file_range, 24);
-BOOTCORE_HAS_SIZE(bootcore_part_digest, 56);
-BOOTCORE_HAS_SIZE(bootcore_digests, 88);
+BOOTCORE_HAS_SIZE(bootcore_file_range, 32);
+BOOTCORE_HAS_SIZE(bootcore_part_digest, 72);
+BOOTCORE_HAS_SIZE(bootcore_digests, 120);
 
 BOOTCORE_CALL
 uint32_t bootcore_load_arrays(uint8_t *memory, size_t memory_length, uint32_t base,

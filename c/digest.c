@@ -18,7 +18,7 @@ uint32_t bootcore_digest_make(bootcore_digest *digest, const bootcore_machine *m
     given_machine = bootcore_machine_crossing(machine);
     bootcore_entry_crossing(entry, BOOTCORE_READS_KERNEL, &given);
     return bootcore_digest_make_arrays(digest, &given_machine, bootcore_regions_crossing(machine),
-                                       machine->region_count, &given.entry, refusal);
+                                       bootcore_count_regions(machine), &given.entry, refusal);
 }
 
 BOOTCORE_CALL
@@ -62,7 +62,7 @@ BOOTCORE_CALL
 uint32_t bootcore_digest_entry(const bootcore_machine *machine, const bootcore_entry *entry,
                                bootcore_digests *digests, bootcore_part_digest *parts,
                                size_t room, bootcore_refusal *refusal) {
-    const bootcore_menu menu = {entry, 1, NULL, 0, 0, 0};
+    const bootcore_menu menu = {entry, 1, NULL, 0, 0, 0, {0, 0, 0, 0}};
     bootcore_crossing_machine given_machine;
     bootcore_crossing_entry *given;
     bootcore_part_digest no_part;
@@ -82,7 +82,7 @@ uint32_t bootcore_digest_entry(const bootcore_machine *machine, const bootcore_e
     }
     given_machine = bootcore_machine_crossing(machine);
     status = bootcore_digest_entry_arrays(&given_machine, bootcore_regions_crossing(machine),
-                                          machine->region_count, given, digests,
+                                          bootcore_count_regions(machine), given, digests,
                                           room ? parts : &no_part, room, refusal);
     rattle_dealloc(given);
     return status;

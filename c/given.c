@@ -31,9 +31,26 @@ static bool has_initrd(const bootcore_entry *entry) {
     return is_linux(entry) && (entry->initrd.bytes || entry->initrd.length);
 }
 
+/* ---- counts: of more elements than there may be only one more is looked at, and crosses, so that the
+ * core refuses them in its order */
+
+static size_t at_most_one_more(size_t count, size_t most) {
+    return count <= most ? count : most + 1;
+}
+
+size_t bootcore_count_regions(const bootcore_machine *machine) {
+    return at_most_one_more(machine->region_count, BOOTCORE_MAX_REGIONS);
+}
+
+size_t bootcore_count_entries(const bootcore_menu *menu) {
+    return at_most_one_more(menu->entry_count, BOOTCORE_MAX_ENTRIES);
+}
+
 /* What an entry of another protocol has of modules is not looked at. */
 static size_t count_modules(const bootcore_entry *entry) {
-    return entry->protocol == BOOTCORE_PROTOCOL_MULTIBOOT2 ? entry->module_count : 0;
+    return entry->protocol == BOOTCORE_PROTOCOL_MULTIBOOT2
+               ? at_most_one_more(entry->module_count, BOOTCORE_MAX_MODULES)
+               : 0;
 }
 
 /* ---- null */
@@ -47,11 +64,11 @@ bool bootcore_machine_has_null(const bootcore_machine *machine) {
 }
 
 static bool has_null_modules(const bootcore_entry *entry, bool is_read) {
-    size_t i;
-    if (bootcore_is_null(entry->modules, entry->module_count)) {
+    size_t count = count_modules(entry), i;
+    if (bootcore_is_null(entry->modules, count)) {
         return true;
     }
-    for (i = 0; i < entry->module_count; i++) {
+    for (i = 0; i < count; i++) {
         if (is_null_file(entry->modules[i].file, is_read) ||
             is_null_bytes(entry->modules[i].line)) {
             return true;
@@ -79,7 +96,7 @@ bool bootcore_menu_has_null(const bootcore_menu *menu, bootcore_reading reading)
         bootcore_is_null(menu->fallbacks, menu->fallback_count)) {
         return true;
     }
-    for (i = 0; i < menu->entry_count; i++) {
+    for (i = 0; i < bootcore_count_entries(menu); i++) {
         if (bootcore_entry_has_null(&menu->entries[i], reading)) {
             return true;
         }
@@ -94,24 +111,46 @@ bool bootcore_outcome_has_null(const bootcore_outcome *outcome) {
 
 /* ---- reserved words, and files that can't be read */
 
+bool bootcore_is_reserved_set(const uint64_t words[4]) {
+    return (words[0] | words[1] | words[2] | words[3]) != 0;
+}
+
+bool bootcore_memory_has_reserved(const bootcore_memory *memory) {
+    return memory->reserved != 0;
+}
+
 bool bootcore_machine_has_reserved(const bootcore_machine *machine) {
     size_t i;
-    for (i = 0; i < machine->region_count; i++) {
+    for (i = 0; i < bootcore_count_regions(machine); i++) {
         if (machine->regions[i].reserved) {
             return true;
         }
     }
-    return machine->reserved != 0;
+    return bootcore_is_reserved_set(machine->reserved);
+}
+
+bool bootcore_entry_has_reserved(const bootcore_entry *entry) {
+    size_t i;
+    for (i = 0; i < count_modules(entry); i++) {
+        if (entry->modules[i].reserved[0] || entry->modules[i].reserved[1]) {
+            return true;
+        }
+    }
+    return entry->reserved32 || bootcore_is_reserved_set(entry->reserved);
 }
 
 bool bootcore_menu_has_reserved(const bootcore_menu *menu) {
     size_t i;
-    for (i = 0; i < menu->entry_count; i++) {
-        if (menu->entries[i].reserved) {
+    for (i = 0; i < bootcore_count_entries(menu); i++) {
+        if (bootcore_entry_has_reserved(&menu->entries[i])) {
             return true;
         }
     }
-    return menu->reserved != 0;
+    return menu->reserved32 || bootcore_is_reserved_set(menu->reserved);
+}
+
+bool bootcore_outcome_has_reserved(const bootcore_outcome *outcome) {
+    return bootcore_is_reserved_set(outcome->reserved);
 }
 
 bool bootcore_entry_has_unreadable(const bootcore_entry *entry) {
@@ -125,7 +164,7 @@ bool bootcore_entry_has_unreadable(const bootcore_entry *entry) {
 }
 
 uint32_t bootcore_entry_misuse(const bootcore_machine *machine, const bootcore_entry *entry) {
-    if (entry->reserved || bootcore_machine_has_reserved(machine)) {
+    if (bootcore_entry_has_reserved(entry) || bootcore_machine_has_reserved(machine)) {
         return BOOTCORE_STATUS_BAD_RESERVED;
     }
     return bootcore_entry_has_unreadable(entry) ? BOOTCORE_STATUS_BAD_FILE : BOOTCORE_STATUS_DONE;
@@ -178,9 +217,42 @@ static bootcore_file file_of(bootcore_bytes bytes, bool is_read) {
     return file;
 }
 
-static size_t count_crossing_modules(const bootcore_entry *entry) {
-    size_t count = count_modules(entry);
-    return count <= BOOTCORE_MAX_MODULES ? count : BOOTCORE_MAX_MODULES + 1;
+static bool has_zero(const uint8_t *bytes, size_t length) {
+    enum { AT_ONCE = 64 }; /* without a branch, so that a compiler takes several bytes at a time */
+    size_t i = 0, k;
+    for (; length - i >= AT_ONCE; i += AT_ONCE) {
+        unsigned found = 0;
+        for (k = 0; k < AT_ONCE; k++) {
+            found |= bytes[i + k] == 0;
+        }
+        if (found) {
+            return true;
+        }
+    }
+    for (; i < length; i++) {
+        if (bytes[i] == 0) {
+            return true;
+        }
+    }
+    return false;
+}
+
+/* A line that is too long is refused for a zero byte, wherever it stands, or else for its length: what
+ * crosses in its place has the same fault, and the core need not copy all of it. */
+static bootcore_slice slice_of_line(bootcore_bytes line) {
+    static const uint8_t zero[1];
+    const size_t too_long = BOOTCORE_MAX_LINE + 1;
+    if (line.length <= too_long) {
+        return slice_of_bytes(line);
+    }
+    if (has_zero((const uint8_t *)line.bytes + too_long, line.length - too_long)) {
+        return slice_of(zero, sizeof zero);
+    }
+    return slice_of(line.bytes, too_long);
+}
+
+static bootcore_slice slice_of_rsdp(bootcore_bytes copy) {
+    return slice_of(copy.bytes, at_most_one_more(copy.length, BOOTCORE_MAX_RSDP));
 }
 
 static void cross_entry(const bootcore_entry *entry, bootcore_reading reading,
@@ -188,19 +260,19 @@ static void cross_entry(const bootcore_entry *entry, bootcore_reading reading,
     const bootcore_bytes none = {NULL, 0};
     bool is_multiboot2 = entry->protocol == BOOTCORE_PROTOCOL_MULTIBOOT2;
     bool are_read = reading == BOOTCORE_READS_ALL;
-    size_t count = count_crossing_modules(entry), i;
+    size_t count = count_modules(entry), i;
     crossing->protocol = entry->protocol;
     crossing->has_initrd = has_initrd(entry);
     crossing->kernel = file_of(entry->kernel, reading != BOOTCORE_READS_NONE);
-    crossing->line = slice_of_bytes(entry->line);
+    crossing->line = slice_of_line(entry->line);
     crossing->initrd = file_of(has_initrd(entry) ? entry->initrd : none, are_read);
     for (i = 0; i < count; i++) {
         modules[i].file = file_of(entry->modules[i].file, are_read);
-        modules[i].line = slice_of_bytes(entry->modules[i].line);
+        modules[i].line = slice_of_line(entry->modules[i].line);
     }
     crossing->modules = slice_of(count ? modules : NULL, count);
-    crossing->rsdp_old = slice_of_bytes(is_multiboot2 ? entry->rsdp_old : none);
-    crossing->rsdp_new = slice_of_bytes(is_multiboot2 ? entry->rsdp_new : none);
+    crossing->rsdp_old = slice_of_rsdp(is_multiboot2 ? entry->rsdp_old : none);
+    crossing->rsdp_new = slice_of_rsdp(is_multiboot2 ? entry->rsdp_new : none);
 }
 
 void bootcore_entry_crossing(const bootcore_entry *entry, bootcore_reading reading,
@@ -210,27 +282,23 @@ void bootcore_entry_crossing(const bootcore_entry *entry, bootcore_reading readi
 
 bootcore_crossing_entry *bootcore_menu_crossing(const bootcore_menu *menu,
                                                 bootcore_reading reading) {
-    const size_t most = SIZE_MAX / sizeof(bootcore_given_entry);
+    size_t entry_count = bootcore_count_entries(menu), module_count = 0, i;
     bootcore_crossing_entry *entries;
     bootcore_crossing_module *modules;
     bootcore_block block;
-    size_t module_count = 0, i;
-    if (menu->entry_count >= most) {
-        return NULL;
+    for (i = 0; i < entry_count; i++) {
+        module_count += count_modules(&menu->entries[i]);
     }
-    for (i = 0; i < menu->entry_count; i++) {
-        module_count += count_crossing_modules(&menu->entries[i]);
-    }
-    block = rattle_alloc(menu->entry_count * sizeof *entries + module_count * sizeof *modules,
+    block = rattle_alloc(entry_count * sizeof *entries + module_count * sizeof *modules,
                          sizeof(void *));
     if (!(block.is_there & 1)) {
         return NULL;
     }
     entries = block.at;
-    modules = (bootcore_crossing_module *)(entries + menu->entry_count);
-    for (i = 0; i < menu->entry_count; i++) {
+    modules = (bootcore_crossing_module *)(entries + entry_count);
+    for (i = 0; i < entry_count; i++) {
         cross_entry(&menu->entries[i], reading, &entries[i], modules);
-        modules += count_crossing_modules(&menu->entries[i]);
+        modules += count_modules(&menu->entries[i]);
     }
     return entries;
 }

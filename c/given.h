@@ -12,8 +12,7 @@ typedef enum bootcore_reading {
     BOOTCORE_READS_NONE
 } bootcore_reading;
 
-/* An entry that crosses, with its modules: one more than there may be, so that the core refuses too
- * many of them in its order. */
+/* An entry that crosses, with its modules: one more than there may be. */
 typedef struct bootcore_given_entry {
     bootcore_crossing_entry entry;
     bootcore_crossing_module modules[BOOTCORE_MAX_MODULES + 1];
@@ -40,8 +39,12 @@ bool bootcore_menu_has_null(const bootcore_menu *menu, bootcore_reading reading)
 bool bootcore_outcome_has_null(const bootcore_outcome *outcome);
 
 /* A reserved word that is not 0. */
+bool bootcore_is_reserved_set(const uint64_t words[4]);
+bool bootcore_memory_has_reserved(const bootcore_memory *memory);
 bool bootcore_machine_has_reserved(const bootcore_machine *machine);
+bool bootcore_entry_has_reserved(const bootcore_entry *entry);
 bool bootcore_menu_has_reserved(const bootcore_menu *menu);
+bool bootcore_outcome_has_reserved(const bootcore_outcome *outcome);
 
 /* A file that can't be read. */
 bool bootcore_entry_has_unreadable(const bootcore_entry *entry);
@@ -50,6 +53,11 @@ bool bootcore_entry_has_unreadable(const bootcore_entry *entry);
  * can't be read; or BOOTCORE_STATUS_DONE. */
 uint32_t bootcore_entry_misuse(const bootcore_machine *machine, const bootcore_entry *entry);
 
+/* How many regions, and entries, cross: one more than there may be, if there are more, so that the core
+ * refuses them in its order, and no more of them are read. */
+size_t bootcore_count_regions(const bootcore_machine *machine);
+size_t bootcore_count_entries(const bootcore_menu *menu);
+
 /* What crosses of what was tested. */
 bootcore_given_memory bootcore_memory_crossing(const bootcore_memory *memory);
 bootcore_crossing_machine bootcore_machine_crossing(const bootcore_machine *machine);
@@ -57,8 +65,8 @@ const bootcore_region *bootcore_regions_crossing(const bootcore_machine *machine
 void bootcore_entry_crossing(const bootcore_entry *entry, bootcore_reading reading,
                              bootcore_given_entry *given);
 
-/* The entries of a menu, in a block that the caller gives back by rattle_dealloc; null if there is no
- * memory. */
+/* The entries of a menu, as many as bootcore_count_entries says, in a block that the caller gives back
+ * by rattle_dealloc; null if there is no memory. */
 bootcore_crossing_entry *bootcore_menu_crossing(const bootcore_menu *menu,
                                                 bootcore_reading reading);
 

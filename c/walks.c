@@ -24,6 +24,9 @@ uint32_t bootcore_walk_all(const void *image, size_t image_length, bootcore_seen
         bootcore_is_null(arrays->text, arrays->text_room)) {
         return BOOTCORE_STATUS_NULL;
     }
+    if (bootcore_is_reserved_set(arrays->reserved)) {
+        return BOOTCORE_STATUS_BAD_RESERVED;
+    }
     return bootcore_walk_all_arrays(
         bootcore_given_array(image), image_length, seen,
         arrays->kernel_parts ? arrays->kernel_parts : &no_part, arrays->kernel_part_room,

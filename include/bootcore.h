@@ -39,8 +39,9 @@
  * mistake in them has a status.
  *
  * Versions. BOOTCORE_VERSION is this file's, bootcore_version() the archive's. Within 1.x a
- * function keeps its name and arguments, a struct its size and fields, a number its meaning. A
- * reserved word must be 0; others may get a meaning. New functions and new numbers may come. */
+ * function keeps its name and arguments, a struct its size and fields, a number its meaning. New
+ * functions and new numbers may come, and meanings for reserved words. A reserved word of what a
+ * call is given must be 0; one of what it tells is told as 0, and not looked at. */
 #ifndef BOOTCORE_H
 #define BOOTCORE_H
 
@@ -103,12 +104,14 @@ enum {
     BOOTCORE_STATUS_BAD_MEMORY = 110,   /* memory ends below the machine's size (of a boot: not at
                                          * it), or begins at 4 GiB or above */
     BOOTCORE_STATUS_BAD_PROTOCOL = 111, /* an entry's protocol is no BOOTCORE_PROTOCOL_.. */
-    BOOTCORE_STATUS_TOO_MANY_ENTRIES = 112, /* or modules, or too long a copy of an RSDP */
-    BOOTCORE_STATUS_BAD_INDEX = 113,    /* a menu's first entry or a fallback is no entry */
-    BOOTCORE_STATUS_NO_SESSION = 114,   /* no session, no digest is kept: not made, or freed */
-    BOOTCORE_STATUS_LOW_POOL = 115,     /* a boot or a session: the pool begins below the memory
+    BOOTCORE_STATUS_TOO_MANY_ENTRIES = 112,
+    BOOTCORE_STATUS_TOO_MANY_MODULES = 113,
+    BOOTCORE_STATUS_LONG_RSDP = 114,    /* a copy of an RSDP is too long */
+    BOOTCORE_STATUS_BAD_INDEX = 115,    /* a menu's first entry or a fallback is no entry */
+    BOOTCORE_STATUS_NO_SESSION = 116,   /* no session, no digest is kept: not made, or freed */
+    BOOTCORE_STATUS_LOW_POOL = 117,     /* a boot or a session: the pool begins below the memory
                                          * that is given; a boot tells it also for NO_MEMORY */
-    BOOTCORE_STATUS_UNWANTED = 116      /* a digest: more bytes than are wanted */
+    BOOTCORE_STATUS_UNWANTED = 118      /* a digest: more bytes than are wanted */
 };
 
 /* What a status means, in a sentence; of any other number that there is none. Constant text. */
@@ -147,7 +150,7 @@ typedef struct bootcore_machine {
     uint64_t size, pool_base, pool_length;
     const bootcore_region *regions;
     size_t region_count;
-    uint64_t reserved; /* 0 */
+    uint64_t reserved[4]; /* 0 */
 } bootcore_machine;
 
 /* How a kernel is entered. Both Linux entries want two usable frames between 0x1000 and 0xA0000:
@@ -160,7 +163,8 @@ enum {
 
 typedef struct bootcore_module {
     bootcore_bytes file;
-    bootcore_bytes line; /* without a zero byte */
+    bootcore_bytes line;  /* without a zero byte */
+    uint64_t reserved[2]; /* 0 */
 } bootcore_module;
 
 /* An entry. What its protocol has no use for is not looked at.
@@ -172,7 +176,7 @@ typedef struct bootcore_module {
  * be null. An initial ramdisk of length 0, as an empty file, is as none. */
 typedef struct bootcore_entry {
     uint32_t protocol;
-    uint32_t reserved; /* 0 */
+    uint32_t reserved32; /* 0 */
     bootcore_bytes kernel;
     bootcore_bytes line;            /* without a zero byte */
     bootcore_bytes initrd;          /* Linux */
@@ -180,10 +184,16 @@ typedef struct bootcore_entry {
     bootcore_bytes rsdp_new;        /* and of that of ACPI 2.0 or later; without bytes: none */
     const bootcore_module *modules; /* Multiboot2 */
     size_t module_count;
+    uint64_t reserved[4]; /* 0 */
 } bootcore_entry;
 
 /* Memory of the machine that is booted, where the caller has it: the bytes from an address on. */
-typedef struct bootcore_memory { uint64_t address; void *bytes; size_t length; } bootcore_memory;
+typedef struct bootcore_memory {
+    uint64_t address;
+    void *bytes;
+    size_t length;
+    uint64_t reserved; /* 0 */
+} bootcore_memory;
 
 /* ---- what is handed over */
 
@@ -201,6 +211,7 @@ typedef struct bootcore_registers {
     uint64_t rflags, cr0, cr3, cr4, efer;
     uint64_t cs, ds, es, fs, gs, ss;
     uint64_t gdt_base, gdt_limit, a20;
+    uint64_t reserved[4];
 } bootcore_registers;
 
 /* A segment register whole, as a virtual processor is given it without loading a descriptor. Its
@@ -210,6 +221,7 @@ typedef struct bootcore_segment {
     uint32_t limit;
     uint16_t selector;
     uint8_t type, s, dpl, p, avl, l, db, g;
+    uint16_t reserved;
 } bootcore_segment;
 
 /* Tells CS, DS, ES, FS, GS and SS, in this order; nothing if a pointer is null. */
@@ -228,13 +240,14 @@ typedef struct bootcore_place {
     uint32_t role;
     uint32_t index; /* among the parts of its role */
     uint64_t address, length;
+    uint64_t reserved;
 } bootcore_place;
 
 typedef struct bootcore_handoff {
     uint32_t entry;       /* the index of the entry that is handed over */
     uint32_t protocol;    /* how its kernel is entered */
     uint32_t place_count; /* how many places are told */
-    uint32_t reserved;    /* 0 */
+    uint32_t reserved;
     bootcore_registers registers;
 } bootcore_handoff;
 
@@ -243,6 +256,7 @@ typedef struct bootcore_handoff {
 typedef struct bootcore_refusal {
     uint32_t entry, number;
     uint64_t first, second;
+    uint64_t reserved;
 } bootcore_refusal;
 
 /* Where a call tells what comes of it: set the arrays and their room; the call sets the rest. */
@@ -253,6 +267,7 @@ typedef struct bootcore_outcome {
     size_t refusal_room;    /* may be 0; BOOTCORE_MAX_REFUSALS is always enough */
     bootcore_handoff handoff;
     size_t refusal_count;   /* how many there were, also beyond the room */
+    uint64_t reserved[4];   /* 0 */
 } bootcore_outcome;
 
 /* ---- one entry */
@@ -290,6 +305,7 @@ typedef struct bootcore_step {
     uint64_t address, length, offset;
     uint32_t source;
     uint32_t file; /* of BOOTCORE_SOURCE_FILE, else 0 */
+    uint64_t reserved;
 } bootcore_step;
 
 /* Where a call tells a plan: set the arrays and their room; the call sets the rest. */
@@ -303,6 +319,8 @@ typedef struct bootcore_layout {
     bootcore_handoff handoff;
     size_t step_count, own_length;
     bootcore_refusal refusal;
+    uint64_t planned;       /* 1 after DONE: the layout holds a whole plan; else 0 */
+    uint64_t reserved[4];   /* 0 */
 } bootcore_layout;
 
 /* Tells what bootcore_load would do, as steps, from the kernel's bytes and the other files'
@@ -344,7 +362,8 @@ typedef struct bootcore_menu {
     const uint32_t *fallbacks;
     size_t fallback_count;
     uint32_t first;
-    uint32_t reserved; /* 0 */
+    uint32_t reserved32;  /* 0 */
+    uint64_t reserved[4]; /* 0 */
 } bootcore_menu;
 
 /* Boots the first entry of a menu, in the order of attempts, that is not refused. Its files come
@@ -381,6 +400,7 @@ typedef struct bootcore_request {
     uint32_t file;    /* the file's place in its entry, of which the kernel's is 0 */
     uint32_t piece;   /* the first piece's index in the file */
     uint64_t length;
+    uint64_t reserved;
 } bootcore_request;
 
 /* Makes a session of a menu, and keeps it; one that was kept before is freed then. It is not yet

@@ -20,12 +20,14 @@ typedef struct bootcore_digest { void *kept; } bootcore_digest;
 typedef struct bootcore_file_range {
     uint64_t file; /* 0 is the kernel, k module k - 1, or 1 the initial ramdisk */
     uint64_t offset, length;
+    uint64_t reserved;
 } bootcore_file_range;
 
 /* A part: SHA-256 (FIPS 180-4) of the `length` bytes of its place. */
 typedef struct bootcore_part_digest {
     bootcore_place place;
     uint8_t sha256[32];
+    uint64_t reserved;
 } bootcore_part_digest;
 
 /* An image of version 2: its head, which is what bootcore_image_head writes, and behind it the
@@ -34,6 +36,7 @@ typedef struct bootcore_digests {
     uint64_t image_length, head_length;
     uint8_t image_sha256[32], head_sha256[32];
     uint64_t part_count;
+    uint64_t reserved[4];
 } bootcore_digests;
 
 /* Makes the digest of an entry, and keeps it; one that was kept before is freed then. Read are the

@@ -35,7 +35,7 @@ typedef struct bootcore_range {
  * of the RSDP and the new one, one after the other. */
 typedef struct bootcore_seen {
     uint32_t protocol;
-    uint32_t reserved;       /* 0 */
+    uint32_t reserved32;
     uint64_t kernel_part_count;
     uint64_t module_count;   /* of those that it is told of */
     uint64_t run_count;      /* of runs of memory that it is told of */
@@ -46,12 +46,14 @@ typedef struct bootcore_seen {
     uint64_t text_length;
     bootcore_range rsdp_old; /* of the text; its offset is BOOTCORE_ABSENT if there is none */
     bootcore_range rsdp_new;
+    uint64_t reserved[4];
 } bootcore_seen;
 
 /* A part of the kernel that is seen. */
 typedef struct bootcore_seen_part {
     uint64_t address;
     uint64_t length;
+    uint64_t reserved;
 } bootcore_seen_part;
 
 /* A module that is seen. */
@@ -59,6 +61,7 @@ typedef struct bootcore_seen_module {
     uint64_t address;
     uint64_t length;
     bootcore_range line; /* of the text, without a zero byte */
+    uint64_t reserved;
 } bootcore_seen_module;
 
 /* Where a walk tells all that is seen: the caller's arrays, each with the number of elements that
@@ -72,6 +75,7 @@ typedef struct bootcore_seen_arrays {
     size_t run_room;
     uint8_t *text;
     size_t text_room;
+    uint64_t reserved[4]; /* 0 */
 } bootcore_seen_arrays;
 
 /* Walks an image in memory, as a measured boot does before it trusts what an image hands over:

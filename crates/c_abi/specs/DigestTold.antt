@@ -12,7 +12,7 @@ use Rattle.c_records.specs.declared.digest_records.PartDigestRecord.{PartDigestR
 use Rattle.c_records.specs.declared.end_records.RefusalRecord.{RefusalRecord}
 use Rattle.c_records.specs.declared.load_fault.LoadFault.{LoadFault}
 use Rattle.c_abi.specs.Digest.{AreDigestsFed, ranges_wanted}
-use Rattle.c_records.specs.LoadTold.{after_fault, place_told}
+use Rattle.c_records.specs.LoadTold.{after_fault, no_words, place_told}
 use Rattle.c_abi.specs.Sessions.{waiting_status}
 use Rattle.c_records.specs.Status.{done_status, fault_status}
 
@@ -34,7 +34,7 @@ wanted_of digest = wanted_after (ranges_wanted digest) (length digest.fed)
 
 abbrev pub range_told : FileRange → FileRangeRecord
 range_told range =
-    record { file = range.file; offset = range.offset; length = range.length }
+    record { file = range.file; offset = range.offset; length = range.length; reserved = 0 }
 
 -- what is wanted is told, and that something is; else the record stays as it was
 abbrev pub TellsWanted : Option FileRange → (told : Bool) → (old new : FileRangeRecord) → Type 0
@@ -66,10 +66,12 @@ digests_record digests = record {
   image_sha256 = digests.image.sha256;
   head_sha256 = digests.image.front_sha256;
   parts = length digests.parts;
+  reserved = no_words;
 }
 
 abbrev pub part_digest_told : PartDigest → PartDigestRecord
-part_digest_told part = record { place = place_told part.place; sha256 = part.sha256 }
+part_digest_told part =
+    record { place = place_told part.place; sha256 = part.sha256; reserved = 0 }
 
 -- records whose first ones tell the parts, as many as there is room for
 abbrev pub part_digests_told : List PartDigest → List PartDigestRecord → List PartDigestRecord

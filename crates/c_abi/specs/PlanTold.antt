@@ -42,6 +42,7 @@ step_told step = record {
   offset = source_offset step.source;
   source = source_number step.source;
   file = source_file step.source;
+  reserved = 0;
 }
 
 -- ---- the plan

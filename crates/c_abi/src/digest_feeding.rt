@@ -20,6 +20,7 @@ pub fn wanted_told<A: Allocator>(digest: &Digesting<A>, told: &mut FileRangeReco
                 file: range.file as u64,
                 offset: range.offset,
                 length: range.length,
+                reserved: 0,
             };
             true
         }

@@ -4,7 +4,7 @@ ghost use Rattle.c_abi.specs.DigestTold as spec;
 ghost use Rattle.c_abi.specs.internal.Tellings.{digests_facts, digests_telling};
 
 use bl_digest::{Digesting, ImageDigest, PartDigest};
-use c_records::{DigestsRecord, PartDigestRecord, place_told};
+use c_records::{DigestsRecord, NO_WORDS, PartDigestRecord, place_told};
 use std::alloc::Allocator;
 
 fn part_digest_told(part: PartDigest) -> PartDigestRecord
@@ -14,6 +14,7 @@ fn part_digest_told(part: PartDigest) -> PartDigestRecord
     PartDigestRecord {
         place: place_told(part.place),
         sha256,
+        reserved: 0,
     }
 }
 
@@ -46,6 +47,7 @@ pub(crate) fn tell_digests(
         image_sha256,
         head_sha256,
         parts: digests.len() as u64,
+        reserved: NO_WORDS,
     };
 }
 

@@ -29,6 +29,7 @@ fn step_told(step: Step) -> StepRecord
             offset,
             source: 1,
             file: file as u32,
+            reserved: 0,
         },
         StepSource::Own { offset } => StepRecord {
             address,
@@ -36,6 +37,7 @@ fn step_told(step: Step) -> StepRecord
             offset: offset as u64,
             source: 2,
             file: 0,
+            reserved: 0,
         },
         StepSource::Zeros => StepRecord {
             address,
@@ -43,6 +45,7 @@ fn step_told(step: Step) -> StepRecord
             offset: 0,
             source: 3,
             file: 0,
+            reserved: 0,
         },
     }
 }

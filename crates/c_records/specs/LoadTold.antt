@@ -1,5 +1,5 @@
 -- What C is told of registers, places and refusals. Own.
-use Rattle.std.specs.Prelude.{◌≡◌, ℕ, List, length, map, drop, ◌++◌, Result, Ok, Err}
+use Rattle.std.specs.Prelude.{◌≡◌, ℕ, List, [], ◌∷◌, length, map, drop, ◌++◌, Result, Ok, Err}
 use Rattle.bl_plan.specs.declared.part.Place.{Place}
 use Rattle.bl_plan.specs.RoleNumbers.{role_number}
 use Rattle.bl_plan.specs.Protocols.{protocol_number}
@@ -17,6 +17,10 @@ use Rattle.c_records.specs.declared.load_fault.LoadFault.TheVariants.{Misused, R
 use Rattle.c_records.specs.declared.load_fault.LoadFault.TheVariants.{Outside}
 use Rattle.c_records.specs.RefusalTold.{refusal_record}
 use Rattle.c_records.specs.Status.{done_status, fault_status}
+
+-- words that may get a meaning later
+abbrev pub no_words : List ℕ
+no_words = 0 ∷ 0 ∷ 0 ∷ 0 ∷ []
 
 -- registers of 32 bits, under the names of 64
 abbrev pub told_32 : Registers32 → RegistersRecord
@@ -53,6 +57,7 @@ told_32 r = record {
   gdt_base = r.gdt_base;
   gdt_limit = r.gdt_limit;
   a20 = r.a20;
+  reserved = no_words;
 }
 
 abbrev pub told_64 : Registers64 → RegistersRecord
@@ -89,6 +94,7 @@ told_64 r = record {
   gdt_base = r.gdt_base;
   gdt_limit = r.gdt_limit;
   a20 = r.a20;
+  reserved = no_words;
 }
 
 abbrev pub registers_told : Registers → RegistersRecord
@@ -101,6 +107,7 @@ place_told place = record {
   index = place.index;
   address = place.address;
   length = place.length;
+  reserved = 0;
 }
 
 -- what is handed over of the entry with this index

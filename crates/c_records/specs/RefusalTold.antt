@@ -79,4 +79,5 @@ refusal_record entry refused = record {
   number = refusal_number refused;
   first = first_carried refused;
   second = second_carried refused;
+  reserved = 0;
 }

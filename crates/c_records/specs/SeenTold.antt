@@ -12,6 +12,7 @@ use Rattle.c_records.specs.declared.given_records.RegionRecord.{RegionRecord}
 use Rattle.c_records.specs.declared.seen_records.SeenModuleRecord.{SeenModuleRecord}
 use Rattle.c_records.specs.declared.seen_records.SeenPartRecord.{SeenPartRecord}
 use Rattle.c_records.specs.declared.seen_records.SeenRecord.{SeenRecord}
+use Rattle.c_records.specs.LoadTold.{no_words}
 use Rattle.c_records.specs.TextRanges.{no_range}
 
 -- ---- the text: the line, the modules' lines in order, the copies of the RSDP, the old one first
@@ -47,7 +48,7 @@ initrd_length (Some file) = length file.bytes
 abbrev pub seen_told : SeenFacts → SeenRecord
 seen_told seen = record {
   protocol = protocol_number seen.protocol;
-  reserved = 0;
+  reserved32 = 0;
   kernel_parts = length seen.kernel;
   modules = length seen.modules;
   runs = length seen.map;
@@ -58,12 +59,13 @@ seen_told seen = record {
   text_length = length (text_seen seen);
   rsdp_old = copy_range (length (lines_seen seen)) seen.rsdp_old;
   rsdp_new = copy_range (length (text_before_rsdp_new seen)) seen.rsdp_new;
+  reserved = no_words;
 }
 
 -- ---- the arrays
 
 abbrev pub part_told : SeenPart → SeenPartRecord
-part_told part = record { address = part.address; length = part.length }
+part_told part = record { address = part.address; length = part.length; reserved = 0 }
 
 -- a module whose line lies in the text from this offset on
 abbrev pub module_told : ℕ → SeenModuleFacts → SeenModuleRecord
@@ -71,6 +73,7 @@ module_told at m = record {
   address = m.mod_start;
   length = length m.bytes;
   line = record { offset = at; length = length m.line };
+  reserved = 0;
 }
 
 -- modules whose lines lie there one after the other

@@ -41,9 +41,10 @@ stop_told (NoImage fault) = record {
   number = image_fault_number fault;
   first = part_of_fault fault;
   second = 0;
+  reserved = 0;
 }
 stop_told (NotWalked fault) =
-    record { entry = 0; number = walk_fault_number fault; first = 0; second = 0 }
+    record { entry = 0; number = walk_fault_number fault; first = 0; second = 0; reserved = 0 }
 
 abbrev pub image_status : ImageFault → ℕ
 image_status image_faults.BadMagic = 1

@@ -1,4 +1,7 @@
-//! What C is told, as plain records.
+//! What C is told, as plain records. A word that is `reserved` is 0: it may get a meaning later.
+
+/// The words that are reserved where a record has several.
+pub const NO_WORDS: [u64; 4] = [0, 0, 0, 0];
 
 /// The registers as a kernel begins. `bits` is 32 or 64: with 32 those that have another name then
 /// (`eip`, `eax`, `ebx` and so on) are told under their names of 64 bits, and those that a
@@ -39,6 +42,7 @@ pub struct RegistersRecord {
     pub gdt_base: u64,
     pub gdt_limit: u64,
     pub a20: u64,
+    pub reserved: [u64; 4],
 }
 
 /// A part in memory: the number of its role, 1 to 8, its index among those of its role, the address
@@ -50,6 +54,7 @@ pub struct PlaceRecord {
     pub index: u32,
     pub address: u64,
     pub length: u64,
+    pub reserved: u64,
 }
 
 /// Why an entry was refused: the entry's index, the refusal's number, and what it carries, if
@@ -61,10 +66,11 @@ pub struct RefusalRecord {
     pub number: u32,
     pub first: u64,
     pub second: u64,
+    pub reserved: u64,
 }
 
 /// What is handed over, beside the places: the entry's index, the number of its protocol, how many
-/// places there are, and the registers. `reserved` is 0.
+/// places there are, and the registers.
 #[repr(C)]
 #[derive(Clone, Copy)]
 pub struct HandoffRecord {

@@ -21,6 +21,7 @@ pub fn place_told(place: Place) -> PlaceRecord
         index: place.index,
         address: place.address,
         length: place.length,
+        reserved: 0,
     }
 }
 

@@ -1,4 +1,4 @@
-//! The sizes of the records: those that `include/bootcore.h` asserts.
+//! The sizes of the records: those that `c/crossing.h` asserts.
 use crate::digest_records::{DigestsRecord, FileRangeRecord, PartDigestRecord};
 use crate::end_records::{HandoffRecord, PlaceRecord, RefusalRecord, RegistersRecord};
 use crate::given_records::{EntryRecord, FileRecord, MachineRecord, ModuleRecord, RegionRecord};
@@ -17,26 +17,26 @@ const _: () = prove!(size_of::<ModuleRecord<'_>>() == 40);
 
 const _: () = prove!(size_of::<EntryRecord<'_>>() == 120);
 
-const _: () = prove!(size_of::<RegistersRecord>() == 256);
+const _: () = prove!(size_of::<RegistersRecord>() == 288);
 
-const _: () = prove!(size_of::<PlaceRecord>() == 24);
+const _: () = prove!(size_of::<PlaceRecord>() == 32);
 
-const _: () = prove!(size_of::<RefusalRecord>() == 24);
+const _: () = prove!(size_of::<RefusalRecord>() == 32);
 
-const _: () = prove!(size_of::<HandoffRecord>() == 272);
+const _: () = prove!(size_of::<HandoffRecord>() == 304);
 
-const _: () = prove!(size_of::<StepRecord>() == 32);
+const _: () = prove!(size_of::<StepRecord>() == 40);
 
 const _: () = prove!(size_of::<PlanCountsRecord>() == 16);
 
-const _: () = prove!(size_of::<SeenRecord>() == 104);
+const _: () = prove!(size_of::<SeenRecord>() == 136);
 
-const _: () = prove!(size_of::<SeenPartRecord>() == 16);
+const _: () = prove!(size_of::<SeenPartRecord>() == 24);
 
-const _: () = prove!(size_of::<SeenModuleRecord>() == 32);
+const _: () = prove!(size_of::<SeenModuleRecord>() == 40);
 
-const _: () = prove!(size_of::<FileRangeRecord>() == 24);
+const _: () = prove!(size_of::<FileRangeRecord>() == 32);
 
-const _: () = prove!(size_of::<PartDigestRecord>() == 56);
+const _: () = prove!(size_of::<PartDigestRecord>() == 72);
 
-const _: () = prove!(size_of::<DigestsRecord>() == 88);
+const _: () = prove!(size_of::<DigestsRecord>() == 120);

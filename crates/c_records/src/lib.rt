@@ -25,7 +25,7 @@ mod walk_telling;
 
 pub use array_fronts::put_front;
 pub use digest_records::{DigestsRecord, FileRangeRecord, PartDigestRecord};
-pub use end_records::{HandoffRecord, PlaceRecord, RefusalRecord, RegistersRecord};
+pub use end_records::{HandoffRecord, NO_WORDS, PlaceRecord, RefusalRecord, RegistersRecord};
 pub use entries::{entry_of, take_entry};
 pub use file_views::{lengths_beside, views_of};
 pub use given_checks::check_entries;

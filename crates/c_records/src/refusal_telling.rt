@@ -40,5 +40,6 @@ pub fn refusal_record(entry: u32, refusal: Refusal) -> RefusalRecord
         number: refusal.number(),
         first: first_carried(refusal),
         second: second_carried(refusal),
+        reserved: 0,
     }
 }

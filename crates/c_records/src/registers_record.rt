@@ -2,7 +2,7 @@
 ghost use Rattle.std.specs.Prelude.{◌≡◌};
 ghost use Rattle.c_records.specs.LoadTold as spec;
 
-use crate::end_records::RegistersRecord;
+use crate::end_records::{NO_WORDS, RegistersRecord};
 use bl_load::{Registers, Registers32, Registers64};
 
 fn told_32(r: &Registers32) -> RegistersRecord
@@ -41,6 +41,7 @@ fn told_32(r: &Registers32) -> RegistersRecord
         gdt_base: r.gdt_base as u64,
         gdt_limit: r.gdt_limit as u64,
         a20: r.a20 as u64,
+        reserved: NO_WORDS,
     }
 }
 
@@ -80,6 +81,7 @@ fn told_64(r: &Registers64) -> RegistersRecord
         gdt_base: r.gdt_base,
         gdt_limit: r.gdt_limit,
         a20: r.a20,
+        reserved: NO_WORDS,
     }
 }
 

@@ -3,6 +3,7 @@ ghost use Rattle.std.specs.Prelude.{◌≡◌, ◌∷◌, ◌++◌, [], length, 
 ghost use Rattle.std.specs.List.{flat_map};
 ghost use Rattle.c_records.specs.SeenTold as spec;
 
+use crate::end_records::NO_WORDS;
 use crate::given_records::RegionRecord;
 use crate::seen_records::{ByteRange, MISSING, SeenModuleRecord, SeenPartRecord, SeenRecord};
 use crate::seen_vectors::SeenVectors;
@@ -35,6 +36,7 @@ fn part_told(part: &SeenPart) -> SeenPartRecord
     SeenPartRecord {
         address: part.address,
         length: part.length,
+        reserved: 0,
     }
 }
 
@@ -75,6 +77,7 @@ fn module_told<A: Allocator>(at: usize, file: &SeenModule<'_, A>) -> SeenModuleR
             offset: at as u64,
             length: file.line.len() as u64,
         },
+        reserved: 0,
     }
 }
 
@@ -148,7 +151,7 @@ fn seen_told<A: Allocator>(
 {
     SeenRecord {
         protocol: seen.protocol.number(),
-        reserved: 0,
+        reserved32: 0,
         kernel_parts: seen.kernel.len() as u64,
         modules: seen.modules.len() as u64,
         runs: seen.map.len() as u64,
@@ -159,6 +162,7 @@ fn seen_told<A: Allocator>(
         text_length,
         rsdp_old,
         rsdp_new,
+        reserved: NO_WORDS,
     }
 }
 

@@ -31,12 +31,14 @@ pub fn stop_told(stop: WalkStop) -> RefusalRecord
             number: fault.number(),
             first: part_of_fault(fault),
             second: 0,
+            reserved: 0,
         },
         WalkStop::NotWalked(fault) => RefusalRecord {
             entry: 0,
             number: fault.number(),
             first: 0,
             second: 0,
+            reserved: 0,
         },
     }
 }
