@@ -141,7 +141,7 @@ def has_reason(lines: List[str], at: int) -> bool:
 def numbers() -> Iterator[Tuple[str, str]]:
     """The numbers of the header as the crate has them: name and value."""
     variant = re.compile(r"\b([A-Z]\w+)(?: \{[^{}]*\})? = (\d+),")
-    said = {"NO_BYTES": "NULL", "NO64_ENTRY": "NO_64_ENTRY", "TOO_MANY": "TOO_MANY_ENTRIES", "UNUSABLE": "BAD"}
+    said = {"NO_BYTES": "NULL", "NO64_ENTRY": "NO_64_ENTRY", "UNUSABLE": "BAD"}
     kinds = {"error": "STATUS", "entry": "PROTOCOL", "handoff": "ROLE", "machine": "KIND"}
     for file in ("refusal", *kinds):
         prefix = f"BOOTCORE_{kinds.get(file)}_"

@@ -58,6 +58,7 @@ pub struct Request {
     pub piece: u32,
     /// The bytes of all.
     pub length: u64,
+    pub(crate) reserved: u64,
 }
 
 impl Request {

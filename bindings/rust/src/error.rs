@@ -25,14 +25,18 @@ numbered! {
         BadPool = 109,
         /// Memory ends below the machine's size (of a boot: not at it), or begins at 4 GiB or above.
         BadMemory = 110,
-        /// There are too many entries or modules, or a copy of an RSDP is too long.
-        TooMany = 112,
+        /// There are more than [`MAX_ENTRIES`](crate::MAX_ENTRIES) entries.
+        TooManyEntries = 112,
+        /// An entry has more than [`MAX_MODULES`](crate::MAX_MODULES) modules.
+        TooManyModules = 113,
+        /// A copy of an RSDP has more than [`MAX_RSDP`](crate::MAX_RSDP) bytes.
+        LongRsdp = 114,
         /// A menu's first entry or a fallback is no entry.
-        BadIndex = 113,
+        BadIndex = 115,
         /// Of a boot or a session: the pool begins below the memory that is given.
-        LowPool = 115,
+        LowPool = 117,
         /// A digest is fed more bytes than it wants.
-        Unwanted = 116,
+        Unwanted = 118,
     }
 }
 

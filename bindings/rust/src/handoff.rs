@@ -75,6 +75,7 @@ pub struct Registers {
     pub gdt_limit: u64,
     /// 1 if the gate A20 is to be open.
     pub a20: u64,
+    pub(crate) reserved: [u64; 4],
 }
 
 impl Registers {
@@ -112,6 +113,7 @@ pub struct Segment {
     pub db: u8,
     /// 1: the descriptor counts its limit in pages.
     pub g: u8,
+    pub(crate) reserved: u16,
 }
 
 /// All segment registers.

@@ -83,12 +83,12 @@ records! {
         pool_length: u64,
         regions: *const Region,
         region_count: usize,
-        reserved: u64,
+        reserved: [u64; 4],
     }
-    Module { file: Bytes, line: Bytes, }
+    Module { file: Bytes, line: Bytes, reserved: [u64; 2], }
     Entry {
         protocol: u32,
-        reserved: u32,
+        reserved32: u32,
         kernel: Bytes,
         line: Bytes,
         initrd: Bytes,
@@ -96,14 +96,15 @@ records! {
         rsdp_new: Bytes,
         modules: *const Module,
         module_count: usize,
+        reserved: [u64; 4],
     }
-    Memory { address: u64, bytes: *mut c_void, length: usize, }
+    Memory { address: u64, bytes: *mut c_void, length: usize, reserved: u64, }
     #[derive(Default)]
-    Place { role: u32, index: u32, address: u64, length: u64, }
+    Place { role: u32, index: u32, address: u64, length: u64, reserved: u64, }
     #[derive(Default)]
     Handoff { entry: u32, protocol: u32, place_count: u32, reserved: u32, registers: Registers, }
     #[derive(Default)]
-    Refusal { entry: u32, number: u32, first: u64, second: u64, }
+    Refusal { entry: u32, number: u32, first: u64, second: u64, reserved: u64, }
     Outcome {
         places: *mut Place,
         place_room: usize,
@@ -111,9 +112,10 @@ records! {
         refusal_room: usize,
         handoff: Handoff,
         refusal_count: usize,
+        reserved: [u64; 4],
     }
     #[derive(Default, PartialEq, Eq)]
-    Step { address: u64, length: u64, offset: u64, source: u32, file: u32, }
+    Step { address: u64, length: u64, offset: u64, source: u32, file: u32, reserved: u64, }
     Layout {
         places: *mut Place,
         place_room: usize,
@@ -125,6 +127,8 @@ records! {
         step_count: usize,
         own_length: usize,
         refusal: Refusal,
+        planned: u64,
+        reserved: [u64; 4],
     }
     Menu {
         entries: *const Entry,
@@ -132,7 +136,8 @@ records! {
         fallbacks: *const u32,
         fallback_count: usize,
         first: u32,
-        reserved: u32,
+        reserved32: u32,
+        reserved: [u64; 4],
     }
     Session { kept: *mut c_void, }
     #[derive(Default)]
@@ -140,7 +145,7 @@ records! {
     #[derive(Default)]
     Seen {
         protocol: u32,
-        reserved: u32,
+        reserved32: u32,
         kernel_part_count: u64,
         module_count: u64,
         run_count: u64,
@@ -151,11 +156,12 @@ records! {
         text_length: u64,
         rsdp_old: Range,
         rsdp_new: Range,
+        reserved: [u64; 4],
     }
     #[derive(Default)]
-    SeenPart { address: u64, length: u64, }
+    SeenPart { address: u64, length: u64, reserved: u64, }
     #[derive(Default)]
-    SeenModule { address: u64, length: u64, line: Range, }
+    SeenModule { address: u64, length: u64, line: Range, reserved: u64, }
     SeenArrays {
         kernel_parts: *mut SeenPart,
         kernel_part_room: usize,
@@ -165,12 +171,13 @@ records! {
         run_room: usize,
         text: *mut u8,
         text_room: usize,
+        reserved: [u64; 4],
     }
     Digest { kept: *mut c_void, }
     #[derive(Default)]
-    FileRange { file: u64, offset: u64, length: u64, }
+    FileRange { file: u64, offset: u64, length: u64, reserved: u64, }
     #[derive(Default)]
-    PartDigest { place: Place, sha256: [u8; 32], }
+    PartDigest { place: Place, sha256: [u8; 32], reserved: u64, }
     #[derive(Default)]
     Digests {
         image_length: u64,
@@ -178,6 +185,7 @@ records! {
         image_sha256: [u8; 32],
         head_sha256: [u8; 32],
         part_count: u64,
+        reserved: [u64; 4],
     }
 }
 
@@ -268,14 +276,18 @@ fn machine_of(machine: &crate::Machine, regions: &[Region]) -> Machine {
         pool_length: machine.pool_length,
         regions: regions.as_ptr(),
         region_count: regions.len(),
-        reserved: 0,
+        reserved: [0; 4],
     }
 }
 
 fn modules_of(entry: &crate::Entry<'_>) -> Vec<Module> {
     match entry {
         crate::Entry::Multiboot2(entry) => {
-            let module = |module: &crate::Module<'_>| Module { file: file_of(&module.file), line: bytes_of(module.line) };
+            let module = |module: &crate::Module<'_>| Module {
+                file: file_of(&module.file),
+                line: bytes_of(module.line),
+                reserved: [0; 2],
+            };
             entry.modules.iter().map(module).collect()
         }
         crate::Entry::Linux(_) => Vec::new(),
@@ -286,7 +298,7 @@ fn modules_of(entry: &crate::Entry<'_>) -> Vec<Module> {
 fn entry_of(entry: &crate::Entry<'_>, modules: &[Module]) -> Entry {
     let none = Entry {
         protocol: entry.protocol().number(),
-        reserved: 0,
+        reserved32: 0,
         kernel: NO_BYTES,
         line: NO_BYTES,
         initrd: NO_BYTES,
@@ -294,6 +306,7 @@ fn entry_of(entry: &crate::Entry<'_>, modules: &[Module]) -> Entry {
         rsdp_new: NO_BYTES,
         modules: modules.as_ptr(),
         module_count: modules.len(),
+        reserved: [0; 4],
     };
     match entry {
         crate::Entry::Multiboot2(entry) => Entry {
@@ -326,12 +339,13 @@ fn menu_of(menu: &crate::Menu<'_>, entries: &[Entry]) -> Menu {
         fallbacks: menu.fallbacks.as_ptr(),
         fallback_count: menu.fallbacks.len(),
         first: menu.first,
-        reserved: 0,
+        reserved32: 0,
+        reserved: [0; 4],
     }
 }
 
 fn memory_of(memory: &mut crate::Memory<'_>) -> Memory {
-    Memory { address: memory.address(), bytes: memory.first().cast(), length: memory.length() }
+    Memory { address: memory.address(), bytes: memory.first().cast(), length: memory.length(), reserved: 0 }
 }
 
 fn step_given(step: &Kept) -> Step {
@@ -340,7 +354,7 @@ fn step_given(step: &Kept) -> Step {
         KeptSource::Own { offset } => (SOURCE_LAYOUT, 0, offset),
         KeptSource::Zeros => (SOURCE_ZEROS, 0, 0),
     };
-    Step { address: step.address, length: step.length, offset, source, file }
+    Step { address: step.address, length: step.length, offset, source, file, reserved: 0 }
 }
 
 // ---- what is told
@@ -376,6 +390,7 @@ impl Told {
             refusal_room: refusals.len(),
             handoff: Handoff::default(),
             refusal_count: 0,
+            reserved: [0; 4],
         };
         let status = call(&mut outcome);
         places.truncate(outcome.handoff.place_count as usize);
@@ -445,7 +460,7 @@ pub(crate) fn text(number: u32) -> &'static str {
 }
 
 pub(crate) fn describe(refusal: Carried) -> String {
-    let refusal = Refusal { entry: 0, number: refusal.number, first: refusal.first, second: refusal.second };
+    let refusal = Refusal { number: refusal.number, first: refusal.first, second: refusal.second, ..Refusal::default() };
     // SAFETY: the refusal stands during the call; without a length nothing is written
     let length = unsafe { bootcore_refusal_line(&refusal, ptr::null_mut(), 0) };
     let mut text = vec![0; length + 1];
@@ -494,6 +509,8 @@ pub(crate) fn plan(machine: &crate::Machine, entry: &crate::Entry<'_>) -> Result
         step_count: 0,
         own_length: 0,
         refusal: Refusal::default(),
+        planned: 0,
+        reserved: [0; 4],
     };
     // SAFETY: each pointer is that of a slice or a vector that stands during the call, with its length, or null; the layout's
     // arrays are this call's own; no byte of a file whose pointer is null is read
@@ -535,6 +552,8 @@ pub(crate) fn carry_out(plan: &crate::Plan, files: &[&[u8]], memory: &mut [crate
         step_count: steps.len(),
         own_length: plan.own.len(),
         refusal: Refusal::default(),
+        planned: 1,
+        reserved: [0; 4],
     };
     let files: Vec<_> = files.iter().map(|file| bytes_of(file)).collect();
     let memory: Vec<_> = memory.iter_mut().map(memory_of).collect();
@@ -739,6 +758,7 @@ pub(crate) fn image_head(handoff: &crate::Handoff) -> Vec<u8> {
         index: place.index,
         address: place.address,
         length: place.length,
+        reserved: 0,
     };
     // no handoff has so many that they can't be counted
     let places: Vec<_> = handoff.places.iter().take(u32::MAX as usize).map(place).collect();
@@ -772,6 +792,7 @@ pub(crate) fn walk(image: &[u8]) -> Result<image::Seen, Error> {
             run_room: runs.len(),
             text: text.as_mut_ptr(),
             text_room: text.len(),
+            reserved: [0; 4],
         };
         // SAFETY: the image is borrowed, with its length; the arrays are this call's own, and have the room that is told
         let status = unsafe { bootcore_walk_all(image.as_ptr().cast(), image.len(), &mut seen, &arrays, &mut fault) };
@@ -820,7 +841,7 @@ mod tests {
 
     #[test]
     fn a_source_that_is_not_known_is_no_zeros() {
-        let step = |source| Step { address: 1 << 20, length: 7, offset: 0, source, file: 0 };
+        let step = |source| Step { address: 1 << 20, length: 7, offset: 0, source, file: 0, reserved: 0 };
         for source in [SOURCE_FILE, SOURCE_LAYOUT, SOURCE_ZEROS] {
             assert_eq!(step_given(&step_told(&step(source)).unwrap()), step(source));
         }

@@ -26,11 +26,11 @@ fn records_are_as_listed() {
     let registers = lines_of! {
         Registers {
             bits rip rax rbx rcx rdx rsi rdi rbp rsp r8 r9 r10 r11 r12 r13 r14 r15 rflags cr0 cr3 cr4 efer cs ds es fs gs ss
-            gdt_base gdt_limit a20
+            gdt_base gdt_limit a20 reserved
         }
     };
-    let segment = lines_of!(Segment { base limit selector type_ s dpl p avl l db g });
-    let request = lines_of!(Request { entry attempt file piece length });
+    let segment = lines_of!(Segment { base limit selector type_ s dpl p avl l db g reserved });
+    let request = lines_of!(Request { entry attempt file piece length reserved });
     let came = [record_lines(), registers, segment, request].concat();
     let listed = include_str!("../tests/records.txt");
     assert!(came == listed, "tests/records.txt should be:\n{}", came);

@@ -50,15 +50,15 @@ fn of_an_entry() {
     all(Misuse::BadFile, machine, |_| Multiboot2::new(File::Unreadable).into());
     all(Misuse::BadFile, machine, |kernel| Multiboot2::new(kernel).module(File::Unreadable, "m").into());
     all(Misuse::BadFile, machine, |_| Linux::new(b"none").initrd(File::Unreadable).into());
-    all(Misuse::TooMany, machine, |kernel| {
+    all(Misuse::TooManyModules, machine, |kernel| {
         (0..=MAX_MODULES).fold(Multiboot2::new(kernel), |entry, _| entry.module(b"", "")).into()
     });
     let long = [0; MAX_RSDP + 1];
     let kernel = multiboot2_kernel();
     let entry = Multiboot2::new(&kernel).rsdp_new(&long).into();
-    assert_eq!(misuse(prepare(machine, &entry)), Misuse::TooMany);
+    assert_eq!(misuse(prepare(machine, &entry)), Misuse::LongRsdp);
     let entry = Multiboot2::new(&kernel).rsdp_old(&long).into();
-    assert_eq!(misuse(Plan::new(machine, &entry)), Misuse::TooMany);
+    assert_eq!(misuse(Plan::new(machine, &entry)), Misuse::LongRsdp);
 }
 
 #[test]
@@ -112,7 +112,7 @@ fn of_a_menu() {
     all(Misuse::BadIndex, &machine, &menu().first(1));
     all(Misuse::BadIndex, &machine, &menu().fallback(0).fallback(u32::MAX));
     let many = (0..=MAX_ENTRIES).fold(Menu::new(), |menu, _| menu.entry(Linux::new(b"")));
-    all(Misuse::TooMany, &machine, &many);
+    all(Misuse::TooManyEntries, &machine, &many);
     all(Misuse::BadSize, &of_size(4096), &menu());
     all(Misuse::BadPool, &machine.clone().pool(0, 4096), &menu());
     let mut memory = memory();
@@ -146,12 +146,12 @@ fn of_a_session() {
 
 #[test]
 fn numbers_and_words() {
-    let mut words: Vec<_> = (101..=117).map(|number| Misuse::from_number(number).to_string()).collect();
+    let mut words: Vec<_> = (101..=119).map(|number| Misuse::from_number(number).to_string()).collect();
     assert!((0..200).all(|number| Misuse::from_number(number).number() == number));
     assert!(words.iter().all(|word| !word.is_empty()));
     words.sort();
     words.dedup();
-    assert_eq!(words.len(), 17);
+    assert_eq!(words.len(), 19);
     assert_eq!(Misuse::from_number(102), Misuse::Other(102)); // a reserved word: no program in Rust sets one
     assert_eq!(Error::Misuse(Misuse::BadSize).to_string(), Misuse::BadSize.to_string());
 }
