@@ -17,7 +17,7 @@ TEN_MINUTES = 600.0
 PACKAGED = Path("/usr/share/cargo/registry")
 NO_REFUSALS = {"BOOTCORE_FAULT_READ_NO_MEMORY", "BOOTCORE_FAULT_WALK_NO_MEMORY"}  # an error of its own in the crate
 
-WITH_UNSAFE = {"src/raw.rs", "src/memory.rs", "tests/mapped.rs"}
+WITH_UNSAFE = {"probe.rs", "src/raw.rs", "src/memory.rs", "tests/mapped.rs"}
 
 IN_VM_MEMORY = """\
 entered at 100200, boot parameters at 1000
@@ -30,14 +30,41 @@ Initrd at ffff000, 4096 bytes: [68, 65, 6c, 6c]
 """
 
 
+WRONG = "the archive is of version 2.3.4, and the crate wants 1.0 or a later 1.x"
+# each call that begins without what another told
+BEGINNINGS = """\
+use bootcore::*;
+
+fn main() {
+    let (machine, entry) = (Machine::new(1 << 20), Entry::from(Linux::new(b"none")));
+    let menu = Menu::new().entry(entry.clone());
+    let mut bytes = vec![0; 1 << 20];
+    let mut memory = Memory::new(0, &mut bytes);
+    let ends = [
+        load(&mut memory, &machine, &entry).map(drop),
+        prepare(&machine, &entry).map(drop),
+        Plan::new(&machine, &entry).map(drop),
+        boot(&mut memory, &machine, &menu).map(drop),
+        digest(&machine, &entry).map(drop),
+        Digest::new(&machine, &entry).map(drop),
+        walk(b"no image").map(drop),
+        Session::new(memory, &machine, &menu).map(drop),
+    ];
+    for end in ends {
+        println!("{}", end.unwrap_err());
+    }
+    for text in [Refusal::NoHeader.to_string(), Fault::BadMagic.meaning().into(), Misuse::BadSize.to_string()] {
+        assert!(text.contains("no words"), "{}", text);
+    }
+}
+"""
+
+
 def setUpModule() -> None:
     for tool in ("rustc", "cargo"):
         ran = run(tool, "--version")  # a launcher may be at hand without a toolchain
         if ran.status != 0:
             raise unittest.SkipTest(f"the crate for Rust: {tool} is not at hand")
-    for library in libraries():
-        if not library.exists():
-            raise unittest.SkipTest(f"the crate for Rust: {library.relative_to(TOP)} is not built: ./test c or examples/c/build does it")
 
 
 def source(name: str) -> str:
@@ -157,7 +184,56 @@ def numbers() -> Iterator[Tuple[str, str]]:
             yield prefix + name, {"usize::MAX": "SIZE_MAX", "u64::MAX": "UINT64_MAX"}.get(value, value)
 
 
+class Versions(CrateChecks):
+    """An archive of a version that the crate can't call; this one has no call but that which tells the version."""
+
+    def archive(self, version: int) -> Path:
+        """The folder of an archive, each other function of which ends the program."""
+        folder = self.room / f"{self._testMethodName}_{version}"
+        folder.mkdir()
+        functions = set(re.findall(r"\bfn (bootcore_\w+)\(", source("src/raw.rs"))) - {"bootcore_version"}
+        self.assertGreater(len(functions), 20)
+        lines = ["#include <stdlib.h>", f"unsigned bootcore_version(void) {{ return {version}; }}"]
+        lines += [f"void {name}(void) {{ abort(); }}" for name in sorted(functions)]
+        (folder / "archive.c").write_text("\n".join([*lines, ""]), encoding="utf-8")
+        self.assert_ended(run(*CC, "-c", folder / "archive.c", "-o", folder / "archive.o"))
+        self.assert_ended(run("ar", "qcs", folder / "libbootcore.a", folder / "archive.o"))
+        return folder
+
+    def setUp(self) -> None:
+        for tool in (CC[0], "ar"):
+            if not is_at_hand(tool):
+                self.skipTest(f"{tool} is not at hand")
+
+    def test_build(self) -> None:
+        """the build ends with an archive of another major or an older minor version, and says both versions"""
+        for version, words in ((20304, WRONG), (9999, WRONG.replace("2.3.4", "0.99.99"))):
+            ran = self.cargo("check", "--locked", "--offline", env={"BOOTCORE_LIB_DIR": str(self.archive(version))})
+            self.assertNotEqual(ran.status, 0)
+            self.assertIn(words, ran.err.decode())
+        self.assert_good(self.cargo("check", "--locked", "--offline", env={"BOOTCORE_LIB_DIR": str(self.archive(10203))}))
+
+    def test_calls(self) -> None:
+        """with an archive of another version each call is an error that says both versions, and nothing of it is called"""
+        folder = self.archive(20304)
+        (folder / "begin.rs").write_text(BEGINNINGS, encoding="utf-8")
+        words = ["rustc", "--edition", "2021", "-L", folder, "--out-dir", folder, "--crate-name"]
+        library = ["--crate-type", "rlib", "--cfg", 'feature="std"', "-l", "static=bootcore"]
+        self.assert_good(run(*words, "bootcore", *library, CRATE / "src/lib.rs"))
+        self.assert_good(run(*words, "begin", "--extern", f"bootcore={folder / 'libbootcore.rlib'}", folder / "begin.rs"))
+        self.ends("each call says that the archive is of another version", run(folder / "begin"), 0, f"{WRONG}\n" * 8)
+
+
 class Built(CrateChecks):
+    """The crate over the archive."""
+
+    @classmethod
+    def setUpClass(cls) -> None:
+        super().setUpClass()
+        for library in libraries():
+            if not library.exists():
+                raise unittest.SkipTest(f"the crate over the archive: {library.relative_to(TOP)} is not built: ./test c or examples/c/build does it")
+
     def test_tests(self) -> None:
         ran = self.cargo("test", "--locked", "--offline", "--no-fail-fast")
         passed = sum(map(int, re.findall(rb"^test result: \w+\. (\d+) passed", ran.out, re.M)))

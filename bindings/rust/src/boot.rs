@@ -40,7 +40,7 @@ pub struct Booted {
 /// }
 /// ```
 pub fn boot(memory: &mut Memory<'_>, machine: &Machine, menu: &Menu<'_>) -> Result<Booted, Error> {
-    raw::boot(memory, machine, menu).booted()
+    raw::boot(memory, machine, menu)?.booted()
 }
 
 /// Pieces that are awaited, one after the other in a file: `length` bytes from the offset `piece * PIECE` on.

@@ -5,6 +5,7 @@ use std::fmt;
 use crate::numbers::numbered;
 use crate::raw;
 use crate::refusal::{Fault, Refusal};
+use crate::version::Wrong;
 
 numbered! {
     /// A mistake of the program that calls, or of the data that it passes on, as a memory map of a firmware. Nothing was
@@ -93,6 +94,9 @@ pub enum Error {
     Outside,
     /// The program is to be corrected, or the data that it passes on.
     Misuse(Misuse),
+    /// The archive that is linked is of this version, as [`version`](crate::version()) tells it, and not of one that the crate
+    /// can call. Nothing was called but that.
+    WrongVersion(u32),
     /// A step of a plan takes its bytes from a source of this number, which this version of the crate does not know: take a
     /// later one.
     UnknownSource(u32),
@@ -127,6 +131,7 @@ impl fmt::Display for Error {
             Error::NoMemory => to.write_str(raw::status_text(raw::NO_MEMORY)),
             Error::Outside => to.write_str(raw::status_text(raw::OUTSIDE)),
             Error::Misuse(misuse) => misuse.fmt(to),
+            Error::WrongVersion(archive) => Wrong(*archive).fmt(to),
             Error::UnknownSource(number) => {
                 write!(to, "a step of the plan has the source {}, which this crate does not know", number)
             }

@@ -7,7 +7,7 @@ use crate::raw;
 /// The registers as the kernel begins. With 32 bits `rip` is what EIP is to hold, and so on; `r8` to `r15`, `cr3`, `cr4`
 /// and `efer` are 0 then, and to be chosen. TR, LDTR, IDTR and the debug registers are to be chosen too: no kernel may
 /// count on them.
-#[derive(Clone, Copy, Debug, Default, PartialEq, Eq, Hash)]
+#[derive(Clone, Copy, Debug, PartialEq, Eq, Hash)]
 #[repr(C)]
 #[non_exhaustive]
 pub struct Registers {

@@ -62,6 +62,7 @@ mod raw;
 #[cfg(test)]
 mod records;
 mod refusal;
+mod version;
 
 pub use boot::{boot, Booted, Progress, Request, Session};
 pub use digest::{digest, Digest, Digests, FileRange, PartDigest};
@@ -88,7 +89,8 @@ pub const MAX_RSDP: usize = 256;
 /// How long each piece of a file is that a [`Session`] awaits, but for the last one.
 pub const PIECE: usize = 4096;
 
-/// The version of the archive that is linked: major * 10000 + minor * 100 + patch.
+/// The version of the archive that is linked: major * 10000 + minor * 100 + patch. With one that the crate can't call each
+/// call ends by [`Error::WrongVersion`].
 ///
 /// ```
 /// assert_eq!(bootcore::version() / 10000, 1);

@@ -11,6 +11,7 @@
 #![allow(unsafe_code)]
 
 use std::ffi::{c_void, CStr};
+use std::mem::MaybeUninit;
 use std::os::raw::c_char;
 use std::ptr;
 
@@ -21,6 +22,7 @@ use crate::handoff::{Registers, Role, Segment};
 use crate::image;
 use crate::plan::{Kept, KeptSource};
 use crate::refusal::{Carried, Fault};
+use crate::version::is_right;
 
 pub(crate) const DONE: u32 = 0;
 pub(crate) const REFUSED: u32 = 1;
@@ -56,7 +58,7 @@ macro_rules! records {
         /// Lines `RECORD FIELD OFFSET SIZE`, and for each record `RECORD - 0 SIZE`.
         #[cfg(test)]
         pub(crate) fn record_lines() -> String {
-            use std::mem::{size_of, MaybeUninit};
+            use std::mem::size_of;
             let mut lines = String::new();
             $(
                 lines += &format!("{} - 0 {}\n", stringify!($name), size_of::<$name>());
@@ -101,7 +103,6 @@ records! {
     Memory { address: u64, bytes: *mut c_void, length: usize, reserved: u64, }
     #[derive(Default)]
     Place { role: u32, index: u32, address: u64, length: u64, reserved: u64, }
-    #[derive(Default)]
     Handoff { entry: u32, protocol: u32, place_count: u32, reserved: u32, registers: Registers, }
     #[derive(Default)]
     Refusal { entry: u32, number: u32, first: u64, second: u64, reserved: u64, }
@@ -186,6 +187,13 @@ records! {
         head_sha256: [u8; 32],
         part_count: u64,
         reserved: [u64; 4],
+    }
+}
+
+impl Default for Handoff {
+    fn default() -> Handoff {
+        // SAFETY: its fields are numbers, of which 0 is one
+        unsafe { MaybeUninit::zeroed().assume_init() }
     }
 }
 
@@ -443,23 +451,43 @@ fn refusal_told(refusal: &Refusal) -> crate::Refusal {
 // ---- calls
 
 pub(crate) fn version() -> u32 {
-    // SAFETY: it takes nothing, and reads nothing but a constant
+    // SAFETY: in each version it takes nothing, and reads nothing but a constant
     unsafe { bootcore_version() }
 }
 
+/// The archive may be called. Each function below begins with this, unless it is given what only a call tells: a plan, a handoff,
+/// registers, a session or a digest.
+fn check() -> Result<(), Error> {
+    match version() {
+        archive if is_right(archive) => Ok(()),
+        archive => Err(Error::WrongVersion(archive)),
+    }
+}
+
+const NO_TEXT: &str = "no words, since the archive is not of the crate's version";
+
 pub(crate) fn status_text(status: u32) -> &'static str {
+    if check().is_err() {
+        return NO_TEXT;
+    }
     // SAFETY: the answer points to constant text that ends in a zero byte, whatever the status is
     let text = unsafe { CStr::from_ptr(bootcore_status_text(status)) };
     text.to_str().unwrap_or_default()
 }
 
 pub(crate) fn text(number: u32) -> &'static str {
+    if check().is_err() {
+        return NO_TEXT;
+    }
     // SAFETY: the answer points to constant text that ends in a zero byte, whatever the number is
     let text = unsafe { CStr::from_ptr(bootcore_refusal_text(number)) };
     text.to_str().unwrap_or_default()
 }
 
 pub(crate) fn describe(refusal: Carried) -> String {
+    if check().is_err() {
+        return format!("number {}: {}", refusal.number, NO_TEXT);
+    }
     let refusal = Refusal { number: refusal.number, first: refusal.first, second: refusal.second, ..Refusal::default() };
     // SAFETY: the refusal stands during the call; without a length nothing is written
     let length = unsafe { bootcore_refusal_line(&refusal, ptr::null_mut(), 0) };
@@ -477,23 +505,26 @@ pub(crate) fn segments(registers: &Registers) -> [Segment; 6] {
     segments
 }
 
-pub(crate) fn load(memory: &mut crate::Memory<'_>, machine: &crate::Machine, entry: &crate::Entry<'_>) -> Told {
+pub(crate) fn load(memory: &mut crate::Memory<'_>, machine: &crate::Machine, entry: &crate::Entry<'_>) -> Result<Told, Error> {
+    check()?;
     let (regions, modules) = (regions_of(machine), modules_of(entry));
     let (memory, machine, entry) = (memory_of(memory), machine_of(machine, &regions), entry_of(entry, &modules));
     // SAFETY: each pointer is that of a slice or a vector that stands during the call, with its length, or null; the memory
     // is borrowed by `&mut`, or `Memory::from_raw` says the same of it, and the outcome's arrays are this call's own, so that
     // they overlap nothing else
-    Told::by(|outcome| unsafe { bootcore_load(&memory, &machine, &entry, outcome) })
+    Ok(Told::by(|outcome| unsafe { bootcore_load(&memory, &machine, &entry, outcome) }))
 }
 
-pub(crate) fn prepare(machine: &crate::Machine, entry: &crate::Entry<'_>) -> Told {
+pub(crate) fn prepare(machine: &crate::Machine, entry: &crate::Entry<'_>) -> Result<Told, Error> {
+    check()?;
     let (regions, modules) = (regions_of(machine), modules_of(entry));
     let (machine, entry) = (machine_of(machine, &regions), entry_of(entry, &modules));
     // SAFETY: as for `load`, without memory; no byte of a file whose pointer is null is read
-    Told::by(|outcome| unsafe { bootcore_prepare(&machine, &entry, outcome) })
+    Ok(Told::by(|outcome| unsafe { bootcore_prepare(&machine, &entry, outcome) }))
 }
 
 pub(crate) fn plan(machine: &crate::Machine, entry: &crate::Entry<'_>) -> Result<crate::Plan, Error> {
+    check()?;
     let (regions, modules) = (regions_of(machine), modules_of(entry));
     let (machine, entry) = (machine_of(machine, &regions), entry_of(entry, &modules));
     let mut places = vec![Place::default(); MAX_PLACES];
@@ -567,12 +598,13 @@ pub(crate) fn carry_out(plan: &crate::Plan, files: &[&[u8]], memory: &mut [crate
     }
 }
 
-pub(crate) fn boot(memory: &mut crate::Memory<'_>, machine: &crate::Machine, menu: &crate::Menu<'_>) -> Told {
+pub(crate) fn boot(memory: &mut crate::Memory<'_>, machine: &crate::Machine, menu: &crate::Menu<'_>) -> Result<Told, Error> {
+    check()?;
     let regions = regions_of(machine);
     let (entries, _modules) = entries_of(menu);
     let (memory, machine, menu) = (memory_of(memory), machine_of(machine, &regions), menu_of(menu, &entries));
     // SAFETY: as for `load`; the modules of the entries stand until this function ends
-    Told::by(|outcome| unsafe { bootcore_boot(&memory, &machine, &menu, outcome) })
+    Ok(Told::by(|outcome| unsafe { bootcore_boot(&memory, &machine, &menu, outcome) }))
 }
 
 /// A session that is kept, and the memory that it has.
@@ -590,6 +622,7 @@ impl<'m> KeptSession<'m> {
         machine: &crate::Machine,
         menu: &crate::Menu<'_>,
     ) -> Result<KeptSession<'m>, Error> {
+        check()?;
         let regions = regions_of(machine);
         let (entries, _modules) = entries_of(menu);
         let (machine, menu) = (machine_of(machine, &regions), menu_of(menu, &entries));
@@ -690,6 +723,7 @@ unsafe impl Send for KeptDigest {}
 
 impl KeptDigest {
     pub(crate) fn make(machine: &crate::Machine, entry: &crate::Entry<'_>) -> Result<KeptDigest, Error> {
+        check()?;
         let (regions, modules) = (regions_of(machine), modules_of(entry));
         let (machine, entry) = (machine_of(machine, &regions), entry_of(entry, &modules));
         let mut kept = KeptDigest { digest: Digest { kept: ptr::null_mut() } };
@@ -737,6 +771,7 @@ impl Drop for KeptDigest {
 }
 
 pub(crate) fn digest(machine: &crate::Machine, entry: &crate::Entry<'_>) -> Result<crate::Digests, Error> {
+    check()?;
     let (regions, modules) = (regions_of(machine), modules_of(entry));
     let (machine, entry) = (machine_of(machine, &regions), entry_of(entry, &modules));
     let mut refusal = Refusal::default();
@@ -778,6 +813,7 @@ pub(crate) fn image_head(handoff: &crate::Handoff) -> Vec<u8> {
 }
 
 pub(crate) fn walk(image: &[u8]) -> Result<image::Seen, Error> {
+    check()?;
     let mut seen = Seen::default();
     let mut fault = Refusal::default();
     let (mut parts, mut modules) = (Vec::<SeenPart>::new(), Vec::<SeenModule>::new());
@@ -838,6 +874,16 @@ fn seen_told(seen: &Seen, parts: &[SeenPart], modules: &[SeenModule], runs: &[Re
 #[cfg(test)]
 mod tests {
     use super::*;
+    use crate::version::{Wrong, WANTED};
+
+    #[test]
+    fn the_version_is_compared() {
+        assert!([10000, 10001, 10100, 19999].into_iter().all(is_right));
+        assert!(![0, 9999, 20000, 110000, u32::MAX].into_iter().any(is_right));
+        let words = "the archive is of version 2.3.4, and the crate wants 1.0 or a later 1.x";
+        assert_eq!((WANTED, Wrong(20304).to_string().as_str()), (10000, words));
+        assert_eq!(Error::WrongVersion(20304).to_string(), words);
+    }
 
     #[test]
     fn a_source_that_is_not_known_is_no_zeros() {
