@@ -8,7 +8,7 @@ from typing import Dict, Iterator, List, Optional, Tuple
 
 from tests import examples
 from tests.c import GUEST
-from tests.c_core import CC, HEADER, libraries
+from tests.c_core import CC, FREESTANDING, HEADER, build_freestanding, libraries
 from tests.support import TOP, Checks, Ran, is_at_hand, run
 
 CRATE = TOP / "bindings/rust"
@@ -17,7 +17,7 @@ TEN_MINUTES = 600.0
 PACKAGED = Path("/usr/share/cargo/registry")
 NO_REFUSALS = {"BOOTCORE_FAULT_READ_NO_MEMORY", "BOOTCORE_FAULT_WALK_NO_MEMORY"}  # an error of its own in the crate
 
-WITH_UNSAFE = {"probe.rs", "src/raw.rs", "src/memory.rs", "tests/mapped.rs"}
+WITH_UNSAFE = {"freestanding/src/main.rs", "probe.rs", "src/raw.rs", "src/memory.rs", "tests/mapped.rs"}
 
 IN_VM_MEMORY = """\
 entered at 100200, boot parameters at 1000
@@ -256,6 +256,30 @@ class Built(CrateChecks):
         words = "refused 4 NoHeader: no Multiboot2 header in the first 32768 bytes, at a multiple of 8, with a right sum\n"
         self.ends("the guest loader in Rust prints which refusal a bad kernel meets", ran, 1, words)
 
+    def test_freestanding(self) -> None:
+        """Without the feature std: the same tests over the archive for firmware, and a program without the standard library."""
+        self.ends("the archive for firmware is built", build_freestanding())
+        if not FREESTANDING.exists():
+            return
+        ran = self.cargo("test", "--locked", "--offline", "--no-default-features", "--tests", "--no-fail-fast")
+        passed = sum(map(int, re.findall(rb"^test result: \w+\. (\d+) passed", ran.out, re.M)))
+        with self.check(f"the tests of the crate pass over the archive for firmware: {passed}"):
+            self.assert_good(ran)
+            self.assertGreater(passed, 30)
+        copy = self.copy("freestanding")
+        for profile, words in (("debug", []), ("release", ["--release"])):
+            with self.check(f"a program without the standard library is built over the archive for firmware, {profile}"):
+                self.assert_good(self.cargo("build", "--offline", *words, crate=copy))
+            program = self.target / profile / "bootcore-freestanding"
+            if program.exists():
+                self.ends(f"a program without the standard library loads a kernel, {profile}", run(program))
+
+    def copy(self, example: str) -> Path:
+        """A copy of the crate's example of this name, a crate too, since cargo writes a lock beside it."""
+        copy = self.room / f"copy_{example}"
+        shutil.copytree(CRATE, copy, ignore=shutil.ignore_patterns("target"))
+        return copy / example
+
     def test_found(self) -> None:
         sentence = "the crate finds the archive by bootcore.pc"
         if not is_at_hand("pkg-config"):
@@ -275,14 +299,11 @@ class Built(CrateChecks):
         if not list(PACKAGED.glob("vm-memory-0.10.*")):
             self.leave_out(sentence, "vm-memory 0.10 is not at hand: Debian's librust-vm-memory-dev has it")
             return
-        # a copy, since cargo writes a lock beside it
-        copy = self.room / "copy"
-        shutil.copytree(CRATE, copy, ignore=shutil.ignore_patterns("target"))
         examples.write_linux(self.room, examples.linux64_kernel())
         from_packages = ["source.crates-io.replace-with='debian'", f"source.debian.directory='{PACKAGED}'"]
         words = [word for value in from_packages for word in ("--config", value)]
         with self.check("the loader into vm-memory's guest memory is built"):
-            self.assert_good(self.cargo(*words, "build", "--offline", crate=copy / "vm-memory"))
+            self.assert_good(self.cargo(*words, "build", "--offline", crate=self.copy("vm-memory")))
         loader = self.target / "debug/bootcore-in-vm-memory"
         if loader.exists():
             self.ends(sentence, run(loader, "vmlinuz", "initrd.img", cwd=self.room), 0, IN_VM_MEMORY)
@@ -299,11 +320,13 @@ class Built(CrateChecks):
         if run("cargo", "fmt", "--version").status != 0:
             self.skipTest("rustfmt is not at hand")
         self.assert_good(run("cargo", "fmt", "--check", cwd=CRATE))
-        main = CRATE / "vm-memory/src/main.rs"
-        self.assert_good(run("rustfmt", "--edition", "2021", "--check", "--config-path", CRATE, main))
+        others = [CRATE / "build.rs", CRATE / "probe.rs", *CRATE.glob("*/src/main.rs")]
+        self.assertGreater(len(others), 3)
+        self.assert_good(run("rustfmt", "--edition", "2021", "--check", "--config-path", CRATE, *others))
 
     def test_clippy(self) -> None:
         """clippy warns of nothing in the crate"""
         if run("cargo", "clippy", "--version").status != 0:
             self.skipTest("clippy is not at hand")
-        self.assert_good(self.cargo("clippy", "--locked", "--offline", "--all-targets", "--", "-D", "warnings"))
+        for words in (["--all-targets"], ["--lib", "--tests", "--no-default-features"]):
+            self.assert_good(self.cargo("clippy", "--locked", "--offline", *words, "--", "-D", "warnings"))

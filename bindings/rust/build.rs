@@ -58,7 +58,8 @@ fn ask(folder: &Path, library: &str) -> Result<u32, String> {
 }
 
 fn main() {
-    let (library, archive) = ("bootcore", "libbootcore.a");
+    let library = if env::var_os("CARGO_FEATURE_STD").is_some() { "bootcore" } else { "bootcore_freestanding" };
+    let archive = &format!("lib{}.a", library);
     for file in ["build.rs", "probe.rs", "src/version.rs"] {
         println!("cargo:rerun-if-changed={}", file);
     }

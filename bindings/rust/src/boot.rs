@@ -1,6 +1,7 @@
 //! A menu with fallbacks: booted at once, or piece by piece.
 
-use std::fmt;
+use alloc::vec::Vec;
+use core::fmt;
 
 use crate::entry::Menu;
 use crate::error::{Error, RefusedEntry};
@@ -159,7 +160,7 @@ impl<'m> Session<'m> {
 
     /// All that are awaited, as requests of at most so many bytes.
     pub fn requests(&self, most: usize) -> impl Iterator<Item = Request> + '_ {
-        std::iter::successors(self.missing(most), move |request| self.missing_after(request, most))
+        core::iter::successors(self.missing(most), move |request| self.missing_after(request, most))
     }
 
     /// How it ended: nothing while pieces are awaited.

@@ -1,5 +1,7 @@
 //! Digests of what an entry hands over.
 
+use alloc::vec::Vec;
+
 use crate::entry::Entry;
 use crate::error::Error;
 use crate::handoff::Place;

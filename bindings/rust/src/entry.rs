@@ -1,8 +1,10 @@
 //! What is booted: entries and menus.
 
-use std::fmt;
+use alloc::vec::Vec;
+use core::fmt;
 
 use crate::numbers::numbered;
+use crate::MAX_LINE;
 
 numbered! {
     /// How a kernel is entered.
@@ -174,6 +176,21 @@ impl<'a> Linux<'a> {
     }
 }
 
+impl Linux<'_> {
+    /// How many bytes its line may have.
+    fn line_limit(&self) -> usize {
+        let kernel = match self.kernel {
+            File::Bytes(kernel) => kernel,
+            _ => return MAX_LINE,
+        };
+        match (kernel.get(0x202..0x206), kernel.get(0x238..0x23C)) {
+            // the field cmdline_size of a bzImage
+            (Some(b"HdrS"), Some(&[a, b, c, d])) => MAX_LINE.min(u32::from_le_bytes([a, b, c, d]) as usize),
+            _ => MAX_LINE,
+        }
+    }
+}
+
 /// An entry: a kernel, and what it is handed.
 #[derive(Clone, Debug, PartialEq, Eq, Hash)]
 #[non_exhaustive]
@@ -184,7 +201,41 @@ pub enum Entry<'a> {
     Linux(Linux<'a>),
 }
 
+/// A line that has more bytes than it may have.
+#[derive(Clone, Copy, Debug, PartialEq, Eq, Hash)]
+#[non_exhaustive]
+pub struct LongLine {
+    /// Whose it is: 0 is the kernel, k module k - 1.
+    pub file: usize,
+    /// How many bytes it has.
+    pub length: usize,
+    /// How many it may have.
+    pub limit: usize,
+}
+
 impl Entry<'_> {
+    /// The first line with more bytes than it may have: that of [`Refusal::LineTooLong`](crate::Refusal::LineTooLong). The limit
+    /// is [`MAX_LINE`], or what the header of a Linux kernel names as its `cmdline_size` if that is less.
+    ///
+    /// ```
+    /// use bootcore::{Entry, Multiboot2, MAX_LINE};
+    ///
+    /// let long = "x".repeat(5000);
+    /// let line = Entry::from(Multiboot2::new(b"kernel").module(b"file", &long)).long_line().unwrap();
+    /// assert_eq!((line.file, line.length, line.limit), (1, 5000, MAX_LINE));
+    /// ```
+    pub fn long_line(&self) -> Option<LongLine> {
+        let long =
+            |(file, line): (usize, &[u8]), limit| (line.len() > limit).then_some(LongLine { file, length: line.len(), limit });
+        match self {
+            Entry::Multiboot2(entry) => {
+                let lines = core::iter::once(entry.line).chain(entry.modules.iter().map(|module| module.line));
+                lines.enumerate().find_map(|line| long(line, MAX_LINE))
+            }
+            Entry::Linux(entry) => long((0, entry.line), entry.line_limit()),
+        }
+    }
+
     /// How its kernel is entered.
     pub fn protocol(&self) -> Protocol {
         match self {

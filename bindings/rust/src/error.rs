@@ -1,6 +1,7 @@
 //! How a call ends that does not do what it is called for.
 
-use std::fmt;
+use alloc::vec::Vec;
+use core::fmt;
 
 use crate::numbers::numbered;
 use crate::raw;
@@ -46,12 +47,16 @@ impl fmt::Display for Misuse {
         match self {
             // the header speaks of a pointer
             Misuse::NoBytes => to.write_str("a file is known by its length alone, and its bytes are read"),
+            Misuse::BadMemory => {
+                to.write_str("memory ends below the machine's size, or for a boot not at it, or begins at 4 GiB or above")
+            }
             Misuse::Other(number) => write!(to, "misuse {}: {}", number, raw::status_text(*number)),
             known => to.write_str(raw::status_text(known.number())),
         }
     }
 }
 
+#[cfg(feature = "std")]
 impl std::error::Error for Misuse {}
 
 /// An entry of a menu that was refused.
@@ -116,6 +121,24 @@ impl Error {
     }
 }
 
+impl From<Refusal> for Error {
+    fn from(refusal: Refusal) -> Error {
+        Error::Refused(refusal)
+    }
+}
+
+impl From<Fault> for Error {
+    fn from(fault: Fault) -> Error {
+        Error::BadImage(fault)
+    }
+}
+
+impl From<Misuse> for Error {
+    fn from(misuse: Misuse) -> Error {
+        Error::Misuse(misuse)
+    }
+}
+
 impl fmt::Display for Error {
     fn fmt(&self, to: &mut fmt::Formatter<'_>) -> fmt::Result {
         match self {
@@ -140,4 +163,5 @@ impl fmt::Display for Error {
     }
 }
 
+#[cfg(feature = "std")]
 impl std::error::Error for Error {}

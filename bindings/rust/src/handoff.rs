@@ -1,5 +1,7 @@
 //! What is handed over.
 
+use alloc::vec::Vec;
+
 use crate::entry::Protocol;
 use crate::numbers::numbered;
 use crate::raw;

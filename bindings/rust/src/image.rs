@@ -1,5 +1,7 @@
 //! What a kernel sees in an image.
 
+use alloc::vec::Vec;
+
 use crate::entry::Protocol;
 use crate::error::Error;
 use crate::machine::Kind;

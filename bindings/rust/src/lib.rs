@@ -42,11 +42,18 @@
 //! at fault, and memory is as before. A [`Misuse`] is a mistake of the program, or of a memory map that it passes on.
 //!
 //! Calls start no thread, open no file, and know nothing of each other. Each needs 16 KiB of stack at most.
+#![no_std]
 #![deny(missing_docs, unsafe_code, unsafe_op_in_unsafe_fn, rustdoc::broken_intra_doc_links)]
 
 #[cfg(not(all(target_arch = "x86_64", target_pointer_width = "64")))]
 compile_error!("libbootcore.a is for x86-64");
 
+extern crate alloc;
+#[cfg(any(feature = "std", test))]
+extern crate std;
+
+#[cfg(not(feature = "std"))]
+mod arena;
 mod boot;
 mod digest;
 mod entry;
@@ -62,11 +69,14 @@ mod raw;
 #[cfg(test)]
 mod records;
 mod refusal;
+mod turn;
 mod version;
 
+#[cfg(not(feature = "std"))]
+pub use arena::{arena, arena_peak, ARENA};
 pub use boot::{boot, Booted, Progress, Request, Session};
 pub use digest::{digest, Digest, Digests, FileRange, PartDigest};
-pub use entry::{Entry, File, Linux, LinuxEntry, Menu, Module, Multiboot2, Protocol};
+pub use entry::{Entry, File, Linux, LinuxEntry, LongLine, Menu, Module, Multiboot2, Protocol};
 pub use error::{Error, Misuse, RefusedEntry};
 pub use handoff::{Handoff, Place, Registers, Role, Segment, Segments};
 pub use image::{walk, Range, Run, Seen, SeenModule};

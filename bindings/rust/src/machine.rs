@@ -1,5 +1,7 @@
 //! The machine that is booted.
 
+use alloc::vec::Vec;
+
 /// Kinds of memory: the numbers of an e820 entry. Where regions overlap, the greatest counts.
 #[derive(Clone, Copy, Debug, PartialEq, Eq, PartialOrd, Ord, Hash)]
 #[repr(u32)]

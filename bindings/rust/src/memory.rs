@@ -1,9 +1,9 @@
 //! Memory of the machine that is booted, where the program has it.
 #![allow(unsafe_code)]
 
-use std::fmt;
-use std::marker::PhantomData;
-use std::slice;
+use core::fmt;
+use core::marker::PhantomData;
+use core::slice;
 
 /// Memory of the machine that is booted, where the program has it: the bytes from an address on.
 ///

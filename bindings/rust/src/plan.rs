@@ -1,6 +1,7 @@
 //! What goes where: for a program that reads files straight to their places.
 
-use std::fmt;
+use alloc::vec::Vec;
+use core::fmt;
 
 use crate::entry::Entry;
 use crate::error::Error;
@@ -154,7 +155,7 @@ impl<'p> IntoIterator for &'p Plan {
 /// The steps of a [`Plan`].
 #[derive(Clone)]
 pub struct Steps<'p> {
-    steps: std::slice::Iter<'p, Kept>,
+    steps: core::slice::Iter<'p, Kept>,
     own: &'p [u8],
 }
 

@@ -10,10 +10,15 @@
 //!   is a digest's struct.
 #![allow(unsafe_code)]
 
-use std::ffi::{c_void, CStr};
-use std::mem::MaybeUninit;
-use std::os::raw::c_char;
-use std::ptr;
+use alloc::format;
+use alloc::string::String;
+use alloc::vec;
+use alloc::vec::Vec;
+use core::ffi::c_void;
+use core::mem::MaybeUninit;
+#[cfg(not(feature = "std"))]
+use core::sync::atomic::{AtomicBool, Ordering};
+use core::{ptr, slice, str};
 
 use crate::boot::{Booted, Request};
 use crate::entry::{File, Protocol};
@@ -22,6 +27,7 @@ use crate::handoff::{Registers, Role, Segment};
 use crate::image;
 use crate::plan::{Kept, KeptSource};
 use crate::refusal::{Carried, Fault};
+use crate::turn::Turn;
 use crate::version::is_right;
 
 pub(crate) const DONE: u32 = 0;
@@ -58,7 +64,7 @@ macro_rules! records {
         /// Lines `RECORD FIELD OFFSET SIZE`, and for each record `RECORD - 0 SIZE`.
         #[cfg(test)]
         pub(crate) fn record_lines() -> String {
-            use std::mem::size_of;
+            use core::mem::size_of;
             let mut lines = String::new();
             $(
                 lines += &format!("{} - 0 {}\n", stringify!($name), size_of::<$name>());
@@ -225,9 +231,9 @@ extern "sysv64" {
     fn bootcore_session_missing_after(session: *const Session, most: usize, request: *mut Request) -> bool;
     fn bootcore_session_outcome(session: *const Session, outcome: *mut Outcome) -> u32;
     fn bootcore_session_free(session: *mut Session);
-    fn bootcore_status_text(status: u32) -> *const c_char;
-    fn bootcore_refusal_text(number: u32) -> *const c_char;
-    fn bootcore_refusal_line(refusal: *const Refusal, buffer: *mut c_char, length: usize) -> usize;
+    fn bootcore_status_text(status: u32) -> *const u8;
+    fn bootcore_refusal_text(number: u32) -> *const u8;
+    fn bootcore_refusal_line(refusal: *const Refusal, buffer: *mut u8, length: usize) -> usize;
     fn bootcore_image_head(handoff: *const Handoff, places: *const Place, head: *mut u8, length: usize) -> usize;
     fn bootcore_walk_all(
         image: *const c_void,
@@ -249,6 +255,12 @@ extern "sysv64" {
         room: usize,
         refusal: *mut Refusal,
     ) -> u32;
+}
+
+#[cfg(not(feature = "std"))]
+extern "sysv64" {
+    fn bootcore_arena(memory: *mut c_void, length: usize);
+    fn bootcore_arena_peak() -> usize;
 }
 
 // ---- what is given
@@ -455,13 +467,38 @@ pub(crate) fn version() -> u32 {
     unsafe { bootcore_version() }
 }
 
-/// The archive may be called. Each function below begins with this, unless it is given what only a call tells: a plan, a handoff,
-/// registers, a session or a digest.
+/// The turn of a call, if the archive may be called. Each function below begins with this, unless it is given what only a call
+/// tells: a plan, a handoff, registers, a session or a digest.
+fn enter() -> Result<Turn, Error> {
+    check().map(|()| Turn::take())
+}
+
+/// A call that ends its turn before what it made may be dropped, which takes one again.
+fn in_turn(call: impl FnOnce() -> u32) -> u32 {
+    let _turn = Turn::take();
+    call()
+}
+
 fn check() -> Result<(), Error> {
     match version() {
         archive if is_right(archive) => Ok(()),
         archive => Err(Error::WrongVersion(archive)),
     }
+}
+
+/// The text that a pointer points to.
+///
+/// # Safety
+///
+/// It is constant, and ends in a zero byte.
+unsafe fn text_at(text: *const u8) -> &'static str {
+    let mut length = 0;
+    // SAFETY: the bytes up to the one that is 0 are there
+    while unsafe { *text.add(length) } != 0 {
+        length += 1;
+    }
+    // SAFETY: so many bytes are there, and constant
+    str::from_utf8(unsafe { slice::from_raw_parts(text, length) }).unwrap_or_default()
 }
 
 const NO_TEXT: &str = "no words, since the archive is not of the crate's version";
@@ -471,8 +508,7 @@ pub(crate) fn status_text(status: u32) -> &'static str {
         return NO_TEXT;
     }
     // SAFETY: the answer points to constant text that ends in a zero byte, whatever the status is
-    let text = unsafe { CStr::from_ptr(bootcore_status_text(status)) };
-    text.to_str().unwrap_or_default()
+    unsafe { text_at(bootcore_status_text(status)) }
 }
 
 pub(crate) fn text(number: u32) -> &'static str {
@@ -480,8 +516,7 @@ pub(crate) fn text(number: u32) -> &'static str {
         return NO_TEXT;
     }
     // SAFETY: the answer points to constant text that ends in a zero byte, whatever the number is
-    let text = unsafe { CStr::from_ptr(bootcore_refusal_text(number)) };
-    text.to_str().unwrap_or_default()
+    unsafe { text_at(bootcore_refusal_text(number)) }
 }
 
 pub(crate) fn describe(refusal: Carried) -> String {
@@ -493,7 +528,7 @@ pub(crate) fn describe(refusal: Carried) -> String {
     let length = unsafe { bootcore_refusal_line(&refusal, ptr::null_mut(), 0) };
     let mut text = vec![0; length + 1];
     // SAFETY: as before; `text` has as many bytes as are told, and nothing else uses them during the call
-    unsafe { bootcore_refusal_line(&refusal, text.as_mut_ptr().cast(), text.len()) };
+    unsafe { bootcore_refusal_line(&refusal, text.as_mut_ptr(), text.len()) };
     text.truncate(length);
     String::from_utf8_lossy(&text).into_owned()
 }
@@ -506,7 +541,7 @@ pub(crate) fn segments(registers: &Registers) -> [Segment; 6] {
 }
 
 pub(crate) fn load(memory: &mut crate::Memory<'_>, machine: &crate::Machine, entry: &crate::Entry<'_>) -> Result<Told, Error> {
-    check()?;
+    let _turn = enter()?;
     let (regions, modules) = (regions_of(machine), modules_of(entry));
     let (memory, machine, entry) = (memory_of(memory), machine_of(machine, &regions), entry_of(entry, &modules));
     // SAFETY: each pointer is that of a slice or a vector that stands during the call, with its length, or null; the memory
@@ -516,7 +551,7 @@ pub(crate) fn load(memory: &mut crate::Memory<'_>, machine: &crate::Machine, ent
 }
 
 pub(crate) fn prepare(machine: &crate::Machine, entry: &crate::Entry<'_>) -> Result<Told, Error> {
-    check()?;
+    let _turn = enter()?;
     let (regions, modules) = (regions_of(machine), modules_of(entry));
     let (machine, entry) = (machine_of(machine, &regions), entry_of(entry, &modules));
     // SAFETY: as for `load`, without memory; no byte of a file whose pointer is null is read
@@ -524,7 +559,7 @@ pub(crate) fn prepare(machine: &crate::Machine, entry: &crate::Entry<'_>) -> Res
 }
 
 pub(crate) fn plan(machine: &crate::Machine, entry: &crate::Entry<'_>) -> Result<crate::Plan, Error> {
-    check()?;
+    let _turn = enter()?;
     let (regions, modules) = (regions_of(machine), modules_of(entry));
     let (machine, entry) = (machine_of(machine, &regions), entry_of(entry, &modules));
     let mut places = vec![Place::default(); MAX_PLACES];
@@ -599,7 +634,7 @@ pub(crate) fn carry_out(plan: &crate::Plan, files: &[&[u8]], memory: &mut [crate
 }
 
 pub(crate) fn boot(memory: &mut crate::Memory<'_>, machine: &crate::Machine, menu: &crate::Menu<'_>) -> Result<Told, Error> {
-    check()?;
+    let _turn = enter()?;
     let regions = regions_of(machine);
     let (entries, _modules) = entries_of(menu);
     let (memory, machine, menu) = (memory_of(memory), machine_of(machine, &regions), menu_of(menu, &entries));
@@ -629,13 +664,15 @@ impl<'m> KeptSession<'m> {
         let mut session = KeptSession { session: Session { kept: ptr::null_mut() }, memory };
         // SAFETY: each pointer is that of a slice or a vector that stands during the call, with its length, or null; of files
         // the lengths alone are read; the struct keeps nothing yet
-        match unsafe { bootcore_session_make(&mut session.session, &machine, &menu) } {
+        let call = || unsafe { bootcore_session_make(&mut session.session, &machine, &menu) };
+        match in_turn(call) {
             DONE => Ok(session),
             other => Err(Error::of_status(other)),
         }
     }
 
     pub(crate) fn start(&mut self) -> u32 {
+        let _turn = Turn::take();
         let memory = memory_of(&mut self.memory);
         // SAFETY: the struct is written by these calls alone, and never copied; the memory is as in `load` and the same in each
         // call, and nobody else changes it while the session has it
@@ -643,18 +680,21 @@ impl<'m> KeptSession<'m> {
     }
 
     pub(crate) fn pieces(&mut self, request: &Request, bytes: &[u8]) -> u32 {
+        let _turn = Turn::take();
         let memory = memory_of(&mut self.memory);
         // SAFETY: as for `start`; the bytes are borrowed, so that they overlap no memory that the session has by `&mut`
         unsafe { bootcore_session_pieces(&mut self.session, &memory, request, bytes.as_ptr().cast(), bytes.len()) }
     }
 
     pub(crate) fn fault(&mut self, request: &Request) -> u32 {
+        let _turn = Turn::take();
         let memory = memory_of(&mut self.memory);
         // SAFETY: as for `start`
         unsafe { bootcore_session_fault(&mut self.session, &memory, request) }
     }
 
     pub(crate) fn missing(&self, most: usize) -> Option<Request> {
+        let _turn = Turn::take();
         let mut request = Request::default();
         // SAFETY: the struct is only read, on one thread, and the request is this call's own
         let is_told = unsafe { bootcore_session_missing(&self.session, most, &mut request) };
@@ -662,6 +702,7 @@ impl<'m> KeptSession<'m> {
     }
 
     pub(crate) fn missing_after(&self, request: &Request, most: usize) -> Option<Request> {
+        let _turn = Turn::take();
         let mut request = *request;
         // SAFETY: as for `missing`
         let is_told = unsafe { bootcore_session_missing_after(&self.session, most, &mut request) };
@@ -669,6 +710,7 @@ impl<'m> KeptSession<'m> {
     }
 
     pub(crate) fn outcome(&self) -> Told {
+        let _turn = Turn::take();
         // SAFETY: the struct is only read, on one thread; the outcome's arrays have the room that is told
         Told::by(|outcome| unsafe { bootcore_session_outcome(&self.session, outcome) })
     }
@@ -680,6 +722,7 @@ impl<'m> KeptSession<'m> {
 
 impl Drop for KeptSession<'_> {
     fn drop(&mut self) {
+        let _turn = Turn::take();
         // SAFETY: the struct is as the calls before left it, and this is the last one
         unsafe { bootcore_session_free(&mut self.session) }
     }
@@ -717,9 +760,11 @@ pub(crate) struct KeptDigest {
     digest: Digest,
 }
 
-// SAFETY: calls on a digest may be made on whichever thread, one at a time. `Sync` it is not: of two calls that only read the
-// header does not say that they may come at once.
+// SAFETY: calls on a digest may be made on whichever thread
 unsafe impl Send for KeptDigest {}
+// SAFETY: two calls at once have it by `&`: they only look at what it keeps (the archive's functions take a copy of the struct
+// and borrow what it points to), and two that change nothing know nothing of each other; those that change it take `&mut`
+unsafe impl Sync for KeptDigest {}
 
 impl KeptDigest {
     pub(crate) fn make(machine: &crate::Machine, entry: &crate::Entry<'_>) -> Result<KeptDigest, Error> {
@@ -730,7 +775,8 @@ impl KeptDigest {
         let mut refusal = Refusal::default();
         // SAFETY: each pointer is that of a slice or a vector that stands during the call, with its length, or null; no byte
         // of a file whose pointer is null is read; the struct keeps nothing yet
-        match unsafe { bootcore_digest_make(&mut kept.digest, &machine, &entry, &mut refusal) } {
+        let call = || unsafe { bootcore_digest_make(&mut kept.digest, &machine, &entry, &mut refusal) };
+        match in_turn(call) {
             DONE => Ok(kept),
             REFUSED => Err(Error::Refused(refusal_told(&refusal))),
             other => Err(Error::of_status(other)),
@@ -738,6 +784,7 @@ impl KeptDigest {
     }
 
     pub(crate) fn wanted(&self) -> Option<crate::FileRange> {
+        let _turn = Turn::take();
         let mut range = FileRange::default();
         // SAFETY: the struct is only read, on one thread, and the range is this call's own
         let is_told = unsafe { bootcore_digest_wanted(&self.digest, &mut range) };
@@ -745,12 +792,14 @@ impl KeptDigest {
     }
 
     pub(crate) fn feed(&mut self, bytes: &[u8]) -> u32 {
+        let _turn = Turn::take();
         // SAFETY: the struct is written by these calls alone, and never copied; the bytes are borrowed, with their length
         unsafe { bootcore_digest_feed(&mut self.digest, bytes.as_ptr().cast(), bytes.len()) }
     }
 
     /// The digests, unless bytes are wanted.
     pub(crate) fn told(&self) -> Result<Option<crate::Digests>, Error> {
+        let _turn = Turn::take();
         // SAFETY: the struct is only read, on one thread; there is room for as many parts as are told
         let call = |digests: &mut Digests, parts: &mut [PartDigest]| unsafe {
             bootcore_digest_told(&self.digest, digests, parts.as_mut_ptr(), parts.len())
@@ -765,13 +814,35 @@ impl KeptDigest {
 
 impl Drop for KeptDigest {
     fn drop(&mut self) {
+        let _turn = Turn::take();
         // SAFETY: the struct is as the calls before left it, and this is the last one
         unsafe { bootcore_digest_free(&mut self.digest) }
     }
 }
 
+#[cfg(not(feature = "std"))]
+pub(crate) fn arena(memory: &'static mut [u8]) -> Result<(), &'static mut [u8]> {
+    static IS_GIVEN: AtomicBool = AtomicBool::new(false);
+    let _turn = match enter() {
+        Ok(turn) => turn,
+        Err(_) => return Err(memory),
+    };
+    if IS_GIVEN.swap(true, Ordering::Relaxed) {
+        return Err(memory);
+    }
+    // SAFETY: the memory is the arena's from now on, and what is kept there stays there, since no other arena is given
+    unsafe { bootcore_arena(memory.as_mut_ptr().cast(), memory.len()) };
+    Ok(())
+}
+
+#[cfg(not(feature = "std"))]
+pub(crate) fn arena_peak() -> usize {
+    // SAFETY: it takes nothing, and reads nothing but a number, while no other call runs
+    enter().map_or(0, |_turn| unsafe { bootcore_arena_peak() })
+}
+
 pub(crate) fn digest(machine: &crate::Machine, entry: &crate::Entry<'_>) -> Result<crate::Digests, Error> {
-    check()?;
+    let _turn = enter()?;
     let (regions, modules) = (regions_of(machine), modules_of(entry));
     let (machine, entry) = (machine_of(machine, &regions), entry_of(entry, &modules));
     let mut refusal = Refusal::default();
@@ -813,7 +884,7 @@ pub(crate) fn image_head(handoff: &crate::Handoff) -> Vec<u8> {
 }
 
 pub(crate) fn walk(image: &[u8]) -> Result<image::Seen, Error> {
-    check()?;
+    let _turn = enter()?;
     let mut seen = Seen::default();
     let mut fault = Refusal::default();
     let (mut parts, mut modules) = (Vec::<SeenPart>::new(), Vec::<SeenModule>::new());
@@ -873,6 +944,8 @@ fn seen_told(seen: &Seen, parts: &[SeenPart], modules: &[SeenModule], runs: &[Re
 
 #[cfg(test)]
 mod tests {
+    use std::string::ToString;
+
     use super::*;
     use crate::version::{Wrong, WANTED};
 

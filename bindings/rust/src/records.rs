@@ -1,6 +1,7 @@
 //! The records' sizes and offsets are those of `tests/records.txt`, which the repository's test compares with the header's.
 
-use std::mem::{size_of, size_of_val};
+use core::mem::{size_of, size_of_val};
+use std::format;
 
 use crate::boot::Request;
 use crate::handoff::{Registers, Segment};

@@ -1,6 +1,6 @@
 //! Why an entry or an image is refused.
 
-use std::fmt;
+use core::fmt;
 
 use crate::raw;
 
@@ -50,6 +50,17 @@ macro_rules! refusals {
                 }
             }
 
+            /// What a number means, and what it carries: the inverse of [`number`](Self::number), as for what was recorded.
+            pub fn from_number(number: u32, first: u64, second: u64) -> $name {
+                $name::of(Carried { number, first, second })
+            }
+
+            /// What it carries, 0 for nothing: as a recorder wants it beside its number.
+            pub fn carries(self) -> (u64, u64) {
+                let carried = self.carried();
+                (carried.first, carried.second)
+            }
+
             /// Its number, which keeps its meaning.
             pub fn number(self) -> u32 {
                 self.carried().number
@@ -67,6 +78,7 @@ macro_rules! refusals {
             }
         }
 
+        #[cfg(feature = "std")]
         impl std::error::Error for $name {}
     };
 }
@@ -160,7 +172,7 @@ refusals! {
         SetupCut = 25,
         /// The address that it prefers is bad.
         BadPreferred = 26,
-        /// The line is too long.
+        /// A line is too long: [`Entry::long_line`](crate::Entry::long_line) says which, and its limit.
         LineTooLong = 27,
         /// A line has a zero byte.
         LineHasNul = 28,

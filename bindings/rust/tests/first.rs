@@ -141,5 +141,31 @@ fn a_refusal_is_said_in_words() {
     let overlap = Refusal::SegmentsOverlap { one: 1, other: 2 };
     assert!(overlap.to_string().starts_with("refused 15 SegmentsOverlap(1, 2): "));
     assert_eq!((overlap.number(), overlap.meaning()), (15, "the two segments overlap: they share a byte"));
+    assert_eq!((Refusal::from_number(15, 1, 2), overlap.carries()), (overlap, (1, 2)));
+    assert_eq!(Error::from(overlap), Error::Refused(overlap));
+    assert_eq!(Refusal::from_number(9999, 1, 2), Refusal::Other { number: 9999, first: 1, second: 2 });
     assert_eq!(Refusal::BadTag { offset: 0x30 }.to_string().split(':').next(), Some("refused 7 BadTag(0x30)"));
+}
+
+#[test]
+fn a_line_that_is_too_long_is_told_with_its_limit() {
+    let (multiboot2, mut linux, machine) = (multiboot2_kernel(), linux_kernel(), machine());
+    let lines: Vec<String> = [0, 99, 100, 101, MAX_LINE, MAX_LINE + 1].iter().map(|length| "x".repeat(*length)).collect();
+    let agrees = |entry: Entry<'_>, file, length, limit| {
+        let long = entry.long_line().map(|line| (line.file, line.length, line.limit));
+        assert_eq!(long, (length > limit).then_some((file, length, limit)));
+        let refused = prepare(&machine, &entry) == Err(Refusal::LineTooLong.into());
+        assert_eq!(refused, long.is_some());
+    };
+    for line in &lines {
+        agrees(Multiboot2::new(&multiboot2).line(line).into(), 0, line.len(), MAX_LINE);
+        let module = Multiboot2::new(&multiboot2).module(b"", "m").module(b"", line);
+        agrees(module.into(), 2, line.len(), MAX_LINE);
+    }
+    for limit in [99, 100, MAX_LINE - 1, MAX_LINE, MAX_LINE + 1, usize::MAX] {
+        linux[0x238..0x23C].copy_from_slice(&(limit as u32).to_le_bytes());
+        for line in &lines {
+            agrees(Linux::new(&linux).line(line).into(), 0, line.len(), limit.min(MAX_LINE));
+        }
+    }
 }
