@@ -27,8 +27,9 @@ struct Heap {
 // SAFETY: each block is given once, and nothing else looks into the bytes
 unsafe impl Sync for Heap {}
 
-// SAFETY: a block lies in the bytes, behind those that were given before, and is aligned as is asked
+// SAFETY: blocks are as `alloc` says
 unsafe impl GlobalAlloc for Heap {
+    // SAFETY: a block lies in the bytes, behind those that were given before, and is aligned as is asked
     unsafe fn alloc(&self, layout: Layout) -> *mut u8 {
         let first = self.bytes.get() as usize;
         let begin = |next: usize| (first + next + layout.align() - 1) / layout.align() * layout.align() - first;
@@ -39,6 +40,7 @@ unsafe impl GlobalAlloc for Heap {
         }
     }
 
+    // SAFETY: a block is never given again
     unsafe fn dealloc(&self, _block: *mut u8, _layout: Layout) {}
 }
 
