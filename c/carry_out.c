@@ -1,35 +1,124 @@
 /* Carries out a plan's steps over memory in pieces. */
 #include "given.h"
 
-/* How much of memory from an address on lies in one piece, which is the first that has it, up to where
- * an earlier one begins; *to is where it lies, and the answer 0 if no piece has it. */
-static size_t find(const bootcore_memory *memory, size_t memory_count, uint64_t address,
-                   uint8_t **to) {
-    uint64_t most = UINT64_MAX;
-    size_t i;
-    for (i = 0; i < memory_count; i++) {
-        uint64_t into = address - memory[i].address;
-        if (memory[i].address <= address && into < memory[i].length) {
-            *to = (uint8_t *)memory[i].bytes + into;
-            return (size_t)(memory[i].length - into < most ? memory[i].length - into : most);
-        }
-        if (memory[i].length && memory[i].address > address && memory[i].address - address < most) {
-            most = memory[i].address - address;
-        }
-    }
-    return 0;
+/* ---- copies */
+
+#if __STDC_HOSTED__
+#include <string.h>
+
+static void copy(uint8_t *to, const uint8_t *from, size_t length) {
+    memcpy(to, from, length);
 }
 
+static void clear(uint8_t *to, size_t length) {
+    memset(to, 0, length);
+}
+#else
+/* The processor's own loops, since there is no libc: the convention of calls has them ascend. */
+static void copy(uint8_t *to, const uint8_t *from, size_t length) {
+    __asm__ volatile("rep movsb" : "+D"(to), "+S"(from), "+c"(length) : : "memory");
+}
+
+static void clear(uint8_t *to, size_t length) {
+    __asm__ volatile("rep stosb" : "+D"(to), "+c"(length) : "a"(0) : "memory");
+}
+#endif
+
+/* ---- pieces */
+
+/* Memory in pieces. If they ascend and don't meet, `at` is the one where a byte was found last, so that
+ * bytes in order are found without a search. */
+typedef struct pieces {
+    const bootcore_memory *memory;
+    size_t count;
+    bool ascend;
+    size_t at;
+} pieces;
+
+static bool do_ascend(const bootcore_memory *memory, size_t count) {
+    size_t i;
+    for (i = 1; i < count; i++) {
+        const bootcore_memory *before = &memory[i - 1];
+        if (memory[i].address < before->address ||
+            memory[i].address - before->address < before->length) {
+            return false;
+        }
+    }
+    return true;
+}
+
+/* The last of ascending pieces that begins at the address or below; the first, if none does. */
+static size_t last_below(const bootcore_memory *memory, size_t count, uint64_t address) {
+    size_t low = 0, high = count;
+    while (high - low > 1) {
+        size_t middle = low + (high - low) / 2;
+        if (memory[middle].address <= address) {
+            low = middle;
+        } else {
+            high = middle;
+        }
+    }
+    return low;
+}
+
+static bool begins_below(const pieces *all, size_t piece, uint64_t address) {
+    return piece < all->count && all->memory[piece].address <= address;
+}
+
+/* Of pieces that ascend and don't meet, the one that can have an address. */
+static size_t find_in_order(pieces *all, uint64_t address) {
+    if (begins_below(all, all->at + 1, address)) {
+        all->at++;
+    }
+    if (!begins_below(all, all->at, address) || begins_below(all, all->at + 1, address)) {
+        all->at = last_below(all->memory, all->count, address);
+    }
+    return all->at;
+}
+
+/* The first piece that has an address, or how many there are; *most is where an earlier one begins, as
+ * a distance. */
+static size_t search(const pieces *all, uint64_t address, uint64_t *most) {
+    size_t i;
+    for (i = 0; i < all->count; i++) {
+        const bootcore_memory *piece = &all->memory[i];
+        if (piece->address <= address && address - piece->address < piece->length) {
+            break;
+        }
+        if (piece->length && piece->address > address && piece->address - address < *most) {
+            *most = piece->address - address;
+        }
+    }
+    return i;
+}
+
+/* How much of memory from an address on lies in one piece, which is the first that has it, up to where
+ * an earlier one begins; *to is where it lies, and the answer 0 if no piece has it. */
+static size_t find(pieces *all, uint64_t address, uint8_t **to) {
+    uint64_t most = UINT64_MAX, into;
+    size_t i = all->ascend ? find_in_order(all, address) : search(all, address, &most);
+    if (!begins_below(all, i, address)) {
+        return 0;
+    }
+    into = address - all->memory[i].address;
+    if (into >= all->memory[i].length) {
+        return 0;
+    }
+    *to = (uint8_t *)all->memory[i].bytes + into;
+    return (size_t)(all->memory[i].length - into < most ? all->memory[i].length - into : most);
+}
+
+/* ---- steps */
+
 /* Each byte of a step lies in some piece; no address wraps. */
-static bool is_inside(const bootcore_step *step, const bootcore_memory *memory,
-                      size_t memory_count) {
+static bool is_inside(const bootcore_step *step, pieces *all) {
     uint64_t done = 0;
     uint8_t *to;
     if (step->length && step->address + (step->length - 1) < step->address) {
         return false;
     }
     while (done < step->length) {
-        size_t run = find(memory, memory_count, step->address + done, &to);
+        size_t run = find(all, step->address + done, &to);
         if (run == 0) {
             return false;
         }
@@ -72,38 +161,32 @@ static const uint8_t *source_of(const bootcore_step *step, const bootcore_layout
     }
 }
 
-/* Loops, of which a compiler makes calls of memcpy and memset only where there is a libc. */
-static void copy(uint8_t *restrict to, const uint8_t *restrict from, size_t length) {
-    size_t i;
-    for (i = 0; i < length; i++) {
-        to[i] = from[i];
+/* Writes so many bytes of a step's source, or zeros where there is none. */
+static void put(uint8_t *to, const uint8_t *from, uint64_t offset, uint64_t length) {
+    if (length && from) {
+        copy(to, from + offset, (size_t)length);
+    } else if (length) {
+        clear(to, (size_t)length);
     }
 }
 
-static void clear(uint8_t *to, size_t length) {
-    size_t i;
-    for (i = 0; i < length; i++) {
-        to[i] = 0;
+/* Pieces that lie one behind the other here too are written at once. */
+static void carry_out(const bootcore_step *step, const uint8_t *from, pieces *all) {
+    uint64_t done = 0, found = 0; /* the bytes between these lie from `to` on */
+    uint8_t *to = NULL, *next = NULL;
+    while (found < step->length) {
+        size_t run = find(all, step->address + found, &next);
+        if (found == 0 || next != to + (found - done)) {
+            put(to, from, done, found - done);
+            to = next;
+            done = found;
+        }
+        found = step->length - found > run ? found + run : step->length;
     }
+    put(to, from, done, found - done);
 }
 
-static void carry_out(const bootcore_step *step, const uint8_t *from,
-                      const bootcore_memory *memory, size_t memory_count) {
-    uint64_t done = 0;
-    uint8_t *to = NULL;
-    while (done < step->length) {
-        size_t run = find(memory, memory_count, step->address + done, &to);
-        if (run > step->length - done) {
-            run = (size_t)(step->length - done);
-        }
-        if (from) {
-            copy(to, from + done, run);
-        } else {
-            clear(to, run);
-        }
-        done += run;
-    }
-}
+/* ---- what is given */
 
 static bool has_null(const bootcore_layout *layout, const bootcore_bytes *files, size_t file_count,
                      const bootcore_memory *memory, size_t memory_count) {
@@ -120,25 +203,43 @@ static bool has_null(const bootcore_layout *layout, const bootcore_bytes *files,
         }
     }
     for (i = 0; i < memory_count; i++) {
-        if (bootcore_is_null(memory[i].bytes, memory[i].length)) {
+        if (bootcore_memory_has_null(&memory[i])) {
             return true;
         }
     }
     return false;
 }
 
+static bool has_reserved(const bootcore_layout *layout, const bootcore_memory *memory,
+                         size_t memory_count) {
+    size_t i;
+    for (i = 0; i < memory_count; i++) {
+        if (bootcore_memory_has_reserved(&memory[i])) {
+            return true;
+        }
+    }
+    return bootcore_is_reserved_set(layout->reserved);
+}
+
+/* An array may have become shorter since the plan was made, and only a caller's mistake makes it so. */
+static bool holds_plan(const bootcore_layout *layout) {
+    return layout->planned == 1 && layout->step_count <= layout->step_room &&
+           layout->own_length <= layout->own_room;
+}
+
 /* The first that stands of a call without null, or BOOTCORE_STATUS_DONE. */
 static uint32_t find_fault(const bootcore_layout *layout, const bootcore_bytes *files,
-                           size_t file_count, const bootcore_memory *memory, size_t memory_count) {
+                           size_t file_count, pieces *all) {
     size_t i;
+    if (has_reserved(layout, all->memory, all->count)) {
+        return BOOTCORE_STATUS_BAD_RESERVED;
+    }
     for (i = 0; i < file_count; i++) {
         if (files[i].length == BOOTCORE_UNREADABLE) {
             return BOOTCORE_STATUS_BAD_FILE;
         }
     }
-    /* without enough room a layout has no steps yet, but says how many it wants; each plan has one */
-    if (!layout->step_count || layout->step_count > layout->step_room ||
-        layout->own_length > layout->own_room) {
+    if (!holds_plan(layout)) {
         return BOOTCORE_STATUS_SMALL_ROOM;
     }
     for (i = 0; i < layout->step_count; i++) {
@@ -147,7 +248,7 @@ static uint32_t find_fault(const bootcore_layout *layout, const bootcore_bytes *
         }
     }
     for (i = 0; i < layout->step_count; i++) {
-        if (!is_inside(&layout->steps[i], memory, memory_count)) {
+        if (!is_inside(&layout->steps[i], all)) {
             return BOOTCORE_STATUS_OUTSIDE;
         }
     }
@@ -158,18 +259,19 @@ BOOTCORE_CALL
 uint32_t bootcore_carry_out(const bootcore_layout *layout, const bootcore_bytes *files,
                             size_t file_count, const bootcore_memory *memory,
                             size_t memory_count) {
+    pieces all = {memory, memory_count, false, 0};
     uint32_t status;
     size_t i;
     if (has_null(layout, files, file_count, memory, memory_count)) {
         return BOOTCORE_STATUS_NULL;
     }
-    status = find_fault(layout, files, file_count, memory, memory_count);
+    all.ascend = do_ascend(memory, memory_count);
+    status = find_fault(layout, files, file_count, &all);
     if (status != BOOTCORE_STATUS_DONE) {
         return status;
     }
     for (i = 0; i < layout->step_count; i++) {
-        carry_out(&layout->steps[i], source_of(&layout->steps[i], layout, files), memory,
-                  memory_count);
+        carry_out(&layout->steps[i], source_of(&layout->steps[i], layout, files), &all);
     }
     return BOOTCORE_STATUS_DONE;
 }

@@ -25,12 +25,15 @@ uint32_t bootcore_load(const bootcore_memory *memory, const bootcore_machine *ma
     bootcore_given_memory given_memory;
     bootcore_crossing_machine given_machine;
     bootcore_given_entry given;
-    bootcore_refusal refusal = {0, 0, 0, 0};
+    bootcore_refusal refusal = {0, 0, 0, 0, 0};
     bootcore_place no_place;
     uint32_t status;
     if (bootcore_memory_has_null(memory) || bootcore_machine_has_null(machine) ||
         bootcore_entry_has_null(entry, BOOTCORE_READS_ALL) || bootcore_outcome_has_null(outcome)) {
         return BOOTCORE_STATUS_NULL;
+    }
+    if (bootcore_memory_has_reserved(memory) || bootcore_outcome_has_reserved(outcome)) {
+        return BOOTCORE_STATUS_BAD_RESERVED;
     }
     status = bootcore_entry_misuse(machine, entry);
     if (status != BOOTCORE_STATUS_DONE) {
@@ -41,7 +44,7 @@ uint32_t bootcore_load(const bootcore_memory *memory, const bootcore_machine *ma
     bootcore_entry_crossing(entry, BOOTCORE_READS_ALL, &given);
     status = bootcore_load_arrays(given_memory.bytes, given_memory.length, given_memory.base,
                                   &given_machine, bootcore_regions_crossing(machine),
-                                  machine->region_count, &given.entry, &outcome->handoff,
+                                  bootcore_count_regions(machine), &given.entry, &outcome->handoff,
                                   places_of(outcome, &no_place), outcome->place_room, &refusal);
     tell_end(status, &refusal, outcome);
     return status;
@@ -52,7 +55,7 @@ uint32_t bootcore_prepare(const bootcore_machine *machine, const bootcore_entry 
                           bootcore_outcome *outcome) {
     bootcore_crossing_machine given_machine;
     bootcore_given_entry given;
-    bootcore_refusal refusal = {0, 0, 0, 0};
+    bootcore_refusal refusal = {0, 0, 0, 0, 0};
     bootcore_place no_place;
     uint32_t status;
     if (bootcore_machine_has_null(machine) ||
@@ -60,15 +63,19 @@ uint32_t bootcore_prepare(const bootcore_machine *machine, const bootcore_entry 
         bootcore_outcome_has_null(outcome)) {
         return BOOTCORE_STATUS_NULL;
     }
+    if (bootcore_outcome_has_reserved(outcome)) {
+        return BOOTCORE_STATUS_BAD_RESERVED;
+    }
     status = bootcore_entry_misuse(machine, entry);
     if (status != BOOTCORE_STATUS_DONE) {
         return status;
     }
     given_machine = bootcore_machine_crossing(machine);
     bootcore_entry_crossing(entry, BOOTCORE_READS_KERNEL, &given);
-    status = bootcore_prepare_arrays(&given_machine, bootcore_regions_crossing(machine),
-                                     machine->region_count, &given.entry, &outcome->handoff,
-                                     places_of(outcome, &no_place), outcome->place_room, &refusal);
+    status = bootcore_prepare_arrays(
+        &given_machine, bootcore_regions_crossing(machine), bootcore_count_regions(machine),
+        &given.entry, &outcome->handoff, places_of(outcome, &no_place), outcome->place_room,
+        &refusal);
     tell_end(status, &refusal, outcome);
     return status;
 }
@@ -88,9 +95,18 @@ uint32_t bootcore_plan(const bootcore_machine *machine, const bootcore_entry *en
     bootcore_step no_step;
     uint8_t no_byte;
     uint32_t status;
+    /* steps of an older plan may stand there: whatever comes of this call, none of them is of it */
+    if (layout) {
+        layout->planned = 0;
+        layout->step_count = 0;
+        layout->own_length = 0;
+    }
     if (bootcore_machine_has_null(machine) ||
         bootcore_entry_has_null(entry, BOOTCORE_READS_KERNEL) || has_null_layout(layout)) {
         return BOOTCORE_STATUS_NULL;
+    }
+    if (bootcore_is_reserved_set(layout->reserved)) {
+        return BOOTCORE_STATUS_BAD_RESERVED;
     }
     status = bootcore_entry_misuse(machine, entry);
     if (status != BOOTCORE_STATUS_DONE) {
@@ -103,18 +119,14 @@ uint32_t bootcore_plan(const bootcore_machine *machine, const bootcore_entry *en
     given_machine = bootcore_machine_crossing(machine);
     bootcore_entry_crossing(entry, BOOTCORE_READS_KERNEL, &given);
     status = bootcore_plan_arrays(
-        &given_machine, bootcore_regions_crossing(machine), machine->region_count, &given.entry,
-        &layout->handoff, &counts, layout->places, layout->place_room,
+        &given_machine, bootcore_regions_crossing(machine), bootcore_count_regions(machine),
+        &given.entry, &layout->handoff, &counts, layout->places, layout->place_room,
         layout->step_room ? layout->steps : &no_step, layout->step_room,
         layout->own_room ? layout->own : &no_byte, layout->own_room, &layout->refusal);
     if (status == BOOTCORE_STATUS_DONE || status == BOOTCORE_STATUS_SMALL_ROOM) {
         layout->step_count = (size_t)counts.steps;
         layout->own_length = (size_t)counts.own;
     }
-    /* steps of an older plan may stand there: none of them is of this one */
-    if (status == BOOTCORE_STATUS_REFUSED || status == BOOTCORE_STATUS_NO_MEMORY) {
-        layout->step_count = 0;
-        layout->own_length = 0;
-    }
+    layout->planned = status == BOOTCORE_STATUS_DONE;
     return status;
 }

@@ -19,6 +19,7 @@ static bootcore_segment flat(uint64_t selector, uint8_t type, uint8_t is_long) {
     segment.l = is_long;
     segment.db = !is_long;
     segment.g = 1;
+    segment.reserved = 0;
     return segment;
 }
 

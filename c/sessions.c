@@ -20,9 +20,9 @@ uint32_t bootcore_session_make(bootcore_session *session, const bootcore_machine
     }
     given_machine = bootcore_machine_crossing(machine);
     status = bootcore_session_make_arrays(
-        session, &given_machine, bootcore_regions_crossing(machine), machine->region_count,
-        entries, menu->entry_count, menu->first, bootcore_given_array(menu->fallbacks),
-        menu->fallback_count);
+        session, &given_machine, bootcore_regions_crossing(machine),
+        bootcore_count_regions(machine), entries, bootcore_count_entries(menu), menu->first,
+        bootcore_given_array(menu->fallbacks), menu->fallback_count);
     rattle_dealloc(entries);
     return status;
 }
@@ -40,6 +40,9 @@ uint32_t bootcore_session_start(bootcore_session *session, const bootcore_memory
     bootcore_given_memory given;
     if (!session || bootcore_memory_has_null(memory)) {
         return BOOTCORE_STATUS_NULL;
+    }
+    if (bootcore_memory_has_reserved(memory)) {
+        return BOOTCORE_STATUS_BAD_RESERVED;
     }
     if (is_high(memory)) {
         return BOOTCORE_STATUS_BAD_MEMORY;
@@ -71,6 +74,9 @@ uint32_t bootcore_session_pieces(bootcore_session *session, const bootcore_memor
         bootcore_is_null(bytes, length)) {
         return BOOTCORE_STATUS_NULL;
     }
+    if (bootcore_memory_has_reserved(memory)) {
+        return BOOTCORE_STATUS_BAD_RESERVED;
+    }
     if (is_high(memory)) {
         return BOOTCORE_STATUS_BAD_MEMORY;
     }
@@ -99,6 +105,9 @@ uint32_t bootcore_session_fault(bootcore_session *session, const bootcore_memory
     if (!session || bootcore_memory_has_null(memory) || !request) {
         return BOOTCORE_STATUS_NULL;
     }
+    if (bootcore_memory_has_reserved(memory)) {
+        return BOOTCORE_STATUS_BAD_RESERVED;
+    }
     if (is_high(memory)) {
         return BOOTCORE_STATUS_BAD_MEMORY;
     }
@@ -119,6 +128,7 @@ static void tell_run(bootcore_session *session, size_t most, bootcore_crossing_r
     request->file = last.place;
     request->piece = last.piece;
     request->length = last.length;
+    request->reserved = 0;
     while (request->length < most && bootcore_session_missing_after_record(session, &next) &&
            next.attempt == last.attempt && next.place == last.place &&
            next.piece - last.piece == 1 && next.length <= most - request->length) {
@@ -181,6 +191,9 @@ uint32_t bootcore_session_outcome(const bootcore_session *session, bootcore_outc
     uint32_t status;
     if (!session || bootcore_outcome_has_null(outcome)) {
         return BOOTCORE_STATUS_NULL;
+    }
+    if (bootcore_outcome_has_reserved(outcome)) {
+        return BOOTCORE_STATUS_BAD_RESERVED;
     }
     if (outcome->place_room < BOOTCORE_MAX_PLACES) {
         return BOOTCORE_STATUS_SMALL_ROOM;

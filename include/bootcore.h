@@ -1,23 +1,22 @@
 /* bootcore: what a boot loader does with memory, for C99 and later, and C++98 and later.
  *
  * Kernels are those of Multiboot2, and Linux's bzImage: no vmlinux, no PVH. To load one entry into
- * memory: bootcore_machine, bootcore_entry, bootcore_load. To learn first what goes where, as a
- * virtual machine monitor does: bootcore_plan; it wants the kernel's file in memory, the others can
- * be read straight to their places. To boot a menu with fallbacks: bootcore_boot, or
- * bootcore_session_make and what follows it if a disk still reads; if memory is mapped in several
- * pieces, plan each entry instead. To measure what is handed over: bootcore_digest_make. To check
- * an image: bootcore_walk. docs/EMBED.md shows each.
+ * memory: bootcore_load. To learn first what goes where, as a virtual machine monitor does:
+ * bootcore_plan; it wants the kernel's file in memory, the others can be read straight to their
+ * places. To boot a menu with fallbacks: bootcore_boot, or a session if a disk still reads; if
+ * memory is mapped in several pieces, plan each entry instead. To measure what is handed over:
+ * bootcore_digest_make. To check an image: bootcore_walk. docs/EMBED.md shows each.
  *
- * Archive. Link libbootcore.a, which ./install puts into a prefix, with bootcore.pc for pkg-config,
- * and examples/c/build makes in a checkout. It wants memmove, memset and memcpy, and malloc,
- * realloc and free, which align as the C library's and always return; nothing else: no file, no
- * clock, no thread. libbootcore_freestanding.a, for firmware and kernels, wants nothing at all:
- * bootcore_arena.h gives it memory for its tables. Each function of this file is a symbol of both.
- * Any other symbol there that begins with bootcore_ is no interface.
+ * Archive. libbootcore.a wants memmove, memset and memcpy, and malloc, realloc and free, which
+ * align as the C library's and always return; nothing else: no file, no clock, no thread. For
+ * firmware and kernels, libbootcore_freestanding.a wants nothing: bootcore_arena.h gives it memory.
+ * Of both only the functions of the headers are global symbols. These are hidden: a shared object
+ * that links an archive does not export them.
  *
- * Target. x86-64 (x86-64-v2, with SSE enabled) and the System V calling convention. A call needs at
- * most BOOTCORE_STACK bytes of stack. libbootcore.a keeps values in the 128 bytes below the stack
- * pointer (the red zone): if interrupts use the same stack, call with interrupts off.
+ * Target. x86-64 (x86-64-v2, with SSE enabled) and the System V calling convention: a call changes
+ * XMM registers, but neither MXCSR nor the x87's state. It needs at most BOOTCORE_STACK bytes of
+ * stack. libbootcore.a keeps values in the 128 bytes below the stack pointer (the red zone): where
+ * an interrupt may use the same stack, link the other one, since NMIs can't be turned off.
  *
  * Units. Addresses and lengths are in bytes, and addresses are those of the machine that is booted.
  * A frame is 4096 bytes at a multiple of 4096. An index counts from 0.
@@ -27,8 +26,8 @@
  * none handed out but to constant text. A call reads nothing but what it is given, and writes
  * nothing but parts, the pool and what is said here that it tells.
  *
- * Threads. None is started, and two calls at once know nothing of each other, if they share nothing
- * that either may change; but all that use an arena share it. Call from no signal handler.
+ * Threads. Two calls at once know nothing of each other, if they share nothing that either may
+ * change; but all that use an arena share it. Call from no signal handler.
  *
  * What the caller keeps; no call can test it:
  * - a pointer that is not null points to as many elements as are told, of its type, aligned as it
@@ -38,10 +37,13 @@
  * An array without elements may be null. Whatever else the values are, a call ends, and each
  * mistake in them has a status.
  *
+ * Reserved words must be 0 in what a call is given. Those of what it tells are told as 0, and not
+ * looked at where you hand it back.
+ *
  * Versions. BOOTCORE_VERSION is this file's, bootcore_version() the archive's. Within 1.x a
  * function keeps its name and arguments, a struct its size and fields, a number its meaning. New
- * functions and new numbers may come, and meanings for reserved words. A reserved word of what a
- * call is given must be 0; one of what it tells is told as 0, and not looked at. */
+ * functions and numbers may come, and meanings for reserved words. But only where a reserved word
+ * asks for it comes a source of steps, or an answer of a session that wants another call. */
 #ifndef BOOTCORE_H
 #define BOOTCORE_H
 
@@ -53,16 +55,14 @@
 extern "C" {
 #endif
 
-/* The convention of the library's calls, also where the compiler's own is another, as for UEFI. */
-#if (defined(__GNUC__) || defined(__clang__)) && defined(__x86_64__)
-#define BOOTCORE_CALL __attribute__((sysv_abi))
-#elif defined(_MSC_VER)
-#error "bootcore's calls have the System V convention, which this compiler does not know"
-#else
-#define BOOTCORE_CALL
+/* The convention of calls, also where the compiler's own is another, as for UEFI. The answer of a
+ * BOOTCORE_CHECKED one must be looked at: it says whether anything was done. */
+#if !defined(__x86_64__) || defined(__ILP32__) || !(defined(__GNUC__) || defined(__clang__))
+#error "bootcore is for x86-64, and for compilers with the attributes of GCC and Clang"
 #endif
+#define BOOTCORE_CALL __attribute__((sysv_abi))
+#define BOOTCORE_CHECKED __attribute__((sysv_abi, warn_unused_result))
 
-typedef char bootcore_is_for_64_bits[sizeof(size_t) == 8 ? 1 : -1];
 #define BOOTCORE_VERSION 10000 /* major * 10000 + minor * 100 + patch */
 BOOTCORE_CALL uint32_t bootcore_version(void);
 
@@ -74,11 +74,13 @@ enum {
     BOOTCORE_MAX_RSDP = 256,    /* bytes of a copy of an RSDP */
     BOOTCORE_MAX_PLACES = 256,  /* an entry has no more parts */
     BOOTCORE_MAX_REFUSALS = 32, /* a boot refuses no more entries */
+    BOOTCORE_PIECE = 4096,      /* bytes of each piece of a file, but for the last one */
     BOOTCORE_STACK = 24576      /* with libbootcore.a 16384 is enough */
 };
 
 /* What a call answers, in comments without BOOTCORE_STATUS_. A misuse, from 101 on, has changed
- * nothing; SMALL_ROOM of a plan or a walk tells the room. Of several the first is told. */
+ * nothing, but that a layout holds no plan then. Of several the first is told; of an array with
+ * more elements than there may be only one more is looked at. */
 enum {
     BOOTCORE_STATUS_DONE = 0,
     BOOTCORE_STATUS_REFUSED = 1,   /* the entry is refused; a boot: all are; a walk: the image */
@@ -92,10 +94,8 @@ enum {
 
     BOOTCORE_STATUS_NULL = 101,         /* a pointer is null that may not be */
     BOOTCORE_STATUS_BAD_RESERVED = 102, /* a reserved word is not 0 */
-    BOOTCORE_STATUS_BAD_FILE = 103,     /* a file has the length BOOTCORE_UNREADABLE, where all are
-                                         * wanted; of bootcore_carry_out: see there */
-    BOOTCORE_STATUS_SMALL_ROOM = 104,   /* an array has too little room: too few places are told
-                                         * here, others last; of bootcore_carry_out: see there */
+    BOOTCORE_STATUS_BAD_FILE = 103,     /* a file of no menu has the length BOOTCORE_UNREADABLE */
+    BOOTCORE_STATUS_SMALL_ROOM = 104,   /* too little room: of places it is told here, else last */
     BOOTCORE_STATUS_BAD_KIND = 105,     /* a region's kind is no BOOTCORE_KIND_.. */
     BOOTCORE_STATUS_BAD_SIZE = 106,     /* the size is no multiple of 4096 from 1 MiB to 4 GiB */
     BOOTCORE_STATUS_TOO_MANY_REGIONS = 107,
@@ -109,8 +109,8 @@ enum {
     BOOTCORE_STATUS_LONG_RSDP = 114,    /* a copy of an RSDP is too long */
     BOOTCORE_STATUS_BAD_INDEX = 115,    /* a menu's first entry or a fallback is no entry */
     BOOTCORE_STATUS_NO_SESSION = 116,   /* no session, no digest is kept: not made, or freed */
-    BOOTCORE_STATUS_LOW_POOL = 117,     /* a boot or a session: the pool begins below the memory
-                                         * that is given; a boot tells it also for NO_MEMORY */
+    BOOTCORE_STATUS_LOW_POOL = 117,     /* of a boot or a session the pool begins below the memory;
+                                         * a boot tells it also for NO_MEMORY */
     BOOTCORE_STATUS_UNWANTED = 118      /* a digest: more bytes than are wanted */
 };
 
@@ -134,11 +134,7 @@ enum {
     BOOTCORE_KIND_NVS = 4,    BOOTCORE_KIND_BAD = 5
 };
 
-typedef struct bootcore_region {
-    uint64_t base, length;
-    uint32_t kind;
-    uint32_t reserved; /* 0 */
-} bootcore_region;
+typedef struct bootcore_region { uint64_t base, length; uint32_t kind, reserved; } bootcore_region;
 
 /* A machine. Its size is where its memory below 4 GiB ends: no part lies above. Regions come in any
  * order, may overlap, and may lie above the size, as a guest's memory above 4 GiB does; the kernel
@@ -150,7 +146,7 @@ typedef struct bootcore_machine {
     uint64_t size, pool_base, pool_length;
     const bootcore_region *regions;
     size_t region_count;
-    uint64_t reserved[4]; /* 0 */
+    uint64_t reserved[4];
 } bootcore_machine;
 
 /* How a kernel is entered. Both Linux entries want two usable frames between 0x1000 and 0xA0000:
@@ -163,8 +159,8 @@ enum {
 
 typedef struct bootcore_module {
     bootcore_bytes file;
-    bootcore_bytes line;  /* without a zero byte */
-    uint64_t reserved[2]; /* 0 */
+    bootcore_bytes line; /* without a zero byte */
+    uint64_t reserved[2];
 } bootcore_module;
 
 /* An entry. What its protocol has no use for is not looked at.
@@ -175,8 +171,7 @@ typedef struct bootcore_module {
  * Where a call looks at a file's length alone (a session; a plan, but of the kernel), its bytes may
  * be null. An initial ramdisk of length 0, as an empty file, is as none. */
 typedef struct bootcore_entry {
-    uint32_t protocol;
-    uint32_t reserved32; /* 0 */
+    uint32_t protocol, reserved32;
     bootcore_bytes kernel;
     bootcore_bytes line;            /* without a zero byte */
     bootcore_bytes initrd;          /* Linux */
@@ -184,7 +179,7 @@ typedef struct bootcore_entry {
     bootcore_bytes rsdp_new;        /* and of that of ACPI 2.0 or later; without bytes: none */
     const bootcore_module *modules; /* Multiboot2 */
     size_t module_count;
-    uint64_t reserved[4]; /* 0 */
+    uint64_t reserved[4];
 } bootcore_entry;
 
 /* Memory of the machine that is booted, where the caller has it: the bytes from an address on. */
@@ -192,18 +187,17 @@ typedef struct bootcore_memory {
     uint64_t address;
     void *bytes;
     size_t length;
-    uint64_t reserved; /* 0 */
+    uint64_t reserved;
 } bootcore_memory;
 
 /* ---- what is handed over */
 
 /* The registers as the kernel begins. With 32 bits rip is what eip is to hold, rax what eax is to
- * hold, and so on; r8 to r15, cr3, cr4 and efer are 0 then: no rule gives them, so choose them. A
- * segment register's number is its selector: bootcore_segments has the rest. TR, LDTR, IDTR and the
- * debug registers are yours to choose under each protocol: no kernel may count on them. Under KVM
- * start from what KVM_GET_SREGS tells, since VT-x wants a busy TSS in TR. A20 is 1 if the gate is
- * to be open. gdt_limit is the offset of the table's last byte; under Multiboot2 there is no table,
- * and base and limit are 0. */
+ * hold, and so on; r8 to r15, cr3, cr4 and efer are 0 then: no rule gives them, so choose them, and
+ * under each protocol TR, LDTR, IDTR and the debug registers: no kernel may count on them. A
+ * segment register's number is its selector: bootcore_segments has the rest. A20 is 1 if the gate
+ * is to be open. gdt_limit is the offset of the table's last byte; under Multiboot2 there is no
+ * table, and base and limit are 0. */
 typedef struct bootcore_registers {
     uint64_t bits; /* 32 or 64 */
     uint64_t rip, rax, rbx, rcx, rdx, rsi, rdi, rbp, rsp;
@@ -237,10 +231,8 @@ enum {
 
 /* A part in memory: its bytes, then zeros. But for a kernel's its length is a multiple of 4096. */
 typedef struct bootcore_place {
-    uint32_t role;
-    uint32_t index; /* among the parts of its role */
-    uint64_t address, length;
-    uint64_t reserved;
+    uint32_t role, index; /* the index is that among the parts of its role */
+    uint64_t address, length, reserved;
 } bootcore_place;
 
 typedef struct bootcore_handoff {
@@ -255,8 +247,7 @@ typedef struct bootcore_handoff {
  * see the numbers at the end of this file. Of a walk: the fault of the image, with entry 0. */
 typedef struct bootcore_refusal {
     uint32_t entry, number;
-    uint64_t first, second;
-    uint64_t reserved;
+    uint64_t first, second, reserved;
 } bootcore_refusal;
 
 /* Where a call tells what comes of it: set the arrays and their room; the call sets the rest. */
@@ -267,7 +258,7 @@ typedef struct bootcore_outcome {
     size_t refusal_room;    /* may be 0; BOOTCORE_MAX_REFUSALS is always enough */
     bootcore_handoff handoff;
     size_t refusal_count;   /* how many there were, also beyond the room */
-    uint64_t reserved[4];   /* 0 */
+    uint64_t reserved[4];
 } bootcore_outcome;
 
 /* ---- one entry */
@@ -276,21 +267,19 @@ typedef struct bootcore_outcome {
  * `memory` reaches at least to the machine's size. It may begin above 0 if no part lies below; the
  * two low frames of a Linux entry do. Memory is yours afterwards, also to change a part; but a walk
  * of such an image refuses what the rules do not give (82).
- * - DONE: memory holds each part at its place, and each other byte as before; the call
- *   tells the handoff and the first places (with entry 0), and refusal_count is 0.
+ * - DONE: memory holds each part at its place, and each other byte as before; the call tells the
+ *   handoff and the first places (with entry 0), and refusal_count is 0.
  * - REFUSED: refusal_count is 1, and the call tells the refusal, if there is room.
  * - OUTSIDE, NO_MEMORY, or a misuse.
  * All that is not told is as before, and so is all of memory after any answer but DONE. */
-BOOTCORE_CALL uint32_t bootcore_load(const bootcore_memory *memory, const bootcore_machine *machine,
-    const bootcore_entry *entry, bootcore_outcome *outcome);
+BOOTCORE_CHECKED uint32_t bootcore_load(const bootcore_memory *memory,
+    const bootcore_machine *machine, const bootcore_entry *entry, bootcore_outcome *outcome);
 
 /* Tells what bootcore_load would hand over, or why it would not, from the kernel's bytes and the
  * other files' lengths: it reads no other byte of a file, and no memory. The answers are those of
- * bootcore_load, but OUTSIDE and BAD_MEMORY. After DONE a load of the
- * same entry, with files of these lengths, into memory from address 0 up to the machine's size,
- * tells the same handoff and places, or memory runs out. After REFUSED no such load is
- * done, and one that is refused has the same refusal. */
-BOOTCORE_CALL uint32_t bootcore_prepare(const bootcore_machine *machine,
+ * bootcore_load, but OUTSIDE and BAD_MEMORY. A load of the same entry, with files of these lengths,
+ * into memory from address 0 up to the machine's size, has the same end, or memory runs out. */
+BOOTCORE_CHECKED uint32_t bootcore_prepare(const bootcore_machine *machine,
     const bootcore_entry *entry, bootcore_outcome *outcome);
 
 /* Where the bytes of a step come from. */
@@ -319,36 +308,34 @@ typedef struct bootcore_layout {
     bootcore_handoff handoff;
     size_t step_count, own_length;
     bootcore_refusal refusal;
-    uint64_t planned;       /* 1 after DONE: the layout holds a whole plan; else 0 */
-    uint64_t reserved[4];   /* 0 */
+    uint64_t planned;       /* 1 if the layout holds a whole plan, else 0 */
+    uint64_t reserved[4];
 } bootcore_layout;
 
-/* Tells what bootcore_load would do, as steps, from the kernel's bytes and the other files'
- * lengths: it reads no other byte of a file, and no memory. Whoever carries out the steps, in any
- * order, has loaded the entry: whatever the other files' bytes are and memory held, each part is at
- * its place then, and each other byte as before. Together the steps are exactly the parts. Steps of
- * zeros may be left out where memory is known to be zero, as a fresh mapping is, and nowhere else.
- * If the kernel's file may change meanwhile, read from a copy of it, for which the plan was made.
- * - DONE: the call tells all but the refusal (with entry 0).
- * - REFUSED: it tells the refusal, and step_count and own_length are 0.
- * - SMALL_ROOM: with places for BOOTCORE_MAX_PLACES, step_count and own_length say how
- *   much is wanted, and nothing else is told: a call without room for steps and bytes asks for it.
- * - NO_MEMORY: step_count and own_length are 0.
- * - Another misuse.
- * What is not told is as before. Equal machines, entries, kernels and lengths have equal plans. */
-BOOTCORE_CALL uint32_t bootcore_plan(const bootcore_machine *machine, const bootcore_entry *entry,
-    bootcore_layout *layout);
+/* Tells what bootcore_load would do, as steps, from what bootcore_prepare looks at. Whoever carries
+ * out the steps, in any order, has loaded the entry: whatever the other files' bytes are and memory
+ * held, each part is at its place then, and each other byte as before. Together the steps are
+ * exactly the parts. Leave out steps of zeros only where memory is known to be zero, as a fresh
+ * mapping is. If the kernel's file may change meanwhile, plan on a copy of it, and read from that.
+ * - DONE: the call tells all but the refusal (with entry 0), and `planned` is 1.
+ * - REFUSED: it tells the refusal.
+ * - SMALL_ROOM: with places for BOOTCORE_MAX_PLACES, step_count and own_length say how much is
+ *   wanted: a call without room for steps and bytes asks for it.
+ * - NO_MEMORY, or another misuse.
+ * But for DONE `planned` is 0, and the counts too if they don't say what is wanted. What is not
+ * told is as before. Equal machines, entries, kernels and lengths have equal plans. */
+BOOTCORE_CHECKED uint32_t bootcore_plan(const bootcore_machine *machine,
+    const bootcore_entry *entry, bootcore_layout *layout);
 
-/* Carries out the steps of a plan: call it after bootcore_plan answered DONE for this
- * layout. Files are in memory; the machine's memory is in one piece or more, which may lie anywhere
- * and in any order, and may have holes where no part goes. `files` are the entry's: the kernel,
- * then the modules or the initial ramdisk, of at least the lengths that were planned for. Either
- * all steps are carried out (DONE), or nothing is written, for the first of these that
- * stands: NULL; BAD_FILE if a file is unreadable; SMALL_ROOM if the
- * layout holds no whole plan: it has no steps, or wants more room than it has; BAD_FILE if
- * a step's source is none or has no such bytes; OUTSIDE if a byte of a step lies in no
- * piece. A step may go over several pieces; a byte that is in two goes to the first. */
-BOOTCORE_CALL uint32_t bootcore_carry_out(const bootcore_layout *layout,
+/* Carries out the steps of a plan. Files are in memory; the machine's memory is in pieces, anywhere
+ * and in any order (fastest if they ascend), with holes where no part goes. `files` are the
+ * entry's: the kernel, then the modules or the initial ramdisk, of at least the lengths that were
+ * planned for. Either all steps are carried out (DONE), or nothing is written, for the first of
+ * these that stands: NULL; BAD_RESERVED; BAD_FILE if a file is unreadable; SMALL_ROOM if the layout
+ * holds no whole plan, or one that wants more room than it has; BAD_FILE if a step's source is none
+ * or has no such bytes; OUTSIDE if a byte of a step lies in no piece. A step may go over several
+ * pieces; a byte that is in two goes to the first. */
+BOOTCORE_CHECKED uint32_t bootcore_carry_out(const bootcore_layout *layout,
     const bootcore_bytes *files, size_t file_count, const bootcore_memory *memory,
     size_t memory_count);
 
@@ -361,29 +348,25 @@ typedef struct bootcore_menu {
     size_t entry_count;
     const uint32_t *fallbacks;
     size_t fallback_count;
-    uint32_t first;
-    uint32_t reserved32;  /* 0 */
-    uint64_t reserved[4]; /* 0 */
+    uint32_t first, reserved32;
+    uint64_t reserved[4];
 } bootcore_menu;
 
 /* Boots the first entry of a menu, in the order of attempts, that is not refused. Its files come
  * into the machine's pool, a piece at a time, and from there to their places, as if a disk gave
  * them. `memory` is in one piece, and ends at the machine's size. Let no usable byte lie below it:
  * if a part would begin there, the boot ends as if memory ran out, and a pool there is a misuse.
- * - DONE: memory holds each part at its place, 0 elsewhere in the pool, and each other
- *   byte as before; the call tells the handoff and the places.
+ * - DONE: memory holds each part at its place, 0 elsewhere in the pool, and each other byte as
+ *   before; the call tells the handoff and the places.
  * - REFUSED: no entry is left. Memory holds 0 in the pool, and each other byte as before.
  * - NO_MEMORY: bytes of the pool may have changed, and no other.
  * - A misuse.
  * After the first two the call tells the refusals in order, as many as there is room for, and their
  * number. All that is not told is as before. */
-BOOTCORE_CALL uint32_t bootcore_boot(const bootcore_memory *memory, const bootcore_machine *machine,
-    const bootcore_menu *menu, bootcore_outcome *outcome);
+BOOTCORE_CHECKED uint32_t bootcore_boot(const bootcore_memory *memory,
+    const bootcore_machine *machine, const bootcore_menu *menu, bootcore_outcome *outcome);
 
 /* ---- a menu, whose files come piece by piece */
-
-/* How long each piece of a file is, but for the last one. */
-enum { BOOTCORE_PIECE = 4096 };
 
 /* A boot that is told the pieces of its files as they come. Set `kept` to null at first; after that
  * only these calls write it. The struct may be moved, but use no copy of it. Call
@@ -392,22 +375,20 @@ enum { BOOTCORE_PIECE = 4096 };
 typedef struct bootcore_session { void *kept; } bootcore_session;
 
 /* Pieces that are awaited, one after the other in a file: `length` bytes from the offset
- * piece * BOOTCORE_PIECE on. Of a request that you hand back its attempt, file and piece are looked
- * at, not its entry, and its length by bootcore_session_missing_after alone. */
+ * piece * BOOTCORE_PIECE on. Of one that you hand back its attempt, file and piece are looked at,
+ * and its length by bootcore_session_missing_after alone. */
 typedef struct bootcore_request {
     uint32_t entry;   /* the index of the entry in the menu */
     uint32_t attempt; /* which attempt it is, from 0 on */
     uint32_t file;    /* the file's place in its entry, of which the kernel's is 0 */
     uint32_t piece;   /* the first piece's index in the file */
-    uint64_t length;
-    uint64_t reserved;
+    uint64_t length, reserved;
 } bootcore_request;
 
-/* Makes a session of a menu, and keeps it; one that was kept before is freed then. It is not yet
- * started. Of each file the length is looked at; its bytes come later. What is given is read during
- * this call alone. DONE: the session is kept. After any other answer what was kept before
- * is still kept. */
-BOOTCORE_CALL uint32_t bootcore_session_make(bootcore_session *session,
+/* Makes a session of a menu, which is not yet started; one that was kept before is freed then. Of
+ * each file the length is looked at; its bytes come later. What is given is read during this call
+ * alone. After any answer but DONE what was kept before is still kept. */
+BOOTCORE_CHECKED uint32_t bootcore_session_make(bootcore_session *session,
     const bootcore_machine *machine, const bootcore_menu *menu);
 
 /* Starts a session: the first attempt begins. One that was started before stays as it is. `memory`
@@ -418,13 +399,11 @@ BOOTCORE_CALL uint32_t bootcore_session_make(bootcore_session *session,
  * - WAITING: pieces are awaited. No byte outside the pool changed.
  * - NEXT: the same, after one refusal or more. Ask again what is missing.
  * - DONE: an entry is handed over. Memory is as after bootcore_boot.
- * - FAILED: no entry is left, and the pool is 0; or memory ran out. No byte outside the
- *   pool changed.
- * - NULL, BAD_MEMORY, NO_SESSION, LOW_POOL: all is as before.
- * After the end each further call without a misuse answers DONE or FAILED again,
- * and changes nothing. Pieces or a fault before the start answer WAITING, and change
- * nothing. */
-BOOTCORE_CALL uint32_t bootcore_session_start(bootcore_session *session,
+ * - FAILED: no entry is left, and the pool is 0; or memory ran out. No other byte changed.
+ * - NULL, BAD_RESERVED, BAD_MEMORY, NO_SESSION, LOW_POOL: all is as before.
+ * After the end each further call without a misuse answers DONE or FAILED again, and changes
+ * nothing. Pieces or a fault before the start answer WAITING, and change nothing. */
+BOOTCORE_CHECKED uint32_t bootcore_session_start(bootcore_session *session,
     const bootcore_memory *memory);
 
 /* Tells a session that pieces came: `length` bytes from the beginning of a request, which are
@@ -433,30 +412,30 @@ BOOTCORE_CALL uint32_t bootcore_session_start(bootcore_session *session,
  * the same way, unless memory runs out. A piece that is not awaited changes nothing: one that came
  * before, one of an earlier attempt, one that is cut or padded. bootcore_session_missing tells
  * whether one was taken: it is awaited until then. */
-BOOTCORE_CALL uint32_t bootcore_session_pieces(bootcore_session *session,
+BOOTCORE_CHECKED uint32_t bootcore_session_pieces(bootcore_session *session,
     const bootcore_memory *memory, const bootcore_request *request, const void *bytes,
     size_t length);
 
 /* Tells a session that the first piece of a request can't be read: its entry is refused (2), and
  * the next attempt begins, if there is one. A fault of a piece that is not awaited changes
  * nothing. */
-BOOTCORE_CALL uint32_t bootcore_session_fault(bootcore_session *session,
+BOOTCORE_CHECKED uint32_t bootcore_session_fault(bootcore_session *session,
     const bootcore_memory *memory, const bootcore_request *request);
 
 /* Tells the first pieces that the running attempt awaits, files and pieces ascending, at most so
  * many bytes of one file (at least a piece), and whether there are some. If there are none, or no
  * session, *request is as before. No piece is marked as asked for: each is told until it came. */
-BOOTCORE_CALL bool bootcore_session_missing(const bootcore_session *session, size_t most,
+BOOTCORE_CHECKED bool bootcore_session_missing(const bootcore_session *session, size_t most,
     bootcore_request *request);
 
 /* Tells the first ones behind those of *request, so that repeated calls tell all of them; behind a
  * request of another attempt, as after NEXT, the first of the running one. */
-BOOTCORE_CALL bool bootcore_session_missing_after(const bootcore_session *session, size_t most,
+BOOTCORE_CHECKED bool bootcore_session_missing_after(const bootcore_session *session, size_t most,
     bootcore_request *request);
 
-/* Tells how a session ended; it stays as it is. DONE and REFUSED are as by
- * bootcore_boot; WAITING: not ended; NO_MEMORY: memory ran out; or a misuse. */
-BOOTCORE_CALL uint32_t bootcore_session_outcome(const bootcore_session *session,
+/* Tells how a session ended; it stays as it is. DONE and REFUSED are as by bootcore_boot; WAITING:
+ * not ended; NO_MEMORY: memory ran out; or a misuse. */
+BOOTCORE_CHECKED uint32_t bootcore_session_outcome(const bootcore_session *session,
     bootcore_outcome *outcome);
 
 /* Frees what a session keeps, if there is something; one may be made again. A session that is
@@ -498,15 +477,13 @@ enum {
 };
 
 /* What a refusal's number means, not a status's, in the words of `bootcore explain`; of a walk's
- * fault, in those of docs/REFUSALS.md. Of any other number it says that there is none. The text is
- * constant. */
+ * fault, in those of docs/REFUSALS.md. Of any other number it says that there is none. Constant. */
 BOOTCORE_CALL const char *bootcore_refusal_text(uint32_t number);
 
 /* Writes a refusal, or a walk's fault, as a line of text without its end: as `bootcore explain` has
  * it, `refused NUMBER NAME(WHAT IT CARRIES): MEANING`, or `bad image ..`. At most `length` bytes
- * are written, the last one a zero byte; the answer is the whole text's length without that byte,
- * so a buffer that is longer than the answer has all of it. A null buffer counts as one of length
- * 0. A null refusal gives an empty text. */
+ * are written, the last one a zero byte; the answer is the whole text's length without that byte. A
+ * null buffer counts as one of length 0. A null refusal gives an empty text. */
 BOOTCORE_CALL size_t bootcore_refusal_line(const bootcore_refusal *refusal, char *buffer,
     size_t length);
 

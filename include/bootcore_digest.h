@@ -46,21 +46,21 @@ typedef struct bootcore_digests {
  * - REFUSED: *refusal is told, with entry 0.
  * After any answer but DONE what was kept before is still kept. What is not told is as
  * before. */
-BOOTCORE_CALL uint32_t bootcore_digest_make(bootcore_digest *digest,
+BOOTCORE_CHECKED uint32_t bootcore_digest_make(bootcore_digest *digest,
     const bootcore_machine *machine, const bootcore_entry *entry, bootcore_refusal *refusal);
 
 /* Tells which bytes are wanted next, and whether there are some; if there are none, or no digest,
  * *range is as before. Of a file only what lies in a part is wanted, of the kernel too; part after
  * part, by ascending address, so not always in the file's own order. If the kernel's file may
  * change meanwhile, feed a copy of it, for which the digest was made. */
-BOOTCORE_CALL bool bootcore_digest_wanted(const bootcore_digest *digest,
+BOOTCORE_CHECKED bool bootcore_digest_wanted(const bootcore_digest *digest,
     bootcore_file_range *range);
 
 /* Feeds a digest the first bytes of what is wanted, or all of it.
  * - DONE: they were taken.
  * - NULL, NO_SESSION, or UNWANTED, if they are more than are wanted.
  *   Nothing was changed. */
-BOOTCORE_CALL uint32_t bootcore_digest_feed(bootcore_digest *digest, const void *bytes,
+BOOTCORE_CHECKED uint32_t bootcore_digest_feed(bootcore_digest *digest, const void *bytes,
     size_t length);
 
 /* Tells the digests; the digest stays as it is.
@@ -70,7 +70,7 @@ BOOTCORE_CALL uint32_t bootcore_digest_feed(bootcore_digest *digest, const void 
  * - WAITING: bytes are wanted.
  * - NULL or NO_SESSION.
  * What is not told is as before. */
-BOOTCORE_CALL uint32_t bootcore_digest_told(const bootcore_digest *digest,
+BOOTCORE_CHECKED uint32_t bootcore_digest_told(const bootcore_digest *digest,
     bootcore_digests *digests, bootcore_part_digest *parts, size_t room);
 
 /* Frees what a digest keeps, if there is something; one may be made again. */
@@ -79,7 +79,7 @@ BOOTCORE_CALL void bootcore_digest_free(bootcore_digest *digest);
 /* Tells the digests of an entry whose files all lie in memory, at once. The answers are those of
  * bootcore_plan, but SMALL_ROOM; after DONE *digests and parts are told as by
  * bootcore_digest_told, after REFUSED *refusal. What is not told is as before. */
-BOOTCORE_CALL uint32_t bootcore_digest_entry(const bootcore_machine *machine,
+BOOTCORE_CHECKED uint32_t bootcore_digest_entry(const bootcore_machine *machine,
     const bootcore_entry *entry, bootcore_digests *digests, bootcore_part_digest *parts,
     size_t room, bootcore_refusal *refusal);
 

@@ -88,7 +88,7 @@ typedef struct bootcore_seen_arrays {
  * - NO_MEMORY: fault->number is 77 or 84.
  * - NULL.
  * What is not told is as before. */
-BOOTCORE_CALL uint32_t bootcore_walk(const void *image, size_t image_length, bootcore_seen *seen,
+BOOTCORE_CHECKED uint32_t bootcore_walk(const void *image, size_t image_length, bootcore_seen *seen,
     bootcore_refusal *fault);
 
 /* Walks an image in memory as bootcore_walk does, and tells all that its kernel sees.
@@ -101,7 +101,7 @@ BOOTCORE_CALL uint32_t bootcore_walk(const void *image, size_t image_length, boo
  *   before.
  * The bytes of modules and of an initial ramdisk are not told. They lie in the image, in the part
  * that has their address. */
-BOOTCORE_CALL uint32_t bootcore_walk_all(const void *image, size_t image_length,
+BOOTCORE_CHECKED uint32_t bootcore_walk_all(const void *image, size_t image_length,
     bootcore_seen *seen, const bootcore_seen_arrays *arrays, bootcore_refusal *fault);
 
 #ifdef __cplusplus
