@@ -38,15 +38,18 @@
 //! # }
 //! ```
 //!
+//! Memory is a slice, or a mapping that a guest's processors share: [`Memory`]. Without the feature `std` the crate is `no_std` and
+//! links `libbootcore_freestanding.a`, to which `arena` gives memory.
+//!
 //! A refusal, as of a kernel that is none, is an [`Error`] that says which of the rules is broken: the kernel or the machine is
 //! at fault, and memory is as before. A [`Misuse`] is a mistake of the program, or of a memory map that it passes on.
 //!
-//! Calls start no thread, open no file, and know nothing of each other. Each needs 16 KiB of stack at most.
+//! Calls start no thread, open no file, and know nothing of each other. Each needs 16 KiB of stack at most, without `std` 24 KiB.
 #![no_std]
 #![deny(missing_docs, unsafe_code, unsafe_op_in_unsafe_fn, rustdoc::broken_intra_doc_links)]
 
 #[cfg(not(all(target_arch = "x86_64", target_pointer_width = "64")))]
-compile_error!("libbootcore.a is for x86-64");
+compile_error!("the archive is for x86-64");
 
 extern crate alloc;
 #[cfg(any(feature = "std", test))]

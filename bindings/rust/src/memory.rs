@@ -87,7 +87,9 @@ impl<'m> Memory<'m> {
 
 impl fmt::Debug for Memory<'_> {
     fn fmt(&self, to: &mut fmt::Formatter<'_>) -> fmt::Result {
-        let (address, length) = (format_args!("{:#x}", self.address), format_args!("{:#x}", self.length));
-        to.debug_struct("Memory").field("address", &address).field("length", &length).finish()
+        to.debug_struct("Memory")
+            .field("address", &format_args!("{:#x}", self.address))
+            .field("length", &format_args!("{:#x}", self.length))
+            .finish()
     }
 }
