@@ -215,7 +215,7 @@ pub struct LongLine {
 
 impl Entry<'_> {
     /// The first line with more bytes than it may have: that of [`Refusal::LineTooLong`](crate::Refusal::LineTooLong). The limit
-    /// is [`MAX_LINE`], or what the header of a Linux kernel names as its `cmdline_size` if that is less.
+    /// is [`MAX_LINE`], or what the header of a Linux kernel whose bytes are at hand names as its `cmdline_size`, if that is less.
     ///
     /// ```
     /// use bootcore::{Entry, Multiboot2, MAX_LINE};
