@@ -20,7 +20,7 @@ int main(int argc, char **argv)
     bootcore_outcome outcome = {.places = places, .place_room = BOOTCORE_MAX_PLACES, .refusals = &refusal, .refusal_room = 1};
     bootcore_entry entry = {.protocol = BOOTCORE_PROTOCOL_LINUX};
     const bootcore_menu menu = {.entries = &entry, .entry_count = 1};
-    bootcore_memory memory = {0, calloc(SIZE, 1), SIZE};
+    bootcore_memory memory = {.bytes = calloc(SIZE, 1), .length = SIZE};
     input kernel, initrd;
     unsigned char *last;
     long rounds, round;

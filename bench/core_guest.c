@@ -16,7 +16,7 @@ int main(int argc, char **argv)
     bootcore_refusal refusal = {0};
     bootcore_outcome outcome = {.places = places, .place_room = BOOTCORE_MAX_PLACES, .refusals = &refusal, .refusal_room = 1};
     bootcore_entry entry = {.protocol = BOOTCORE_PROTOCOL_LINUX};
-    bootcore_memory memory = {0, calloc(SIZE, 1), SIZE};
+    bootcore_memory memory = {.bytes = calloc(SIZE, 1), .length = SIZE};
     input kernel, initrd;
     unsigned char *last;
     long rounds, round;

@@ -44,10 +44,10 @@ int main(int argc, char **argv)
         .size = GUEST, .pool_base = POOL, .pool_length = POOL_LENGTH, .regions = &region, .region_count = 1};
     bootcore_refusal refusal = {0};
     bootcore_outcome outcome = {.places = places, .place_room = BOOTCORE_MAX_PLACES, .refusals = &refusal, .refusal_room = 1};
-    bootcore_module module = {{NULL, 0}, {NULL, 0}};
+    bootcore_module module = {.line = {NULL, 0}};
     bootcore_entry entry = {.protocol = BOOTCORE_PROTOCOL_MULTIBOOT2, .modules = &module, .module_count = 1};
     const bootcore_menu menu = {.entries = &entry, .entry_count = 1};
-    bootcore_memory memory = {0, calloc(GUEST, 1), GUEST};
+    bootcore_memory memory = {.bytes = calloc(GUEST, 1), .length = GUEST};
     input kernel, file;
     long rounds, round;
     int by_pieces;

@@ -221,9 +221,9 @@ static bool has_reserved(const bootcore_layout *layout, const bootcore_memory *m
     return bootcore_is_reserved_set(layout->reserved);
 }
 
-/* An array may have become shorter since the plan was made, and only a caller's mistake makes it so. */
+/* Each plan has a step. Room is looked at again, since it is the caller's to change. */
 static bool holds_plan(const bootcore_layout *layout) {
-    return layout->planned == 1 && layout->step_count <= layout->step_room &&
+    return layout->planned == 1 && layout->step_count && layout->step_count <= layout->step_room &&
            layout->own_length <= layout->own_room;
 }
 

@@ -1,6 +1,7 @@
 """the core for C: header, statuses, examples, walks, and the cases by way of it"""
 
 import re
+import shutil
 import unittest
 from pathlib import Path
 from typing import List, Optional, Tuple
@@ -101,11 +102,74 @@ class Header(CoreChecks):
             return
         self.reads(sentence, ["clang", "--target=x86_64-unknown-windows", "-ffreestanding"], "c99", "c")
 
+    def test_processors(self) -> None:
+        """include/bootcore.h refuses a processor that the archive is not for, and says so"""
+        wanted = b'error: #error "bootcore is for x86-64'
+        tried = 0
+        for compiler, *words in (["gcc", "-m32"], ["clang", "-m32"], ["clang", "--target=aarch64-linux-gnu"], ["clang", "--target=s390x-linux-gnu"]):
+            if is_at_hand(compiler):
+                ran = run(compiler, *words, "-ffreestanding", "-fsyntax-only", "-x", "c", HEADER)
+                self.assertNotEqual(ran.status, 0, f"ran: {ran}")
+                self.assertIn(wanted, ran.err.replace(b'error: "', b'error: #error "'), f"ran: {ran}")
+                tried += 1
+        if not tried:
+            self.skipTest("neither gcc nor clang is at hand")
+
+    def test_abi(self) -> None:
+        """include/abi.txt is what gcc says of the headers, and clang"""
+        for compiler in ("gcc", "clang"):
+            if is_at_hand(compiler):
+                self.assert_ended(run(TOP / "tools/abi", env={"CC": compiler}))
+
     def test_length(self) -> None:
         """include/bootcore.h has at most 500 lines, of at most 100 columns"""
         lines = HEADER.read_text(encoding="utf-8").splitlines()
         self.assertLessEqual(len(lines), 500)
         self.assertEqual([line for line in lines if len(line) > 100], [])
+
+
+class Archives(CoreChecks):
+    """What an archive has for a linker to see."""
+
+    def sees_functions(self, sentence: str, archive: Path, headers: List[str]) -> None:
+        """A check that the archive's global symbols are the functions of these headers, and hidden."""
+        text = "".join((HEADER.parent / header).read_text(encoding="utf-8") for header in headers)
+        declared = re.findall(r"^BOOTCORE_(?:CALL|CHECKED) [^(]*[ *](bootcore_\w+)\(", text, re.M)
+        ran = run("readelf", "-sW", archive)
+        symbols = [line.split() for line in ran.out.decode().splitlines()]
+        seen = {it[7]: it[5] for it in symbols if len(it) == 8 and it[4] in ("GLOBAL", "WEAK", "UNIQUE") and it[6] != "UND"}
+        with self.check(sentence):
+            self.assertGreater(len(declared), 20, "functions of the headers")
+            self.assertEqual(seen, dict.fromkeys(declared, "HIDDEN"), f"ran: {ran}")
+
+    def test_symbols(self) -> None:
+        parts = ["bootcore.h", "bootcore_image.h", "bootcore_digest.h"]
+        sentence = "the functions of the headers are the only global symbols of {}, and hidden"
+        self.sees_functions(sentence.format("libbootcore.a"), libraries()[0], parts)
+        if build_freestanding().status == 0:
+            self.sees_functions(sentence.format(FREESTANDING.name), FREESTANDING, [*parts, "bootcore_arena.h"])
+
+    def test_versions(self) -> None:
+        """two shared objects with archives of two versions, in one process, each have their own"""
+        other = self.room / "other"
+        for part in ("c", "include", "tools/c_archive", "crates/bootcore_c/out/libbootcore_c.a"):
+            (other / part).parent.mkdir(parents=True, exist_ok=True)
+            (shutil.copytree if (TOP / part).is_dir() else shutil.copy)(TOP / part, other / part)
+        header = other / "include/bootcore.h"
+        text, count = re.subn(r"(#define BOOTCORE_VERSION) \d+", r"\1 10203", header.read_text(encoding="utf-8"))
+        self.assertEqual(count, 1)
+        header.write_text(text, encoding="utf-8")
+        self.assert_ended(run(other / "tools/c_archive", other / "libbootcore.a", timeout=300))
+        source, made = TOP / "tools/c/versions.c", []
+        for name, archive in (("one", libraries()[0]), ("other", other / "libbootcore.a")):
+            made.append(self.room / f"{name}.so")
+            words = [*CC, "-std=c99", "-DLIBRARY", "-fPIC", "-shared", *WARNINGS, "-I", HEADER.parent, source, archive]
+            self.assert_ended(run(*words, "-o", made[-1]))
+        program = self.room / "versions"
+        self.assert_ended(run(*CC, "-std=c99", *WARNINGS, "-I", HEADER.parent, source, "-ldl", "-o", program))
+        number = re.search(r"#define BOOTCORE_VERSION (\d+)", HEADER.read_text(encoding="utf-8"))[1]
+        self.assert_ended(run(program, *made), 0, f"{number} 1 71\n10203 1 71\n")
+        self.assert_ended(run(program, *reversed(made)), 0, f"10203 1 71\n{number} 1 71\n")
 
 
 class Texts(CoreChecks):

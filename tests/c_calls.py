@@ -21,7 +21,7 @@ ip 100000, cs 10 of type 11
 part 3 at 1000, 4096 bytes
 part 1 at 100000, 8192 bytes
 part 2 at 102000, 4096 bytes
-outcome 114
+outcome 116
 """
 
 
@@ -138,6 +138,15 @@ class Fuzzed(CoreChecks):
             counts = re.match(r"\d+ inputs from seed 1: (\d+) loaded, (\d+) refused", told)
             self.assertTrue(counts and int(counts[1]) > 100 and int(counts[2]) > 100, told)
 
+    def test_pieces(self) -> None:
+        driver = self.driver("pieces", *self.sanitizers())
+        if driver is not None:
+            ran = run(driver, "200000", "1", timeout=300)
+            told = ran.out.decode(errors="replace").strip()
+            with self.check("plans at random are carried out over pieces at random as byte by byte"):
+                self.assert_ended(ran, 0, None)
+                counts = re.fullmatch(r"200000 tried, (\d+) done, (\d+) not", told)
+                self.assertTrue(counts and int(counts[1]) > 10000 and int(counts[2]) > 10000, told)
 
     def test_plans(self) -> None:
         sentence = "entries drawn at random have the plans and the digests that the model computes"

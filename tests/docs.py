@@ -125,6 +125,14 @@ class Pages(Checks):
         for sentence, tool, *words in TOOLS:
             self.passes(sentence, TOP / tool, *words)
 
+    def test_abi(self) -> None:
+        sentence = "include/abi.txt lists what the headers promise to a program that was built, as a compiler says it"
+        ran = run(TOP / "tools/abi")
+        if ran.status == 127:
+            self.leave_out(sentence, "no compiler of C is at hand")
+        else:
+            self.ends(sentence, ran)
+
     def test_conflicts(self) -> None:
         found = (
             f"{name}:{number}: {line}"

@@ -10,7 +10,7 @@ from typing import List, Optional
 
 from tests import examples
 from tests.c import GUEST
-from tests.c_core import CC, why_left_out
+from tests.c_core import CC, HEADER, why_left_out
 from tests.kvm import assert_restarted, why_no_kvm
 from tests.support import PROGRAM, TOP, ProgramChecks, Ran, is_at_hand, need_built, run
 
@@ -45,11 +45,11 @@ class Installed(ProgramChecks):
         cls.ran = run(*words, timeout=HALF_AN_HOUR)
 
     def test_files(self) -> None:
-        with self.check("install puts fifteen files into a prefix and reports each"):
+        with self.check("install puts nineteen files into a prefix and reports each"):
             self.assert_ended(self.ran, 0, None, None)
             reported = re.findall(rb"^installed (.+)$", self.ran.out, re.M)
             self.assertEqual(sorted(map(os.fsdecode, reported)), installed(self.prefix), f"ran: {self.ran}")
-            self.assertEqual(len(reported), 15, f"ran: {self.ran}\nfiles that it reports")
+            self.assertEqual(len(reported), 19, f"ran: {self.ran}\nfiles that it reports")
         with self.check("install --list names exactly the files that install puts there"):
             ran = run(INSTALL, "--list", "--prefix", self.prefix)
             self.assert_ended(ran, 0, None)
@@ -80,6 +80,12 @@ class Installed(ProgramChecks):
         self.ends("a guest loader that is built on what is installed loads its guest", ran, 0, GUEST)
         ran = run(self.room / "statuses")
         self.ends("each misuse has its status, by way of the installed library", ran, 0, "290 tried, 0 wrong\n")
+        env = {"PKG_CONFIG_PATH": str(self.prefix / "lib/pkgconfig")}
+        for name in ("bootcore", "bootcore-freestanding"):
+            self.ends(f"pkg-config finds version 1.0.0 of {name}, or a later one", run("pkg-config", "--atleast-version=1.0.0", name, env=env))
+        folder = self.prefix / "lib"
+        ran = run("pkg-config", "--libs", "bootcore-freestanding", env=env)
+        self.ends("pkg-config names the library for firmware", ran, 0, f"-L{folder} -lbootcore_freestanding\n")
         moved = self.room / "moved"
         shutil.copytree(self.prefix, moved)
         self.ends("a prefix that was moved is found by its bootcore.pc", self.compiled("guest", moved))
@@ -91,10 +97,14 @@ class Installed(ProgramChecks):
         return run("bash", "-c", command, "bash", TOP / f"examples/c/{name}.c", self.room / name, env=env)
 
     def test_version(self) -> None:
-        """bootcore.pc and the installed program have the version that tools/version prints"""
+        """what pkg-config reads has the header's version, and the installed program that which tools/version prints"""
         version = run(TOP / "tools/version").out.decode().strip()
-        stated = re.search(r"^Version: (.+)$", (self.prefix / "lib/pkgconfig/bootcore.pc").read_text(), re.M)
-        self.assertEqual(stated and stated[1], version, "the version of bootcore.pc")
+        number = int(re.search(r"^#define BOOTCORE_VERSION (\d+)", HEADER.read_text(encoding="utf-8"), re.M)[1])
+        whole = f"{number // 10000}.{number // 100 % 100}.{number % 100}"
+        self.assertEqual(whole.split(".")[:2], version.split(".")[:2], "the versions of the header and of tools/version")
+        for name in ("bootcore", "bootcore-freestanding"):
+            stated = re.search(r"^Version: (.+)$", (self.prefix / f"lib/pkgconfig/{name}.pc").read_text(), re.M)
+            self.assertEqual(stated and stated[1], whole, f"the version of {name}.pc")
         ran = run(self.prefix / "bin/bootcore", "--help")
         self.assert_text(ran, f"bootcore {version}", ran.out.split(b"\n")[0], "first line")
 

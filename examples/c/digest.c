@@ -87,7 +87,7 @@ int main(int argc, char **argv) {
     files[0] = open_file(argv[3], &entry.kernel.length);
     uint8_t *kernel = malloc(entry.kernel.length + 1);
     check(kernel, argv[3], strerror(errno));
-    for (bootcore_file_range all = {0, 0, entry.kernel.length}; all.length;) {
+    for (bootcore_file_range all = {.length = entry.kernel.length}; all.length;) {
         size_t some = read_some(argv[3], files[0], all, buffer);
         memcpy(kernel + all.offset, buffer, some);
         all.offset += some, all.length -= some;

@@ -92,7 +92,8 @@ int main(int argc, char **argv) {
     const bootcore_region usable[] = {{0, SIZE, BOOTCORE_KIND_USABLE, 0}};
     const bootcore_machine machine = {.size = SIZE, .pool_base = POOL, .pool_length = SIZE - POOL,
                                       .regions = usable, .region_count = 1};
-    bootcore_module modules[] = {{{files[0], 20000}, {"first", 5}}, {{files[1], 40000}, {"second", 6}}};
+    bootcore_module modules[] = {{.file = {files[0], 20000}, .line = {"first", 5}},
+                                 {.file = {files[1], 40000}, .line = {"second", 6}}};
     const bootcore_entry entries[] = {
         {.protocol = BOOTCORE_PROTOCOL_MULTIBOOT2, .kernel = {kernel, kernel_length},
          .modules = &modules[0], .module_count = 1},
@@ -101,7 +102,8 @@ int main(int argc, char **argv) {
     const uint32_t fallbacks[] = {1};
     const bootcore_menu menu = {.entries = entries, .entry_count = 2, .first = 0,
                                 .fallbacks = fallbacks, .fallback_count = 1};
-    const bootcore_memory all = {0, memory, SIZE}, all_other = {0, other, SIZE};
+    const bootcore_memory all = {.bytes = memory, .length = SIZE},
+                          all_other = {.bytes = other, .length = SIZE};
     bootcore_place places[BOOTCORE_MAX_PLACES], wanted_places[BOOTCORE_MAX_PLACES];
     bootcore_refusal refusals[BOOTCORE_MAX_REFUSALS];
     bootcore_outcome outcome = {.places = places, .place_room = BOOTCORE_MAX_PLACES,

@@ -19,7 +19,7 @@ static uint32_t load_guest(void *memory, bootcore_bytes kernel, bootcore_bytes i
     const bootcore_machine machine = {.size = SIZE, .regions = regions, .region_count = 2};
     const bootcore_entry entry = {.protocol = BOOTCORE_PROTOCOL_LINUX, .kernel = kernel, .initrd = initrd,
                                   .line = {"console=ttyS0", 13}};
-    const bootcore_memory guest = {0, memory, SIZE};
+    const bootcore_memory guest = {.bytes = memory, .length = SIZE};
     return bootcore_load(&guest, &machine, &entry, outcome);
 }
 

@@ -41,6 +41,15 @@ static void read_at(const char *path, int file, uint64_t offset, uint8_t *to, si
     }
 }
 
+/* A bzImage that is not refused says how long it is: its setup's sectors of 512 bytes after the first
+ * one, 0 for 4, and then units of 16 bytes, the last of which may be short. More may follow. */
+static bool is_cut(const uint8_t *kernel, size_t length) {
+    uint32_t units;
+    memcpy(&units, kernel + 0x1F4, sizeof units);
+    uint64_t sectors = kernel[0x1F1] ? kernel[0x1F1] : 4;
+    return length + 16 < (sectors + 1) * 512 + (uint64_t)units * 16;
+}
+
 static void print_entering(const bootcore_registers *r, const bootcore_place *places, uint32_t count) {
     static const char *const names[] = {"cs", "ds", "es", "fs", "gs", "ss"};
     bootcore_segment s[6];
@@ -101,6 +110,8 @@ int main(int argc, char **argv) {
         exit(1);
     }
     check(status == BOOTCORE_STATUS_DONE, "plan", status == BOOTCORE_STATUS_NO_MEMORY ? "memory ran out" : "a misuse");
+    check(protocol == BOOTCORE_PROTOCOL_MULTIBOOT2 || !is_cut(kernel, entry.kernel.length), argv[2],
+          "it is cut");
     uint8_t *memory = mmap(NULL, GUEST_SIZE, PROT_READ | PROT_WRITE,
                            MAP_PRIVATE | MAP_ANONYMOUS | MAP_NORESERVE, -1, 0);
     check(memory != MAP_FAILED, "the guest's memory", strerror(errno));

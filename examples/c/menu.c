@@ -39,7 +39,7 @@ static bootcore_refusal refusals[BOOTCORE_MAX_REFUSALS];
 /* Entry 0 is a Linux kernel that is none, and entry 1 a Multiboot2 kernel with a module. */
 static call right(void) {
     return (call){
-        .memory = {0, memory, SIZE},
+        .memory = {.bytes = memory, .length = SIZE},
         .machine = {.size = SIZE, .pool_base = POOL, .pool_length = SIZE - POOL,
                     .regions = usable, .region_count = 1},
         .menu = {.entry_count = 2, .fallbacks = second, .fallback_count = 2},
@@ -103,14 +103,20 @@ int main(int argc, char **argv) {
     CHANGED(BOOTCORE_STATUS_REFUSED, 0, 2, 22, c.module.file.length = BOOTCORE_UNREADABLE);
     CHANGED(BOOTCORE_STATUS_REFUSED, 0, 2, 21, c.machine.pool_length = 0; c.machine.pool_base = SIZE);
     CHANGED(BOOTCORE_STATUS_NO_MEMORY, 0, 0, 0, /* a part would lie below this memory */
-            c.memory = ((bootcore_memory){0x2000, memory + 0x2000, SIZE - 0x2000}));
+            c.memory = ((bootcore_memory){0x2000, memory + 0x2000, SIZE - 0x2000, 0}));
     MISUSE(BOOTCORE_STATUS_NULL, c.entries[0].kernel.bytes = NULL);
     MISUSE(BOOTCORE_STATUS_NULL, c.entries[1].line.bytes = NULL);
     MISUSE(BOOTCORE_STATUS_NULL, c.module.line.bytes = NULL);
     MISUSE(BOOTCORE_STATUS_NULL, c.menu.fallbacks = NULL);
     MISUSE(BOOTCORE_STATUS_NULL, c.outcome.refusals = NULL);
-    MISUSE(BOOTCORE_STATUS_BAD_RESERVED, c.menu.reserved = 1);
-    MISUSE(BOOTCORE_STATUS_BAD_RESERVED, c.entries[1].reserved = 1);
+    MISUSE(BOOTCORE_STATUS_BAD_RESERVED, c.memory.reserved = 1);
+    MISUSE(BOOTCORE_STATUS_BAD_RESERVED, c.machine.reserved[0] = 1);
+    MISUSE(BOOTCORE_STATUS_BAD_RESERVED, c.menu.reserved32 = 1);
+    MISUSE(BOOTCORE_STATUS_BAD_RESERVED, c.menu.reserved[3] = 1);
+    MISUSE(BOOTCORE_STATUS_BAD_RESERVED, c.entries[1].reserved32 = 1);
+    MISUSE(BOOTCORE_STATUS_BAD_RESERVED, c.entries[0].reserved[2] = 1);
+    MISUSE(BOOTCORE_STATUS_BAD_RESERVED, c.module.reserved[1] = 1);
+    MISUSE(BOOTCORE_STATUS_BAD_RESERVED, c.outcome.reserved[0] = 1);
     MISUSE(BOOTCORE_STATUS_SMALL_ROOM, c.outcome.place_room = BOOTCORE_MAX_PLACES - 1);
     MISUSE(BOOTCORE_STATUS_BAD_SIZE, c.machine.size = SIZE + 1);
     MISUSE(BOOTCORE_STATUS_BAD_POOL, c.machine.pool_length = SIZE);
@@ -120,11 +126,11 @@ int main(int argc, char **argv) {
     MISUSE(BOOTCORE_STATUS_BAD_PROTOCOL, c.entries[1].protocol = 4; /* comes before an earlier entry's size */
            c.entries[0] = ((bootcore_entry){.protocol = BOOTCORE_PROTOCOL_MULTIBOOT2,
                                             .rsdp_new = {kernel, BOOTCORE_MAX_RSDP + 1}}));
-    MISUSE(BOOTCORE_STATUS_TOO_MANY_ENTRIES, c.entries[1].rsdp_old = ((bootcore_bytes){kernel, BOOTCORE_MAX_RSDP + 1}));
+    MISUSE(BOOTCORE_STATUS_LONG_RSDP, c.entries[1].rsdp_old = ((bootcore_bytes){kernel, BOOTCORE_MAX_RSDP + 1}));
     MISUSE(BOOTCORE_STATUS_BAD_INDEX, c.menu.first = 2);
     MISUSE(BOOTCORE_STATUS_BAD_INDEX, c.menu.entry_count = 0);
     MISUSE(BOOTCORE_STATUS_LOW_POOL,
-           c.memory = ((bootcore_memory){POOL + 4096, memory + POOL + 4096, SIZE - POOL - 4096}));
+           c.memory = ((bootcore_memory){POOL + 4096, memory + POOL + 4096, SIZE - POOL - 4096, 0}));
     printf("%d tried, %d wrong\n", tried, wrong);
     return wrong != 0;
 }

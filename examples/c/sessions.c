@@ -60,10 +60,10 @@ static void expect(int line, uint32_t status, uint32_t wanted) {
 
 #define MAKE() bootcore_session_make(&session, &machine, &menu)
 #define START(address, length) \
-    bootcore_session_start(&session, &(bootcore_memory){address, memory, length})
+    bootcore_session_start(&session, &(bootcore_memory){address, memory, length, 0})
 #define PIECES(from, length) \
-    bootcore_session_pieces(&session, &(bootcore_memory){0, memory, SIZE}, &request, from, length)
-#define FAULT(length) bootcore_session_fault(&session, &(bootcore_memory){0, memory, length}, &request)
+    bootcore_session_pieces(&session, &(bootcore_memory){0, memory, SIZE, 0}, &request, from, length)
+#define FAULT(length) bootcore_session_fault(&session, &(bootcore_memory){0, memory, length, 0}, &request)
 #define MISSING(most) bootcore_session_missing(&session, most, &request)
 #define MISSING_AFTER(most) bootcore_session_missing_after(&session, most, &request)
 #define OUTCOME() bootcore_session_outcome(&session, &outcome)
@@ -91,9 +91,11 @@ static void try_make(void) {
     CHANGED(BOOTCORE_STATUS_NULL, entries[0].line.bytes = NULL);
     CHANGED(BOOTCORE_STATUS_NULL, menu.entries = NULL);
     CHANGED(BOOTCORE_STATUS_NULL, menu.fallback_count = 1);
-    CHANGED(BOOTCORE_STATUS_BAD_RESERVED, machine.reserved = 1);
-    CHANGED(BOOTCORE_STATUS_BAD_RESERVED, entries[0].reserved = 1);
-    CHANGED(BOOTCORE_STATUS_BAD_RESERVED, menu.reserved = 1);
+    CHANGED(BOOTCORE_STATUS_BAD_RESERVED, machine.reserved[3] = 1);
+    CHANGED(BOOTCORE_STATUS_BAD_RESERVED, entries[0].reserved32 = 1);
+    CHANGED(BOOTCORE_STATUS_BAD_RESERVED, entries[0].reserved[0] = 1);
+    CHANGED(BOOTCORE_STATUS_BAD_RESERVED, menu.reserved32 = 1);
+    CHANGED(BOOTCORE_STATUS_BAD_RESERVED, menu.reserved[1] = 1);
     CHANGED(BOOTCORE_STATUS_BAD_KIND, machine.regions = no_kind);
     CHANGED(BOOTCORE_STATUS_BAD_SIZE, machine.size = SIZE + 1);
     CHANGED(BOOTCORE_STATUS_TOO_MANY_REGIONS, machine.regions = many;
@@ -102,7 +104,8 @@ static void try_make(void) {
     CHANGED(BOOTCORE_STATUS_BAD_POOL, machine.pool_length = 1);
     CHANGED(BOOTCORE_STATUS_BAD_PROTOCOL, entries[0].protocol = 4);
     CHANGED(BOOTCORE_STATUS_TOO_MANY_ENTRIES, menu.entry_count = BOOTCORE_MAX_ENTRIES + 1);
-    CHANGED(BOOTCORE_STATUS_TOO_MANY_ENTRIES, entries[0].modules = modules;
+    CHANGED(BOOTCORE_STATUS_TOO_MANY_ENTRIES, menu.entry_count = SIZE_MAX); /* not looked at behind those */
+    CHANGED(BOOTCORE_STATUS_TOO_MANY_MODULES, entries[0].modules = modules;
             entries[0].module_count = BOOTCORE_MAX_MODULES + 1);
     CHANGED(BOOTCORE_STATUS_BAD_INDEX, menu.first = 1);
     CHANGED(BOOTCORE_STATUS_BAD_INDEX, menu.fallbacks = second; menu.fallback_count = 1);
@@ -127,7 +130,7 @@ static void try_none(void) {
 }
 
 static void try_null(void) {
-    const bootcore_memory whole = {0, memory, SIZE}, none = {0, NULL, SIZE};
+    const bootcore_memory whole = {0, memory, SIZE, 0}, none = {0, NULL, SIZE, 0};
     right();
     EXPECT(BOOTCORE_STATUS_NULL, bootcore_session_start(NULL, &whole));
     EXPECT(BOOTCORE_STATUS_NULL, bootcore_session_start(&session, NULL));

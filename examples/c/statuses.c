@@ -23,10 +23,11 @@ static const bootcore_region no_kind[] = {{0, SIZE, 6, 0}};
 static const bootcore_region high[] = {{0, SIZE, BOOTCORE_KIND_USABLE, 0},
                                        {UINT64_MAX, 1, BOOTCORE_KIND_USABLE, 0}};
 static bootcore_region many[BOOTCORE_MAX_REGIONS + 1];
-static const bootcore_module one[] = {{{"hello", 5}, {"m", 1}}};
-static const bootcore_module no_file[] = {{{NULL, 5}, {"m", 1}}};
-static const bootcore_module no_line[] = {{{"hello", 5}, {NULL, 1}}};
-static const bootcore_module unreadable[] = {{{"", BOOTCORE_UNREADABLE}, {"m", 1}}};
+static const bootcore_module one[] = {{{"hello", 5}, {"m", 1}, {0, 0}}};
+static const bootcore_module set_module[] = {{{"hello", 5}, {"m", 1}, {0, 1}}};
+static const bootcore_module no_file[] = {{{NULL, 5}, {"m", 1}, {0, 0}}};
+static const bootcore_module no_line[] = {{{"hello", 5}, {NULL, 1}, {0, 0}}};
+static const bootcore_module unreadable[] = {{{"", BOOTCORE_UNREADABLE}, {"m", 1}, {0, 0}}};
 static const bootcore_module none[BOOTCORE_MAX_MODULES + 1];
 
 /* What calls write: `told` is, and `before` is what it is at first. */
@@ -54,7 +55,7 @@ typedef struct call {
 static call right(void) {
     call c;
     memset(&c, 0, sizeof c);
-    c.memory = (bootcore_memory){0, told.memory, SIZE};
+    c.memory = (bootcore_memory){.bytes = told.memory, .length = SIZE};
     c.machine.size = SIZE;
     c.machine.regions = usable;
     c.machine.region_count = 1;
@@ -72,7 +73,8 @@ static call right(void) {
     c.layout.step_room = STEPS;
     c.layout.own = told.own;
     c.layout.own_room = OWN;
-    c.layout.step_count = c.layout.own_length = 9; /* as an older plan has it */
+    c.layout.planned = 1; /* as an older plan has it */
+    c.layout.step_count = c.layout.own_length = 9;
     return c;
 }
 
@@ -129,11 +131,19 @@ static void expect(const char *name, call c, uint32_t loads, uint32_t prepares, 
                (!layout->step_count && !layout->own_length &&
                 (!c.outcome.refusal_room || !memcmp(&layout->refusal, &refusal, sizeof refusal)));
     }
-    bool is_told = status == BOOTCORE_STATUS_REFUSED ||
-                   (status == BOOTCORE_STATUS_SMALL_ROOM && layout->place_room == BOOTCORE_MAX_PLACES);
+    /* a plan that is not made leaves none, and tells its counts for SMALL_ROOM alone */
+    if (status != BOOTCORE_STATUS_DONE) {
+        bool is_counted = status == BOOTCORE_STATUS_SMALL_ROOM;
+        same = same && !layout->planned && !layout->step_count == !is_counted;
+        c.layout.planned = 0;
+        c.layout.step_count = is_counted ? layout->step_count : 0;
+        c.layout.own_length = is_counted ? layout->own_length : 0;
+    } else {
+        same = same && layout->planned == 1;
+    }
     count("plan", name, status, plans,
           same && !memcmp(told.memory, before.memory, SIZE) &&
-              is_kept(status, is_told, layout, &c.layout, sizeof *layout));
+              is_kept(status, status == BOOTCORE_STATUS_REFUSED, layout, &c.layout, sizeof *layout));
 }
 
 #define EACH(loads, prepares, plans, change)        \
@@ -170,9 +180,18 @@ static void try_changes(void) {
     EACH(BOOTCORE_STATUS_NULL, BOOTCORE_STATUS_NULL, BOOTCORE_STATUS_DONE, c.outcome.refusals = NULL);
     PLAN(BOOTCORE_STATUS_NULL, c.layout.steps = NULL);
     PLAN(BOOTCORE_STATUS_NULL, c.layout.own = NULL);
-    ALL(BOOTCORE_STATUS_BAD_RESERVED, c.machine.reserved = 1);
+    ALL(BOOTCORE_STATUS_BAD_RESERVED, c.machine.reserved[0] = 1);
+    ALL(BOOTCORE_STATUS_BAD_RESERVED, c.machine.reserved[3] = (uint64_t)1 << 63);
     ALL(BOOTCORE_STATUS_BAD_RESERVED, c.machine.regions = reserved);
-    ALL(BOOTCORE_STATUS_BAD_RESERVED, c.entry.reserved = 1);
+    ALL(BOOTCORE_STATUS_BAD_RESERVED, c.entry.reserved32 = 1);
+    ALL(BOOTCORE_STATUS_BAD_RESERVED, c.entry.reserved[1] = 1);
+    ALL(BOOTCORE_STATUS_BAD_RESERVED, c.entry.reserved[3] = 1);
+    ALL(BOOTCORE_STATUS_BAD_RESERVED, c.entry.modules = set_module);
+    ALL(BOOTCORE_STATUS_BAD_RESERVED, c.outcome.reserved[2] = c.layout.reserved[2] = 1);
+    LOAD(BOOTCORE_STATUS_BAD_RESERVED, c.memory.reserved = 1);
+    EACH(BOOTCORE_STATUS_BAD_RESERVED, BOOTCORE_STATUS_BAD_RESERVED, BOOTCORE_STATUS_DONE, c.outcome.reserved[0] = 1);
+    PLAN(BOOTCORE_STATUS_BAD_RESERVED, c.layout.reserved[3] = 1);
+    ALL(BOOTCORE_STATUS_REFUSED, c.entry.protocol = BOOTCORE_PROTOCOL_LINUX; c.entry.modules = set_module);
     ALL(BOOTCORE_STATUS_BAD_FILE, c.entry.kernel.length = BOOTCORE_UNREADABLE);
     ALL(BOOTCORE_STATUS_BAD_FILE, c.entry.modules = unreadable);
     ALL(BOOTCORE_STATUS_BAD_FILE, c.entry.protocol = BOOTCORE_PROTOCOL_LINUX; c.entry.initrd = unreadable[0].file);
@@ -184,17 +203,21 @@ static void try_changes(void) {
     ALL(BOOTCORE_STATUS_BAD_SIZE, c.machine.size = UINT64_MAX);
     ALL(BOOTCORE_STATUS_TOO_MANY_REGIONS, c.machine.regions = many;
         c.machine.region_count = BOOTCORE_MAX_REGIONS + 1);
+    ALL(BOOTCORE_STATUS_TOO_MANY_REGIONS, c.machine.regions = many;
+        c.machine.region_count = SIZE_MAX); /* those behind are not looked at */
     ALL(BOOTCORE_STATUS_BAD_REGION, c.machine.regions = high; c.machine.region_count = 2);
     ALL(BOOTCORE_STATUS_BAD_POOL, c.machine.pool_length = 1);
     ALL(BOOTCORE_STATUS_BAD_POOL, c.machine.pool_base = 1);
     ALL(BOOTCORE_STATUS_BAD_POOL, c.machine.pool_base = 4096; c.machine.pool_length = UINT64_MAX);
     LOAD(BOOTCORE_STATUS_BAD_MEMORY, c.memory.length = SIZE - 1);
     LOAD(BOOTCORE_STATUS_BAD_MEMORY, c.memory.address = (uint64_t)1 << 32);
-    LOAD(BOOTCORE_STATUS_OUTSIDE, c.memory = ((bootcore_memory){0x2000, told.memory, SIZE - 0x2000}));
+    LOAD(BOOTCORE_STATUS_OUTSIDE, c.memory = ((bootcore_memory){0x2000, told.memory, SIZE - 0x2000, 0}));
     ALL(BOOTCORE_STATUS_BAD_PROTOCOL, c.entry.protocol = 0);
     ALL(BOOTCORE_STATUS_BAD_PROTOCOL, c.entry.protocol = 4);
-    ALL(BOOTCORE_STATUS_TOO_MANY_ENTRIES, c.entry.modules = none; c.entry.module_count = BOOTCORE_MAX_MODULES + 1);
-    ALL(BOOTCORE_STATUS_TOO_MANY_ENTRIES, c.entry.rsdp_new = ((bootcore_bytes){many, BOOTCORE_MAX_RSDP + 1}));
+    ALL(BOOTCORE_STATUS_TOO_MANY_MODULES, c.entry.modules = none; c.entry.module_count = BOOTCORE_MAX_MODULES + 1);
+    ALL(BOOTCORE_STATUS_TOO_MANY_MODULES, c.entry.modules = none; c.entry.module_count = SIZE_MAX);
+    ALL(BOOTCORE_STATUS_LONG_RSDP, c.entry.rsdp_new = ((bootcore_bytes){many, BOOTCORE_MAX_RSDP + 1}));
+    ALL(BOOTCORE_STATUS_LONG_RSDP, c.entry.rsdp_old = ((bootcore_bytes){many, SIZE_MAX}));
 }
 
 #define NO_POINTER(call) count(#call, "", call, BOOTCORE_STATUS_NULL, true)
@@ -225,9 +248,10 @@ typedef struct carrying {
 static carrying right_carrying(void) {
     call c = right();
     told = before;
-    (void)bootcore_plan(&c.machine, &c.entry, &c.layout);
+    uint32_t status = bootcore_plan(&c.machine, &c.entry, &c.layout);
+    count("plan", "what is carried out", status, BOOTCORE_STATUS_DONE, true);
     return (carrying){c.layout, {c.entry.kernel, one[0].file}, 2,
-                      {{CUT, told.memory + CUT, SIZE - CUT}, {0, told.memory, CUT}}, 2};
+                      {{CUT, told.memory + CUT, SIZE - CUT, 0}, {0, told.memory, CUT, 0}}, 2};
 }
 
 static void carry_out(const char *name, carrying c, uint32_t wanted) {
@@ -244,6 +268,15 @@ static void carry_out(const char *name, carrying c, uint32_t wanted) {
         carry_out(#change, c, wanted); \
     } while (0)
 
+/* Another plan for the layout, which is not made: that of `right` with one thing changed. */
+#define STALE(wanted, change)                                        \
+    do {                                                             \
+        call d = right();                                            \
+        change;                                                      \
+        count("plan", "a later one, " #change,                       \
+              bootcore_plan(&d.machine, &d.entry, &c.layout), wanted, true); \
+    } while (0)
+
 static void try_carrying(void) {
     call c = right();
     told = before;
@@ -251,21 +284,21 @@ static void try_carrying(void) {
     count("load", "what carrying out is compared with", status, BOOTCORE_STATUS_DONE, true);
     memcpy(loaded, told.memory, SIZE);
     carrying cut = right_carrying();
-    cut.pieces[1] = (bootcore_memory){0, told.second, SIZE}; /* of use up to the first piece alone */
+    cut.pieces[1] = (bootcore_memory){0, told.second, SIZE, 0}; /* of use up to the first piece alone */
     status = bootcore_carry_out(&cut.layout, cut.files, 2, cut.pieces, 2);
     count("carry_out", "a piece that an earlier one cuts", status, BOOTCORE_STATUS_DONE,
           !memcmp(told.memory, before.memory, CUT) && !memcmp(told.second, loaded, CUT) &&
               !memcmp(told.memory + CUT, loaded + CUT, SIZE - CUT) &&
               !memcmp(told.second + CUT, before.second + CUT, SIZE - CUT));
     CARRY(BOOTCORE_STATUS_DONE, (void)c);
-    CARRY(BOOTCORE_STATUS_DONE, c.pieces[c.piece_count++] = ((bootcore_memory){0, told.second, SIZE}));
+    CARRY(BOOTCORE_STATUS_DONE, c.pieces[c.piece_count++] = ((bootcore_memory){0, told.second, SIZE, 0}));
     CARRY(BOOTCORE_STATUS_DONE, c.pieces[c.piece_count++] = c.pieces[0];
-          c.pieces[0] = ((bootcore_memory){UINT64_MAX, told.second, SIZE}));
-    CARRY(BOOTCORE_STATUS_DONE, c.pieces[0] = ((bootcore_memory){0x100000, told.memory + 0x100000, 0x3000});
-          c.pieces[1] = ((bootcore_memory){0x1000, told.memory + 0x1000, 0x1000}));
+          c.pieces[0] = ((bootcore_memory){UINT64_MAX, told.second, SIZE, 0}));
+    CARRY(BOOTCORE_STATUS_DONE, c.pieces[0] = ((bootcore_memory){0x100000, told.memory + 0x100000, 0x3000, 0});
+          c.pieces[1] = ((bootcore_memory){0x1000, told.memory + 0x1000, 0x1000, 0}));
     CARRY(BOOTCORE_STATUS_DONE, c.files[1] = ((bootcore_bytes){"hello again", 11})); /* longer than planned */
     CARRY(BOOTCORE_STATUS_OUTSIDE, c.layout.steps[0].address = UINT64_MAX;
-          c.pieces[c.piece_count++] = ((bootcore_memory){UINT64_MAX, told.second, SIZE}));
+          c.pieces[c.piece_count++] = ((bootcore_memory){UINT64_MAX, told.second, SIZE, 0}));
     CARRY(BOOTCORE_STATUS_OUTSIDE, c.pieces[1].length--);
     CARRY(BOOTCORE_STATUS_OUTSIDE, c.piece_count = 1);
     CARRY(BOOTCORE_STATUS_OUTSIDE, c.piece_count = 0);
@@ -277,8 +310,16 @@ static void try_carrying(void) {
     CARRY(BOOTCORE_STATUS_SMALL_ROOM, c.layout.step_room = 0);
     CARRY(BOOTCORE_STATUS_SMALL_ROOM, c.layout.own_room = 0);
     CARRY(BOOTCORE_STATUS_SMALL_ROOM, c.layout.step_count = 0);
-    CARRY(BOOTCORE_STATUS_SMALL_ROOM, call d = right(); d.entry.kernel.length = 9; /* refused */
-          (void)bootcore_plan(&d.machine, &d.entry, &c.layout));
+    CARRY(BOOTCORE_STATUS_SMALL_ROOM, c.layout.planned = 0);
+    CARRY(BOOTCORE_STATUS_BAD_RESERVED, c.layout.reserved[1] = 1);
+    CARRY(BOOTCORE_STATUS_BAD_RESERVED, c.pieces[1].reserved = 1);
+    CARRY(BOOTCORE_STATUS_SMALL_ROOM, STALE(BOOTCORE_STATUS_REFUSED, d.entry.kernel.length = 9));
+    CARRY(BOOTCORE_STATUS_SMALL_ROOM, STALE(BOOTCORE_STATUS_BAD_SIZE, d.machine.size++));
+    CARRY(BOOTCORE_STATUS_SMALL_ROOM, STALE(BOOTCORE_STATUS_NULL, d.entry.line.bytes = NULL));
+    CARRY(BOOTCORE_STATUS_SMALL_ROOM, STALE(BOOTCORE_STATUS_BAD_RESERVED, d.entry.reserved[0] = 1));
+    /* the counts that it tells are within the arrays as they are later */
+    CARRY(BOOTCORE_STATUS_SMALL_ROOM, c.layout.step_room = 1; STALE(BOOTCORE_STATUS_SMALL_ROOM, (void)d);
+          c.layout.step_room = STEPS);
     CARRY(BOOTCORE_STATUS_NULL, c.files[1].bytes = NULL);
     CARRY(BOOTCORE_STATUS_NULL, c.pieces[0].bytes = NULL);
     CARRY(BOOTCORE_STATUS_NULL, c.layout.steps = NULL);

@@ -104,7 +104,7 @@ static int tell(uint32_t status, const bootcore_seen *seen, const bootcore_seen_
 }
 
 int main(int argc, char **argv) {
-    bootcore_seen_arrays arrays = {NULL, 0, NULL, 0, NULL, 0, NULL, 0};
+    bootcore_seen_arrays arrays = {.text = NULL}; /* without any room */
     bootcore_seen seen;
     bootcore_refusal fault;
     size_t length;

@@ -43,7 +43,7 @@ static call right(void) {
               length,
               &told.seen,
               1,
-              {told.parts, ROOM, told.modules, ROOM, told.runs, ROOM, told.text, ROOM},
+              {told.parts, ROOM, told.modules, ROOM, told.runs, ROOM, told.text, ROOM, {0, 0, 0, 0}},
               &told.fault};
     return c;
 }
@@ -62,7 +62,7 @@ static void expect(const char *name, call c, uint32_t wanted) {
         after.seen = all.seen;
     }
     if (wanted == BOOTCORE_STATUS_REFUSED) {
-        after.fault = (bootcore_refusal){0, 75, 0, 0}; /* the bytes end too soon */
+        after.fault = (bootcore_refusal){0, 75, 0, 0, 0}; /* the bytes end too soon */
     }
     if (status != wanted || memcmp(&told, &after, sizeof told)) {
         printf("%s: %" PRIu32 ", not %" PRIu32 "\n", name, status, wanted);

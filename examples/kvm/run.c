@@ -59,6 +59,18 @@ static bool port_answered(unsigned port, bool is_in, uint8_t *bytes, size_t size
     return is_in || port != KEYBOARD_COMMAND || bytes[0] != RESET;
 }
 
+/* Whether the guest goes on after a port's exit, of one access or of several in a row. */
+static bool ports_answered(struct kvm_run *shared) {
+    uint8_t *bytes = (uint8_t *)shared + shared->io.data_offset;
+    bool is_in = shared->io.direction == KVM_EXIT_IO_IN;
+    for (uint32_t i = 0; i < shared->io.count; i++, bytes += shared->io.size) {
+        if (!port_answered(shared->io.port, is_in, bytes, shared->io.size)) {
+            return false;
+        }
+    }
+    return true;
+}
+
 int run_guest(int processor, struct kvm_run *shared) {
     for (;;) {
         if (ioctl(processor, KVM_RUN, 0) < 0) {
@@ -67,14 +79,10 @@ int run_guest(int processor, struct kvm_run *shared) {
             }
             fail(FAILED, "KVM_RUN: %s", strerror(errno));
         }
-        uint8_t *bytes = (uint8_t *)shared + shared->io.data_offset; /* of a port's exit */
-        bool is_in = shared->io.direction == KVM_EXIT_IO_IN;
         switch (shared->exit_reason) {
         case KVM_EXIT_IO:
-            for (uint32_t i = 0; i < shared->io.count; i++, bytes += shared->io.size) {
-                if (!port_answered(shared->io.port, is_in, bytes, shared->io.size)) {
-                    return restarted("the keyboard controller");
-                }
+            if (!ports_answered(shared)) {
+                return restarted("the keyboard controller");
             }
             break;
         case KVM_EXIT_MMIO: /* of no device */

@@ -136,7 +136,8 @@ static uint8_t text[0x50000];
 /* Walks an image, with so many requests granted. */
 static uint32_t walk(const uint8_t *image, size_t length, size_t grants) {
     const bootcore_seen_arrays arrays = {told.parts, BOOTCORE_MAX_PLACES, told.modules, BOOTCORE_MAX_MODULES,
-                                         told.runs,  512,                 text,         sizeof text};
+                                         told.runs,  512,                 text,         sizeof text,
+                                         {0, 0, 0, 0}};
     bootcore_refusal fault;
     uint32_t status;
     memset(&told, 0xA5, sizeof told);
@@ -310,7 +311,7 @@ static void fill_other(void) {
 static void carry_out(const bootcore_layout *layout) {
     size_t count = numbers[SIZE] / FRAME, i;
     bootcore_memory *pieces = calloc(count, sizeof *pieces);
-    bootcore_memory whole = {0, NULL, 0};
+    bootcore_memory whole = {0, NULL, 0, 0};
     if (!pieces) {
         stop("no memory");
     }
@@ -483,7 +484,7 @@ static void compare_session(uint32_t status) {
     static bootcore_refusal booted_refusals[BOOTCORE_MAX_REFUSALS];
     bootcore_outcome booted = outcome, ended;
     bootcore_session session = {NULL};
-    bootcore_memory whole = {0, NULL, 0};
+    bootcore_memory whole = {0, NULL, 0, 0};
     size_t most;
     memcpy(booted_places, places, sizeof places);
     memcpy(booted_refusals, refusals, sizeof refusals);
@@ -673,7 +674,7 @@ static void compare_digests(const bootcore_entry *entry, uint32_t status, const 
         }
     }
     bootcore_digest_free(&digest);
-    if (digest.kept || bootcore_digest_wanted(&digest, &(bootcore_file_range){0, 0, 0})) {
+    if (digest.kept || bootcore_digest_wanted(&digest, &(bootcore_file_range){0, 0, 0, 0})) {
         puts("a digest is kept that was freed");
     }
 }

@@ -11,9 +11,9 @@ int main() {
     std::vector<uint8_t> bytes(0x200000, 0xA5);
     std::vector<bootcore_place> places(BOOTCORE_MAX_PLACES);
     bootcore_region region = {0, 0x200000, BOOTCORE_KIND_USABLE, 0};
-    bootcore_memory memory = {0, &bytes[0], bytes.size()};
+    bootcore_memory memory = {0, &bytes[0], bytes.size(), 0};
     bootcore_machine machine;
-    bootcore_module module = {{"hello", 5}, {"m", 1}};
+    bootcore_module module = {{"hello", 5}, {"m", 1}, {0, 0}};
     bootcore_entry entry;
     bootcore_outcome outcome;
     bootcore_segment segments[6];

@@ -23,19 +23,20 @@ struct Machine {
     pool_length: u64,
     regions: *const Region,
     region_count: usize,
-    reserved: u64,
+    reserved: [u64; 4],
 }
 
 #[repr(C)]
 struct Module {
     file: Bytes,
     line: Bytes,
+    reserved: [u64; 2],
 }
 
 #[repr(C)]
 struct Entry {
     protocol: u32,
-    reserved: u32,
+    reserved32: u32,
     kernel: Bytes,
     line: Bytes,
     initrd: Bytes,
@@ -43,6 +44,7 @@ struct Entry {
     rsdp_new: Bytes,
     modules: *const Module,
     module_count: usize,
+    reserved: [u64; 4],
 }
 
 #[repr(C)]
@@ -50,6 +52,7 @@ struct Memory {
     address: u64,
     bytes: *mut c_void,
     length: usize,
+    reserved: u64,
 }
 
 #[repr(C)]
@@ -67,6 +70,7 @@ struct Registers {
     gdt_base: u64,
     gdt_limit: u64,
     a20: u64,
+    reserved: [u64; 4],
 }
 
 #[repr(C)]
@@ -76,6 +80,7 @@ struct Place {
     index: u32,
     address: u64,
     length: u64,
+    reserved: u64,
 }
 
 #[repr(C)]
@@ -96,6 +101,7 @@ struct Outcome {
     refusal_room: usize,
     handoff: Handoff,
     refusal_count: usize,
+    reserved: [u64; 4],
 }
 
 #[repr(C)]
@@ -106,6 +112,7 @@ struct Segment {
     selector: u16,
     kind: u8,
     flags: [u8; 7],
+    reserved: u16,
 }
 
 #[repr(C)]
@@ -134,12 +141,13 @@ fn main() {
     let mut bytes = vec![0xA5u8; SIZE];
     let mut places = vec![Place::default(); 256];
     let regions = [Region { base: 0, length: SIZE as u64, kind: 1, reserved: 0 }];
-    let memory = Memory { address: 0, bytes: bytes.as_mut_ptr().cast(), length: SIZE };
-    let machine = Machine { size: SIZE as u64, pool_base: 0, pool_length: 0, regions: regions.as_ptr(), region_count: 1, reserved: 0 };
-    let modules = [Module { file: of(b"hello"), line: of(b"m") }];
+    let memory = Memory { address: 0, bytes: bytes.as_mut_ptr().cast(), length: SIZE, reserved: 0 };
+    let machine =
+        Machine { size: SIZE as u64, pool_base: 0, pool_length: 0, regions: regions.as_ptr(), region_count: 1, reserved: [0; 4] };
+    let modules = [Module { file: of(b"hello"), line: of(b"m"), reserved: [0; 2] }];
     let entry = Entry {
         protocol: 1,
-        reserved: 0,
+        reserved32: 0,
         kernel: of(&KERNEL),
         line: of(b"line"),
         initrd: of::<u8>(&[]),
@@ -147,6 +155,7 @@ fn main() {
         rsdp_new: of::<u8>(&[]),
         modules: modules.as_ptr(),
         module_count: 1,
+        reserved: [0; 4],
     };
     let mut outcome = Outcome {
         places: places.as_mut_ptr(),
@@ -155,6 +164,7 @@ fn main() {
         refusal_room: 0,
         handoff: Handoff::default(),
         refusal_count: 0,
+        reserved: [0; 4],
     };
     let mut segments = [Segment::default(); 6];
     let mut session = Session { kept: std::ptr::null_mut() };

@@ -287,7 +287,7 @@ static void check_digests(uint32_t status, const bootcore_outcome *outcome, cons
     bootcore_digests digests;
     bootcore_digest digest = {NULL};
     bootcore_file_range range;
-    bootcore_refusal at_once = {0, 0, 0, 0}, made = {0, 0, 0, 0};
+    bootcore_refusal at_once = {0, 0, 0, 0, 0}, made = {0, 0, 0, 0, 0};
     size_t length, cut = (size_t)take(2);
     if (bootcore_digest_entry(&machine, &entry, &digests, parts, BOOTCORE_MAX_PLACES, &at_once) != status ||
         bootcore_digest_make(&digest, &machine, &entry, &made) != status || memcmp(&at_once, refusal, sizeof at_once) ||
@@ -325,7 +325,9 @@ static void check_walk(const bootcore_outcome *outcome) {
     /* and with a byte changed it ends, whatever it answers */
     if (length) {
         image[(size_t)take(4) % length] ^= (uint8_t)(1 + take(1));
-        (void)bootcore_walk(image, length, &seen, &fault);
+        if (bootcore_walk(image, length, &seen, &fault) > BOOTCORE_STATUS_NO_MEMORY) {
+            found("a walk of changed bytes ends in a misuse");
+        }
     }
 }
 

@@ -57,6 +57,7 @@ static void right(void) {
     memory.address = 0;
     memory.bytes = bytes;
     memory.length = MEMORY;
+    memory.reserved = 0;
     machine.size = MEMORY;
     machine.pool_base = POOL;
     machine.pool_length = MEMORY - POOL;
@@ -87,6 +88,7 @@ static void right(void) {
     outcome.place_room = BOOTCORE_MAX_PLACES;
     outcome.refusals = refusals;
     outcome.refusal_room = BOOTCORE_MAX_REFUSALS;
+    memset(outcome.reserved, 0, sizeof outcome.reserved);
     session = &kept;
     piece = (const uint8_t *)kernel;
     fed = bytes;
@@ -113,6 +115,7 @@ static void right_layout(void) {
     layout.step_room = STEP_ROOM;
     layout.own = own;
     layout.own_room = OWN_ROOM;
+    memset(layout.reserved, 0, sizeof layout.reserved);
 }
 
 /* ---- what is changed */
@@ -134,11 +137,16 @@ static void null_parts(void) { told_parts = NULL; }
 static void null_refusal(void) { told_refusal = NULL; }
 static void null_fed(void) { fed = NULL; }
 static void long_fed(void) { fed_length = sizeof kernel + 1; } /* the first range is the whole kernel */
-static void set_machine(void) { machine.reserved = 1; }
+static void set_memory(void) { memory.reserved = 1; }
+static void set_machine(void) { machine.reserved[3] = 1; }
 static void set_region(void) { regions[2].reserved = 1; }
-static void set_entry(void) { entries[0].reserved = 1; }
-static void set_last_entry(void) { entries[1].reserved = (uint32_t)1 << 31; }
-static void set_menu(void) { menu.reserved = 1; }
+static void set_entry(void) { entries[0].reserved32 = 1; }
+static void set_entry_end(void) { entries[0].reserved[3] = 1; }
+static void set_last_entry(void) { entries[1].reserved32 = (uint32_t)1 << 31; }
+static void set_module(void) { modules[0].reserved[1] = 1; }
+static void set_menu(void) { menu.reserved[0] = 1; }
+static void set_menu_word(void) { menu.reserved32 = 1; }
+static void set_outcome(void) { outcome.reserved[1] = layout.reserved[1] = (uint64_t)1 << 63; }
 static void unreadable_kernel(void) { entries[0].kernel.length = BOOTCORE_UNREADABLE; }
 static void unreadable_module(void) { modules[0].file.length = BOOTCORE_UNREADABLE; }
 static void few_places(void) { outcome.place_room = layout.place_room = BOOTCORE_MAX_PLACES - 1; }
@@ -174,7 +182,7 @@ static void no_kernel(void) { entries[0].kernel.length = entries[1].kernel.lengt
 static void file_too_short(void) { files[0].length--; }
 static void file_too_few(void) { file_count = 0; }
 static void file_unreadable(void) { files[1].length = BOOTCORE_UNREADABLE; }
-static void no_steps(void) { layout.step_count = 0; }
+static void no_plan(void) { layout.planned = 0; }
 static void no_source(void) { steps[0].source = 4; }
 static void wrapped(void) { steps[0].address = UINT64_MAX; }
 static void nothing(void) {}
@@ -185,100 +193,92 @@ typedef struct change {
     uint32_t status; /* that the header gives it, in whose order they stand in a table */
 } change;
 
-#define CHANGE(make, status) {#make, make, status}
+#define CHANGE(make, status) {#make, make, BOOTCORE_STATUS_##status}
 
 static const change of_load[] = {
-    CHANGE(null_memory, BOOTCORE_STATUS_NULL), CHANGE(null_regions, BOOTCORE_STATUS_NULL), CHANGE(null_line, BOOTCORE_STATUS_NULL),
-    CHANGE(null_kernel, BOOTCORE_STATUS_NULL), CHANGE(null_module, BOOTCORE_STATUS_NULL), CHANGE(null_places, BOOTCORE_STATUS_NULL),
-    CHANGE(set_machine, BOOTCORE_STATUS_BAD_RESERVED), CHANGE(set_region, BOOTCORE_STATUS_BAD_RESERVED), CHANGE(set_entry, BOOTCORE_STATUS_BAD_RESERVED),
-    CHANGE(unreadable_kernel, BOOTCORE_STATUS_BAD_FILE), CHANGE(unreadable_module, BOOTCORE_STATUS_BAD_FILE),
-    CHANGE(few_places, BOOTCORE_STATUS_SMALL_ROOM), CHANGE(bad_kind, BOOTCORE_STATUS_BAD_KIND), CHANGE(bad_size, BOOTCORE_STATUS_BAD_SIZE),
-    CHANGE(many_regions, BOOTCORE_STATUS_TOO_MANY_REGIONS), CHANGE(bad_region, BOOTCORE_STATUS_BAD_REGION), CHANGE(bad_pool, BOOTCORE_STATUS_BAD_POOL),
-    CHANGE(short_memory, BOOTCORE_STATUS_BAD_MEMORY), CHANGE(high_memory, BOOTCORE_STATUS_BAD_MEMORY),
-    CHANGE(bad_protocol, BOOTCORE_STATUS_BAD_PROTOCOL), CHANGE(many_modules, BOOTCORE_STATUS_TOO_MANY_ENTRIES), CHANGE(more_modules, BOOTCORE_STATUS_TOO_MANY_ENTRIES),
-    CHANGE(long_rsdp, BOOTCORE_STATUS_TOO_MANY_ENTRIES), CHANGE(no_kernel, BOOTCORE_STATUS_REFUSED), CHANGE(nothing, BOOTCORE_STATUS_DONE)};
+    CHANGE(null_memory, NULL), CHANGE(null_regions, NULL), CHANGE(null_line, NULL), CHANGE(null_kernel, NULL),
+    CHANGE(null_module, NULL), CHANGE(null_places, NULL), CHANGE(set_machine, BAD_RESERVED), CHANGE(set_region, BAD_RESERVED),
+    CHANGE(set_memory, BAD_RESERVED), CHANGE(set_module, BAD_RESERVED), CHANGE(set_entry_end, BAD_RESERVED),
+    CHANGE(set_outcome, BAD_RESERVED), CHANGE(set_entry, BAD_RESERVED), CHANGE(unreadable_kernel, BAD_FILE),
+    CHANGE(unreadable_module, BAD_FILE), CHANGE(few_places, SMALL_ROOM), CHANGE(bad_kind, BAD_KIND), CHANGE(bad_size, BAD_SIZE),
+    CHANGE(many_regions, TOO_MANY_REGIONS), CHANGE(bad_region, BAD_REGION), CHANGE(bad_pool, BAD_POOL),
+    CHANGE(short_memory, BAD_MEMORY), CHANGE(high_memory, BAD_MEMORY), CHANGE(bad_protocol, BAD_PROTOCOL),
+    CHANGE(many_modules, TOO_MANY_MODULES), CHANGE(more_modules, TOO_MANY_MODULES), CHANGE(long_rsdp, LONG_RSDP),
+    CHANGE(no_kernel, REFUSED), CHANGE(nothing, DONE)};
 /* the same, but for memory and bytes beside the kernel's, which are not looked at; the room for steps is looked at last */
 static const change of_plan[] = {
-    CHANGE(null_regions, BOOTCORE_STATUS_NULL), CHANGE(null_line, BOOTCORE_STATUS_NULL), CHANGE(null_kernel, BOOTCORE_STATUS_NULL),
-    CHANGE(null_places, BOOTCORE_STATUS_NULL), CHANGE(null_own, BOOTCORE_STATUS_NULL), CHANGE(set_machine, BOOTCORE_STATUS_BAD_RESERVED),
-    CHANGE(set_region, BOOTCORE_STATUS_BAD_RESERVED), CHANGE(set_entry, BOOTCORE_STATUS_BAD_RESERVED),
-    CHANGE(unreadable_kernel, BOOTCORE_STATUS_BAD_FILE), CHANGE(unreadable_module, BOOTCORE_STATUS_BAD_FILE),
-    CHANGE(few_places, BOOTCORE_STATUS_SMALL_ROOM), CHANGE(bad_kind, BOOTCORE_STATUS_BAD_KIND), CHANGE(bad_size, BOOTCORE_STATUS_BAD_SIZE),
-    CHANGE(many_regions, BOOTCORE_STATUS_TOO_MANY_REGIONS), CHANGE(bad_region, BOOTCORE_STATUS_BAD_REGION), CHANGE(bad_pool, BOOTCORE_STATUS_BAD_POOL),
-    CHANGE(bad_protocol, BOOTCORE_STATUS_BAD_PROTOCOL), CHANGE(many_modules, BOOTCORE_STATUS_TOO_MANY_ENTRIES), CHANGE(more_modules, BOOTCORE_STATUS_TOO_MANY_ENTRIES),
-    CHANGE(long_rsdp, BOOTCORE_STATUS_TOO_MANY_ENTRIES), CHANGE(no_kernel, BOOTCORE_STATUS_REFUSED), CHANGE(few_steps, BOOTCORE_STATUS_SMALL_ROOM),
-    CHANGE(few_bytes, BOOTCORE_STATUS_SMALL_ROOM), CHANGE(nothing, BOOTCORE_STATUS_DONE)};
+    CHANGE(null_regions, NULL), CHANGE(null_line, NULL), CHANGE(null_kernel, NULL), CHANGE(null_places, NULL), CHANGE(null_own, NULL),
+    CHANGE(set_machine, BAD_RESERVED), CHANGE(set_region, BAD_RESERVED), CHANGE(set_module, BAD_RESERVED),
+    CHANGE(set_entry_end, BAD_RESERVED), CHANGE(set_outcome, BAD_RESERVED), CHANGE(set_entry, BAD_RESERVED),
+    CHANGE(unreadable_kernel, BAD_FILE), CHANGE(unreadable_module, BAD_FILE), CHANGE(few_places, SMALL_ROOM),
+    CHANGE(bad_kind, BAD_KIND), CHANGE(bad_size, BAD_SIZE), CHANGE(many_regions, TOO_MANY_REGIONS), CHANGE(bad_region, BAD_REGION),
+    CHANGE(bad_pool, BAD_POOL), CHANGE(bad_protocol, BAD_PROTOCOL), CHANGE(many_modules, TOO_MANY_MODULES),
+    CHANGE(more_modules, TOO_MANY_MODULES), CHANGE(long_rsdp, LONG_RSDP), CHANGE(no_kernel, REFUSED), CHANGE(few_steps, SMALL_ROOM),
+    CHANGE(few_bytes, SMALL_ROOM), CHANGE(nothing, DONE)};
 static const change of_boot[] = {
-    CHANGE(null_memory, BOOTCORE_STATUS_NULL), CHANGE(null_regions, BOOTCORE_STATUS_NULL), CHANGE(null_entries, BOOTCORE_STATUS_NULL),
-    CHANGE(null_line, BOOTCORE_STATUS_NULL), CHANGE(null_kernel, BOOTCORE_STATUS_NULL), CHANGE(null_module, BOOTCORE_STATUS_NULL),
-    CHANGE(null_places, BOOTCORE_STATUS_NULL), CHANGE(set_machine, BOOTCORE_STATUS_BAD_RESERVED), CHANGE(set_region, BOOTCORE_STATUS_BAD_RESERVED),
-    CHANGE(set_menu, BOOTCORE_STATUS_BAD_RESERVED), CHANGE(set_last_entry, BOOTCORE_STATUS_BAD_RESERVED),
-    CHANGE(few_places, BOOTCORE_STATUS_SMALL_ROOM), CHANGE(bad_kind, BOOTCORE_STATUS_BAD_KIND), CHANGE(bad_size, BOOTCORE_STATUS_BAD_SIZE),
-    CHANGE(many_regions, BOOTCORE_STATUS_TOO_MANY_REGIONS), CHANGE(bad_region, BOOTCORE_STATUS_BAD_REGION), CHANGE(bad_pool, BOOTCORE_STATUS_BAD_POOL),
-    CHANGE(short_memory, BOOTCORE_STATUS_BAD_MEMORY), CHANGE(high_memory, BOOTCORE_STATUS_BAD_MEMORY),
-    CHANGE(bad_protocol, BOOTCORE_STATUS_BAD_PROTOCOL), CHANGE(bad_last_protocol, BOOTCORE_STATUS_BAD_PROTOCOL),
-    CHANGE(many_modules, BOOTCORE_STATUS_TOO_MANY_ENTRIES), CHANGE(more_modules, BOOTCORE_STATUS_TOO_MANY_ENTRIES), CHANGE(long_rsdp, BOOTCORE_STATUS_TOO_MANY_ENTRIES),
-    CHANGE(many_entries, BOOTCORE_STATUS_TOO_MANY_ENTRIES), CHANGE(bad_first, BOOTCORE_STATUS_BAD_INDEX), CHANGE(bad_fallback, BOOTCORE_STATUS_BAD_INDEX),
-    CHANGE(low_pool, BOOTCORE_STATUS_LOW_POOL), CHANGE(no_kernel, BOOTCORE_STATUS_REFUSED), CHANGE(unreadable_kernel, BOOTCORE_STATUS_DONE),
-    CHANGE(nothing, BOOTCORE_STATUS_DONE)};
+    CHANGE(null_memory, NULL), CHANGE(null_regions, NULL), CHANGE(null_entries, NULL), CHANGE(null_line, NULL),
+    CHANGE(null_kernel, NULL), CHANGE(null_module, NULL), CHANGE(null_places, NULL), CHANGE(set_machine, BAD_RESERVED),
+    CHANGE(set_region, BAD_RESERVED), CHANGE(set_memory, BAD_RESERVED), CHANGE(set_module, BAD_RESERVED),
+    CHANGE(set_entry_end, BAD_RESERVED), CHANGE(set_menu_word, BAD_RESERVED), CHANGE(set_outcome, BAD_RESERVED),
+    CHANGE(set_menu, BAD_RESERVED), CHANGE(set_last_entry, BAD_RESERVED), CHANGE(few_places, SMALL_ROOM), CHANGE(bad_kind, BAD_KIND),
+    CHANGE(bad_size, BAD_SIZE), CHANGE(many_regions, TOO_MANY_REGIONS), CHANGE(bad_region, BAD_REGION), CHANGE(bad_pool, BAD_POOL),
+    CHANGE(short_memory, BAD_MEMORY), CHANGE(high_memory, BAD_MEMORY), CHANGE(bad_protocol, BAD_PROTOCOL),
+    CHANGE(bad_last_protocol, BAD_PROTOCOL), CHANGE(many_entries, TOO_MANY_ENTRIES), CHANGE(many_modules, TOO_MANY_MODULES),
+    CHANGE(more_modules, TOO_MANY_MODULES), CHANGE(long_rsdp, LONG_RSDP), CHANGE(bad_first, BAD_INDEX), CHANGE(bad_fallback, BAD_INDEX),
+    CHANGE(low_pool, LOW_POOL), CHANGE(no_kernel, REFUSED), CHANGE(unreadable_kernel, DONE), CHANGE(nothing, DONE)};
 static const change of_make[] = {
-    CHANGE(null_session, BOOTCORE_STATUS_NULL), CHANGE(null_regions, BOOTCORE_STATUS_NULL), CHANGE(null_entries, BOOTCORE_STATUS_NULL),
-    CHANGE(null_line, BOOTCORE_STATUS_NULL), CHANGE(set_machine, BOOTCORE_STATUS_BAD_RESERVED), CHANGE(set_region, BOOTCORE_STATUS_BAD_RESERVED),
-    CHANGE(set_menu, BOOTCORE_STATUS_BAD_RESERVED), CHANGE(set_last_entry, BOOTCORE_STATUS_BAD_RESERVED), CHANGE(bad_kind, BOOTCORE_STATUS_BAD_KIND),
-    CHANGE(bad_size, BOOTCORE_STATUS_BAD_SIZE), CHANGE(many_regions, BOOTCORE_STATUS_TOO_MANY_REGIONS), CHANGE(bad_region, BOOTCORE_STATUS_BAD_REGION),
-    CHANGE(bad_pool, BOOTCORE_STATUS_BAD_POOL), CHANGE(bad_protocol, BOOTCORE_STATUS_BAD_PROTOCOL),
-    CHANGE(bad_last_protocol, BOOTCORE_STATUS_BAD_PROTOCOL), CHANGE(many_modules, BOOTCORE_STATUS_TOO_MANY_ENTRIES),
-    CHANGE(more_modules, BOOTCORE_STATUS_TOO_MANY_ENTRIES), CHANGE(long_rsdp, BOOTCORE_STATUS_TOO_MANY_ENTRIES), CHANGE(many_entries, BOOTCORE_STATUS_TOO_MANY_ENTRIES),
-    CHANGE(bad_first, BOOTCORE_STATUS_BAD_INDEX), CHANGE(bad_fallback, BOOTCORE_STATUS_BAD_INDEX), CHANGE(null_kernel, BOOTCORE_STATUS_DONE),
-    CHANGE(null_module, BOOTCORE_STATUS_DONE), CHANGE(unreadable_kernel, BOOTCORE_STATUS_DONE), CHANGE(nothing, BOOTCORE_STATUS_DONE)};
+    CHANGE(null_session, NULL), CHANGE(null_regions, NULL), CHANGE(null_entries, NULL), CHANGE(null_line, NULL),
+    CHANGE(set_machine, BAD_RESERVED), CHANGE(set_region, BAD_RESERVED), CHANGE(set_module, BAD_RESERVED),
+    CHANGE(set_menu_word, BAD_RESERVED), CHANGE(set_menu, BAD_RESERVED), CHANGE(set_last_entry, BAD_RESERVED),
+    CHANGE(bad_kind, BAD_KIND), CHANGE(bad_size, BAD_SIZE), CHANGE(many_regions, TOO_MANY_REGIONS), CHANGE(bad_region, BAD_REGION),
+    CHANGE(bad_pool, BAD_POOL), CHANGE(bad_protocol, BAD_PROTOCOL), CHANGE(bad_last_protocol, BAD_PROTOCOL),
+    CHANGE(many_entries, TOO_MANY_ENTRIES), CHANGE(many_modules, TOO_MANY_MODULES), CHANGE(more_modules, TOO_MANY_MODULES),
+    CHANGE(long_rsdp, LONG_RSDP), CHANGE(bad_first, BAD_INDEX), CHANGE(bad_fallback, BAD_INDEX), CHANGE(null_kernel, DONE),
+    CHANGE(null_module, DONE), CHANGE(unreadable_kernel, DONE), CHANGE(nothing, DONE)};
 /* a struct that keeps no session */
-static const change of_none[] = {CHANGE(null_session, BOOTCORE_STATUS_NULL), CHANGE(null_memory, BOOTCORE_STATUS_NULL),
-                                 CHANGE(high_memory, BOOTCORE_STATUS_BAD_MEMORY), CHANGE(short_memory, BOOTCORE_STATUS_NO_SESSION),
-                                 CHANGE(nothing, BOOTCORE_STATUS_NO_SESSION)};
-static const change of_start[] = {CHANGE(null_session, BOOTCORE_STATUS_NULL), CHANGE(null_memory, BOOTCORE_STATUS_NULL),
-                                  CHANGE(high_memory, BOOTCORE_STATUS_BAD_MEMORY), CHANGE(short_memory, BOOTCORE_STATUS_BAD_MEMORY),
-                                  CHANGE(nothing, BOOTCORE_STATUS_WAITING)};
-static const change of_pieces[] = {CHANGE(null_session, BOOTCORE_STATUS_NULL), CHANGE(null_memory, BOOTCORE_STATUS_NULL),
-                                   CHANGE(null_piece, BOOTCORE_STATUS_NULL), CHANGE(high_memory, BOOTCORE_STATUS_BAD_MEMORY),
-                                   CHANGE(short_memory, BOOTCORE_STATUS_BAD_MEMORY), CHANGE(nothing, BOOTCORE_STATUS_WAITING)};
-static const change of_outcome[] = {CHANGE(null_session, BOOTCORE_STATUS_NULL), CHANGE(null_places, BOOTCORE_STATUS_NULL),
-                                    CHANGE(few_places, BOOTCORE_STATUS_SMALL_ROOM), CHANGE(nothing, BOOTCORE_STATUS_NO_SESSION)};
-static const change of_carrying[] = {CHANGE(null_memory, BOOTCORE_STATUS_NULL), CHANGE(null_files, BOOTCORE_STATUS_NULL),
-                                     CHANGE(null_own, BOOTCORE_STATUS_NULL), CHANGE(file_unreadable, BOOTCORE_STATUS_BAD_FILE),
-                                     CHANGE(few_steps, BOOTCORE_STATUS_SMALL_ROOM), CHANGE(few_bytes, BOOTCORE_STATUS_SMALL_ROOM),
-                                     CHANGE(no_steps, BOOTCORE_STATUS_SMALL_ROOM),
-                                     CHANGE(file_too_short, BOOTCORE_STATUS_BAD_FILE), CHANGE(file_too_few, BOOTCORE_STATUS_BAD_FILE),
-                                     CHANGE(no_source, BOOTCORE_STATUS_BAD_FILE), CHANGE(high_memory, BOOTCORE_STATUS_OUTSIDE),
-                                     CHANGE(wrapped, BOOTCORE_STATUS_OUTSIDE), CHANGE(nothing, BOOTCORE_STATUS_DONE)};
+static const change of_none[] = {
+    CHANGE(null_session, NULL), CHANGE(null_memory, NULL), CHANGE(set_memory, BAD_RESERVED), CHANGE(high_memory, BAD_MEMORY),
+    CHANGE(short_memory, NO_SESSION), CHANGE(nothing, NO_SESSION)};
+static const change of_start[] = {
+    CHANGE(null_session, NULL), CHANGE(null_memory, NULL), CHANGE(set_memory, BAD_RESERVED), CHANGE(high_memory, BAD_MEMORY),
+    CHANGE(short_memory, BAD_MEMORY), CHANGE(nothing, WAITING)};
+static const change of_pieces[] = {
+    CHANGE(null_session, NULL), CHANGE(null_memory, NULL), CHANGE(null_piece, NULL), CHANGE(set_memory, BAD_RESERVED),
+    CHANGE(high_memory, BAD_MEMORY), CHANGE(short_memory, BAD_MEMORY), CHANGE(nothing, WAITING)};
+static const change of_outcome[] = {
+    CHANGE(null_session, NULL), CHANGE(null_places, NULL), CHANGE(set_outcome, BAD_RESERVED), CHANGE(few_places, SMALL_ROOM),
+    CHANGE(nothing, NO_SESSION)};
+static const change of_carrying[] = {
+    CHANGE(null_memory, NULL), CHANGE(null_files, NULL), CHANGE(null_own, NULL), CHANGE(set_memory, BAD_RESERVED),
+    CHANGE(set_outcome, BAD_RESERVED), CHANGE(file_unreadable, BAD_FILE), CHANGE(few_steps, SMALL_ROOM), CHANGE(few_bytes, SMALL_ROOM),
+    CHANGE(no_plan, SMALL_ROOM), CHANGE(file_too_short, BAD_FILE), CHANGE(file_too_few, BAD_FILE), CHANGE(no_source, BAD_FILE),
+    CHANGE(high_memory, OUTSIDE), CHANGE(wrapped, OUTSIDE), CHANGE(nothing, DONE)};
 /* a digest is made as a plan is, and tells no steps; at once it reads all files, as a load does */
 static const change of_digest_make[] = {
-    CHANGE(null_digest, BOOTCORE_STATUS_NULL), CHANGE(null_regions, BOOTCORE_STATUS_NULL), CHANGE(null_line, BOOTCORE_STATUS_NULL),
-    CHANGE(null_kernel, BOOTCORE_STATUS_NULL), CHANGE(null_refusal, BOOTCORE_STATUS_NULL), CHANGE(set_machine, BOOTCORE_STATUS_BAD_RESERVED),
-    CHANGE(set_region, BOOTCORE_STATUS_BAD_RESERVED), CHANGE(set_entry, BOOTCORE_STATUS_BAD_RESERVED),
-    CHANGE(unreadable_kernel, BOOTCORE_STATUS_BAD_FILE), CHANGE(unreadable_module, BOOTCORE_STATUS_BAD_FILE),
-    CHANGE(bad_kind, BOOTCORE_STATUS_BAD_KIND), CHANGE(bad_size, BOOTCORE_STATUS_BAD_SIZE),
-    CHANGE(many_regions, BOOTCORE_STATUS_TOO_MANY_REGIONS), CHANGE(bad_region, BOOTCORE_STATUS_BAD_REGION), CHANGE(bad_pool, BOOTCORE_STATUS_BAD_POOL),
-    CHANGE(bad_protocol, BOOTCORE_STATUS_BAD_PROTOCOL), CHANGE(many_modules, BOOTCORE_STATUS_TOO_MANY_ENTRIES), CHANGE(more_modules, BOOTCORE_STATUS_TOO_MANY_ENTRIES),
-    CHANGE(long_rsdp, BOOTCORE_STATUS_TOO_MANY_ENTRIES), CHANGE(no_kernel, BOOTCORE_STATUS_REFUSED), CHANGE(null_module, BOOTCORE_STATUS_DONE),
-    CHANGE(nothing, BOOTCORE_STATUS_DONE)};
+    CHANGE(null_digest, NULL), CHANGE(null_regions, NULL), CHANGE(null_line, NULL), CHANGE(null_kernel, NULL),
+    CHANGE(null_refusal, NULL), CHANGE(set_machine, BAD_RESERVED), CHANGE(set_region, BAD_RESERVED), CHANGE(set_module, BAD_RESERVED),
+    CHANGE(set_entry, BAD_RESERVED), CHANGE(unreadable_kernel, BAD_FILE), CHANGE(unreadable_module, BAD_FILE),
+    CHANGE(bad_kind, BAD_KIND), CHANGE(bad_size, BAD_SIZE), CHANGE(many_regions, TOO_MANY_REGIONS), CHANGE(bad_region, BAD_REGION),
+    CHANGE(bad_pool, BAD_POOL), CHANGE(bad_protocol, BAD_PROTOCOL), CHANGE(many_modules, TOO_MANY_MODULES),
+    CHANGE(more_modules, TOO_MANY_MODULES), CHANGE(long_rsdp, LONG_RSDP), CHANGE(no_kernel, REFUSED), CHANGE(null_module, DONE),
+    CHANGE(nothing, DONE)};
 static const change of_digest_entry[] = {
-    CHANGE(null_regions, BOOTCORE_STATUS_NULL), CHANGE(null_line, BOOTCORE_STATUS_NULL), CHANGE(null_kernel, BOOTCORE_STATUS_NULL),
-    CHANGE(null_module, BOOTCORE_STATUS_NULL), CHANGE(null_digests, BOOTCORE_STATUS_NULL), CHANGE(null_parts, BOOTCORE_STATUS_NULL),
-    CHANGE(null_refusal, BOOTCORE_STATUS_NULL), CHANGE(set_machine, BOOTCORE_STATUS_BAD_RESERVED), CHANGE(set_region, BOOTCORE_STATUS_BAD_RESERVED),
-    CHANGE(set_entry, BOOTCORE_STATUS_BAD_RESERVED), CHANGE(unreadable_kernel, BOOTCORE_STATUS_BAD_FILE),
-    CHANGE(unreadable_module, BOOTCORE_STATUS_BAD_FILE), CHANGE(bad_kind, BOOTCORE_STATUS_BAD_KIND), CHANGE(bad_size, BOOTCORE_STATUS_BAD_SIZE),
-    CHANGE(many_regions, BOOTCORE_STATUS_TOO_MANY_REGIONS), CHANGE(bad_region, BOOTCORE_STATUS_BAD_REGION), CHANGE(bad_pool, BOOTCORE_STATUS_BAD_POOL),
-    CHANGE(bad_protocol, BOOTCORE_STATUS_BAD_PROTOCOL), CHANGE(many_modules, BOOTCORE_STATUS_TOO_MANY_ENTRIES), CHANGE(more_modules, BOOTCORE_STATUS_TOO_MANY_ENTRIES),
-    CHANGE(long_rsdp, BOOTCORE_STATUS_TOO_MANY_ENTRIES), CHANGE(no_kernel, BOOTCORE_STATUS_REFUSED), CHANGE(nothing, BOOTCORE_STATUS_DONE)};
+    CHANGE(null_regions, NULL), CHANGE(null_line, NULL), CHANGE(null_kernel, NULL), CHANGE(null_module, NULL),
+    CHANGE(null_digests, NULL), CHANGE(null_parts, NULL), CHANGE(null_refusal, NULL), CHANGE(set_machine, BAD_RESERVED),
+    CHANGE(set_region, BAD_RESERVED), CHANGE(set_module, BAD_RESERVED), CHANGE(set_entry, BAD_RESERVED),
+    CHANGE(unreadable_kernel, BAD_FILE), CHANGE(unreadable_module, BAD_FILE), CHANGE(bad_kind, BAD_KIND), CHANGE(bad_size, BAD_SIZE),
+    CHANGE(many_regions, TOO_MANY_REGIONS), CHANGE(bad_region, BAD_REGION), CHANGE(bad_pool, BAD_POOL),
+    CHANGE(bad_protocol, BAD_PROTOCOL), CHANGE(many_modules, TOO_MANY_MODULES), CHANGE(more_modules, TOO_MANY_MODULES),
+    CHANGE(long_rsdp, LONG_RSDP), CHANGE(no_kernel, REFUSED), CHANGE(nothing, DONE)};
 /* a struct that keeps no digest, and one that does */
-static const change of_no_feed[] = {CHANGE(null_digest, BOOTCORE_STATUS_NULL), CHANGE(null_fed, BOOTCORE_STATUS_NULL),
-                                    CHANGE(long_fed, BOOTCORE_STATUS_NO_SESSION), CHANGE(nothing, BOOTCORE_STATUS_NO_SESSION)};
-static const change of_no_digest[] = {CHANGE(null_digest, BOOTCORE_STATUS_NULL), CHANGE(null_digests, BOOTCORE_STATUS_NULL),
-                                      CHANGE(null_parts, BOOTCORE_STATUS_NULL), CHANGE(nothing, BOOTCORE_STATUS_NO_SESSION)};
-static const change of_feed[] = {CHANGE(null_digest, BOOTCORE_STATUS_NULL), CHANGE(null_fed, BOOTCORE_STATUS_NULL),
-                                 CHANGE(long_fed, BOOTCORE_STATUS_UNWANTED)};
-static const change of_told[] = {CHANGE(null_digest, BOOTCORE_STATUS_NULL), CHANGE(null_digests, BOOTCORE_STATUS_NULL),
-                                 CHANGE(null_parts, BOOTCORE_STATUS_NULL), CHANGE(nothing, BOOTCORE_STATUS_WAITING)};
+static const change of_no_feed[] = {
+    CHANGE(null_digest, NULL), CHANGE(null_fed, NULL), CHANGE(long_fed, NO_SESSION), CHANGE(nothing, NO_SESSION)};
+static const change of_no_digest[] = {
+    CHANGE(null_digest, NULL), CHANGE(null_digests, NULL), CHANGE(null_parts, NULL), CHANGE(nothing, NO_SESSION)};
+static const change of_feed[] = {
+    CHANGE(null_digest, NULL), CHANGE(null_fed, NULL), CHANGE(long_fed, UNWANTED)};
+static const change of_told[] = {
+    CHANGE(null_digest, NULL), CHANGE(null_digests, NULL), CHANGE(null_parts, NULL), CHANGE(nothing, WAITING)};
 
 /* ---- the calls */
 
@@ -303,10 +303,13 @@ static uint32_t digest_told(void) { return bootcore_digest_told(digest, told_dig
 
 static int tried, wrong;
 
-/* Whether a misuse has changed nothing; a plan without enough room for steps tells how much it wants. */
-static bool is_kept(void) {
-    layout_before.step_count = layout.step_count;
-    layout_before.own_length = layout.own_length;
+/* Whether a misuse has changed nothing, but that the layout of a plan holds none then; without enough room it tells what it wants. */
+static bool is_kept(uint32_t (*call)(void), uint32_t status) {
+    if (call == plan) {
+        layout_before.planned = 0;
+        layout_before.step_count = status == BOOTCORE_STATUS_SMALL_ROOM ? layout.step_count : 0;
+        layout_before.own_length = status == BOOTCORE_STATUS_SMALL_ROOM ? layout.own_length : 0;
+    }
     return !memcmp(bytes, bytes_before, MEMORY) && !memcmp(places, places_before, sizeof places) &&
            !memcmp(refusals, refusals_before, sizeof refusals) && !memcmp(&outcome, &outcome_before, sizeof outcome) &&
            !memcmp(&layout, &layout_before, sizeof layout) && !memcmp(&digests, &digests_before, sizeof digests) &&
@@ -323,7 +326,7 @@ static bool are(const change *one, const change *two, changing *first, changing 
 static bool can_be_both(const change *one, const change *two) {
     return !are(one, two, null_kernel, unreadable_kernel) && !are(one, two, null_module, unreadable_module) &&
            !are(one, two, null_module, bad_protocol) && !are(one, two, unreadable_module, bad_protocol) &&
-           !are(one, two, null_files, file_too_few);
+           !are(one, two, null_files, file_too_few) && !are(one, two, set_module, bad_protocol);
 }
 
 static void try_two(const char *call_name, uint32_t (*call)(void), const change *one, const change *two) {
@@ -332,7 +335,9 @@ static void try_two(const char *call_name, uint32_t (*call)(void), const change 
     right();
     if (call == carry_out) {
         right_layout();
-        (void)bootcore_plan(&machine, entries, &layout);
+        if (plan() != BOOTCORE_STATUS_DONE) {
+            puts("no plan is made");
+        }
         memset(places, 0xA5, sizeof places);
     } else {
         right_layout();
@@ -343,7 +348,7 @@ static void try_two(const char *call_name, uint32_t (*call)(void), const change 
     layout_before = layout;
     kept_before = kept_digest;
     status = call();
-    holds = one->status < BOOTCORE_STATUS_NULL || is_kept();
+    holds = one->status < BOOTCORE_STATUS_NULL || is_kept(call, status);
     if (status != one->status || !holds) {
         printf("%s, %s and %s: %" PRIu32 ", not %" PRIu32 "%s\n", call_name, one->name, two->name, status, one->status,
                holds ? "" : ", and something is told");
@@ -375,7 +380,8 @@ static void try_preparations(void) {
             const change *both[2];
             both[0] = &of_load[i];
             both[1] = &of_load[k];
-            if (both[0]->make == null_memory || both[0]->status == BOOTCORE_STATUS_BAD_MEMORY || both[0]->make == null_module ||
+            if (both[0]->make == null_memory || both[0]->make == set_memory || both[0]->make == null_module ||
+                both[0]->status == BOOTCORE_STATUS_BAD_MEMORY ||
                 both[0]->status == both[1]->status || !can_be_both(both[0], both[1])) {
                 continue;
             }

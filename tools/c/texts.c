@@ -23,7 +23,7 @@ static int cuts_rightly(const bootcore_refusal *refusal, const char *whole, size
 }
 
 int main(void) {
-    bootcore_refusal refusal = {0, 0, 0, 0};
+    bootcore_refusal refusal = {0, 0, 0, 0, 0};
     if (bootcore_version() != BOOTCORE_VERSION || bootcore_refusal_line(NULL, NULL, 0)) return 1;
     while (scanf("%" SCNu32 " %" SCNu64 " %" SCNu64, &refusal.number, &refusal.first, &refusal.second) == 3) {
         char whole[ROOM];
