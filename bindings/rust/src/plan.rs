@@ -68,6 +68,7 @@ pub struct Step<'p> {
 ///         Source::File { file, offset } => println!("{:x}: file {} from {}", step.address, file, offset),
 ///         Source::Own(bytes) => println!("{:x}: {} bytes", step.address, bytes.len()),
 ///         Source::Zeros => println!("{:x}: {} zeros", step.address, step.length),
+///         other => return Err(format!("no bytes of {:?}", other).into()),
 ///     }
 /// }
 /// println!("entered at {:x}", plan.registers().rip);
