@@ -19,7 +19,8 @@ use Rattle.bl_image.specs.declared.version.Version.TheVariants.{One, Two}
 use Rattle.bl_image.specs.Image.{magic, head, spelled_registers}
 use Rattle.bl_image.specs.Fields.{fields_fault}
 use Rattle.bl_image.specs.Fields.{count_field, zero_field}
-use Rattle.bl_image.specs.ImageFaults.{head_fault, image_fault, parts_fault, no_records}
+use Rattle.bl_image.specs.ImageFaults.{FaultBehind, fault_with, head_fault, image_fault}
+use Rattle.bl_image.specs.ImageFaults.{records_fault, parts_behind, no_records}
 use Rattle.bl_image.specs.Layouts.{Layout, layout, layout_of, max_role}
 use Rattle.bl_image.specs.SourceFacts.{SourceFacts, IsInputFault}
 use Rattle.bl_image.specs.Spellable.{AreRegistersOf}
@@ -136,34 +137,47 @@ behind_head Two p (Bits32 r) count x has width =
 behind_head Two p (Bits64 r) count x has width =
     ap (λ (at : ℕ). drop at (head Two p (Bits64 r) count ++ x)) (recorded_at p)
 
-front_by : (bytes x : List ℕ) (count : ℕ) → head_fault bytes ≡ None
+front_by : (behind : FaultBehind) (bytes x : List ℕ) (count : ℕ) → head_fault bytes ≡ None
     → u32_at bytes (layout_of bytes).count_at ≡ count
     → drop (layout_of bytes).records_at bytes ≡ x
-    → image_fault bytes ≡ parts_fault (layout_of bytes).max_role count no_records x
-unfolding image_fault
-front_by bytes x count sound stands behind = rw (sound, stands, behind) refl
+    → fault_with behind bytes ≡ records_fault behind (layout_of bytes).max_role count no_records x
+front_by behind bytes x count sound stands is = rw (sound, stands, is) refl
 
--- so it leaves the parts to be judged
-pub head_front : (v : Version) (p : Protocol) (r : Registers) (count : ℕ) (x : List ℕ)
-    → HasProtocol v p → AreRegistersOf p r → count ≤ 256
-    → image_fault (head v p r count ++ x) ≡ parts_fault (max_role (is_wide p)) count no_records x
-head_front v p r count x has fit few =
+-- so it leaves the records to be judged
+pub head_leaves : (behind : FaultBehind) (v : Version) (p : Protocol) (r : Registers) (count : ℕ)
+    (x : List ℕ) → HasProtocol v p → AreRegistersOf p r → count ≤ 256
+    → fault_with behind (head v p r count ++ x)
+    ≡ records_fault behind (max_role (is_wide p)) count no_records x
+head_leaves behind v p r count x has fit few =
     let bytes = head v p r count ++ x in
     let is = layout_told v p r count x in
-    front_by bytes x count (head_passes v p r count x has fit few)
+    front_by behind bytes x count (head_passes v p r count x has fit few)
     (ap (λ (l : Layout). u32_at bytes l.count_at) is
     ∙ count_stands v p r count x has fit.0 (omega arith))
     (ap (λ (l : Layout). drop l.records_at bytes) is ∙ behind_head v p r count x has fit.0)
-    ∙ ap (λ (n : ℕ). parts_fault n count no_records x)
+    ∙ ap (λ (n : ℕ). records_fault behind n count no_records x)
     (ap (λ (l : Layout). l.max_role) is ∙ max_role_told v p has)
 
--- a fault of the head is the image's
+pub head_front : (v : Version) (p : Protocol) (r : Registers) (count : ℕ) (x : List ℕ)
+    → HasProtocol v p → AreRegistersOf p r → count ≤ 256
+    → image_fault (head v p r count ++ x)
+    ≡ records_fault parts_behind (max_role (is_wide p)) count no_records x
+unfolding image_fault
+head_front v p r count x has fit few = head_leaves parts_behind v p r count x has fit few
+
+-- a fault of the head is that of the whole
+pub head_shows : (behind : FaultBehind) (old new : SourceFacts) (fault : ImageFault)
+    → IsInputFault head_fault old new fault
+    → IsInputFault (fault_with behind) old new fault
+head_shows behind old new fault s =
+    first_refuses head_fault
+    (λ bytes.
+    records_fault behind (layout_of bytes).max_role (u32_at bytes (layout_of bytes).count_at)
+    no_records (drop (layout_of bytes).records_at bytes)) old new fault s
+
+-- so it is the image's
 pub head_refuses : (old new : SourceFacts) (fault : ImageFault)
     → IsInputFault head_fault old new fault
     → IsInputFault image_fault old new fault
 unfolding image_fault
-head_refuses old new fault s =
-    first_refuses head_fault
-    (λ bytes.
-    parts_fault (layout_of bytes).max_role (u32_at bytes (layout_of bytes).count_at) no_records
-    (drop (layout_of bytes).records_at bytes)) old new fault s
+head_refuses old new fault s = head_shows parts_behind old new fault s

@@ -20,7 +20,8 @@ use Rattle.bl_image.specs.declared.fault.ImageFault.TheVariants.{BadPart, WrongL
 use Rattle.bl_image.specs.declared.fault.ImageFault.TheVariants.{NoMemory}
 use Rattle.bl_image.specs.declared.version.Version.{Version}
 use Rattle.bl_image.specs.Image.{part_record, spelling}
-use Rattle.bl_image.specs.ImageFaults.{RecordsBefore, with_record, parts_fault, end_fault}
+use Rattle.bl_image.specs.ImageFaults.{RecordsBefore, with_record, records_fault, parts_behind}
+use Rattle.bl_image.specs.ImageFaults.{end_fault}
 use Rattle.bl_image.specs.ImageFaults.{no_records}
 use Rattle.bl_image.specs.ImageFaults.{image_fault}
 use Rattle.bl_image.specs.ImageHandover.{part_place, PartAscends, IsKeptByImages, IsImage}
@@ -42,7 +43,7 @@ record IsSoundPart (wide : Bool) (part : Part) : Type 0 where
 parts_sound : (wide : Bool) (parts : List Part) (before : RecordsBefore) (x : List ℕ)
     → All (λ (part : Part). before.end ≤ part.address) parts → AreRelated PartAscends parts
     → All (IsSoundPart wide) parts
-    → parts_fault (max_role wide) (length parts) before (flat_map part_record parts ++ x)
+    → records_fault parts_behind (max_role wide) (length parts) before (flat_map part_record parts ++ x)
     ≡ end_fault (before.bytes + length (all_bytes parts)) x
 parts_sound wide [] before x above related sound = ap (λ (n : ℕ). end_fault n x) (omega arith)
 parts_sound wide (part ∷ parts) before x above related sound =
@@ -57,11 +58,11 @@ parts_sound wide (part ∷ parts) before x above related sound =
     let after : RecordsBefore = with_record before part.address (length part.bytes) in
     let size = length-append part.bytes (all_bytes parts) in
     let most = max_role wide in
-    ap (λ (l : List ℕ). parts_fault most (suc (length parts)) before (l ++ x))
+    ap (λ (l : List ℕ). records_fault parts_behind most (suc (length parts)) before (l ++ x))
     (flat_map-cons part_record part parts)
-    ∙ ap (parts_fault most (suc (length parts)) before)
+    ∙ ap (records_fault parts_behind most (suc (length parts)) before)
     (append_assoc (part_record part) (flat_map part_record parts) x)
-    ∙ parts_step wide (length parts) before (part_place part) (flat_map part_record parts ++ x)
+    ∙ parts_step parts_behind wide (length parts) before (part_place part) (flat_map part_record parts ++ x)
     here.may next
     ∙ parts_sound wide parts after x related.0 related.1
     (All-tail (IsSoundPart wide) part parts sound)
@@ -135,4 +136,4 @@ pub image_not_refused : (old new : SourceFacts) (fault : ImageFault) (bytes : Li
 image_not_refused old new fault bytes version handover is e refuses =
     refused_for_now bytes fault
     (ap image_fault is.is ∙ image_sound version handover is.has is.kept)
-    (fails_known old new fault bytes e refuses)
+    (fails_known image_fault old new fault bytes e refuses)

@@ -25,7 +25,7 @@ all_came old new came bytes e f h =
     let at_end : bytes ≡ came ++ [] = subst Q f (subst P e h) in
     at_end ∙ append-nil came
 
-what_follows : (rest : Option (List ℕ)) (came bytes : List ℕ) → Consumes (Some bytes) rest came
+pub what_follows : (rest : Option (List ℕ)) (came bytes : List ℕ) → Consumes (Some bytes) rest came
     → (more : List ℕ) × IsPossibleRest rest more × (bytes ≡ came ++ more)
 what_follows None came bytes h = absurd h
 what_follows (Some more) came bytes h = (more, refl, h)
@@ -38,16 +38,19 @@ shows_known fault_in old new fault bytes e s =
     let f = what_follows new.rest s.came bytes (subst P e s.comes.rest_is) in
     ap fault_in f.2 ∙ s.shown f.0 f.1
 
-pub fails_known : (old new : SourceFacts) (fault : ImageFault) (bytes : List ℕ) → old.rest ≡ Some bytes
-    → IsInputFault image_fault old new fault → IsBytesFault image_fault bytes fault
-fails_known old new BadMagic bytes e s = shows_known image_fault old new BadMagic bytes e s
-fails_known old new BadVersion bytes e s = shows_known image_fault old new BadVersion bytes e s
-fails_known old new BadHeader bytes e s = shows_known image_fault old new BadHeader bytes e s
-fails_known old new (BadPart index) bytes e s =
-    shows_known image_fault old new (BadPart index) bytes e s
-fails_known old new WrongLength bytes e s = shows_known image_fault old new WrongLength bytes e s
-fails_known old new DeviceFault bytes e s = tt
-fails_known old new NoMemory bytes e s = tt
+pub fails_known : (fault_in : List ℕ → Option ImageFault) (old new : SourceFacts)
+    (fault : ImageFault) (bytes : List ℕ) → old.rest ≡ Some bytes
+    → IsInputFault fault_in old new fault → IsBytesFault fault_in bytes fault
+fails_known fault_in old new BadMagic bytes e s = shows_known fault_in old new BadMagic bytes e s
+fails_known fault_in old new BadVersion bytes e s =
+    shows_known fault_in old new BadVersion bytes e s
+fails_known fault_in old new BadHeader bytes e s = shows_known fault_in old new BadHeader bytes e s
+fails_known fault_in old new (BadPart index) bytes e s =
+    shows_known fault_in old new (BadPart index) bytes e s
+fails_known fault_in old new WrongLength bytes e s =
+    shows_known fault_in old new WrongLength bytes e s
+fails_known fault_in old new DeviceFault bytes e s = tt
+fails_known fault_in old new NoMemory bytes e s = tt
 
 -- what was read is an image of the bytes that were known
 pub known_ok : (image : Handover) (old new : SourceFacts)
@@ -72,4 +75,4 @@ pub known_err : (r : Result Handover ImageFault) (old new : SourceFacts) (P : Im
     → MatchResult r (λ image. (version : Version) × IsImage version bytes image)
     (IsBytesFault image_fault bytes)
 known_err (Ok image) old new P is refused bytes e = absurd is
-known_err (Err fault) old new P is refused bytes e = fails_known old new fault bytes e refused
+known_err (Err fault) old new P is refused bytes e = fails_known image_fault old new fault bytes e refused

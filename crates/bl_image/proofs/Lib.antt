@@ -3,6 +3,8 @@ mod FieldTests
 mod HeadPut
 mod HeadLemmas
 mod FrontLemmas
+mod FrontRead
+mod FrontAgain
 mod Listed
 pub mod ImageLaws
 pub mod KnownLemmas

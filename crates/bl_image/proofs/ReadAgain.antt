@@ -23,11 +23,11 @@ use Rattle.bl_image.proofs.NumbersAgain.{role_same, protocol_same, version_same}
 use Rattle.bl_image.proofs.NumbersAgain.{role_fits, version_fits, protocol_fits}
 
 -- two parts with one record
-record IsAlike (p q : Part) : Type 0 where
-  role : p.role ≡ q.role
-  index : p.index ≡ q.index
-  address : p.address ≡ q.address
-  count : length p.bytes ≡ length q.bytes
+pub record IsAlike (p q : Part) : Type 0 where
+  pub role : p.role ≡ q.role
+  pub index : p.index ≡ q.index
+  pub address : p.address ≡ q.address
+  pub count : length p.bytes ≡ length q.bytes
 
 record_same : (p q : Part) → FitsRecord p → FitsRecord q → part_record p ≡ part_record q
     → IsAlike p q
@@ -61,14 +61,14 @@ part_same p q a e =
     ∙ ap (λ (address : ℕ). made q.role q.index address p.bytes) a.address
     ∙ ap (λ (bytes : List ℕ). made q.role q.index q.address bytes) e
 
-abbrev AreAlike : List Part → List Part → Type 0
+abbrev pub AreAlike : List Part → List Part → Type 0
 AreAlike [] [] = Unit {0}
 AreAlike [] (q ∷ qs) = ⊥
 AreAlike (p ∷ ps) [] = ⊥
 AreAlike (p ∷ ps) (q ∷ qs) = IsAlike p q × AreAlike ps qs
 
 -- as many records, and what follows
-records_same : (ps qs : List Part) → All FitsRecord ps → All FitsRecord qs → length ps ≡ length qs
+pub records_same : (ps qs : List Part) → All FitsRecord ps → All FitsRecord qs → length ps ≡ length qs
     → (x y : List ℕ) → flat_map part_record ps ++ x ≡ flat_map part_record qs ++ y
     → AreAlike ps qs × (x ≡ y)
 records_same [] [] hp hq l x y e = (tt, e)
@@ -103,12 +103,12 @@ parts_same (p ∷ ps) (q ∷ qs) alike e =
 
 -- ---- heads
 
-record IsSameHead (v w : Version) (h k : Handover) (x y : List ℕ) : Type 0 where
-  version : v ≡ w
-  protocol : h.protocol ≡ k.protocol
-  registers : h.registers ≡ k.registers
-  count : length h.parts ≡ length k.parts
-  rest : x ≡ y
+pub record IsSameHead (v w : Version) (h k : Handover) (x y : List ℕ) : Type 0 where
+  pub version : v ≡ w
+  pub protocol : h.protocol ≡ k.protocol
+  pub registers : h.registers ≡ k.registers
+  pub count : length h.parts ≡ length k.parts
+  pub rest : x ≡ y
 
 six_pieces : (a b c d e f x : List ℕ)
     → (a ++ (b ++ (c ++ (d ++ (e ++ f))))) ++ x ≡ a ++ (b ++ (c ++ (d ++ (e ++ (f ++ x)))))
@@ -124,7 +124,7 @@ head_pieces v h x =
     (u32_bytes (protocols.protocol_number h.protocol)) (spelled_registers v h.registers)
     (u32_bytes (length h.parts)) (u32_bytes 0) x
 
-heads_same : (v w : Version) (h k : Handover) → IsSpellable h → IsSpellable k → (x y : List ℕ)
+pub heads_same : (v w : Version) (h k : Handover) → IsSpellable h → IsSpellable k → (x y : List ℕ)
     → head v h.protocol h.registers (length h.parts) ++ x
     ≡ head w k.protocol k.registers (length k.parts) ++ y
     → IsSameHead v w h k x y

@@ -18,7 +18,7 @@ use Rattle.bl_image.specs.internal.PlaceRecords.{place_record, IsNext}
 use Rattle.bl_image.specs.Fields.{Field, fields_fault, record_fields, role_field, index_field}
 use Rattle.bl_image.specs.Fields.{address_field, length_field}
 use Rattle.bl_image.specs.ImageFaults.{fault_or, record_fault, RecordsBefore, with_record}
-use Rattle.bl_image.specs.ImageFaults.{parts_fault}
+use Rattle.bl_image.specs.ImageFaults.{FaultBehind, records_fault}
 use Rattle.bl_image.specs.SourceFacts.{SourceFacts, Comes, ShowsFault, IsInputFault}
 use Rattle.bl_image.specs.internal.SourceReading.{Passes}
 use Rattle.bl_image.proofs.NumbersAgain.{role_fits, role_between}
@@ -62,13 +62,15 @@ first_refuses fault_in later old new fault s =
     (λ bytes e. ap (λ (o : Option ImageFault). fault_or o (later bytes)) e) s
 
 -- a record's fault among the records that are left
-pub record_refuses : (most n : ℕ) (before : RecordsBefore) (old new : SourceFacts) (fault : ImageFault)
+pub record_refuses : (behind : FaultBehind) (most n : ℕ) (before : RecordsBefore)
+    (old new : SourceFacts) (fault : ImageFault)
     → IsInputFault (record_fault most before.count before.end) old new fault
-    → IsInputFault (parts_fault most (suc n) before) old new fault
-record_refuses most n before old new fault s =
+    → IsInputFault (records_fault behind most (suc n) before) old new fault
+record_refuses behind most n before old new fault s =
     first_refuses (record_fault most before.count before.end)
     (λ bytes.
-    parts_fault most n (with_record before (u64_at bytes 8) (u64_at bytes 16)) (drop 24 bytes))
+    records_fault behind most n (with_record before (u64_at bytes 8) (u64_at bytes 16))
+    (drop 24 bytes))
     old new fault s
 
 pub four_pieces : (a b c x : List ℕ) → ((a ++ b) ++ c) ++ x ≡ a ++ (b ++ (c ++ x))
@@ -163,11 +165,12 @@ unfolding u32_bytes u64_bytes
 behind_record p x = refl
 
 -- one record leaves the others to be judged
-pub parts_step : (wide : Bool) (n : ℕ) (before : RecordsBefore) (p : Place) (x : List ℕ)
+pub parts_step : (behind : FaultBehind) (wide : Bool) (n : ℕ) (before : RecordsBefore) (p : Place)
+    (x : List ℕ)
     → IsRoleAllowed wide p.role → IsNext before.end p
-    → parts_fault (max_role wide) (suc n) before (place_record p ++ x)
-    ≡ parts_fault (max_role wide) n (with_record before p.address p.length) x
-parts_step wide n before p x may next =
+    → records_fault behind (max_role wide) (suc n) before (place_record p ++ x)
+    ≡ records_fault behind (max_role wide) n (with_record before p.address p.length) x
+parts_step behind wide n before p x may next =
     let fits : p.address < 2 ^ 64 = omega (arith, next.below) in
     let small : p.length < 2 ^ 64 = omega (arith, next.below) in
     rw (

@@ -17,7 +17,7 @@ use Rattle.bl_load.specs.Registers.{are_wide}
 use Rattle.bl_image.specs.Layouts.{max_role}
 use Rattle.bl_image.specs.internal.PlaceRecords.{place_record, IsNext, AreSound, total_length}
 use Rattle.bl_image.specs.internal.PlaceRecords.{PlaceFits}
-use Rattle.bl_image.specs.ImageFaults.{RecordsBefore, parts_fault, no_records}
+use Rattle.bl_image.specs.ImageFaults.{FaultBehind, RecordsBefore, records_fault, no_records}
 use Rattle.bl_image.proofs.RecordLemmas.{parts_step}
 
 pub bytes_at-more : (ps : List Place) (p : Place) → total_length (ps ++ p ∷ []) ≡ total_length ps + p.length
@@ -36,28 +36,29 @@ abbrev pub so_far : ℕ → ℕ → List Place → RecordsBefore
 so_far count end ps = record { count = count; end = end; bytes = total_length ps }
 
 -- one more record came, and leaves the others to be judged
-pub judged_more : (wide : Bool) (count part : ℕ) (ps : List Place) (end : ℕ) (p : Place)
-    → part < count → IsRoleAllowed wide p.role → IsNext end p
+pub judged_more : (behind : FaultBehind) (wide : Bool) (count part : ℕ) (ps : List Place) (end : ℕ)
+    (p : Place) → part < count → IsRoleAllowed wide p.role → IsNext end p
     → ((bytes : List ℕ)
-    → parts_fault (max_role wide) count no_records (flat_map place_record ps ++ bytes)
-    ≡ parts_fault (max_role wide) (count - part) (so_far part end ps) bytes)
+    → records_fault behind (max_role wide) count no_records (flat_map place_record ps ++ bytes)
+    ≡ records_fault behind (max_role wide) (count - part) (so_far part end ps) bytes)
     → (bytes : List ℕ)
-    → parts_fault (max_role wide) count no_records
+    → records_fault behind (max_role wide) count no_records
     (flat_map place_record (ps ++ p ∷ []) ++ bytes)
-    ≡ parts_fault (max_role wide) (count - (part + 1))
+    ≡ records_fault behind (max_role wide) (count - (part + 1))
     (so_far (part + 1) (p.address + p.length) (ps ++ p ∷ [])) bytes
-judged_more wide count part ps end p inside may next judged bytes =
+judged_more behind wide count part ps end p inside may next judged bytes =
     let most = max_role wide in
     let left : count - part ≡ suc (count - (part + 1)) = omega arith in
-    ap (λ (l : List ℕ). parts_fault most count no_records (l ++ bytes)) (came_more ps p)
-    ∙ ap (parts_fault most count no_records)
+    ap (λ (l : List ℕ). records_fault behind most count no_records (l ++ bytes)) (came_more ps p)
+    ∙ ap (records_fault behind most count no_records)
     (append_assoc (flat_map place_record ps) (place_record p) bytes)
     ∙ judged (place_record p ++ bytes)
-    ∙ ap (λ (n : ℕ). parts_fault most n (so_far part end ps) (place_record p ++ bytes)) left
-    ∙ parts_step wide (count - (part + 1)) (so_far part end ps) p bytes may next
+    ∙ ap (λ (n : ℕ). records_fault behind most n (so_far part end ps) (place_record p ++ bytes))
+    left
+    ∙ parts_step behind wide (count - (part + 1)) (so_far part end ps) p bytes may next
     ∙ ap
     (λ (n : ℕ).
-    parts_fault most (count - (part + 1))
+    records_fault behind most (count - (part + 1))
     (record { count = part + 1; end = p.address + p.length; bytes = n }) bytes)
     (sym (bytes_at-more ps p))
 

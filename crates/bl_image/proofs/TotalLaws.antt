@@ -19,7 +19,8 @@ use Rattle.bl_image.specs.declared.fault.ImageFault.TheVariants.{WrongLength}
 use Rattle.bl_image.specs.declared.version.Version.{Version}
 use Rattle.bl_image.specs.Image.{head}
 use Rattle.bl_image.specs.internal.PlaceRecords.{place_record, total_length, PlaceFits}
-use Rattle.bl_image.specs.ImageFaults.{head_fault, image_fault, parts_fault, RecordsBefore}
+use Rattle.bl_image.specs.ImageFaults.{head_fault, image_fault, records_fault, parts_behind}
+use Rattle.bl_image.specs.ImageFaults.{RecordsBefore}
 use Rattle.bl_image.specs.ImageFaults.{with_record}
 use Rattle.bl_image.specs.ImageFaults.{no_records, end_fault}
 use Rattle.bl_image.specs.ImageHandover.{part_place, IsImage}
@@ -53,7 +54,7 @@ end_none : (count : ℕ) (bytes : List ℕ) → end_fault count bytes ≡ None �
 end_none count bytes e = (Decides-eqb (length bytes) count).0 (kept_none (length bytes == count) e)
 
 places_found : (wide : Bool) (count : ℕ) (before : RecordsBefore) (bytes : List ℕ) → IsSmall bytes
-    → parts_fault (max_role wide) count before bytes ≡ None → PlacesFound wide count before bytes
+    → records_fault parts_behind (max_role wide) count before bytes ≡ None → PlacesFound wide count before bytes
 places_found wide zero before bytes small none = record {
   places = [];
   tail = bytes;
@@ -68,9 +69,9 @@ places_found wide (suc count) before bytes small none =
     let here = record_found wide before.count before.end bytes small (first_none _ _ none).0 in
     let p = here.place in
     let after : RecordsBefore = with_record before p.address p.length in
-    let left : parts_fault (max_role wide) count after here.rest ≡ None =
-    sym (parts_step wide count before p here.rest here.may here.next)
-    ∙ ap (parts_fault (max_role wide) (suc count) before) here.is ∙ none in
+    let left : records_fault parts_behind (max_role wide) count after here.rest ≡ None =
+    sym (parts_step parts_behind wide count before p here.rest here.may here.next)
+    ∙ ap (records_fault parts_behind (max_role wide) (suc count) before) here.is ∙ none in
     let others = places_found wide count after here.rest here.small left in
     let next = here.next in
     let above : before.end ≤ p.address = next.above in
@@ -132,7 +133,7 @@ image_found bytes small none =
     let h = head_found bytes small (head_none bytes none) in
     let top : List ℕ = head h.version h.protocol h.registers h.count in
     let wide = is_wide h.protocol in
-    let left : parts_fault (max_role wide) h.count no_records h.rest ≡ None =
+    let left : records_fault parts_behind (max_role wide) h.count no_records h.rest ≡ None =
     sym (head_front h.version h.protocol h.registers h.count h.rest h.has h.fit h.few)
     ∙ ap image_fault h.is ∙ none in
     let f = places_found wide h.count no_records h.rest h.small left in

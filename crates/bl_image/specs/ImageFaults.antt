@@ -60,19 +60,35 @@ with_record before address count = record {
 abbrev pub end_fault : ℕ → List ℕ → Option ImageFault
 end_fault count bytes = if length bytes == count then None else Some WrongLength
 
+-- a definition of the first fault of what follows the records, by what they say
+abbrev pub FaultBehind : Type 0
+FaultBehind = RecordsBefore → List ℕ → Option ImageFault
+
 -- the first fault where so many records must begin, with numbers of roles up to the first, and
--- after them the bytes of all parts, and nothing else
-abbrev pub parts_fault : ℕ → ℕ → RecordsBefore → List ℕ → Option ImageFault
-parts_fault most zero before bytes = end_fault before.bytes bytes
-parts_fault most (suc n) before bytes =
+-- after them of what follows
+abbrev pub records_fault : FaultBehind → ℕ → ℕ → RecordsBefore → List ℕ → Option ImageFault
+records_fault behind most zero before bytes = behind before bytes
+records_fault behind most (suc n) before bytes =
     fault_or (record_fault most before.count before.end bytes)
-    (parts_fault most n
+    (records_fault behind most n
     (with_record before (u64_at bytes address_at) (u64_at bytes length_at))
     (drop record_size bytes))
 
--- the first fault of an image: of its head; of what follows, where the layout says
-unfoldable pub image_fault : List ℕ → Option ImageFault
-image_fault bytes =
+-- the first fault of a head; of the records, where the layout says; of what follows these
+abbrev pub fault_with : FaultBehind → List ℕ → Option ImageFault
+fault_with behind bytes =
     fault_or (head_fault bytes)
-    (parts_fault (layout_of bytes).max_role (u32_at bytes (layout_of bytes).count_at) no_records
-    (drop (layout_of bytes).records_at bytes))
+    (records_fault behind (layout_of bytes).max_role (u32_at bytes (layout_of bytes).count_at)
+    no_records (drop (layout_of bytes).records_at bytes))
+
+-- the bytes of all parts follow, and nothing else
+abbrev pub parts_behind : FaultBehind
+parts_behind records bytes = end_fault records.bytes bytes
+
+-- the first fault of an image
+unfoldable pub image_fault : List ℕ → Option ImageFault
+image_fault bytes = fault_with parts_behind bytes
+
+-- the first fault of what an image has before the bytes of its parts, whatever follows
+unfoldable pub front_fault : List ℕ → Option ImageFault
+front_fault bytes = fault_with (λ records rest. None) bytes

@@ -4,6 +4,7 @@
 mod fault;
 mod field_reader;
 mod front;
+mod front_reader;
 mod ghost_history;
 mod handoff_image;
 mod head_reader;
@@ -29,11 +30,15 @@ mod write;
 
 pub use fault::ImageFault;
 pub use front::{MAX_FRONT, front_bytes};
+pub use front_reader::{Front, read_front};
 pub use image::{Image, ImagePart};
 pub use image_length::image_len;
 pub use io_sink::IoSink;
 pub use io_source::IoSource;
-pub use laws::{image_tells_all, images_have_no_fault, what_has_no_fault_is_an_image};
+pub use laws::{
+    fronts_are_those_of_images, image_tells_all, images_have_no_fault,
+    what_has_no_fault_is_an_image,
+};
 pub use mem_sink::MemSink;
 pub use mem_source::MemSource;
 pub use places::Places;

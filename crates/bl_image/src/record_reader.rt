@@ -1,5 +1,6 @@
 //! The records of an image, read.
-ghost use Rattle.std.specs.Prelude.{◌≡◌, ◌+◌, ◌≤◌, ◌<◌, ◌^◌, nat_le, ◌&&◌, IfOk, IfSome};
+ghost use Rattle.std.specs.Prelude.{◌≡◌, ◌+◌, ◌≤◌, ◌<◌, ◌^◌, nat_le, ◌&&◌, IfOk, IfErr};
+ghost use Rattle.std.specs.Prelude.{IfSome};
 ghost use Rattle.std.specs.List.{flat_map};
 ghost use Rattle.bl_mem.specs.LittleEndian.{u32_bytes, u64_bytes};
 ghost use Rattle.bl_plan.specs.RoleNumbers as roles;
@@ -7,7 +8,9 @@ ghost use Rattle.bl_load.specs.HandoffFacts.{max_parts, IsRoleAllowed};
 ghost use Rattle.bl_image.specs.Fields as fields;
 ghost use Rattle.bl_image.specs.Layouts.{max_role};
 ghost use Rattle.bl_image.specs.internal.PlaceRecords.{place_record, IsNext, AreRecords};
-ghost use Rattle.bl_image.specs.ImageFaults.{record_fault, parts_fault, no_records};
+ghost use Rattle.bl_image.specs.ImageFaults.{FaultBehind, record_fault, records_fault, no_records};
+ghost use Rattle.bl_image.specs.ImageFaults.{parts_behind};
+ghost use Rattle.bl_image.specs.SourceFacts.{IsInputFault};
 ghost use Rattle.bl_image.specs.internal.SourceReading.{ReadsField, ReadsOrRefuses};
 ghost use Rattle.bl_image.specs.internal.SourceReading.{IsFoundByNumber};
 
@@ -130,8 +133,13 @@ pub(crate) fn read_records<S: Source, A: Allocator>(
     requires faults { S.faults source.old < 2 ^ 63 }
     requires few { count ≤ max_parts }
     ensures read { ReadsOrRefuses S.input S.faults source.old source.new
-        (parts_fault (max_role wide) count no_records)
+        (records_fault parts_behind (max_role wide) count no_records)
         (λ places. flat_map place_record places.items) result }
+
+    // What came has that first fault, whatever is found behind the records.
+    ensures refused { (behind : FaultBehind) → IfErr result
+        (IsInputFault (records_fault behind (max_role wide) count no_records)
+        (S.input source.old) (S.input source.new)) }
     ensures are { IfOk result (λ places. AreRecords wide count places.items) }
 {
     let mut places = Vec::new(alloc);

@@ -7,7 +7,7 @@ use Rattle.bl_plan.specs.declared.protocol.Protocol.{Protocol}
 use Rattle.bl_load.specs.HandoffFacts.{Ascends, IsWellFormedHandoff, IsRoleAllowed}
 use Rattle.bl_load.specs.declared.registers.Registers.{Registers}
 use Rattle.bl_image.specs.Image.{head, record_of}
-use Rattle.bl_image.specs.ImageFaults.{parts_fault, end_fault, no_records}
+use Rattle.bl_image.specs.ImageFaults.{records_fault, parts_behind, end_fault, no_records}
 use Rattle.bl_image.specs.Layouts.{max_role}
 use Rattle.bl_image.specs.Spellable.{AreFit}
 use Rattle.bl_image.specs.Versions.{written_version}
@@ -70,5 +70,6 @@ pub record AreRecords (wide : Bool) (number : ℕ) (places : List Place) : Type 
   pub sound : AreSound places (2 ^ 32)
   pub may : All (λ place. IsRoleAllowed wide place.role) places
   pub judged : (bytes : List ℕ)
-      → parts_fault (max_role wide) number no_records (flat_map place_record places ++ bytes)
+      → records_fault parts_behind (max_role wide) number no_records
+      (flat_map place_record places ++ bytes)
       ≡ end_fault (total_length places) bytes

@@ -2,7 +2,8 @@ use Rattle.std.proofs.Common.{Ok, ◌≡◌, ◌≤◌, ◌^◌, ℕ, Bool, All,
 use Rattle.std.proofs.lemmas.Result.{err_from_is_err_and}
 use Rattle.bl_image.specs.Image.{head, spelling}
 use Rattle.bl_image.specs.ImageHandover.{IsKeptByImages}
-use Rattle.bl_image.specs.ImageFaults.{image_fault, parts_fault, no_records, end_fault}
+use Rattle.bl_image.specs.ImageFaults.{image_fault, records_fault, parts_behind, no_records}
+use Rattle.bl_image.specs.ImageFaults.{end_fault}
 use Rattle.bl_image.specs.internal.PlaceRecords.{total_length}
 use Rattle.bl_plan.specs.declared.part.Place.{Place}
 use Rattle.bl_plan.specs.declared.protocol.Protocol.{Protocol}
@@ -17,28 +18,14 @@ use Rattle.bl_image.specs.Spellable.{AreRegistersOf}
 use Rattle.bl_image.specs.Versions.{HasProtocol}
 use Rattle.bl_image.proofs.Inputs.{comes_more, comes_as}
 use Rattle.bl_image.proofs.FieldLemmas.{Passed, passed_more, passed_refuses, cut_refuses}
-use Rattle.bl_image.proofs.FrontLemmas.{head_front, head_refuses}
+use Rattle.bl_image.proofs.FrontLemmas.{head_refuses}
+use Rattle.bl_image.proofs.FrontRead.{fronted_image}
 use Rattle.bl_image.proofs.PartLemmas.{all_bytes, end_short, end_more, parts_size, spelled_by}
 use Rattle.bl_image.proofs.PartLemmas.{parts_kept, image_kept}
 use Rattle.bl_image.proofs.SoundLemmas.{sound_kept}
 use Rattle.bl_image.proofs.KnownLemmas.{known_ok, known_err}
 use Rattle.bl_image.proofs.ImageLaws.{accepted_by}
 use Rattle.bl_image.proofs.read.read_image.Goals as goal
-
--- a head came, and leaves the parts to be judged
-fronted : {old new : SourceFacts} (v : Version) (p : Protocol) (r : Registers) (count : ℕ)
-    (wide : Bool)
-    → Comes old new (head v p r count) → HasProtocol v p → AreRegistersOf p r → count ≤ 256
-    → wide ≡ is_wide p
-    → Passed image_fault old new (parts_fault (max_role wide) count no_records)
-fronted v p r count wide comes has fit few same = record {
-  done = _;
-  comes = comes;
-  on =
-      λ bytes.
-      head_front v p r count bytes has fit few
-      ∙ ap (λ (b : Bool). parts_fault (max_role b) count no_records bytes) (sym same);
-}
 
 pub returns-in_err-head-clause-refused : goal.returns-in_err-head-clause-refused
 returns-in_err-head-clause-refused g c =
@@ -53,8 +40,8 @@ returns-in_err-places-clause-refused g c =
     let head = c.in_ok-head.head in
     let wide = c.are_wide.ensures ∙ c.in_ok-head.ensures.fit.0 in
     let front : Passed image_fault _ _
-    (parts_fault (max_role c.are_wide.result) head.count no_records) =
-    fronted head.version head.protocol head.registers head.count c.are_wide.result
+    (records_fault parts_behind (max_role c.are_wide.result) head.count no_records) =
+    fronted_image head.version head.protocol head.registers head.count c.are_wide.result
     c.in_ok-head.ensures.read.ok c.in_ok-head.ensures.has c.in_ok-head.ensures.fit
     c.in_ok-head.ensures.few wide in
     rw (p.1, p.2) (passed_refuses front _ _ c.in_err-places.ensures.read.refused)
@@ -68,8 +55,8 @@ returns-in_err-parts-clause-refused g c =
     let places = c.in_ok-places.places.items in
     let wide = c.are_wide.ensures ∙ c.in_ok-head.ensures.fit.0 in
     let front : Passed image_fault _ _
-    (parts_fault (max_role c.are_wide.result) head.count no_records) =
-    fronted head.version head.protocol head.registers head.count c.are_wide.result
+    (records_fault parts_behind (max_role c.are_wide.result) head.count no_records) =
+    fronted_image head.version head.protocol head.registers head.count c.are_wide.result
     c.in_ok-head.ensures.read.ok c.in_ok-head.ensures.has c.in_ok-head.ensures.fit
     c.in_ok-head.ensures.few wide in
     let passed : Passed image_fault _ _ (end_fault (total_length places)) =
@@ -90,8 +77,8 @@ returns-in_err-read_end-clause-refused g c =
     let parts = c.in_ok-parts.parts.items in
     let wide = c.are_wide.ensures ∙ c.in_ok-head.ensures.fit.0 in
     let front : Passed image_fault _ _
-    (parts_fault (max_role c.are_wide.result) head.count no_records) =
-    fronted head.version head.protocol head.registers head.count c.are_wide.result
+    (records_fault parts_behind (max_role c.are_wide.result) head.count no_records) =
+    fronted_image head.version head.protocol head.registers head.count c.are_wide.result
     c.in_ok-head.ensures.read.ok c.in_ok-head.ensures.has c.in_ok-head.ensures.fit
     c.in_ok-head.ensures.few wide in
     let passed : Passed image_fault _ _ (end_fault (total_length places)) =

@@ -4,7 +4,7 @@ use Rattle.bl_plan.specs.declared.part.Place.{Place}
 use Rattle.bl_load.specs.HandoffFacts.{IsRoleAllowed}
 use Rattle.bl_image.specs.Layouts.{max_role}
 use Rattle.bl_image.specs.internal.PlaceRecords.{place_record, AreSound, total_length}
-use Rattle.bl_image.specs.ImageFaults.{parts_fault, no_records}
+use Rattle.bl_image.specs.ImageFaults.{FaultBehind, records_fault, no_records}
 use Rattle.bl_image.specs.SourceFacts.{Comes}
 use Rattle.bl_image.proofs.record_reader.read_records.Given as goal
 
@@ -16,10 +16,10 @@ invariant-loop-part g l = record {
   size : length l.places.items ≡ l.part;
   sound : AreSound l.places.items l.before;
   may : All (λ (place : Place). IsRoleAllowed l.wide place.role) l.places.items;
-  judged : (bytes : List ℕ)
-      → parts_fault (max_role l.wide) l.count no_records
+  judged : (behind : FaultBehind) (bytes : List ℕ)
+      → records_fault behind (max_role l.wide) l.count no_records
       (flat_map place_record l.places.items ++ bytes)
-      ≡ parts_fault (max_role l.wide) (l.count - l.part)
+      ≡ records_fault behind (max_role l.wide) (l.count - l.part)
       (record { count = l.part; end = l.before; bytes = total_length l.places.items }) bytes;
   faults : g.S.Source.faults l.source ≡ g.S.Source.faults l.fn.source;
 }
