@@ -296,10 +296,14 @@ class Built(CrateChecks):
         folder.mkdir()
         where = libraries()[0].parent
         (folder / "bootcore.pc").write_text(f"libdir={where}\n\nName: bootcore\nDescription: x\nVersion: 1.0\nLibs: -L${{libdir}} -lbootcore\n")
-        words = ["env", "-u", "BOOTCORE_LIB_DIR", "cargo", "build", "--locked", "--offline", "--example", "guest"]
+        words = ["env", "-u", "BOOTCORE_LIB_DIR", "cargo"]
         env = {"PKG_CONFIG_PATH": str(folder), "CARGO_TARGET_DIR": str(self.target)}
         with self.check(sentence):
-            self.assert_good(run(*words, cwd=CRATE, timeout=TEN_MINUTES, env=env))
+            self.assert_good(run(*words, "build", "--locked", "--offline", "--example", "guest", cwd=CRATE, timeout=TEN_MINUTES, env=env))
+        with self.check("without the standard library the crate looks for bootcore-freestanding.pc"):
+            ran = run(*words, "check", "--locked", "--offline", "--no-default-features", cwd=CRATE, timeout=TEN_MINUTES, env=env)
+            self.assert_good(ran)
+            self.assertIn("pkg-config does not know bootcore-freestanding.pc", ran.err.decode())
 
     def test_vm_memory(self) -> None:
         sentence = "a Linux kernel is loaded into vm-memory's guest memory"

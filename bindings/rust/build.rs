@@ -1,5 +1,5 @@
-//! Says where the archive lies: in the folder that `BOOTCORE_LIB_DIR` names, or where `pkg-config` knows `bootcore.pc`. One of a
-//! version that the crate can't call is refused.
+//! Says where the archive lies: in the folder that `BOOTCORE_LIB_DIR` names, or where `pkg-config` knows `bootcore.pc`, for the one
+//! without a libc `bootcore-freestanding.pc`. One of a version that the crate can't call is refused.
 
 use std::env;
 use std::path::{Path, PathBuf};
@@ -9,7 +9,7 @@ use std::process::{exit, Command};
 mod version;
 
 /// The folder of the archive, or why it is not known.
-fn find(archive: &str) -> Result<PathBuf, String> {
+fn find(package: &str, archive: &str) -> Result<PathBuf, String> {
     if let Some(folder) = env::var_os("BOOTCORE_LIB_DIR") {
         let folder = PathBuf::from(folder);
         return if folder.join(archive).is_file() {
@@ -19,16 +19,16 @@ fn find(archive: &str) -> Result<PathBuf, String> {
         };
     }
     let command = env::var_os("PKG_CONFIG").unwrap_or_else(|| "pkg-config".into());
-    let asked = Command::new(&command).args(["--variable=libdir", "bootcore"]).output();
+    let asked = Command::new(&command).args(["--variable=libdir", package]).output();
     let output = asked.map_err(|why| format!("{}: {}", command.to_string_lossy(), why))?;
     if !output.status.success() {
-        return Err("pkg-config does not know bootcore.pc; name the folder of it in PKG_CONFIG_PATH".into());
+        return Err(format!("pkg-config does not know {}.pc; name the folder of it in PKG_CONFIG_PATH", package));
     }
     let folder = PathBuf::from(String::from_utf8_lossy(&output.stdout).trim());
     if folder.join(archive).is_file() {
         Ok(folder)
     } else {
-        Err(format!("bootcore.pc says {}, where no {} is", folder.display(), archive))
+        Err(format!("{}.pc says {}, where no {} is", package, folder.display(), archive))
     }
 }
 
@@ -58,7 +58,8 @@ fn ask(folder: &Path, library: &str) -> Result<u32, String> {
 }
 
 fn main() {
-    let library = if env::var_os("CARGO_FEATURE_STD").is_some() { "bootcore" } else { "bootcore_freestanding" };
+    let has_std = env::var_os("CARGO_FEATURE_STD").is_some();
+    let (package, library) = if has_std { ("bootcore", "bootcore") } else { ("bootcore-freestanding", "bootcore_freestanding") };
     let archive = &format!("lib{}.a", library);
     for file in ["build.rs", "probe.rs", "src/version.rs"] {
         println!("cargo:rerun-if-changed={}", file);
@@ -67,7 +68,7 @@ fn main() {
         println!("cargo:rerun-if-env-changed={}", variable);
     }
     // `cargo check` and `cargo doc` link nothing, so they do without the archive
-    match find(archive) {
+    match find(package, archive) {
         Ok(folder) => {
             println!("cargo:rerun-if-changed={}", folder.join(archive).display());
             println!("cargo:rustc-link-search=native={}", folder.display());
