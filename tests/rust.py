@@ -224,7 +224,7 @@ class Versions(CrateChecks):
         """with an archive of another version each call is an error that says both versions, and nothing of it is called"""
         folder = self.archive(20304)
         (folder / "begin.rs").write_text(BEGINNINGS, encoding="utf-8")
-        words = ["rustc", "--edition", "2021", "-L", folder, "--out-dir", folder, "--crate-name"]
+        words = ["rustc", "--edition", "2021", "-L", str(folder), "--out-dir", str(folder), "--crate-name"]
         library = ["--crate-type", "rlib", "--cfg", 'feature="std"', "-l", "static=bootcore"]
         self.assert_good(run(*words, "bootcore", *library, CRATE / "src/lib.rs"))
         self.assert_good(run(*words, "begin", "--extern", f"bootcore={folder / 'libbootcore.rlib'}", folder / "begin.rs"))
@@ -274,7 +274,8 @@ class Built(CrateChecks):
             self.assert_good(ran)
             self.assertGreater(passed, 30)
         copy = self.copy("freestanding")
-        for profile, words in (("debug", []), ("release", ["--release"])):
+        for profile in ("debug", "release"):
+            words = ["--release"] if profile == "release" else []
             with self.check(f"a program without the standard library is built over the archive for firmware, {profile}"):
                 self.assert_good(self.cargo("build", "--offline", *words, crate=copy))
             program = self.target / profile / "bootcore-freestanding"
