@@ -217,38 +217,35 @@ static bootcore_file file_of(bootcore_bytes bytes, bool is_read) {
     return file;
 }
 
+/* Eight bytes at a time: (w - 0x0101..) & ~w & 0x8080.. is not 0 just if a byte of w is 0. */
 static bool has_zero(const uint8_t *bytes, size_t length) {
-    enum { AT_ONCE = 64 }; /* without a branch, so that a compiler takes several bytes at a time */
-    size_t i = 0, k;
-    for (; length - i >= AT_ONCE; i += AT_ONCE) {
-        unsigned found = 0;
-        for (k = 0; k < AT_ONCE; k++) {
-            found |= bytes[i + k] == 0;
-        }
-        if (found) {
+    const uint64_t ones = UINT64_MAX / 255;
+    uint64_t word;
+    for (; length >= sizeof word; bytes += sizeof word, length -= sizeof word) {
+        __builtin_memcpy(&word, bytes, sizeof word);
+        if ((word - ones) & ~word & (ones << 7)) {
             return true;
         }
     }
-    for (; i < length; i++) {
-        if (bytes[i] == 0) {
+    for (; length; length--) {
+        if (*bytes++ == 0) {
             return true;
         }
     }
     return false;
 }
 
-/* A line that is too long is refused for a zero byte, wherever it stands, or else for its length: what
- * crosses in its place has the same fault, and the core need not copy all of it. */
+/* A line that is too long is refused for a zero byte, wherever it stands, or else for its length. What
+ * crosses in its place has the same fault, and is no longer than the core need copy. */
 static bootcore_slice slice_of_line(bootcore_bytes line) {
     static const uint8_t zero[1];
-    const size_t too_long = BOOTCORE_MAX_LINE + 1;
-    if (line.length <= too_long) {
+    if (line.length <= BOOTCORE_MAX_LINE) {
         return slice_of_bytes(line);
     }
-    if (has_zero((const uint8_t *)line.bytes + too_long, line.length - too_long)) {
+    if (has_zero(line.bytes, line.length)) {
         return slice_of(zero, sizeof zero);
     }
-    return slice_of(line.bytes, too_long);
+    return slice_of(line.bytes, BOOTCORE_MAX_LINE + 1);
 }
 
 static bootcore_slice slice_of_rsdp(bootcore_bytes copy) {

@@ -4,7 +4,7 @@ import re
 import sys
 import unittest
 from pathlib import Path
-from typing import Dict, Optional, Tuple
+from typing import Dict, List, Optional, Tuple
 
 from tests import examples
 from tests.c_core import CC, FREESTANDING, HEADER, WARNINGS, CoreChecks, build_freestanding, libraries, why_left_out
@@ -32,9 +32,29 @@ def setUpModule() -> None:
     need_built(PROGRAM, "tools/build")
 
 
+def instructions(archive: Path) -> List[str]:
+    """The lines of an archive's code; constants may stand behind code, and not all of them are instructions."""
+    code = run("objdump", "-d", "--no-show-raw-insn", archive, timeout=600).out.decode(errors="replace")
+    return [line for block in re.split(r"\n\n", code) for line in block.split("(bad)")[0].splitlines()]
+
+
 def constant(name: str, header: str = "bootcore.h") -> int:
     """A number of a header."""
     return int(re.search(rf"\b{name} = (\w+)", (HEADER.parent / header).read_text(encoding="utf-8"))[1], 0)
+
+
+def said_needs() -> Dict[str, Tuple[int, int]]:
+    """What the table of docs/EMBED.md says that calls need of an arena: a small guest, and the largest entry."""
+    page = (TOP / "docs/EMBED.md").read_text(encoding="utf-8")
+    rows = re.findall(r"^\| `bootcore_(\w+)`.*? \| ([\d,]+) \| ([\d,]+) \|$", page, re.M)
+    return {call: (int(guest.replace(",", "")), int(most.replace(",", ""))) for call, guest, most in rows}
+
+
+def rounded(needs: Dict[Tuple[str, ...], int], call: str) -> Tuple[int, int]:
+    """What was measured of a call, in the same way: a digest and a session as a whole are named after the call that begins them."""
+    name = {"digest_make": "digest", "session_make": "session"}.get(call, call)
+    up = lambda number: -(-number // 1000) * 1000
+    return up(needs["arena", name, "of", "a", "guest"]), up(needs["arena", name])
 
 
 class Misuses(CoreChecks):
@@ -82,6 +102,9 @@ class Needs(CoreChecks):
             most, stated = needs["arena",], constant("BOOTCORE_ARENA", "bootcore_arena.h")
             with self.check(f"no load and no plan needs more of an arena than the {stated} bytes of BOOTCORE_ARENA: at most {most}"):
                 self.assertLessEqual(most, stated)
+            with self.check("docs/EMBED.md says of each call what it needs of an arena, rounded up to a thousand bytes"):
+                self.assertEqual(said_needs(), {call: rounded(needs, call) for call in said_needs()})
+                self.assertGreater(len(said_needs()), 6, "rows of the table")
 
 
 class Freestanding(CoreChecks):
@@ -110,12 +133,22 @@ class Freestanding(CoreChecks):
             self.skipTest("objdump is not at hand")
         if not FREESTANDING.exists():
             self.skipTest("the archive for firmware is not built, as is reported above")
-        code = run("objdump", "-d", "--no-show-raw-insn", FREESTANDING, timeout=600).out.decode(errors="replace")
-        self.assertGreater(code.count("(%rsp)"), 1000, "operands that begin at the stack pointer")
-        # constants stand behind code, and not all of them are instructions; `lea` computes an address alone
-        blocks = [block.split("(bad)")[0].splitlines() for block in re.split(r"\n\n", code)]
-        below = [line for block in blocks for line in block if re.search(r"-0x[0-9a-f]+\(%rsp", line) and "lea " not in line]
+        code = instructions(FREESTANDING)
+        self.assertGreater("\n".join(code).count("(%rsp)"), 1000, "operands that begin at the stack pointer")
+        # `lea` computes an address alone
+        below = [line for line in code if re.search(r"-0x[0-9a-f]+\(%rsp", line) and "lea " not in line]
         self.assertEqual(below[:20], [])
+
+    def test_state(self) -> None:
+        """no instruction of an archive looks at MXCSR or at the x87's state, or computes with fractions"""
+        if not is_at_hand("objdump"):
+            self.skipTest("objdump is not at hand")
+        build_freestanding()
+        of_state = re.compile(r"\t(v?(ldmxcsr|stmxcsr)|f\w+|emms|xsave\w*|xrstor\w*|v?(add|sub|mul|div|sqrt|cvt\w+)[sp][sd])\b")
+        for archive in filter(Path.exists, [libraries()[0], FREESTANDING]):
+            code = instructions(archive)
+            self.assertGreater("\n".join(code).count("%xmm"), 100, "operands that are XMM registers")
+            self.assertEqual([line for line in code if of_state.search(line)][:20], [], archive.name)
 
 
 class Fuzzed(CoreChecks):

@@ -220,6 +220,29 @@ static void try_changes(void) {
     ALL(BOOTCORE_STATUS_LONG_RSDP, c.entry.rsdp_old = ((bootcore_bytes){many, SIZE_MAX}));
 }
 
+/* A line is refused for a zero byte, wherever it stands, or else for its length. */
+static void try_lines(void) {
+    static char line[3 * 4096 + 5];
+    const size_t lengths[] = {BOOTCORE_MAX_LINE, BOOTCORE_MAX_LINE + 1, BOOTCORE_MAX_LINE + 2, sizeof line};
+    for (size_t i = 0; i < sizeof lengths / sizeof *lengths; i++) {
+        const size_t zeros[] = {0, BOOTCORE_MAX_LINE - 1, BOOTCORE_MAX_LINE, 8191, lengths[i] - 1, SIZE_MAX};
+        for (size_t k = 0; k < sizeof zeros / sizeof *zeros; k++) {
+            call c = right();
+            uint32_t number = lengths[i] > BOOTCORE_MAX_LINE ? BOOTCORE_REFUSAL_LINE_TOO_LONG : 0;
+            memset(line, 'x', sizeof line);
+            if (zeros[k] < lengths[i]) {
+                line[zeros[k]] = 0;
+                number = BOOTCORE_REFUSAL_LINE_HAS_NUL;
+            }
+            c.entry.line = (bootcore_bytes){line, lengths[i]};
+            told = before;
+            uint32_t status = bootcore_prepare(&c.machine, &c.entry, &c.outcome);
+            count("prepare", "with a long line", status, number ? BOOTCORE_STATUS_REFUSED : BOOTCORE_STATUS_DONE,
+                  !number || told.refusals[0].number == number);
+        }
+    }
+}
+
 #define NO_POINTER(call) count(#call, "", call, BOOTCORE_STATUS_NULL, true)
 
 static void try_no_pointers(void) {
@@ -350,6 +373,7 @@ int main(void) {
         many[i] = usable[0];
     }
     try_changes();
+    try_lines();
     try_no_pointers();
     try_carrying();
     try_texts();

@@ -105,7 +105,7 @@ static uint64_t draw_place(size_t *next, size_t count) {
 
 static void add(uint64_t address, uint64_t length, uint32_t source, uint32_t file, uint64_t offset) {
     if (length)
-        steps[boot.layout.step_count++] = (bootcore_step){address, length, offset, source, file};
+        steps[boot.layout.step_count++] = (bootcore_step){address, length, offset, source, file, 0};
 }
 
 /* The kernel in two pieces with a gap between them, the others whole; the plan's own bytes between
