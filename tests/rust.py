@@ -15,7 +15,10 @@ CRATE = TOP / "bindings/rust"
 TEN_MINUTES = 600.0
 # where Debian's packages of crates lie
 PACKAGED = Path("/usr/share/cargo/registry")
-NO_REFUSALS = {"BOOTCORE_FAULT_READ_NO_MEMORY", "BOOTCORE_FAULT_WALK_NO_MEMORY"}  # an error of its own in the crate
+# an error of its own in the crate; what no program in Rust can do wrong
+UNNAMED = {"BOOTCORE_FAULT_READ_NO_MEMORY", "BOOTCORE_FAULT_WALK_NO_MEMORY"} | {
+    f"BOOTCORE_STATUS_{name}" for name in ("BAD_RESERVED", "BAD_KIND", "BAD_PROTOCOL", "NO_SESSION")
+}
 
 WITH_UNSAFE = {"freestanding/src/main.rs", "probe.rs", "src/raw.rs", "src/memory.rs", "tests/mapped.rs", "vm-memory/src/main.rs"}
 
@@ -96,10 +99,25 @@ class Declared(CrateChecks):
 
     def compiles(self, asserted: List[Tuple[str, str]]) -> None:
         """A C11 compiler agrees that each two are equal."""
-        lines = [f'_Static_assert({one} == {other}, "{one}");' for one, other in asserted]
-        file = self.room / "asserted.c"
-        file.write_text("\n".join(['#include "bootcore.h"', *lines, ""]), encoding="utf-8")
+        self.reads([f'_Static_assert({one} == {other}, "{one}");' for one, other in asserted])
+
+    def reads(self, lines: List[str]) -> None:
+        """A C11 compiler has nothing to say against lines below the headers."""
+        file = self.room / "said.c"
+        file.write_text("\n".join(['#include "bootcore.h"', '#include "bootcore_arena.h"', *lines, ""]), encoding="utf-8")
         self.assert_ended(run(*CC, "-std=c11", "-fsyntax-only", "-I", HEADER.parent, file))
+
+    def test_functions(self) -> None:
+        """the functions that the crate calls have the arguments and the answers of the header's"""
+        if not is_at_hand(CC[0]):
+            self.skipTest("no compiler of C is at hand")
+        declared = re.findall(r"\bfn (bootcore_\w+)\(([^)]*)\)(?: -> ([^;{]+))?;", source("src/raw.rs"))
+        self.assertGreater(len(declared), 25)
+        lines = []
+        for name, arguments, answer in declared:
+            types = [c_type(*part.split(": ")) for part in re.findall(r"\w+: [^,]+", arguments)]
+            lines.append(f"BOOTCORE_CALL {c_type('answer', answer.strip() or 'c_void')} {name}({', '.join(types) or 'void'});")
+        self.reads(lines)
 
     def test_records(self) -> None:
         """the records of the crate have the sizes and the offsets of the header's structs"""
@@ -121,13 +139,15 @@ class Declared(CrateChecks):
         self.compiles(asserted)
 
     def test_numbers(self) -> None:
-        """the numbers of the crate are the header's, and it has each refusal"""
+        """the numbers of the crate are the header's, and it has each that a program in Rust can meet"""
         if not is_at_hand(CC[0]):
             self.skipTest("no compiler of C is at hand")
         asserted = list(numbers())
         self.assertGreater(len(asserted), 80)
-        names = set(re.findall(r"\bBOOTCORE_(?:REFUSAL|FAULT)_\w+(?= = )", HEADER.read_text(encoding="utf-8")))
-        self.assertEqual(names - NO_REFUSALS - {name for name, _ in asserted}, set(), "refusals that the crate lacks")
+        prefixes = "REFUSAL|FAULT|STATUS|PROTOCOL|ROLE|KIND|SOURCE"
+        names = set(re.findall(rf"\bBOOTCORE_(?:{prefixes})_\w+(?= = )", HEADER.read_text(encoding="utf-8")))
+        self.assertGreater(len(names), 80)
+        self.assertEqual(names - UNNAMED - {name for name, _ in asserted}, set(), "numbers that the crate lacks")
         self.compiles(asserted)
 
     def test_unsafe(self) -> None:
@@ -145,6 +165,17 @@ class Declared(CrateChecks):
     def test_lock(self) -> None:
         """the crate rests on no other"""
         self.assertEqual(re.findall(r'^name = "(.+)"$', source("Cargo.lock"), re.M), ["bootcore"])
+
+
+def c_type(name: str, kind: str) -> str:
+    """A type of Rust in C; text is a byte in Rust."""
+    pointed = re.match(r"\*(const|mut) (.+)", kind.strip())
+    if pointed and pointed[2] == "u8" and name in ("answer", "buffer"):
+        return "const char *" if pointed[1] == "const" else "char *"
+    if pointed:
+        return f"{'const ' if pointed[1] == 'const' else ''}{c_type(name, pointed[2])} *"
+    plain = {"u8": "uint8_t", "u32": "uint32_t", "u64": "uint64_t", "usize": "size_t", "bool": "bool", "c_void": "void"}
+    return plain.get(kind) or "bootcore_" + snake_case(kind)
 
 
 def snake_case(name: str) -> str:
