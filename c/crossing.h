@@ -74,6 +74,7 @@ BOOTCORE_HAS_SIZE(bootcore_counts, 16);
 BOOTCORE_HAS_SIZE(bootcore_crossing_request, 20);
 BOOTCORE_HAS_SIZE(bootcore_region, 24);
 BOOTCORE_HAS_SIZE(bootcore_registers, 288);
+BOOTCORE_HAS_SIZE(bootcore_segment, 24);
 BOOTCORE_HAS_SIZE(bootcore_place, 32);
 BOOTCORE_HAS_SIZE(bootcore_handoff, 304);
 BOOTCORE_HAS_SIZE(bootcore_refusal, 32);
@@ -148,6 +149,17 @@ uint32_t bootcore_session_outcome_arrays(bootcore_session *session, bootcore_han
 BOOTCORE_CALL
 void bootcore_session_free_kept(bootcore_session *session);
 
+BOOTCORE_CALL
+void bootcore_segments_told(const bootcore_registers *registers, bootcore_segment *segments,
+                            size_t count);
+
+BOOTCORE_CALL
+size_t bootcore_bad_region_index(const bootcore_region *regions, size_t region_count);
+
+BOOTCORE_CALL
+uint32_t bootcore_image_head_read_arrays(const uint8_t *head, size_t length,
+                                         bootcore_handoff *handoff, bootcore_place *places,
+                                         size_t place_room, bootcore_refusal *fault);
 BOOTCORE_CALL
 uint32_t bootcore_walk_array(const uint8_t *image, size_t image_length, bootcore_seen *seen,
                              bootcore_refusal *fault);

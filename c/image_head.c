@@ -1,5 +1,5 @@
-/* The head of a handoff image. docs/FORMATS.md has the format, version 2. */
-#include "bootcore.h"
+/* The head of a handoff image. docs/FORMATS.md has the format; version 2 is written. */
+#include "given.h"
 
 enum { VERSION = 2, REGISTER_BYTES = 31 * 8, HEAD = 272, RECORD = 24 };
 
@@ -44,4 +44,17 @@ size_t bootcore_image_head(const bootcore_handoff *handoff, const bootcore_place
         head = put(head, places[i].length, 8);
     }
     return wanted;
+}
+
+BOOTCORE_CALL
+uint32_t bootcore_image_head_read(const void *head, size_t length, bootcore_handoff *handoff,
+                                  bootcore_place *places, size_t place_room,
+                                  bootcore_refusal *fault) {
+    bootcore_place no_place;
+    if (bootcore_is_null(head, length) || !handoff || bootcore_is_null(places, place_room) ||
+        !fault) {
+        return BOOTCORE_STATUS_NULL;
+    }
+    return bootcore_image_head_read_arrays(bootcore_given_array(head), length, handoff,
+                                           place_room ? places : &no_place, place_room, fault);
 }

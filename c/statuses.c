@@ -41,7 +41,11 @@ const char *bootcore_status_text(uint32_t status) {
     case BOOTCORE_STATUS_BAD_PROTOCOL:
         return "an entry has a protocol that there is not";
     case BOOTCORE_STATUS_TOO_MANY_ENTRIES:
-        return "there are too many entries or modules, or a copy of an RSDP is too long";
+        return "there are too many entries";
+    case BOOTCORE_STATUS_TOO_MANY_MODULES:
+        return "an entry has too many modules";
+    case BOOTCORE_STATUS_LONG_RSDP:
+        return "a copy of an RSDP is too long";
     case BOOTCORE_STATUS_BAD_INDEX:
         return "a menu's first entry or a fallback is no entry";
     case BOOTCORE_STATUS_NO_SESSION:

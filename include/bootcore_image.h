@@ -22,6 +22,18 @@ enum {
 BOOTCORE_CALL size_t bootcore_image_head(const bootcore_handoff *handoff,
     const bootcore_place *places, uint8_t *head, size_t length);
 
+/* Reads the head of a handoff image, of version 1 or 2: what stands before the bytes of the parts,
+ * which need not follow.
+ * - DONE: the handoff is told, with 0 as its entry, and the first places.
+ * - SMALL_ROOM: there are more places than place_room. The handoff is told, and says how many.
+ * - REFUSED: fault->number is 71 to 75 (with 74 `first` is the index of the place): the first that
+ *   is found, as in an image that begins so. A head that is cut is 75.
+ * - NO_MEMORY: fault->number is 77.
+ * - NULL.
+ * What is not told is as before. */
+BOOTCORE_CHECKED uint32_t bootcore_image_head_read(const void *head, size_t length,
+    bootcore_handoff *handoff, bootcore_place *places, size_t place_room, bootcore_refusal *fault);
+
 /* The offset of a copy of an RSDP that is not there. */
 #define BOOTCORE_ABSENT (~(uint64_t)0)
 

@@ -80,6 +80,8 @@ int run(void) {
     bootcore_session_free(&session);
     if (bootcore_arena_peak() == 0 || bootcore_arena_peak() > ARENA) return 14;
     if (bootcore_image_head(&outcome.handoff, places, head, sizeof head) == 0) return 15;
+    if (bootcore_image_head_read(head, sizeof head, &outcome.handoff, places, BOOTCORE_MAX_PLACES, refusals)) return 24;
+    if (bootcore_bad_region(&machine) != machine.region_count) return 25;
     if (bootcore_walk(head, 9, &seen, refusals) != BOOTCORE_STATUS_REFUSED) return 16;
     if (bootcore_walk_all(head, 9, &seen, &none, refusals) != BOOTCORE_STATUS_REFUSED) return 17;
     if (bootcore_refusal_line(refusals, line, sizeof line) == 0 || bootcore_refusal_text(4)[0] == 0) return 18;

@@ -315,19 +315,61 @@ static void check_digests(uint32_t status, const bootcore_outcome *outcome, cons
     bootcore_digest_free(&digest);
 }
 
+static bootcore_place read_places[BOOTCORE_MAX_PLACES];
+
+/* The head of the image is read back as it was told. */
+static void check_head(const bootcore_outcome *outcome, size_t length) {
+    size_t of_head = bootcore_image_head(&outcome->handoff, places, NULL, 0), count = outcome->handoff.place_count;
+    bootcore_handoff handoff;
+    bootcore_refusal fault;
+    if (bootcore_image_head_read(image, of_head, &handoff, read_places, count, &fault) != BOOTCORE_STATUS_DONE) {
+        found("a head is not read");
+    }
+    handoff.entry = outcome->handoff.entry;
+    if (memcmp(&handoff, &outcome->handoff, sizeof handoff) || memcmp(read_places, places, count * sizeof *places)) {
+        found("a head is read as another");
+    }
+    memset(&handoff, 0, sizeof handoff);
+    if (bootcore_image_head_read(image, length, &handoff, read_places, count - 1, &fault) != BOOTCORE_STATUS_SMALL_ROOM ||
+        handoff.place_count != count) {
+        found("a head does not say how many places it has");
+    }
+    if (bootcore_image_head_read(image, (size_t)take(2) % of_head, &handoff, read_places, count, &fault) != BOOTCORE_STATUS_REFUSED ||
+        fault.number != 75) {
+        found("a head that is cut is read");
+    }
+}
+
+/* The head of an image of which a walk answers this has the same first fault, if it has one. */
+static void check_changed_head(size_t length, uint32_t walked, const bootcore_refusal *of_walk) {
+    bool is_bad = walked == BOOTCORE_STATUS_REFUSED && of_walk->number < 75;
+    bool is_cut = walked == BOOTCORE_STATUS_REFUSED && of_walk->number == 75;
+    bootcore_handoff handoff;
+    bootcore_refusal fault;
+    uint32_t status = bootcore_image_head_read(image, length, &handoff, read_places, BOOTCORE_MAX_PLACES, &fault);
+    if (is_bad ? status != BOOTCORE_STATUS_REFUSED || memcmp(&fault, of_walk, sizeof fault)
+               : status != BOOTCORE_STATUS_DONE && !(is_cut && status == BOOTCORE_STATUS_REFUSED && fault.number == 75)) {
+        found("a changed head has another fault than its image");
+    }
+}
+
 static void check_walk(const bootcore_outcome *outcome) {
     size_t length = make_image(outcome);
     bootcore_seen seen;
     bootcore_refusal fault;
+    uint32_t status;
     if (bootcore_walk(image, length, &seen, &fault) != BOOTCORE_STATUS_DONE || seen.entry_address != outcome->handoff.registers.rip) {
         found("a walk does not see what is handed over");
     }
+    check_head(outcome, length);
     /* and with a byte changed it ends, whatever it answers */
     if (length) {
         image[(size_t)take(4) % length] ^= (uint8_t)(1 + take(1));
-        if (bootcore_walk(image, length, &seen, &fault) > BOOTCORE_STATUS_NO_MEMORY) {
+        status = bootcore_walk(image, length, &seen, &fault);
+        if (status > BOOTCORE_STATUS_NO_MEMORY) {
             found("a walk of changed bytes ends in a misuse");
         }
+        check_changed_head(length, status, &fault);
     }
 }
 

@@ -329,6 +329,13 @@ static bool can_be_both(const change *one, const change *two) {
            !are(one, two, null_files, file_too_few) && !are(one, two, set_module, bad_protocol);
 }
 
+/* Of a misuse of a region the changed one is named: the first has a bad kind, the second ends too high. */
+static bool names_region(uint32_t status) {
+    return (status != BOOTCORE_STATUS_BAD_KIND || bootcore_bad_region(&machine) == 0) &&
+           (status != BOOTCORE_STATUS_BAD_REGION || bootcore_bad_region(&machine) == 1) &&
+           (status != BOOTCORE_STATUS_DONE || bootcore_bad_region(&machine) == machine.region_count);
+}
+
 static void try_two(const char *call_name, uint32_t (*call)(void), const change *one, const change *two) {
     uint32_t status;
     bool holds;
@@ -348,7 +355,7 @@ static void try_two(const char *call_name, uint32_t (*call)(void), const change 
     layout_before = layout;
     kept_before = kept_digest;
     status = call();
-    holds = one->status < BOOTCORE_STATUS_NULL || is_kept(call, status);
+    holds = (one->status < BOOTCORE_STATUS_NULL || is_kept(call, status)) && names_region(status);
     if (status != one->status || !holds) {
         printf("%s, %s and %s: %" PRIu32 ", not %" PRIu32 "%s\n", call_name, one->name, two->name, status, one->status,
                holds ? "" : ", and something is told");

@@ -9,7 +9,10 @@ ghost use Rattle.c_abi.specs.BootTold.{TellsBoot};
 ghost use Rattle.c_records.specs.declared.given_fault.GivenFault.{GivenFault};
 
 mod digests;
+mod heads;
 mod one_entry;
+mod regions;
+mod segments;
 mod sessions;
 mod walks;
 

@@ -1,6 +1,6 @@
 -- Of an entry that C gives one first fault stands, none where it is sound; and so of its load.
 use Rattle.std.proofs.Common.{◌≡◌, ◌≢◌, ◌≤◌, ◌∙◌, ℕ, List, ap, sym, subst, refl, arith, inl, inr}
-use Rattle.std.proofs.Common.{Some, None}
+use Rattle.std.proofs.Common.{Some, None, true, false}
 use Rattle.std.proofs.lemmas.Option.{same_Some}
 use Rattle.bl_map.specs.MachineFacts.{MachineFacts}
 use Rattle.bl_load.specs.declared.refusal.Refusal.{Refusal}
@@ -16,6 +16,7 @@ use Rattle.c_records.specs.declared.given_records.EntryRecord.{EntryRecord}
 use Rattle.c_records.specs.declared.given_records.MachineRecord.{MachineRecord}
 use Rattle.c_records.specs.declared.given_records.RegionRecord.{RegionRecord}
 use Rattle.c_records.specs.declared.load_fault.LoadFault.TheVariants.{Outside}
+use Rattle.c_records.proofs.EntryLemmas.{few_modules}
 use Rattle.c_records.specs.Given.{value_with}
 use Rattle.c_abi.specs.Load.{HandsOverBelow, HasEntryFault}
 use Rattle.c_records.specs.EntryFaults.{IsEntryMisuse, IsEntrySound}
@@ -31,17 +32,25 @@ pub sound_entry : (entry : EntryRecord) (misuse : Misuse)
     → IsEntrySound entry → IsEntryMisuse entry misuse → ⊥
 sound_entry entry misuse sound (inl is) =
     let e : Some misuse ≡ None = sym is ∙ sound.names in absurd cc
-sound_entry entry misuse sound (inr (is, names, not)) = not sound.limits
+sound_entry entry misuse sound (inr (names, inl (is, many))) =
+    let e : true ≡ false = sym (few_modules entry sound.limits) ∙ many in absurd cc
+sound_entry entry misuse sound (inr (names, inr (is, few, not))) = not sound.limits
 
 -- two that are told are one
 pub one_entry_misuse : (entry : EntryRecord) (m n : Misuse)
     → IsEntryMisuse entry m → IsEntryMisuse entry n → n ≡ m
 one_entry_misuse entry m n (inl a) (inl b) = same_Some n m (sym b ∙ a)
-one_entry_misuse entry m n (inl a) (inr (is, names, not)) =
+one_entry_misuse entry m n (inl a) (inr (names, size)) =
     let e : Some m ≡ None = sym a ∙ names in absurd cc
-one_entry_misuse entry m n (inr (is, names, not)) (inl b) =
+one_entry_misuse entry m n (inr (names, size)) (inl b) =
     let e : Some n ≡ None = sym b ∙ names in absurd cc
-one_entry_misuse entry m n (inr (is, names, a)) (inr (same, known, b)) = same ∙ sym is
+one_entry_misuse entry m n (inr (names, inl (is, a))) (inr (known, inl (same, b))) = same ∙ sym is
+one_entry_misuse entry m n (inr (names, inl (is, many))) (inr (known, inr (same, few, b))) =
+    let e : true ≡ false = sym few ∙ many in absurd cc
+one_entry_misuse entry m n (inr (names, inr (is, few, a))) (inr (known, inl (same, many))) =
+    let e : true ≡ false = sym few ∙ many in absurd cc
+one_entry_misuse entry m n (inr (names, inr (is, few, a))) (inr (known, inr (same, some, b))) =
+    same ∙ sym is
 
 -- ---- of an entry on a machine
 

@@ -2,10 +2,12 @@
 -- its entries.
 use Rattle.std.proofs.Common.{◌≡◌, ◌∙◌, ◌+◌, ◌<◌, ◌≤◌, ℕ, zero, suc, List, [], ◌∷◌, ◌++◌}
 use Rattle.std.proofs.Common.{length, map, take, get_or, All, None, Some, refl, ap, sym, subst}
-use Rattle.std.proofs.Common.{arith, add-one, length-append}
+use Rattle.std.proofs.Common.{arith, add-one, length-append, inl, inr, true, false}
 use Rattle.std.proofs.lemmas.List.{length-map, get_or-map, take_more, map_push, flat_map_more}
 use Rattle.std.proofs.lemmas.List.Elements.{All-map}
+use Rattle.std.proofs.lemmas.List.Sums.{AllPass-from_list_all}
 use Rattle.std.proofs.lemmas.Simd.{map-map}
+use Rattle.bl_plan.specs.MenuLimits.{max_entries}
 use Rattle.bl_load.specs.declared.entry.Entry.{Entry}
 use Rattle.bl_load.specs.declared.entry.Entry.TheVariants.{Multiboot2, Linux}
 use Rattle.bl_load.specs.EntryValue.{HasLimits, IsWithinLimits, file_count, value_of}
@@ -18,11 +20,12 @@ use Rattle.c_records.specs.declared.given_fault.GivenFault.TheVariants.{Misused,
 use Rattle.c_records.specs.declared.given_records.EntryRecord.{EntryRecord}
 use Rattle.c_records.specs.declared.given_records.FileRecord.{FileRecord}
 use Rattle.c_records.specs.Given.{files_given, entry_without_files}
+use Rattle.c_records.specs.GivenChecks.{are_modules_few, have_few_modules}
 use Rattle.c_records.specs.EntryFaults.{IsEntrySizeFault}
 use Rattle.c_records.specs.MenuGiven.{menu_files, entry_facts_given, entries_facts}
-use Rattle.c_records.specs.MenuGiven.{given_fault_of_menu, AreFewGiven, IsNoMenu}
-use Rattle.c_records.specs.MenuGiven.{are_many, names_none, is_short}
-use Rattle.c_abi.specs.internal.Menus.{AreTooMany}
+use Rattle.c_records.specs.MenuGiven.{AreFewGiven, IsNoMenu, are_many, has_many_modules}
+use Rattle.c_records.specs.MenuGiven.{has_long_rsdp, names_none, is_short}
+use Rattle.c_abi.specs.internal.Menus.{AreNotTaken, given_fault_of_menu}
 
 -- ---- one entry more
 
@@ -86,11 +89,16 @@ few_files (Linux kernel line (Some initrd) wide) limits = omega arith
 
 -- ---- the limits of all entries
 
--- where one is beyond its limits, not all are within
+-- where one is beyond its limits, though each has few modules, a copy of an RSDP of it is too long
 pub size_fault_is : (rows : List EntryRecord) (i : ℕ) (d : EntryRecord) (fault : GivenFault)
-    → i < length rows → IsEntrySizeFault (get_or rows i d) fault → AreTooMany rows fault
-size_fault_is rows i d (Misused misuse) within is = (is.0, λ few. is.1 (few.1 i d within))
-size_fault_is rows i d NoMemory within is = tt
+    → i < length rows → length rows ≤ max_entries → have_few_modules rows ≡ true
+    → IsEntrySizeFault (get_or rows i d) fault → AreNotTaken rows fault
+size_fault_is rows i d (Misused misuse) within short few (inl (is, many)) =
+    let e : true ≡ false =
+    sym (AllPass-from_list_all are_modules_few rows few i d within) ∙ many in absurd cc
+size_fault_is rows i d (Misused misuse) within short few (inr (is, has, not)) =
+    inr (inr (is, short, few, λ all. not (all.1 i d within)))
+size_fault_is rows i d NoMemory within short few is = tt
 
 blanks : (first : ℕ) (rows : List EntryRecord)
     → map (λ f. f.blank) (entries_facts first rows) ≡ map entry_without_files rows
@@ -120,19 +128,7 @@ all_unmapped P f xs all =
     λ k d h.
     subst P (get_or-map f xs k d (f d) h) (all k (f d) (omega (arith, h, length-map xs f)))
 
-few_typed : {A : Type 0} (rows : List EntryRecord) (typed : List (Entry A))
-    → map facts_of typed ≡ entries_facts 0 rows → AreFewGiven rows → AreWithinLimits typed
-unfolding IsWithinLimits
-few_typed rows typed is few =
-    let count = entry_count rows typed is in
-    let most = few.0 in (
-      omega (arith, count, most),
-      all_unmapped HasLimits (value_of []) typed
-          (subst (All HasLimits) (sym (values_made rows typed is))
-          (All-map HasLimits entry_without_files rows few.1)),
-    )
-
--- the other way round
+-- entries within their limits are few, and so are those that they were made of
 pub few_given : {A : Type 0} (rows : List EntryRecord) (typed : List (Entry A))
     → map facts_of typed ≡ entries_facts 0 rows → AreWithinLimits typed → AreFewGiven rows
 unfolding IsWithinLimits
@@ -150,19 +146,22 @@ few_given rows typed is small =
 -- why these entries make none
 pub no_menu_is : {A : Type 0} (rows : List EntryRecord) (default : ℕ) (fallbacks : List ℕ)
     (typed : List (Entry A)) (fault : MenuFault) → map facts_of typed ≡ entries_facts 0 rows
-    → HasMenuFault typed default fallbacks fault
+    → AreWithinLimits typed → HasMenuFault typed default fallbacks fault
     → IsNoMenu rows default fallbacks (given_fault_of_menu fault)
-no_menu_is rows default fallbacks typed menu_faults.TooMany is has =
-    are_many (λ few. has (few_typed rows typed is few))
-no_menu_is rows default fallbacks typed menu_faults.BadIndex is has =
+no_menu_is rows default fallbacks typed menu_faults.TooMany is few has = absurd (has few)
+no_menu_is rows default fallbacks typed menu_faults.BadIndex is few has =
     names_none (few_given rows typed is has.0)
     (λ named. has.1 (subst (λ n. AreEntryIndices n default fallbacks)
     (sym (entry_count rows typed is)) named))
-no_menu_is rows default fallbacks typed menu_faults.NoMemory is has = is_short
+no_menu_is rows default fallbacks typed menu_faults.NoMemory is few has = is_short
 
 -- so do entries that are not taken
 pub no_entries_is : (rows : List EntryRecord) (default : ℕ) (fallbacks : List ℕ)
-    (fault : GivenFault) → AreTooMany rows fault → IsNoMenu rows default fallbacks fault
-no_entries_is rows default fallbacks (Misused misuse) is =
-    subst (λ m. IsNoMenu rows default fallbacks (Misused m)) (sym is.0) (are_many is.1)
+    (fault : GivenFault) → AreNotTaken rows fault → IsNoMenu rows default fallbacks fault
+no_entries_is rows default fallbacks (Misused misuse) (inl (is, many)) =
+    subst (λ m. IsNoMenu rows default fallbacks (Misused m)) (sym is) (are_many many)
+no_entries_is rows default fallbacks (Misused misuse) (inr (inl (is, short, many))) =
+    subst (λ m. IsNoMenu rows default fallbacks (Misused m)) (sym is) (has_many_modules short many)
+no_entries_is rows default fallbacks (Misused misuse) (inr (inr (is, short, few, long))) =
+    subst (λ m. IsNoMenu rows default fallbacks (Misused m)) (sym is) (has_long_rsdp short few long)
 no_entries_is rows default fallbacks NoMemory is = is_short

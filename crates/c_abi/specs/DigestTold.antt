@@ -43,7 +43,7 @@ TellsWanted (Some range) told old new = (told ≡ true) × (new ≡ range_told r
 
 -- it was fed more than it wants
 abbrev pub unwanted_status : ℕ
-unwanted_status = 116
+unwanted_status = 118
 
 -- a status, and the digest after these bytes: fed them, or as it was if they are more than it wants
 pub data FeedsDigest (old new : DigestingFacts) (bytes : List ℕ) (status : ℕ) : Type 0 where

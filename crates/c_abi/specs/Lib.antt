@@ -8,4 +8,5 @@ pub mod Sessions
 pub mod Digest
 pub mod DigestTold
 pub mod Walk
+pub mod Heads
 pub mod internal

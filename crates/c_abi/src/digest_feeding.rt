@@ -8,7 +8,7 @@ use c_records::FileRangeRecord;
 use std::alloc::Allocator;
 
 /// The status of a digest that was fed more than it wants.
-const UNWANTED: u32 = 116;
+const UNWANTED: u32 = 118;
 
 /// Tells what a digest wants next, and whether it wants something.
 pub fn wanted_told<A: Allocator>(digest: &Digesting<A>, told: &mut FileRangeRecord) -> bool

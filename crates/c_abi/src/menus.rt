@@ -1,16 +1,16 @@
 //! A menu as the libraries take it.
 ghost use Rattle.std.specs.Prelude.{◌≡◌, IfOk, IfErr, OnOk, length, map};
 ghost use Rattle.bl_session.specs.menu.Menu.{facts_of};
-ghost use Rattle.bl_session.specs.menu.MenuFaults.{AreEntryIndices};
+ghost use Rattle.bl_session.specs.menu.MenuFaults.{AreEntryIndices, AreWithinLimits};
 ghost use Rattle.c_records.specs.MenuGiven.{AreFewGiven, IsMenuAllowed, IsMenuFault, IsNoMenu};
 ghost use Rattle.c_records.specs.MenuGiven.{entries_facts, menu_given};
-ghost use Rattle.c_records.specs.MenuGiven as spec;
-ghost use Rattle.c_abi.specs.internal.Menus.{AreTooMany};
+ghost use Rattle.c_abi.specs.internal.Menus as spec;
+ghost use Rattle.c_abi.specs.internal.Menus.{AreNotTaken};
 
 use bl_load::Entry;
 use bl_plan::MAX_ENTRIES;
 use bl_session::{Menu, MenuFault};
-use c_records::{EntryRecord, GivenFault, Misuse, check_entries, entry_of};
+use c_records::{EntryRecord, GivenFault, Misuse, check_entries, entry_of, have_few_modules};
 use std::alloc::Allocator;
 
 /// The entries of a menu; the files of each come after those of the entries before it.
@@ -20,10 +20,14 @@ fn entries_of<A: Allocator + Copy>(
 ) -> Result<Vec<Entry<A>, A>, GivenFault>
     ensures facts { IfOk result
         (λ entries. map facts_of entries.items ≡ entries_facts 0 records.now) }
-    ensures fault { IfErr result (AreTooMany records.now) }
+    ensures limits { IfOk result (λ entries. AreWithinLimits entries.items) }
+    ensures fault { IfErr result (AreNotTaken records.now) }
 {
     if records.len() > MAX_ENTRIES {
-        return Err(GivenFault::Misused(Misuse::TooMany));
+        return Err(GivenFault::Misused(Misuse::TooManyEntries));
+    }
+    if !have_few_modules(records) {
+        return Err(GivenFault::Misused(Misuse::TooManyModules));
     }
     let mut entries = Vec::new(alloc);
     let mut before: u32 = 0;
@@ -40,11 +44,12 @@ fn entries_of<A: Allocator + Copy>(
     Ok(entries)
 }
 
+/// A fault of a menu whose entries were taken: so they are not too many.
 fn given_fault_of_menu(fault: MenuFault) -> GivenFault
     ensures { result ≡ spec.given_fault_of_menu fault }
 {
     match fault {
-        MenuFault::TooMany => GivenFault::Misused(Misuse::TooMany),
+        MenuFault::TooMany => GivenFault::Misused(Misuse::TooManyEntries),
         MenuFault::BadIndex => GivenFault::Misused(Misuse::BadIndex),
         MenuFault::NoMemory => GivenFault::NoMemory,
     }

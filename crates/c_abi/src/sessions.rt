@@ -41,7 +41,8 @@ fn sizes_of<A: Allocator + Copy>(
 
 /// The session of a menu whose files' bytes come later. Of a file its length alone is looked at.
 ///
-/// The first fault that stands: of the machine, of the entries in order, `TooMany`, `BadIndex`.
+/// The first fault that stands: of the machine, of the entries in order, and then `TooManyEntries`,
+/// `TooManyModules`, `LongRsdp`, `BadIndex`.
 pub fn session_given<A: Allocator + Copy>(
     alloc: A,
     machine: &MachineRecord,

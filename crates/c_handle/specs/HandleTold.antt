@@ -17,9 +17,9 @@ progress_status (Ok Done) = 0
 progress_status (Ok Failed) = 5
 progress_status (Ok Waiting) = 2
 progress_status (Ok (Next attempt)) = 3
-progress_status (Err NoSession) = 114
+progress_status (Err NoSession) = 116
 progress_status (Err WrongSize) = 110
-progress_status (Err BelowBase) = 115
+progress_status (Err BelowBase) = 117
 
 -- a piece that is awaited, as a record, where these entries are attempted
 abbrev pub request_record : List ℕ → Request → RequestRecord

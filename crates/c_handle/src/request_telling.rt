@@ -16,9 +16,9 @@ pub fn status_of(told: Result<Progress, HandleFault>) -> u32
         Ok(Progress::Failed) => 5,
         Ok(Progress::Waiting) => 2,
         Ok(Progress::Next(_)) => 3,
-        Err(HandleFault::NoSession) => 114,
+        Err(HandleFault::NoSession) => 116,
         Err(HandleFault::WrongSize) => 110,
-        Err(HandleFault::BelowBase) => 115,
+        Err(HandleFault::BelowBase) => 117,
     }
 }
 

@@ -2,6 +2,7 @@ pub mod TellLemmas
 pub mod ListLemmas
 mod NumberLemmas
 mod CheckLemmas
-mod EntryLemmas
+pub mod EntryLemmas
 mod SeenLemmas
+mod SegmentLemmas
 mod ProtocolLemmas

@@ -1,8 +1,9 @@
 -- What C may not give, in the order of these lines. Own.
-use Rattle.std.specs.Prelude.{ℕ, Bool, ◌&&◌, not, nat_le, if◌then◌else◌, List, Option, Some, None}
-use Rattle.std.specs.Prelude.{◌≡◌, [], ◌∷◌, Result, MatchResult}
+use Rattle.std.specs.Prelude.{ℕ, Bool, true, ◌&&◌, not, nat_le, ◌==◌, if◌then◌else◌, Option, Some}
+use Rattle.std.specs.Prelude.{None, List, [], ◌∷◌, length, ◌≡◌, Result, MatchResult}
 use Rattle.std.specs.List.{list_all}
 use Rattle.std.specs.Option.{option_or}
+use Rattle.bl_plan.specs.MenuLimits.{max_modules}
 use Rattle.c_records.specs.declared.given_records.RegionRecord.{RegionRecord}
 use Rattle.c_records.specs.declared.given_records.EntryRecord.{EntryRecord}
 use Rattle.c_records.specs.declared.misuse.Misuse.{Misuse}
@@ -28,6 +29,15 @@ entry_misuse entry = if not (is_protocol entry.protocol) then Some BadProtocol e
 abbrev pub entries_misuse : List EntryRecord → Option Misuse
 entries_misuse [] = None
 entries_misuse (entry ∷ entries) = option_or (entry_misuse entry) (entries_misuse entries)
+
+-- of its modules there are not too many; an entry of another protocol than 1 has none
+abbrev pub are_modules_few : EntryRecord → Bool
+are_modules_few entry =
+    if entry.protocol == 1 then nat_le (length entry.modules.now) max_modules else true
+
+-- so of each of these
+abbrev pub have_few_modules : List EntryRecord → Bool
+have_few_modules entries = list_all are_modules_few entries
 
 -- a check answers this misuse, if it is one
 abbrev pub FindsMisuse : {X : Type 0} → Option Misuse → Result X Misuse → Type 0

@@ -3,9 +3,11 @@ pub mod GivenChecks
 pub mod EntryFaults
 pub mod MenuGiven
 pub mod Machines
+pub mod BadRegions
 pub mod RefusalTold
 pub mod Status
 pub mod LoadTold
+pub mod SegmentsTold
 pub mod TextRanges
 pub mod SeenTold
 pub mod WalkTold

@@ -1,5 +1,5 @@
 -- The menu that the entries of C make, its files, and why there is none. Own.
-use Rattle.std.specs.Prelude.{◌≡◌, ℕ, suc, ◌+◌, ◌-◌, ◌^◌, ◌==◌, ◌≤◌, Bool, All}
+use Rattle.std.specs.Prelude.{◌≡◌, ℕ, suc, ◌+◌, ◌-◌, ◌^◌, ◌==◌, ◌<◌, ◌≤◌, Bool, true, false, All}
 use Rattle.std.specs.Prelude.{List, [], ◌∷◌, length, None, Some}
 use Rattle.std.specs.List.{flat_map}
 use Rattle.bl_plan.specs.MenuLimits.{max_entries}
@@ -7,16 +7,15 @@ use Rattle.bl_load.specs.EntryValue.{HasLimits}
 use Rattle.bl_session.specs.menu.AttemptOrder.{attempt_order}
 use Rattle.bl_session.specs.menu.Menu.{EntryFacts, MenuFacts}
 use Rattle.bl_session.specs.menu.MenuFaults.{AreEntryIndices}
-use Rattle.bl_session.specs.declared.menu.fault.MenuFault.{MenuFault}
-use Rattle.bl_session.specs.declared.menu.fault.MenuFault.TheVariants as menu_faults
 use Rattle.c_records.specs.declared.given_records.FileRecord.{FileRecord}
 use Rattle.c_records.specs.declared.given_records.EntryRecord.{EntryRecord}
 use Rattle.c_records.specs.declared.misuse.Misuse.{Misuse}
-use Rattle.c_records.specs.declared.misuse.Misuse.TheVariants.{TooMany, BadIndex}
+use Rattle.c_records.specs.declared.misuse.Misuse.TheVariants.{TooManyEntries, TooManyModules}
+use Rattle.c_records.specs.declared.misuse.Misuse.TheVariants.{LongRsdp, BadIndex}
 use Rattle.c_records.specs.declared.given_fault.GivenFault.{GivenFault}
 use Rattle.c_records.specs.declared.given_fault.GivenFault.TheVariants.{Misused, NoMemory}
 use Rattle.c_records.specs.Given.{files_given, entry_without_files}
-use Rattle.c_records.specs.GivenChecks.{entries_misuse}
+use Rattle.c_records.specs.GivenChecks.{entries_misuse, have_few_modules}
 
 -- ---- its files
 
@@ -69,10 +68,17 @@ pub record IsMenuAllowed (entries : List EntryRecord) (default : ℕ) (fallbacks
     pub few : AreFewGiven entries
     pub named : AreEntryIndices (length entries) default fallbacks
 
--- entries without a misuse make no menu: the first of these; memory may run out
+-- entries without a misuse of their own make no menu: the first of these, too many entries, one
+-- with too many modules, one with a copy of an RSDP that is too long, an index that names none;
+-- memory may run out
 pub data IsNoMenu (entries : List EntryRecord) (default : ℕ) (fallbacks : List ℕ) :
     GivenFault → Type 0 where
-  are_many : ¬ AreFewGiven entries → IsNoMenu entries default fallbacks (Misused TooMany)
+  are_many : max_entries < length entries
+      → IsNoMenu entries default fallbacks (Misused TooManyEntries)
+  has_many_modules : length entries ≤ max_entries → have_few_modules entries ≡ false
+      → IsNoMenu entries default fallbacks (Misused TooManyModules)
+  has_long_rsdp : length entries ≤ max_entries → have_few_modules entries ≡ true
+      → ¬ AreFewGiven entries → IsNoMenu entries default fallbacks (Misused LongRsdp)
   names_none : AreFewGiven entries → ¬ AreEntryIndices (length entries) default fallbacks
       → IsNoMenu entries default fallbacks (Misused BadIndex)
   is_short : IsNoMenu entries default fallbacks NoMemory
@@ -85,8 +91,3 @@ pub data IsMenuFault (entries : List EntryRecord) (default : ℕ) (fallbacks : L
   no_menu : entries_misuse entries ≡ None → (fault : GivenFault)
       → IsNoMenu entries default fallbacks fault
       → IsMenuFault entries default fallbacks fault
-
-abbrev pub given_fault_of_menu : MenuFault → GivenFault
-given_fault_of_menu menu_faults.TooMany = Misused TooMany
-given_fault_of_menu menu_faults.BadIndex = Misused BadIndex
-given_fault_of_menu menu_faults.NoMemory = NoMemory

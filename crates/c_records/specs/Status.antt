@@ -31,8 +31,10 @@ misuse_status misuse.BadRegion = 108
 misuse_status misuse.BadPool = 109
 misuse_status misuse.BadMemory = 110
 misuse_status misuse.BadProtocol = 111
-misuse_status misuse.TooMany = 112
-misuse_status misuse.BadIndex = 113
+misuse_status misuse.TooManyEntries = 112
+misuse_status misuse.TooManyModules = 113
+misuse_status misuse.LongRsdp = 114
+misuse_status misuse.BadIndex = 115
 
 -- of a load that ended so
 abbrev pub fault_status : LoadFault → ℕ

@@ -119,11 +119,11 @@ pub fn entry_of<A: Allocator + Copy>(
     }
     // before the files are numbered: so no number is too high
     if row.modules.len() > MAX_MODULES {
-        return Err(GivenFault::Misused(Misuse::TooMany));
+        return Err(GivenFault::Misused(Misuse::TooManyModules));
     }
     let entry = multiboot2_of(alloc, row, before)?;
     if !entry.is_within_limits() {
-        return Err(GivenFault::Misused(Misuse::TooMany));
+        return Err(GivenFault::Misused(Misuse::LongRsdp));
     }
     Ok(entry)
 }

@@ -5,10 +5,10 @@ ghost use Rattle.c_records.specs.GivenChecks.{FindsMisuse};
 
 use crate::given_records::{EntryRecord, RegionRecord};
 use crate::misuse::Misuse;
-use bl_plan::Protocol;
+use bl_plan::{MAX_MODULES, Protocol};
 
 /// Whether a number is that of a kind of memory.
-fn is_kind(kind: u32) -> bool
+pub(crate) fn is_kind(kind: u32) -> bool
     ensures { result ≡ spec.is_kind kind }
 {
     1 <= kind && kind <= 5
@@ -26,6 +26,23 @@ fn is_protocol(protocol: u32) -> bool
     ensures { result ≡ spec.is_protocol protocol }
 {
     Protocol::from_number(protocol).is_some()
+}
+
+/// Whether an entry has not too many modules.
+pub(crate) fn are_modules_few(entry: &EntryRecord) -> bool
+    ensures { result ≡ spec.are_modules_few entry.now }
+{
+    if !entry.is_of(Protocol::Multiboot2) {
+        return true;
+    }
+    entry.modules.len() <= MAX_MODULES
+}
+
+/// Whether no entry has too many modules.
+pub fn have_few_modules(entries: &[EntryRecord]) -> bool
+    ensures { result ≡ spec.have_few_modules entries.now }
+{
+    entries.iter().all(|entry| are_modules_few(entry))
 }
 
 /// Checks an entry, but for its size: the first misuse.

@@ -4,6 +4,7 @@ use crate::end_records::{HandoffRecord, PlaceRecord, RefusalRecord, RegistersRec
 use crate::given_records::{EntryRecord, FileRecord, MachineRecord, ModuleRecord, RegionRecord};
 use crate::plan_records::{PlanCountsRecord, StepRecord};
 use crate::seen_records::{ByteRange, SeenModuleRecord, SeenPartRecord, SeenRecord};
+use crate::segment_records::SegmentRecord;
 
 const _: () = prove!(size_of::<FileRecord<'_>>() == 24);
 
@@ -40,3 +41,5 @@ const _: () = prove!(size_of::<FileRangeRecord>() == 32);
 const _: () = prove!(size_of::<PartDigestRecord>() == 72);
 
 const _: () = prove!(size_of::<DigestsRecord>() == 120);
+
+const _: () = prove!(size_of::<SegmentRecord>() == 24);

@@ -2,7 +2,8 @@
 ghost use Rattle.std.specs.Prelude.{◌≡◌};
 ghost use Rattle.c_records.specs.Status.{misuse_status};
 
-/// A condition of a call that its caller broke, found before any memory was changed.
+/// A condition of a call that its caller broke, found before any memory was changed. Of several the
+/// first in this order is told.
 #[derive(Clone, Copy)]
 pub enum Misuse {
     /// An array has too little room.
@@ -21,8 +22,12 @@ pub enum Misuse {
     BadMemory,
     /// There is no such protocol.
     BadProtocol,
-    /// There are too many entries or modules, or a copy of the RSDP is too long.
-    TooMany,
+    /// There are too many entries.
+    TooManyEntries,
+    /// There are too many modules in an entry.
+    TooManyModules,
+    /// A copy of the RSDP is too long.
+    LongRsdp,
     /// There is no such entry.
     BadIndex,
 }
@@ -41,8 +46,10 @@ impl Misuse {
             Misuse::BadPool => 109,
             Misuse::BadMemory => 110,
             Misuse::BadProtocol => 111,
-            Misuse::TooMany => 112,
-            Misuse::BadIndex => 113,
+            Misuse::TooManyEntries => 112,
+            Misuse::TooManyModules => 113,
+            Misuse::LongRsdp => 114,
+            Misuse::BadIndex => 115,
         }
     }
 }

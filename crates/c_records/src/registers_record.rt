@@ -86,7 +86,7 @@ fn told_64(r: &Registers64) -> RegistersRecord
 }
 
 /// The registers under their names of 64 bits.
-pub(crate) fn registers_told(registers: &Registers) -> RegistersRecord
+pub fn registers_told(registers: &Registers) -> RegistersRecord
     ensures { result ≡ spec.registers_told registers.now }
 {
     match registers {

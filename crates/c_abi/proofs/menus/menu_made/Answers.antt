@@ -25,4 +25,5 @@ returns-in-Err-new-clause-fault g c =
     let rows = c.args.entries.now in
     subst (IsNoMenu rows c.args.default c.args.fallbacks.now) (sym c.given_fault_of_menu.ensures)
     (no_menu_is rows c.args.default c.args.fallbacks.now c.in-Ok.typed.items
-    c.in-Err-new.fault c.in-Ok.ensures.facts c.in-Err-new.ensures.first_fault)
+    c.in-Err-new.fault c.in-Ok.ensures.facts c.in-Ok.ensures.limits
+    c.in-Err-new.ensures.first_fault)

@@ -1,8 +1,8 @@
-use Rattle.std.proofs.Common.{◌≡◌, ◌==◌, true, false, [], rules, refl}
+use Rattle.std.proofs.Common.{◌≡◌, ◌==◌, true, false, [], rules, refl, arith, inr}
 use Rattle.std.proofs.lemmas.Result.{err_from_is_err_and}
 use Rattle.bl_load.specs.EntryValue.{value_of}
 use Rattle.c_records.specs.Given.{entry_without_files}
-use Rattle.c_records.proofs.EntryLemmas.{too_large}
+use Rattle.c_records.proofs.EntryLemmas.{few_counted, too_large}
 use Rattle.c_records.proofs.NumberLemmas.{count_by_facts, multiboot2_facts}
 use Rattle.c_records.proofs.entries.entry_of.Goals as goal
 
@@ -10,8 +10,10 @@ pub returns-then-not-is_within_limits-clause-fault :
     goal.returns-then-not-is_within_limits-clause-fault
 returns-then-not-is_within_limits-clause-fault g c =
     let value : value_of [] c.in_ok-entry.entry ≡ entry_without_files c.args.row.now =
-    search rules in (
+    search rules in
+    inr (
       refl,
+      few_counted c.args.row.now (omega arith),
       too_large c.args.row.now c.in_ok-entry.entry value
           (λ limits.
           let within : c.is_within_limits.result ≡ true = c.is_within_limits.ensures.1 limits in

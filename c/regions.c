@@ -1,0 +1,11 @@
+/* Which region a misuse is about. */
+#include "given.h"
+
+BOOTCORE_CALL
+size_t bootcore_bad_region(const bootcore_machine *machine) {
+    /* of none that can be read is it */
+    if (bootcore_machine_has_null(machine)) {
+        return machine ? machine->region_count : 0;
+    }
+    return bootcore_bad_region_index(bootcore_regions_crossing(machine), machine->region_count);
+}
