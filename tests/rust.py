@@ -51,6 +51,8 @@ fn main() {
         digest(&machine, &entry).map(drop),
         Digest::new(&machine, &entry).map(drop),
         walk(b"no image").map(drop),
+        Handoff::from_image_head(b"no head").map(drop),
+        machine.bad_region().map(drop),
         Session::new(memory, &machine, &menu).map(drop),
     ];
     for end in ends {
@@ -216,9 +218,9 @@ def numbers() -> Iterator[Tuple[str, str]]:
             for name, number in variant.findall(line):
                 name = snake_case(name).upper()
                 yield prefix + said.get(name, name), number
-    for file in ("raw", "lib"):
+    for file in ("raw", "lib", "arena"):
         for name, value in re.findall(r"(?m)^(?:pub(?:\(crate\))? )?const (\w+): \w+ = ([\w:]+);", source(f"src/{file}.rs")):
-            prefix = "BOOTCORE_" if re.match("SOURCE_|MAX_|PIECE$|UNREADABLE$|ABSENT$", name) else "BOOTCORE_STATUS_"
+            prefix = "BOOTCORE_" if re.match("SOURCE_|MAX_|IMAGE_PLACE$|ARENA$|PIECE$|UNREADABLE$|ABSENT$", name) else "BOOTCORE_STATUS_"
             yield prefix + name, {"usize::MAX": "SIZE_MAX", "u64::MAX": "UINT64_MAX"}.get(value, value)
 
 
@@ -259,7 +261,7 @@ class Versions(CrateChecks):
         library = ["--crate-type", "rlib", "--cfg", 'feature="std"', "-l", "static=bootcore"]
         self.assert_good(run(*words, "bootcore", *library, CRATE / "src/lib.rs"))
         self.assert_good(run(*words, "begin", "--extern", f"bootcore={folder / 'libbootcore.rlib'}", folder / "begin.rs"))
-        self.ends("each call says that the archive is of another version", run(folder / "begin"), 0, f"{WRONG}\n" * 8)
+        self.ends("each call says that the archive is of another version", run(folder / "begin"), 0, f"{WRONG}\n" * 10)
 
 
 class Built(CrateChecks):

@@ -21,7 +21,7 @@ numbered! {
         BadSize = 106,
         /// There are more than [`MAX_REGIONS`](crate::MAX_REGIONS) regions.
         TooManyRegions = 107,
-        /// A region ends above 2^52.
+        /// A region ends above 2^52: [`Machine::bad_region`](crate::Machine::bad_region) says which.
         BadRegion = 108,
         /// The pool is not of whole frames, or not all of it is usable.
         BadPool = 109,

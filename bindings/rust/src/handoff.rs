@@ -3,6 +3,7 @@
 use alloc::vec::Vec;
 
 use crate::entry::Protocol;
+use crate::error::Error;
 use crate::numbers::numbered;
 use crate::raw;
 
@@ -197,5 +198,11 @@ impl Handoff {
     /// the places.
     pub fn image_head(&self) -> Vec<u8> {
         raw::image_head(self)
+    }
+
+    /// Reads the head of an image, by which its kernel is entered. The bytes of the parts need not follow; of an image that has
+    /// them it takes the beginning. What is read has 0 as its entry.
+    pub fn from_image_head(head: &[u8]) -> Result<Handoff, Error> {
+        raw::image_head_read(head)
     }
 }

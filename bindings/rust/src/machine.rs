@@ -2,6 +2,9 @@
 
 use alloc::vec::Vec;
 
+use crate::error::Error;
+use crate::raw;
+
 /// Kinds of memory: the numbers of an e820 entry. Where regions overlap, the greatest counts.
 #[derive(Clone, Copy, Debug, PartialEq, Eq, PartialOrd, Ord, Hash)]
 #[repr(u32)]
@@ -86,6 +89,11 @@ impl Machine {
     pub fn region(mut self, base: u64, length: u64, kind: Kind) -> Machine {
         self.regions.push(Region::new(base, length, kind));
         self
+    }
+
+    /// The index of the first region that no machine may have: that of [`Misuse::BadRegion`](crate::Misuse::BadRegion).
+    pub fn bad_region(&self) -> Result<Option<usize>, Error> {
+        raw::bad_region(self)
     }
 
     /// With this pool.

@@ -45,6 +45,7 @@ const SOURCE_LAYOUT: u32 = 2;
 const SOURCE_ZEROS: u32 = 3;
 
 const MAX_PLACES: usize = 256;
+const IMAGE_PLACE: usize = 24;
 const MAX_REFUSALS: usize = 32;
 const UNREADABLE: usize = usize::MAX;
 const ABSENT: u64 = u64::MAX;
@@ -205,6 +206,7 @@ impl Default for Handoff {
 
 extern "sysv64" {
     fn bootcore_version() -> u32;
+    fn bootcore_bad_region(machine: *const Machine) -> usize;
     fn bootcore_segments(registers: *const Registers, segments: *mut Segment);
     fn bootcore_load(memory: *const Memory, machine: *const Machine, entry: *const Entry, outcome: *mut Outcome) -> u32;
     fn bootcore_prepare(machine: *const Machine, entry: *const Entry, outcome: *mut Outcome) -> u32;
@@ -235,6 +237,14 @@ extern "sysv64" {
     fn bootcore_refusal_text(number: u32) -> *const u8;
     fn bootcore_refusal_line(refusal: *const Refusal, buffer: *mut u8, length: usize) -> usize;
     fn bootcore_image_head(handoff: *const Handoff, places: *const Place, head: *mut u8, length: usize) -> usize;
+    fn bootcore_image_head_read(
+        head: *const c_void,
+        length: usize,
+        handoff: *mut Handoff,
+        places: *mut Place,
+        place_room: usize,
+        fault: *mut Refusal,
+    ) -> u32;
     fn bootcore_walk_all(
         image: *const c_void,
         image_length: usize,
@@ -881,6 +891,39 @@ pub(crate) fn image_head(handoff: &crate::Handoff) -> Vec<u8> {
     // SAFETY: as before, with room for as many bytes as are told
     unsafe { bootcore_image_head(&handoff, places.as_ptr(), head.as_mut_ptr(), head.len()) };
     head
+}
+
+pub(crate) fn image_head_read(head: &[u8]) -> Result<crate::Handoff, Error> {
+    let _turn = enter()?;
+    let (mut handoff, mut fault) = (Handoff::default(), Refusal::default());
+    let mut places = vec![Place::default(); MAX_PLACES];
+    let mut call = |places: &mut [Place]| {
+        let (count, places) = (places.len(), places.as_mut_ptr());
+        // SAFETY: the head is borrowed, with its length; the places are this call's own, and have the room that is told
+        unsafe { bootcore_image_head_read(head.as_ptr().cast(), head.len(), &mut handoff, places, count, &mut fault) }
+    };
+    let mut status = call(&mut places);
+    if status == SMALL_ROOM {
+        // no head has room for more, whatever it says
+        places.resize(head.len() / IMAGE_PLACE, Place::default());
+        status = call(&mut places);
+    }
+    match status {
+        DONE => {
+            places.truncate(handoff.place_count as usize);
+            Ok(handoff_told(&handoff, &places))
+        }
+        REFUSED => Err(Error::BadImage(Fault::of(carried(&fault)))),
+        other => Err(Error::of_status(other)),
+    }
+}
+
+pub(crate) fn bad_region(machine: &crate::Machine) -> Result<Option<usize>, Error> {
+    check()?;
+    let regions = regions_of(machine);
+    // SAFETY: the machine and its regions stand during the call
+    let index = unsafe { bootcore_bad_region(&machine_of(machine, &regions)) };
+    Ok((index < regions.len()).then_some(index))
 }
 
 pub(crate) fn walk(image: &[u8]) -> Result<image::Seen, Error> {

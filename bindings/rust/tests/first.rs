@@ -169,3 +169,18 @@ fn a_line_that_is_too_long_is_told_with_its_limit() {
         }
     }
 }
+
+#[test]
+fn the_head_of_an_image_is_read_back() {
+    let kernel = linux64_kernel();
+    let mut handoff = prepare(&machine(), &Linux::new64(&kernel).line("k").initrd(File::Length(5)).into()).unwrap();
+    let head = handoff.image_head();
+    assert_eq!(Handoff::from_image_head(&head), Ok(handoff.clone()));
+    assert_eq!(Handoff::from_image_head(&head[..head.len() - 1]), Err(Fault::WrongLength.into()));
+    assert_eq!(Handoff::from_image_head(b"no image"), Err(Fault::BadMagic.into()));
+    let stored = Handoff::from_image_head(&stored_image()).unwrap();
+    assert_eq!(stored.places, prepare(&machine(), &entry(&multiboot2_kernel())).unwrap().places);
+    // more than an entry has
+    handoff.places = (256..700).map(|i| Place::new(Role::Module, i - 256, u64::from(i) << 12, 4096)).collect();
+    assert_eq!(Handoff::from_image_head(&handoff.image_head()), Ok(handoff));
+}

@@ -44,6 +44,14 @@ fn of_a_machine() {
 }
 
 #[test]
+fn the_bad_region_is_told() {
+    let bad = |machine: Machine| machine.bad_region().unwrap();
+    assert_eq!(bad(machine()), None);
+    assert_eq!(bad(machine().region((1 << 52) - 1, 1, Kind::Nvs)), None);
+    assert_eq!(bad(machine().region(1 << 52, 1, Kind::Nvs).region(u64::MAX, u64::MAX, Kind::Usable)), Some(3));
+}
+
+#[test]
 fn of_an_entry() {
     let machine = &machine();
     all(Misuse::NoBytes, machine, |_| Multiboot2::new(File::Length(80)).into());
