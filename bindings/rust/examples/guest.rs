@@ -29,8 +29,9 @@ fn entry_of<'a>(protocol: &str, kernel: &'a [u8], line: &'a str, files: &'a [(St
         ("linux64", [] | [_]) => Linux::new64(kernel),
         _ => return Err(USAGE.into()),
     };
-    let initrd = files.first().map(|(_, file)| length(file)).transpose()?;
-    Ok(Linux { initrd, ..linux.line(line) }.into())
+    let mut linux = linux.line(line);
+    linux.initrd = files.first().map(|(_, file)| length(file)).transpose()?;
+    Ok(linux.into())
 }
 
 /// The guest's memory with the plan carried out. It is fresh, so that zeros are left out.
@@ -43,6 +44,7 @@ fn carry_out(plan: &Plan, kernel: &[u8], files: &[(String, File)]) -> Result<Vec
             Source::File { file: 0, offset } => to.copy_from_slice(&kernel[offset as usize..][..to.len()]),
             Source::File { file, offset } => files[file - 1].1.read_exact_at(to, offset)?,
             Source::Zeros => {}
+            other => return Err(format!("no bytes of {:?}", other).into()),
         }
     }
     Ok(memory)

@@ -1,13 +1,18 @@
 //! A menu with fallbacks: booted at once, or piece by piece.
 
+use alloc::vec::Vec;
+use core::fmt;
+
 use crate::entry::Menu;
 use crate::error::{Error, RefusedEntry};
 use crate::handoff::Handoff;
-use crate::machine::{Machine, Memory};
+use crate::machine::Machine;
+use crate::memory::Memory;
 use crate::raw;
 
 /// How a boot ended by which an entry is handed over.
 #[derive(Clone, Debug, PartialEq, Eq, Hash)]
+#[non_exhaustive]
 pub struct Booted {
     /// What its kernel is handed.
     pub handoff: Handoff,
@@ -36,12 +41,13 @@ pub struct Booted {
 /// }
 /// ```
 pub fn boot(memory: &mut Memory<'_>, machine: &Machine, menu: &Menu<'_>) -> Result<Booted, Error> {
-    raw::boot(memory, machine, menu).booted()
+    raw::boot(memory, machine, menu)?.booted()
 }
 
 /// Pieces that are awaited, one after the other in a file: `length` bytes from the offset `piece * PIECE` on.
 #[derive(Clone, Copy, Debug, Default, PartialEq, Eq, Hash)]
 #[repr(C)]
+#[non_exhaustive]
 pub struct Request {
     /// The index of the entry in the menu.
     pub entry: u32,
@@ -53,9 +59,15 @@ pub struct Request {
     pub piece: u32,
     /// The bytes of all.
     pub length: u64,
+    pub(crate) reserved: u64,
 }
 
 impl Request {
+    /// One of a file of an attempt, from a piece on.
+    pub fn new(attempt: u32, file: u32, piece: u32) -> Request {
+        Request { attempt, file, piece, ..Request::default() }
+    }
+
     /// The offset in the file from which on bytes are awaited.
     pub fn offset(&self) -> u64 {
         u64::from(self.piece) * crate::PIECE as u64
@@ -64,6 +76,7 @@ impl Request {
 
 /// How far a session is.
 #[derive(Clone, Copy, Debug, PartialEq, Eq, Hash)]
+#[non_exhaustive]
 pub enum Progress {
     /// Pieces are awaited, or the session was not started.
     Waiting,
@@ -108,7 +121,6 @@ pub enum Progress {
 /// # Ok(())
 /// # }
 /// ```
-#[derive(Debug)]
 pub struct Session<'m> {
     kept: raw::KeptSession<'m>,
 }
@@ -148,7 +160,7 @@ impl<'m> Session<'m> {
 
     /// All that are awaited, as requests of at most so many bytes.
     pub fn requests(&self, most: usize) -> impl Iterator<Item = Request> + '_ {
-        std::iter::successors(self.missing(most), move |request| self.missing_after(request, most))
+        core::iter::successors(self.missing(most), move |request| self.missing_after(request, most))
     }
 
     /// How it ended: nothing while pieces are awaited.
@@ -161,9 +173,15 @@ impl<'m> Session<'m> {
         }
     }
 
-    /// The memory, to be read.
-    pub fn memory(&self) -> &[u8] {
+    /// The memory, whose bytes may be read if they were given as a slice.
+    pub fn memory(&self) -> &Memory<'m> {
         self.kept.memory()
+    }
+}
+
+impl fmt::Debug for Session<'_> {
+    fn fmt(&self, to: &mut fmt::Formatter<'_>) -> fmt::Result {
+        to.debug_struct("Session").field("memory", self.memory()).finish_non_exhaustive()
     }
 }
 

@@ -1,5 +1,7 @@
 //! Digests of what an entry hands over.
 
+use alloc::vec::Vec;
+
 use crate::entry::Entry;
 use crate::error::Error;
 use crate::handoff::Place;
@@ -8,6 +10,7 @@ use crate::raw;
 
 /// A part, and its digest.
 #[derive(Clone, Copy, Debug, PartialEq, Eq, Hash)]
+#[non_exhaustive]
 pub struct PartDigest {
     /// Where it lies.
     pub place: Place,
@@ -18,6 +21,7 @@ pub struct PartDigest {
 /// The digests of an image of version 2: by SHA-256, of the whole and of each piece of it. Head and parts are all of it, each
 /// byte once.
 #[derive(Clone, Debug, PartialEq, Eq, Hash)]
+#[non_exhaustive]
 pub struct Digests {
     /// How many bytes the image has.
     pub image_length: u64,
@@ -33,6 +37,7 @@ pub struct Digests {
 
 /// Bytes of a file of an entry: `length` of them, at least 1.
 #[derive(Clone, Copy, Debug, PartialEq, Eq, Hash)]
+#[non_exhaustive]
 pub struct FileRange {
     /// 0 is the kernel, k module k - 1, or 1 the initial ramdisk.
     pub file: usize,
@@ -81,7 +86,7 @@ pub fn digest(machine: &Machine, entry: &Entry<'_>) -> Result<Digests, Error> {
 ///         digest.feed(&buffer[..length])?;
 ///     }
 /// }
-/// let digests = digest.finish().expect("nothing is wanted");
+/// let digests = digest.finish()?.expect("nothing is wanted");
 /// println!("{:02x?}", digests.image);
 /// # Ok(())
 /// # }
@@ -126,7 +131,7 @@ impl Digest {
     }
 
     /// The digests; nothing while bytes are wanted.
-    pub fn finish(&self) -> Option<Digests> {
+    pub fn finish(&self) -> Result<Option<Digests>, Error> {
         self.kept.told()
     }
 }

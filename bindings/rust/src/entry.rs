@@ -1,6 +1,10 @@
 //! What is booted: entries and menus.
 
+use alloc::vec::Vec;
+use core::fmt;
+
 use crate::numbers::numbered;
+use crate::MAX_LINE;
 
 numbered! {
     /// How a kernel is entered.
@@ -15,7 +19,8 @@ numbered! {
 }
 
 /// A file of an entry.
-#[derive(Clone, Copy, Debug, PartialEq, Eq, Hash)]
+#[derive(Clone, Copy, PartialEq, Eq, Hash)]
+#[non_exhaustive]
 pub enum File<'a> {
     /// Its bytes.
     Bytes(&'a [u8]),
@@ -27,6 +32,16 @@ pub enum File<'a> {
     Unreadable,
 }
 
+impl fmt::Debug for File<'_> {
+    fn fmt(&self, to: &mut fmt::Formatter<'_>) -> fmt::Result {
+        match self {
+            File::Bytes(bytes) => write!(to, "Bytes({} bytes)", bytes.len()),
+            File::Length(length) => write!(to, "Length({})", length),
+            File::Unreadable => to.write_str("Unreadable"),
+        }
+    }
+}
+
 impl<'a, T: AsRef<[u8]> + ?Sized> From<&'a T> for File<'a> {
     fn from(bytes: &'a T) -> File<'a> {
         File::Bytes(bytes.as_ref())
@@ -35,11 +50,19 @@ impl<'a, T: AsRef<[u8]> + ?Sized> From<&'a T> for File<'a> {
 
 /// A module of a Multiboot2 kernel.
 #[derive(Clone, Copy, Debug, PartialEq, Eq, Hash)]
+#[non_exhaustive]
 pub struct Module<'a> {
     /// Its file.
     pub file: File<'a>,
     /// Its line, without a zero byte.
     pub line: &'a [u8],
+}
+
+impl<'a> Module<'a> {
+    /// A module with this line.
+    pub fn new(file: impl Into<File<'a>>, line: &'a (impl AsRef<[u8]> + ?Sized)) -> Module<'a> {
+        Module { file: file.into(), line: line.as_ref() }
+    }
 }
 
 /// An entry that is entered by Multiboot2.
@@ -52,6 +75,7 @@ pub struct Module<'a> {
 /// assert_eq!(entry.modules.len(), 1);
 /// ```
 #[derive(Clone, Debug, PartialEq, Eq, Hash)]
+#[non_exhaustive]
 pub struct Multiboot2<'a> {
     /// The kernel: an ELF file, or a file with an address tag.
     pub kernel: File<'a>,
@@ -79,13 +103,26 @@ impl<'a> Multiboot2<'a> {
 
     /// With a module more.
     pub fn module(mut self, file: impl Into<File<'a>>, line: &'a (impl AsRef<[u8]> + ?Sized)) -> Multiboot2<'a> {
-        self.modules.push(Module { file: file.into(), line: line.as_ref() });
+        self.modules.push(Module::new(file, line));
+        self
+    }
+
+    /// With this copy of the RSDP of ACPI 1.0.
+    pub fn rsdp_old(mut self, copy: &'a (impl AsRef<[u8]> + ?Sized)) -> Multiboot2<'a> {
+        self.rsdp_old = copy.as_ref();
+        self
+    }
+
+    /// With this copy of that of ACPI 2.0 or later.
+    pub fn rsdp_new(mut self, copy: &'a (impl AsRef<[u8]> + ?Sized)) -> Multiboot2<'a> {
+        self.rsdp_new = copy.as_ref();
         self
     }
 }
 
 /// By which entry a Linux kernel is entered.
 #[derive(Clone, Copy, Debug, PartialEq, Eq, Hash)]
+#[non_exhaustive]
 pub enum LinuxEntry {
     /// The 32-bit entry: boot protocol 2.10 or later.
     Bits32,
@@ -103,6 +140,7 @@ pub enum LinuxEntry {
 /// assert!(entry.initrd.is_some());
 /// ```
 #[derive(Clone, Debug, PartialEq, Eq, Hash)]
+#[non_exhaustive]
 pub struct Linux<'a> {
     /// The kernel: a bzImage, never a vmlinux.
     pub kernel: File<'a>,
@@ -138,8 +176,24 @@ impl<'a> Linux<'a> {
     }
 }
 
+impl Linux<'_> {
+    /// How many bytes its line may have.
+    fn line_limit(&self) -> usize {
+        let kernel = match self.kernel {
+            File::Bytes(kernel) => kernel,
+            _ => return MAX_LINE,
+        };
+        match (kernel.get(0x202..0x206), kernel.get(0x238..0x23C)) {
+            // the field cmdline_size of a bzImage
+            (Some(b"HdrS"), Some(&[a, b, c, d])) => MAX_LINE.min(u32::from_le_bytes([a, b, c, d]) as usize),
+            _ => MAX_LINE,
+        }
+    }
+}
+
 /// An entry: a kernel, and what it is handed.
 #[derive(Clone, Debug, PartialEq, Eq, Hash)]
+#[non_exhaustive]
 pub enum Entry<'a> {
     /// Entered by Multiboot2.
     Multiboot2(Multiboot2<'a>),
@@ -147,7 +201,41 @@ pub enum Entry<'a> {
     Linux(Linux<'a>),
 }
 
+/// A line that has more bytes than it may have.
+#[derive(Clone, Copy, Debug, PartialEq, Eq, Hash)]
+#[non_exhaustive]
+pub struct LongLine {
+    /// Whose it is: 0 is the kernel, k module k - 1.
+    pub file: usize,
+    /// How many bytes it has.
+    pub length: usize,
+    /// How many it may have.
+    pub limit: usize,
+}
+
 impl Entry<'_> {
+    /// The first line with more bytes than it may have: that of [`Refusal::LineTooLong`](crate::Refusal::LineTooLong). The limit
+    /// is [`MAX_LINE`], or what the header of a Linux kernel whose bytes are at hand names as its `cmdline_size`, if that is less.
+    ///
+    /// ```
+    /// use bootcore::{Entry, Multiboot2, MAX_LINE};
+    ///
+    /// let long = "x".repeat(5000);
+    /// let line = Entry::from(Multiboot2::new(b"kernel").module(b"file", &long)).long_line().unwrap();
+    /// assert_eq!((line.file, line.length, line.limit), (1, 5000, MAX_LINE));
+    /// ```
+    pub fn long_line(&self) -> Option<LongLine> {
+        let long =
+            |(file, line): (usize, &[u8]), limit| (line.len() > limit).then_some(LongLine { file, length: line.len(), limit });
+        match self {
+            Entry::Multiboot2(entry) => {
+                let lines = core::iter::once(entry.line).chain(entry.modules.iter().map(|module| module.line));
+                lines.enumerate().find_map(|line| long(line, MAX_LINE))
+            }
+            Entry::Linux(entry) => long((0, entry.line), entry.line_limit()),
+        }
+    }
+
     /// How its kernel is entered.
     pub fn protocol(&self) -> Protocol {
         match self {
@@ -180,6 +268,7 @@ impl<'a> From<Linux<'a>> for Entry<'a> {
 /// assert_eq!((menu.first, menu.fallbacks.as_slice()), (0, &[1][..]));
 /// ```
 #[derive(Clone, Debug, Default, PartialEq, Eq, Hash)]
+#[non_exhaustive]
 pub struct Menu<'a> {
     /// The entries; at most [`MAX_ENTRIES`](crate::MAX_ENTRIES).
     pub entries: Vec<Entry<'a>>,

@@ -1,10 +1,12 @@
 //! How a call ends that does not do what it is called for.
 
-use std::fmt;
+use alloc::vec::Vec;
+use core::fmt;
 
 use crate::numbers::numbered;
 use crate::raw;
 use crate::refusal::{Fault, Refusal};
+use crate::version::Wrong;
 
 numbered! {
     /// A mistake of the program that calls, or of the data that it passes on, as a memory map of a firmware. Nothing was
@@ -19,20 +21,24 @@ numbered! {
         BadSize = 106,
         /// There are more than [`MAX_REGIONS`](crate::MAX_REGIONS) regions.
         TooManyRegions = 107,
-        /// A region ends above 2^52.
+        /// A region ends above 2^52: [`Machine::bad_region`](crate::Machine::bad_region) says which.
         BadRegion = 108,
         /// The pool is not of whole frames, or not all of it is usable.
         BadPool = 109,
         /// Memory ends below the machine's size (of a boot: not at it), or begins at 4 GiB or above.
         BadMemory = 110,
-        /// There are too many entries or modules, or a copy of an RSDP is too long.
-        TooMany = 112,
+        /// There are more than [`MAX_ENTRIES`](crate::MAX_ENTRIES) entries.
+        TooManyEntries = 112,
+        /// An entry has more than [`MAX_MODULES`](crate::MAX_MODULES) modules.
+        TooManyModules = 113,
+        /// A copy of an RSDP has more than [`MAX_RSDP`](crate::MAX_RSDP) bytes.
+        LongRsdp = 114,
         /// A menu's first entry or a fallback is no entry.
-        BadIndex = 113,
+        BadIndex = 115,
         /// Of a boot or a session: the pool begins below the memory that is given.
-        LowPool = 115,
+        LowPool = 117,
         /// A digest is fed more bytes than it wants.
-        Unwanted = 116,
+        Unwanted = 118,
     }
 }
 
@@ -41,21 +47,33 @@ impl fmt::Display for Misuse {
         match self {
             // the header speaks of a pointer
             Misuse::NoBytes => to.write_str("a file is known by its length alone, and its bytes are read"),
+            Misuse::BadMemory => {
+                to.write_str("memory ends below the machine's size, or for a boot not at it, or begins at 4 GiB or above")
+            }
             Misuse::Other(number) => write!(to, "misuse {}: {}", number, raw::status_text(*number)),
             known => to.write_str(raw::status_text(known.number())),
         }
     }
 }
 
+#[cfg(feature = "std")]
 impl std::error::Error for Misuse {}
 
 /// An entry of a menu that was refused.
 #[derive(Clone, Copy, Debug, PartialEq, Eq, Hash)]
+#[non_exhaustive]
 pub struct RefusedEntry {
     /// Its index.
     pub entry: u32,
     /// Why.
     pub refusal: Refusal,
+}
+
+impl RefusedEntry {
+    /// The entry of this index, and why it was refused.
+    pub fn new(entry: u32, refusal: Refusal) -> RefusedEntry {
+        RefusedEntry { entry, refusal }
+    }
 }
 
 impl fmt::Display for RefusedEntry {
@@ -81,7 +99,13 @@ pub enum Error {
     Outside,
     /// The program is to be corrected, or the data that it passes on.
     Misuse(Misuse),
-    /// A status that this version of the crate does not know: a failure.
+    /// The archive that is linked is of this version, as [`version`](crate::version()) tells it, and not of one that the crate
+    /// can call. Nothing was called but that.
+    WrongVersion(u32),
+    /// A step of a plan takes its bytes from a source of this number, which this version of the crate does not know: take a
+    /// later one.
+    UnknownSource(u32),
+    /// A status that this version of the crate does not know, or not as an answer of this call: a failure.
     Other(u32),
 }
 
@@ -94,6 +118,24 @@ impl Error {
             raw::NULL..=u32::MAX => Error::Misuse(Misuse::from_number(status)),
             other => Error::Other(other),
         }
+    }
+}
+
+impl From<Refusal> for Error {
+    fn from(refusal: Refusal) -> Error {
+        Error::Refused(refusal)
+    }
+}
+
+impl From<Fault> for Error {
+    fn from(fault: Fault) -> Error {
+        Error::BadImage(fault)
+    }
+}
+
+impl From<Misuse> for Error {
+    fn from(misuse: Misuse) -> Error {
+        Error::Misuse(misuse)
     }
 }
 
@@ -112,9 +154,14 @@ impl fmt::Display for Error {
             Error::NoMemory => to.write_str(raw::status_text(raw::NO_MEMORY)),
             Error::Outside => to.write_str(raw::status_text(raw::OUTSIDE)),
             Error::Misuse(misuse) => misuse.fmt(to),
+            Error::WrongVersion(archive) => Wrong(*archive).fmt(to),
+            Error::UnknownSource(number) => {
+                write!(to, "a step of the plan has the source {}, which this crate does not know", number)
+            }
             Error::Other(status) => write!(to, "status {}: {}", status, raw::status_text(*status)),
         }
     }
 }
 
+#[cfg(feature = "std")]
 impl std::error::Error for Error {}

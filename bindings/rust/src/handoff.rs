@@ -1,14 +1,18 @@
 //! What is handed over.
 
+use alloc::vec::Vec;
+
 use crate::entry::Protocol;
+use crate::error::Error;
 use crate::numbers::numbered;
 use crate::raw;
 
 /// The registers as the kernel begins. With 32 bits `rip` is what EIP is to hold, and so on; `r8` to `r15`, `cr3`, `cr4`
 /// and `efer` are 0 then, and to be chosen. TR, LDTR, IDTR and the debug registers are to be chosen too: no kernel may
 /// count on them.
-#[derive(Clone, Copy, Debug, Default, PartialEq, Eq, Hash)]
+#[derive(Clone, Copy, Debug, PartialEq, Eq, Hash)]
 #[repr(C)]
+#[non_exhaustive]
 pub struct Registers {
     /// 32 or 64.
     pub bits: u64,
@@ -74,6 +78,7 @@ pub struct Registers {
     pub gdt_limit: u64,
     /// 1 if the gate A20 is to be open.
     pub a20: u64,
+    pub(crate) reserved: [u64; 4],
 }
 
 impl Registers {
@@ -87,6 +92,7 @@ impl Registers {
 /// A segment register whole, as a virtual processor is given it without loading a descriptor.
 #[derive(Clone, Copy, Debug, Default, PartialEq, Eq, Hash)]
 #[repr(C)]
+#[non_exhaustive]
 pub struct Segment {
     /// Where the segment begins.
     pub base: u64,
@@ -110,6 +116,7 @@ pub struct Segment {
     pub db: u8,
     /// 1: the descriptor counts its limit in pages.
     pub g: u8,
+    pub(crate) reserved: u16,
 }
 
 /// All segment registers.
@@ -153,6 +160,7 @@ numbered! {
 
 /// A part in memory. What a part has no bytes for is zero.
 #[derive(Clone, Copy, Debug, PartialEq, Eq, Hash)]
+#[non_exhaustive]
 pub struct Place {
     /// What it is.
     pub role: Role,
@@ -164,8 +172,16 @@ pub struct Place {
     pub length: u64,
 }
 
+impl Place {
+    /// A part of this role.
+    pub fn new(role: Role, index: u32, address: u64, length: u64) -> Place {
+        Place { role, index, address, length }
+    }
+}
+
 /// What a kernel is handed: registers and parts.
 #[derive(Clone, Debug, PartialEq, Eq, Hash)]
+#[non_exhaustive]
 pub struct Handoff {
     /// The index of the entry in its menu; 0 where there is no menu.
     pub entry: u32,
@@ -182,5 +198,11 @@ impl Handoff {
     /// the places.
     pub fn image_head(&self) -> Vec<u8> {
         raw::image_head(self)
+    }
+
+    /// Reads the head of an image, by which its kernel is entered. The bytes of the parts need not follow; of an image that has
+    /// them it takes the beginning. What is read has 0 as its entry.
+    pub fn from_image_head(head: &[u8]) -> Result<Handoff, Error> {
+        raw::image_head_read(head)
     }
 }

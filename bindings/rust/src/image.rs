@@ -1,5 +1,7 @@
 //! What a kernel sees in an image.
 
+use alloc::vec::Vec;
+
 use crate::entry::Protocol;
 use crate::error::Error;
 use crate::machine::Kind;
@@ -16,6 +18,7 @@ pub struct Range {
 
 /// A module that is seen.
 #[derive(Clone, Debug, PartialEq, Eq, Hash)]
+#[non_exhaustive]
 pub struct SeenModule {
     /// Where its file lies.
     pub file: Range,
@@ -25,6 +28,7 @@ pub struct SeenModule {
 
 /// A run of the memory map that is seen.
 #[derive(Clone, Copy, Debug, PartialEq, Eq, Hash)]
+#[non_exhaustive]
 pub struct Run {
     /// Its addresses.
     pub range: Range,
@@ -41,6 +45,7 @@ impl Run {
 
 /// What a kernel sees in an image. The bytes of modules and of an initial ramdisk lie in the image.
 #[derive(Clone, Debug, PartialEq, Eq, Hash)]
+#[non_exhaustive]
 pub struct Seen {
     /// How it is entered.
     pub protocol: Protocol,

@@ -38,15 +38,25 @@
 //! # }
 //! ```
 //!
+//! Memory is a slice, or a mapping that a guest's processors share: [`Memory`]. Without the feature `std` the crate is `no_std` and
+//! links `libbootcore_freestanding.a`, to which `arena` gives memory.
+//!
 //! A refusal, as of a kernel that is none, is an [`Error`] that says which of the rules is broken: the kernel or the machine is
 //! at fault, and memory is as before. A [`Misuse`] is a mistake of the program, or of a memory map that it passes on.
 //!
-//! Calls start no thread, open no file, and know nothing of each other. Each needs 16 KiB of stack at most.
+//! Calls start no thread, open no file, and know nothing of each other. Each needs 16 KiB of stack at most, without `std` 24 KiB.
+#![no_std]
 #![deny(missing_docs, unsafe_code, unsafe_op_in_unsafe_fn, rustdoc::broken_intra_doc_links)]
 
 #[cfg(not(all(target_arch = "x86_64", target_pointer_width = "64")))]
-compile_error!("libbootcore.a is for x86-64");
+compile_error!("the archive is for x86-64");
 
+extern crate alloc;
+#[cfg(any(feature = "std", test))]
+extern crate std;
+
+#[cfg(not(feature = "std"))]
+mod arena;
 mod boot;
 mod digest;
 mod entry;
@@ -55,21 +65,27 @@ mod handoff;
 mod image;
 mod load;
 mod machine;
+mod memory;
 mod numbers;
 mod plan;
 mod raw;
 #[cfg(test)]
 mod records;
 mod refusal;
+mod turn;
+mod version;
 
+#[cfg(not(feature = "std"))]
+pub use arena::{arena, arena_peak, ARENA};
 pub use boot::{boot, Booted, Progress, Request, Session};
 pub use digest::{digest, Digest, Digests, FileRange, PartDigest};
-pub use entry::{Entry, File, Linux, LinuxEntry, Menu, Module, Multiboot2, Protocol};
+pub use entry::{Entry, File, Linux, LinuxEntry, LongLine, Menu, Module, Multiboot2, Protocol};
 pub use error::{Error, Misuse, RefusedEntry};
 pub use handoff::{Handoff, Place, Registers, Role, Segment, Segments};
 pub use image::{walk, Range, Run, Seen, SeenModule};
 pub use load::{load, prepare};
-pub use machine::{Kind, Machine, Memory, Region};
+pub use machine::{Kind, Machine, Region};
+pub use memory::Memory;
 pub use plan::{Plan, Source, Step, Steps};
 pub use refusal::{Fault, Refusal};
 
@@ -86,7 +102,8 @@ pub const MAX_RSDP: usize = 256;
 /// How long each piece of a file is that a [`Session`] awaits, but for the last one.
 pub const PIECE: usize = 4096;
 
-/// The version of the archive that is linked: major * 10000 + minor * 100 + patch.
+/// The version of the archive that is linked: major * 10000 + minor * 100 + patch. With one that the crate can't call each
+/// call ends by [`Error::WrongVersion`].
 ///
 /// ```
 /// assert_eq!(bootcore::version() / 10000, 1);

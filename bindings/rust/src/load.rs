@@ -3,7 +3,8 @@
 use crate::entry::Entry;
 use crate::error::Error;
 use crate::handoff::Handoff;
-use crate::machine::{Machine, Memory};
+use crate::machine::Machine;
+use crate::memory::Memory;
 use crate::raw;
 
 /// Loads one entry into memory, and tells how its kernel is entered. There is no menu and no pool.
@@ -21,10 +22,10 @@ use crate::raw;
 /// assert_eq!(end.unwrap_err(), Error::Refused(Refusal::NotBzImage));
 /// ```
 pub fn load(memory: &mut Memory<'_>, machine: &Machine, entry: &Entry<'_>) -> Result<Handoff, Error> {
-    raw::load(memory, machine, entry).handed_over()
+    raw::load(memory, machine, entry)?.handed_over()
 }
 
 /// Tells what [`load`] would hand over, or why it would not, from the kernel's bytes and the other files' lengths.
 pub fn prepare(machine: &Machine, entry: &Entry<'_>) -> Result<Handoff, Error> {
-    raw::prepare(machine, entry).handed_over()
+    raw::prepare(machine, entry)?.handed_over()
 }

@@ -1,8 +1,14 @@
-//! The machine that is booted, and its memory.
+//! The machine that is booted.
+
+use alloc::vec::Vec;
+
+use crate::error::Error;
+use crate::raw;
 
 /// Kinds of memory: the numbers of an e820 entry. Where regions overlap, the greatest counts.
 #[derive(Clone, Copy, Debug, PartialEq, Eq, PartialOrd, Ord, Hash)]
 #[repr(u32)]
+#[non_exhaustive]
 pub enum Kind {
     /// Parts may lie here.
     Usable = 1,
@@ -30,6 +36,7 @@ impl Kind {
 
 /// A region of a machine's memory.
 #[derive(Clone, Copy, Debug, PartialEq, Eq, Hash)]
+#[non_exhaustive]
 pub struct Region {
     /// Its first address.
     pub base: u64,
@@ -37,6 +44,13 @@ pub struct Region {
     pub length: u64,
     /// What it is.
     pub kind: Kind,
+}
+
+impl Region {
+    /// A region of this kind.
+    pub fn new(base: u64, length: u64, kind: Kind) -> Region {
+        Region { base, length, kind }
+    }
 }
 
 /// A machine: where its memory ends, its memory map, and the pool of a boot.
@@ -51,6 +65,7 @@ pub struct Region {
 /// assert_eq!(guest.regions.len(), 3);
 /// ```
 #[derive(Clone, Debug, PartialEq, Eq, Hash)]
+#[non_exhaustive]
 pub struct Machine {
     /// Where its memory below 4 GiB ends, above which no part lies: a multiple of 4096 from 1 MiB to 4 GiB.
     pub size: u64,
@@ -72,8 +87,13 @@ impl Machine {
 
     /// With a region more.
     pub fn region(mut self, base: u64, length: u64, kind: Kind) -> Machine {
-        self.regions.push(Region { base, length, kind });
+        self.regions.push(Region::new(base, length, kind));
         self
+    }
+
+    /// The index of the first region that no machine may have: that of [`Misuse::BadRegion`](crate::Misuse::BadRegion).
+    pub fn bad_region(&self) -> Result<Option<usize>, Error> {
+        raw::bad_region(self)
     }
 
     /// With this pool.
@@ -81,27 +101,5 @@ impl Machine {
         self.pool_base = base;
         self.pool_length = length;
         self
-    }
-}
-
-/// Memory of the machine that is booted, where the program has it: the bytes from an address on.
-///
-/// ```
-/// let mut guest = vec![0; 1 << 20];
-/// let memory = bootcore::Memory::new(0, &mut guest);
-/// assert_eq!(memory.bytes.len(), 1 << 20);
-/// ```
-#[derive(Debug)]
-pub struct Memory<'m> {
-    /// The machine's address of the first byte.
-    pub address: u64,
-    /// The bytes.
-    pub bytes: &'m mut [u8],
-}
-
-impl<'m> Memory<'m> {
-    /// The bytes from an address of the machine on.
-    pub fn new(address: u64, bytes: &'m mut [u8]) -> Memory<'m> {
-        Memory { address, bytes }
     }
 }

@@ -1,13 +1,19 @@
 //! What goes where: for a program that reads files straight to their places.
 
+use alloc::vec::Vec;
+use core::fmt;
+
 use crate::entry::Entry;
 use crate::error::Error;
 use crate::handoff::{Handoff, Place, Registers};
-use crate::machine::{Machine, Memory};
+use crate::machine::Machine;
+use crate::memory::Memory;
 use crate::raw;
 
-/// Where the bytes of a step come from.
-#[derive(Clone, Copy, Debug, PartialEq, Eq, Hash)]
+/// Where the bytes of a step come from. A plan with a source that this version of the crate does not know is
+/// [`Error::UnknownSource`], and never made.
+#[derive(Clone, Copy, PartialEq, Eq, Hash)]
+#[non_exhaustive]
 pub enum Source<'p> {
     /// The bytes of a file from an offset on.
     File {
@@ -22,8 +28,19 @@ pub enum Source<'p> {
     Zeros,
 }
 
+impl fmt::Debug for Source<'_> {
+    fn fmt(&self, to: &mut fmt::Formatter<'_>) -> fmt::Result {
+        match self {
+            Source::File { file, offset } => to.debug_struct("File").field("file", file).field("offset", offset).finish(),
+            Source::Own(bytes) => write!(to, "Own({} bytes)", bytes.len()),
+            Source::Zeros => to.write_str("Zeros"),
+        }
+    }
+}
+
 /// Bytes that go to an address: at least 1.
 #[derive(Clone, Copy, Debug, PartialEq, Eq, Hash)]
+#[non_exhaustive]
 pub struct Step<'p> {
     /// Where they go.
     pub address: u64,
@@ -51,17 +68,34 @@ pub struct Step<'p> {
 ///         Source::File { file, offset } => println!("{:x}: file {} from {}", step.address, file, offset),
 ///         Source::Own(bytes) => println!("{:x}: {} bytes", step.address, bytes.len()),
 ///         Source::Zeros => println!("{:x}: {} zeros", step.address, step.length),
+///         other => return Err(format!("no bytes of {:?}", other).into()),
 ///     }
 /// }
 /// println!("entered at {:x}", plan.registers().rip);
 /// # Ok(())
 /// # }
 /// ```
-#[derive(Clone, Debug, PartialEq, Eq)]
+#[derive(Clone, PartialEq, Eq)]
 pub struct Plan {
     pub(crate) handoff: Handoff,
-    pub(crate) steps: Vec<raw::Step>,
+    pub(crate) steps: Vec<Kept>,
     pub(crate) own: Vec<u8>,
+}
+
+/// A step as a plan keeps it.
+#[derive(Clone, Copy, Debug, PartialEq, Eq)]
+pub(crate) struct Kept {
+    pub(crate) address: u64,
+    pub(crate) length: u64,
+    pub(crate) source: KeptSource,
+}
+
+/// A source as a plan keeps it: what is the plan's own begins at an offset.
+#[derive(Clone, Copy, Debug, PartialEq, Eq)]
+pub(crate) enum KeptSource {
+    File { file: u32, offset: u64 },
+    Own { offset: u64 },
+    Zeros,
 }
 
 impl Plan {
@@ -97,10 +131,16 @@ impl Plan {
     }
 
     /// Carries out the steps from files in memory, into memory in one piece or more, in any order, and with holes where no
-    /// part goes. `files` are the kernel, then the modules or the initial ramdisk, of the lengths that were planned for.
+    /// part goes. `files` are the kernel, then the modules or the initial ramdisk, of at least the lengths that were planned for.
     /// After an error nothing is written. A byte that is in two pieces goes to the first.
     pub fn carry_out(&self, files: &[&[u8]], memory: &mut [Memory<'_>]) -> Result<(), Error> {
         raw::carry_out(self, files, memory)
+    }
+}
+
+impl fmt::Debug for Plan {
+    fn fmt(&self, to: &mut fmt::Formatter<'_>) -> fmt::Result {
+        to.debug_struct("Plan").field("handoff", &self.handoff).field("steps", &self.steps()).finish_non_exhaustive()
     }
 }
 
@@ -114,9 +154,9 @@ impl<'p> IntoIterator for &'p Plan {
 }
 
 /// The steps of a [`Plan`].
-#[derive(Clone, Debug)]
+#[derive(Clone)]
 pub struct Steps<'p> {
-    steps: std::slice::Iter<'p, raw::Step>,
+    steps: core::slice::Iter<'p, Kept>,
     own: &'p [u8],
 }
 
@@ -126,15 +166,21 @@ impl<'p> Iterator for Steps<'p> {
     fn next(&mut self) -> Option<Step<'p>> {
         let step = self.steps.next()?;
         let source = match step.source {
-            raw::SOURCE_FILE => Source::File { file: step.file as usize, offset: step.offset },
-            raw::SOURCE_LAYOUT => Source::Own(&self.own[step.offset as usize..][..step.length as usize]),
-            _ => Source::Zeros,
+            KeptSource::File { file, offset } => Source::File { file: file as usize, offset },
+            KeptSource::Own { offset } => Source::Own(&self.own[offset as usize..][..step.length as usize]),
+            KeptSource::Zeros => Source::Zeros,
         };
         Some(Step { address: step.address, length: step.length, source })
     }
 
     fn size_hint(&self) -> (usize, Option<usize>) {
         self.steps.size_hint()
+    }
+}
+
+impl fmt::Debug for Steps<'_> {
+    fn fmt(&self, to: &mut fmt::Formatter<'_>) -> fmt::Result {
+        to.debug_list().entries(self.clone()).finish()
     }
 }
 

@@ -1,24 +1,34 @@
 //! The calls and the records of `bootcore.h` and of its parts, `bootcore_image.h` and `bootcore_digest.h`, and functions over
-//! them that are safe to call: the one module with `unsafe`.
+//! them that are safe to call: beside `memory` the one module with `unsafe`.
 //!
 //! What the header asks of a caller, and by what it holds here:
 //! - a pointer points to as many elements as are told: each is made from a slice or a vector, with its length, in the function
 //!   that calls; a file without bytes here has a null pointer, which the call tests;
-//! - what a call may change overlaps nothing else: it is borrowed by `&mut`, or made by the function that calls;
+//! - what a call may change overlaps nothing else: it is borrowed by `&mut`, or made by the function that calls, or of memory
+//!   that is no slice the program promises it (`Memory::from_raw`);
 //! - a session's struct and pool are left alone between its calls: the session has both, and lends no more than `&[u8]`; so
 //!   is a digest's struct.
 #![allow(unsafe_code)]
 
-use std::ffi::{c_void, CStr};
-use std::os::raw::c_char;
-use std::ptr;
+use alloc::format;
+use alloc::string::String;
+use alloc::vec;
+use alloc::vec::Vec;
+use core::ffi::c_void;
+use core::mem::MaybeUninit;
+#[cfg(not(feature = "std"))]
+use core::sync::atomic::{AtomicBool, Ordering};
+use core::{ptr, slice, str};
 
 use crate::boot::{Booted, Request};
 use crate::entry::{File, Protocol};
 use crate::error::{Error, RefusedEntry};
 use crate::handoff::{Registers, Role, Segment};
 use crate::image;
+use crate::plan::{Kept, KeptSource};
 use crate::refusal::{Carried, Fault};
+use crate::turn::Turn;
+use crate::version::is_right;
 
 pub(crate) const DONE: u32 = 0;
 pub(crate) const REFUSED: u32 = 1;
@@ -30,10 +40,12 @@ pub(crate) const OUTSIDE: u32 = 6;
 pub(crate) const NULL: u32 = 101; // the first misuse
 const SMALL_ROOM: u32 = 104;
 
-pub(crate) const SOURCE_FILE: u32 = 1;
-pub(crate) const SOURCE_LAYOUT: u32 = 2;
+const SOURCE_FILE: u32 = 1;
+const SOURCE_LAYOUT: u32 = 2;
+const SOURCE_ZEROS: u32 = 3;
 
 const MAX_PLACES: usize = 256;
+const IMAGE_PLACE: usize = 24;
 const MAX_REFUSALS: usize = 32;
 const UNREADABLE: usize = usize::MAX;
 const ABSENT: u64 = u64::MAX;
@@ -53,7 +65,7 @@ macro_rules! records {
         /// Lines `RECORD FIELD OFFSET SIZE`, and for each record `RECORD - 0 SIZE`.
         #[cfg(test)]
         pub(crate) fn record_lines() -> String {
-            use std::mem::{size_of, MaybeUninit};
+            use core::mem::size_of;
             let mut lines = String::new();
             $(
                 lines += &format!("{} - 0 {}\n", stringify!($name), size_of::<$name>());
@@ -80,12 +92,12 @@ records! {
         pool_length: u64,
         regions: *const Region,
         region_count: usize,
-        reserved: u64,
+        reserved: [u64; 4],
     }
-    Module { file: Bytes, line: Bytes, }
+    Module { file: Bytes, line: Bytes, reserved: [u64; 2], }
     Entry {
         protocol: u32,
-        reserved: u32,
+        reserved32: u32,
         kernel: Bytes,
         line: Bytes,
         initrd: Bytes,
@@ -93,14 +105,14 @@ records! {
         rsdp_new: Bytes,
         modules: *const Module,
         module_count: usize,
+        reserved: [u64; 4],
     }
-    Memory { address: u64, bytes: *mut c_void, length: usize, }
+    Memory { address: u64, bytes: *mut c_void, length: usize, reserved: u64, }
     #[derive(Default)]
-    Place { role: u32, index: u32, address: u64, length: u64, }
-    #[derive(Default)]
+    Place { role: u32, index: u32, address: u64, length: u64, reserved: u64, }
     Handoff { entry: u32, protocol: u32, place_count: u32, reserved: u32, registers: Registers, }
     #[derive(Default)]
-    Refusal { entry: u32, number: u32, first: u64, second: u64, }
+    Refusal { entry: u32, number: u32, first: u64, second: u64, reserved: u64, }
     Outcome {
         places: *mut Place,
         place_room: usize,
@@ -108,9 +120,10 @@ records! {
         refusal_room: usize,
         handoff: Handoff,
         refusal_count: usize,
+        reserved: [u64; 4],
     }
     #[derive(Default, PartialEq, Eq)]
-    Step { address: u64, length: u64, offset: u64, source: u32, file: u32, }
+    Step { address: u64, length: u64, offset: u64, source: u32, file: u32, reserved: u64, }
     Layout {
         places: *mut Place,
         place_room: usize,
@@ -122,6 +135,8 @@ records! {
         step_count: usize,
         own_length: usize,
         refusal: Refusal,
+        planned: u64,
+        reserved: [u64; 4],
     }
     Menu {
         entries: *const Entry,
@@ -129,7 +144,8 @@ records! {
         fallbacks: *const u32,
         fallback_count: usize,
         first: u32,
-        reserved: u32,
+        reserved32: u32,
+        reserved: [u64; 4],
     }
     Session { kept: *mut c_void, }
     #[derive(Default)]
@@ -137,7 +153,7 @@ records! {
     #[derive(Default)]
     Seen {
         protocol: u32,
-        reserved: u32,
+        reserved32: u32,
         kernel_part_count: u64,
         module_count: u64,
         run_count: u64,
@@ -148,11 +164,12 @@ records! {
         text_length: u64,
         rsdp_old: Range,
         rsdp_new: Range,
+        reserved: [u64; 4],
     }
     #[derive(Default)]
-    SeenPart { address: u64, length: u64, }
+    SeenPart { address: u64, length: u64, reserved: u64, }
     #[derive(Default)]
-    SeenModule { address: u64, length: u64, line: Range, }
+    SeenModule { address: u64, length: u64, line: Range, reserved: u64, }
     SeenArrays {
         kernel_parts: *mut SeenPart,
         kernel_part_room: usize,
@@ -162,12 +179,13 @@ records! {
         run_room: usize,
         text: *mut u8,
         text_room: usize,
+        reserved: [u64; 4],
     }
     Digest { kept: *mut c_void, }
     #[derive(Default)]
-    FileRange { file: u64, offset: u64, length: u64, }
+    FileRange { file: u64, offset: u64, length: u64, reserved: u64, }
     #[derive(Default)]
-    PartDigest { place: Place, sha256: [u8; 32], }
+    PartDigest { place: Place, sha256: [u8; 32], reserved: u64, }
     #[derive(Default)]
     Digests {
         image_length: u64,
@@ -175,11 +193,20 @@ records! {
         image_sha256: [u8; 32],
         head_sha256: [u8; 32],
         part_count: u64,
+        reserved: [u64; 4],
+    }
+}
+
+impl Default for Handoff {
+    fn default() -> Handoff {
+        // SAFETY: its fields are numbers, of which 0 is one
+        unsafe { MaybeUninit::zeroed().assume_init() }
     }
 }
 
 extern "sysv64" {
     fn bootcore_version() -> u32;
+    fn bootcore_bad_region(machine: *const Machine) -> usize;
     fn bootcore_segments(registers: *const Registers, segments: *mut Segment);
     fn bootcore_load(memory: *const Memory, machine: *const Machine, entry: *const Entry, outcome: *mut Outcome) -> u32;
     fn bootcore_prepare(machine: *const Machine, entry: *const Entry, outcome: *mut Outcome) -> u32;
@@ -206,10 +233,18 @@ extern "sysv64" {
     fn bootcore_session_missing_after(session: *const Session, most: usize, request: *mut Request) -> bool;
     fn bootcore_session_outcome(session: *const Session, outcome: *mut Outcome) -> u32;
     fn bootcore_session_free(session: *mut Session);
-    fn bootcore_status_text(status: u32) -> *const c_char;
-    fn bootcore_refusal_text(number: u32) -> *const c_char;
-    fn bootcore_refusal_line(refusal: *const Refusal, buffer: *mut c_char, length: usize) -> usize;
+    fn bootcore_status_text(status: u32) -> *const u8;
+    fn bootcore_refusal_text(number: u32) -> *const u8;
+    fn bootcore_refusal_line(refusal: *const Refusal, buffer: *mut u8, length: usize) -> usize;
     fn bootcore_image_head(handoff: *const Handoff, places: *const Place, head: *mut u8, length: usize) -> usize;
+    fn bootcore_image_head_read(
+        head: *const c_void,
+        length: usize,
+        handoff: *mut Handoff,
+        places: *mut Place,
+        place_room: usize,
+        fault: *mut Refusal,
+    ) -> u32;
     fn bootcore_walk_all(
         image: *const c_void,
         image_length: usize,
@@ -232,6 +267,12 @@ extern "sysv64" {
     ) -> u32;
 }
 
+#[cfg(not(feature = "std"))]
+extern "sysv64" {
+    fn bootcore_arena(memory: *mut c_void, length: usize);
+    fn bootcore_arena_peak() -> usize;
+}
+
 // ---- what is given
 
 fn bytes_of(bytes: &[u8]) -> Bytes {
@@ -245,7 +286,8 @@ fn file_of(file: &File<'_>) -> Bytes {
         File::Bytes(bytes) => bytes_of(bytes),
         // a null pointer and no length would be no file; this one has none of its bytes
         File::Length(0) => bytes_of(&[]),
-        File::Length(length) => Bytes { length: length as usize, ..NO_BYTES },
+        // the greatest number means that a file can't be read; no file of a byte less is loaded either, since it is too long
+        File::Length(length) => Bytes { length: (length as usize).min(UNREADABLE - 1), ..NO_BYTES },
         File::Unreadable => Bytes { length: UNREADABLE, ..NO_BYTES },
     }
 }
@@ -264,14 +306,18 @@ fn machine_of(machine: &crate::Machine, regions: &[Region]) -> Machine {
         pool_length: machine.pool_length,
         regions: regions.as_ptr(),
         region_count: regions.len(),
-        reserved: 0,
+        reserved: [0; 4],
     }
 }
 
 fn modules_of(entry: &crate::Entry<'_>) -> Vec<Module> {
     match entry {
         crate::Entry::Multiboot2(entry) => {
-            let module = |module: &crate::Module<'_>| Module { file: file_of(&module.file), line: bytes_of(module.line) };
+            let module = |module: &crate::Module<'_>| Module {
+                file: file_of(&module.file),
+                line: bytes_of(module.line),
+                reserved: [0; 2],
+            };
             entry.modules.iter().map(module).collect()
         }
         crate::Entry::Linux(_) => Vec::new(),
@@ -282,7 +328,7 @@ fn modules_of(entry: &crate::Entry<'_>) -> Vec<Module> {
 fn entry_of(entry: &crate::Entry<'_>, modules: &[Module]) -> Entry {
     let none = Entry {
         protocol: entry.protocol().number(),
-        reserved: 0,
+        reserved32: 0,
         kernel: NO_BYTES,
         line: NO_BYTES,
         initrd: NO_BYTES,
@@ -290,6 +336,7 @@ fn entry_of(entry: &crate::Entry<'_>, modules: &[Module]) -> Entry {
         rsdp_new: NO_BYTES,
         modules: modules.as_ptr(),
         module_count: modules.len(),
+        reserved: [0; 4],
     };
     match entry {
         crate::Entry::Multiboot2(entry) => Entry {
@@ -322,15 +369,36 @@ fn menu_of(menu: &crate::Menu<'_>, entries: &[Entry]) -> Menu {
         fallbacks: menu.fallbacks.as_ptr(),
         fallback_count: menu.fallbacks.len(),
         first: menu.first,
-        reserved: 0,
+        reserved32: 0,
+        reserved: [0; 4],
     }
 }
 
 fn memory_of(memory: &mut crate::Memory<'_>) -> Memory {
-    Memory { address: memory.address, bytes: memory.bytes.as_mut_ptr().cast(), length: memory.bytes.len() }
+    Memory { address: memory.address(), bytes: memory.first().cast(), length: memory.length(), reserved: 0 }
+}
+
+fn step_given(step: &Kept) -> Step {
+    let (source, file, offset) = match step.source {
+        KeptSource::File { file, offset } => (SOURCE_FILE, file, offset),
+        KeptSource::Own { offset } => (SOURCE_LAYOUT, 0, offset),
+        KeptSource::Zeros => (SOURCE_ZEROS, 0, 0),
+    };
+    Step { address: step.address, length: step.length, offset, source, file, reserved: 0 }
 }
 
 // ---- what is told
+
+/// A step, if this version of the crate knows its source: what it does not know is no zeros.
+fn step_told(step: &Step) -> Result<Kept, Error> {
+    let source = match step.source {
+        SOURCE_FILE => KeptSource::File { file: step.file, offset: step.offset },
+        SOURCE_LAYOUT => KeptSource::Own { offset: step.offset },
+        SOURCE_ZEROS => KeptSource::Zeros,
+        other => return Err(Error::UnknownSource(other)),
+    };
+    Ok(Kept { address: step.address, length: step.length, source })
+}
 
 /// A status, and what was told with it; what was not told is empty.
 pub(crate) struct Told {
@@ -352,6 +420,7 @@ impl Told {
             refusal_room: refusals.len(),
             handoff: Handoff::default(),
             refusal_count: 0,
+            reserved: [0; 4],
         };
         let status = call(&mut outcome);
         places.truncate(outcome.handoff.place_count as usize);
@@ -404,29 +473,72 @@ fn refusal_told(refusal: &Refusal) -> crate::Refusal {
 // ---- calls
 
 pub(crate) fn version() -> u32 {
-    // SAFETY: it takes nothing, and reads nothing but a constant
+    // SAFETY: in each version it takes nothing, and reads nothing but a constant
     unsafe { bootcore_version() }
 }
 
+/// The turn of a call, if the archive may be called. Each function below begins with this, unless it is given what only a call
+/// tells: a plan, a handoff, registers, a session or a digest.
+fn enter() -> Result<Turn, Error> {
+    check().map(|()| Turn::take())
+}
+
+/// A call that ends its turn before what it made may be dropped, which takes one again.
+fn in_turn(call: impl FnOnce() -> u32) -> u32 {
+    let _turn = Turn::take();
+    call()
+}
+
+fn check() -> Result<(), Error> {
+    match version() {
+        archive if is_right(archive) => Ok(()),
+        archive => Err(Error::WrongVersion(archive)),
+    }
+}
+
+/// The text that a pointer points to.
+///
+/// # Safety
+///
+/// It is constant, and ends in a zero byte.
+unsafe fn text_at(text: *const u8) -> &'static str {
+    let mut length = 0;
+    // SAFETY: the bytes up to the one that is 0 are there
+    while unsafe { *text.add(length) } != 0 {
+        length += 1;
+    }
+    // SAFETY: so many bytes are there, and constant
+    str::from_utf8(unsafe { slice::from_raw_parts(text, length) }).unwrap_or_default()
+}
+
+const NO_TEXT: &str = "no words, since the archive is not of the crate's version";
+
 pub(crate) fn status_text(status: u32) -> &'static str {
+    if check().is_err() {
+        return NO_TEXT;
+    }
     // SAFETY: the answer points to constant text that ends in a zero byte, whatever the status is
-    let text = unsafe { CStr::from_ptr(bootcore_status_text(status)) };
-    text.to_str().unwrap_or_default()
+    unsafe { text_at(bootcore_status_text(status)) }
 }
 
 pub(crate) fn text(number: u32) -> &'static str {
+    if check().is_err() {
+        return NO_TEXT;
+    }
     // SAFETY: the answer points to constant text that ends in a zero byte, whatever the number is
-    let text = unsafe { CStr::from_ptr(bootcore_refusal_text(number)) };
-    text.to_str().unwrap_or_default()
+    unsafe { text_at(bootcore_refusal_text(number)) }
 }
 
 pub(crate) fn describe(refusal: Carried) -> String {
-    let refusal = Refusal { entry: 0, number: refusal.number, first: refusal.first, second: refusal.second };
+    if check().is_err() {
+        return format!("number {}: {}", refusal.number, NO_TEXT);
+    }
+    let refusal = Refusal { number: refusal.number, first: refusal.first, second: refusal.second, ..Refusal::default() };
     // SAFETY: the refusal stands during the call; without a length nothing is written
     let length = unsafe { bootcore_refusal_line(&refusal, ptr::null_mut(), 0) };
     let mut text = vec![0; length + 1];
     // SAFETY: as before; `text` has as many bytes as are told, and nothing else uses them during the call
-    unsafe { bootcore_refusal_line(&refusal, text.as_mut_ptr().cast(), text.len()) };
+    unsafe { bootcore_refusal_line(&refusal, text.as_mut_ptr(), text.len()) };
     text.truncate(length);
     String::from_utf8_lossy(&text).into_owned()
 }
@@ -438,22 +550,26 @@ pub(crate) fn segments(registers: &Registers) -> [Segment; 6] {
     segments
 }
 
-pub(crate) fn load(memory: &mut crate::Memory<'_>, machine: &crate::Machine, entry: &crate::Entry<'_>) -> Told {
+pub(crate) fn load(memory: &mut crate::Memory<'_>, machine: &crate::Machine, entry: &crate::Entry<'_>) -> Result<Told, Error> {
+    let _turn = enter()?;
     let (regions, modules) = (regions_of(machine), modules_of(entry));
     let (memory, machine, entry) = (memory_of(memory), machine_of(machine, &regions), entry_of(entry, &modules));
     // SAFETY: each pointer is that of a slice or a vector that stands during the call, with its length, or null; the memory
-    // is borrowed by `&mut`, and the outcome's arrays are this call's own, so that they overlap nothing else
-    Told::by(|outcome| unsafe { bootcore_load(&memory, &machine, &entry, outcome) })
+    // is borrowed by `&mut`, or `Memory::from_raw` says the same of it, and the outcome's arrays are this call's own, so that
+    // they overlap nothing else
+    Ok(Told::by(|outcome| unsafe { bootcore_load(&memory, &machine, &entry, outcome) }))
 }
 
-pub(crate) fn prepare(machine: &crate::Machine, entry: &crate::Entry<'_>) -> Told {
+pub(crate) fn prepare(machine: &crate::Machine, entry: &crate::Entry<'_>) -> Result<Told, Error> {
+    let _turn = enter()?;
     let (regions, modules) = (regions_of(machine), modules_of(entry));
     let (machine, entry) = (machine_of(machine, &regions), entry_of(entry, &modules));
     // SAFETY: as for `load`, without memory; no byte of a file whose pointer is null is read
-    Told::by(|outcome| unsafe { bootcore_prepare(&machine, &entry, outcome) })
+    Ok(Told::by(|outcome| unsafe { bootcore_prepare(&machine, &entry, outcome) }))
 }
 
 pub(crate) fn plan(machine: &crate::Machine, entry: &crate::Entry<'_>) -> Result<crate::Plan, Error> {
+    let _turn = enter()?;
     let (regions, modules) = (regions_of(machine), modules_of(entry));
     let (machine, entry) = (machine_of(machine, &regions), entry_of(entry, &modules));
     let mut places = vec![Place::default(); MAX_PLACES];
@@ -469,6 +585,8 @@ pub(crate) fn plan(machine: &crate::Machine, entry: &crate::Entry<'_>) -> Result
         step_count: 0,
         own_length: 0,
         refusal: Refusal::default(),
+        planned: 0,
+        reserved: [0; 4],
     };
     // SAFETY: each pointer is that of a slice or a vector that stands during the call, with its length, or null; the layout's
     // arrays are this call's own; no byte of a file whose pointer is null is read
@@ -488,6 +606,7 @@ pub(crate) fn plan(machine: &crate::Machine, entry: &crate::Entry<'_>) -> Result
             places.truncate(layout.handoff.place_count as usize);
             steps.truncate(layout.step_count);
             own.truncate(layout.own_length);
+            let steps = steps.iter().map(step_told).collect::<Result<_, _>>()?;
             Ok(crate::Plan { handoff: handoff_told(&layout.handoff, &places), steps, own })
         }
         REFUSED => Err(Error::Refused(refusal_told(&layout.refusal))),
@@ -496,23 +615,26 @@ pub(crate) fn plan(machine: &crate::Machine, entry: &crate::Entry<'_>) -> Result
 }
 
 pub(crate) fn carry_out(plan: &crate::Plan, files: &[&[u8]], memory: &mut [crate::Memory<'_>]) -> Result<(), Error> {
+    let steps: Vec<_> = plan.steps.iter().map(step_given).collect();
     let layout = Layout {
         places: ptr::null_mut(),
         place_room: 0,
         // the call only reads what a layout points to
-        steps: plan.steps.as_ptr() as *mut Step,
-        step_room: plan.steps.len(),
+        steps: steps.as_ptr() as *mut Step,
+        step_room: steps.len(),
         own: plan.own.as_ptr() as *mut u8,
         own_room: plan.own.len(),
         handoff: Handoff::default(),
-        step_count: plan.steps.len(),
+        step_count: steps.len(),
         own_length: plan.own.len(),
         refusal: Refusal::default(),
+        planned: 1,
+        reserved: [0; 4],
     };
     let files: Vec<_> = files.iter().map(|file| bytes_of(file)).collect();
     let memory: Vec<_> = memory.iter_mut().map(memory_of).collect();
     // SAFETY: each pointer is that of a slice or a vector that stands during the call, with its length; the pieces of memory
-    // are borrowed by `&mut`, so that they overlap neither each other nor a file; the layout is read alone, and whatever its
+    // are as in `load`, so that they overlap neither each other nor a file; the layout is read alone, and whatever its
     // steps are, the call looks whether they lie in files and memory
     let status = unsafe { bootcore_carry_out(&layout, files.as_ptr(), files.len(), memory.as_ptr(), memory.len()) };
     match status {
@@ -521,23 +643,22 @@ pub(crate) fn carry_out(plan: &crate::Plan, files: &[&[u8]], memory: &mut [crate
     }
 }
 
-pub(crate) fn boot(memory: &mut crate::Memory<'_>, machine: &crate::Machine, menu: &crate::Menu<'_>) -> Told {
+pub(crate) fn boot(memory: &mut crate::Memory<'_>, machine: &crate::Machine, menu: &crate::Menu<'_>) -> Result<Told, Error> {
+    let _turn = enter()?;
     let regions = regions_of(machine);
     let (entries, _modules) = entries_of(menu);
     let (memory, machine, menu) = (memory_of(memory), machine_of(machine, &regions), menu_of(menu, &entries));
     // SAFETY: as for `load`; the modules of the entries stand until this function ends
-    Told::by(|outcome| unsafe { bootcore_boot(&memory, &machine, &menu, outcome) })
+    Ok(Told::by(|outcome| unsafe { bootcore_boot(&memory, &machine, &menu, outcome) }))
 }
 
 /// A session that is kept, and the memory that it has.
-#[derive(Debug)]
 pub(crate) struct KeptSession<'m> {
     session: Session,
     memory: crate::Memory<'m>,
 }
 
-// SAFETY: calls on a session may be made on whichever thread, one at a time, and memory that is borrowed by `&mut` may go to
-// another thread. `Sync` it is not: of two calls that only read the header does not say that they may come at once.
+// SAFETY: calls on a session may be made on whichever thread, one at a time, and so may its memory go. `Sync` it is not: of two calls that only read the header does not say that they may come at once.
 unsafe impl Send for KeptSession<'_> {}
 
 impl<'m> KeptSession<'m> {
@@ -546,38 +667,44 @@ impl<'m> KeptSession<'m> {
         machine: &crate::Machine,
         menu: &crate::Menu<'_>,
     ) -> Result<KeptSession<'m>, Error> {
+        check()?;
         let regions = regions_of(machine);
         let (entries, _modules) = entries_of(menu);
         let (machine, menu) = (machine_of(machine, &regions), menu_of(menu, &entries));
         let mut session = KeptSession { session: Session { kept: ptr::null_mut() }, memory };
         // SAFETY: each pointer is that of a slice or a vector that stands during the call, with its length, or null; of files
         // the lengths alone are read; the struct keeps nothing yet
-        match unsafe { bootcore_session_make(&mut session.session, &machine, &menu) } {
+        let call = || unsafe { bootcore_session_make(&mut session.session, &machine, &menu) };
+        match in_turn(call) {
             DONE => Ok(session),
             other => Err(Error::of_status(other)),
         }
     }
 
     pub(crate) fn start(&mut self) -> u32 {
+        let _turn = Turn::take();
         let memory = memory_of(&mut self.memory);
-        // SAFETY: the struct is written by these calls alone, and never copied; the memory is the same in each call, and
-        // nobody else changes it while the session has it
+        // SAFETY: the struct is written by these calls alone, and never copied; the memory is as in `load` and the same in each
+        // call, and nobody else changes it while the session has it
         unsafe { bootcore_session_start(&mut self.session, &memory) }
     }
 
     pub(crate) fn pieces(&mut self, request: &Request, bytes: &[u8]) -> u32 {
+        let _turn = Turn::take();
         let memory = memory_of(&mut self.memory);
         // SAFETY: as for `start`; the bytes are borrowed, so that they overlap no memory that the session has by `&mut`
         unsafe { bootcore_session_pieces(&mut self.session, &memory, request, bytes.as_ptr().cast(), bytes.len()) }
     }
 
     pub(crate) fn fault(&mut self, request: &Request) -> u32 {
+        let _turn = Turn::take();
         let memory = memory_of(&mut self.memory);
         // SAFETY: as for `start`
         unsafe { bootcore_session_fault(&mut self.session, &memory, request) }
     }
 
     pub(crate) fn missing(&self, most: usize) -> Option<Request> {
+        let _turn = Turn::take();
         let mut request = Request::default();
         // SAFETY: the struct is only read, on one thread, and the request is this call's own
         let is_told = unsafe { bootcore_session_missing(&self.session, most, &mut request) };
@@ -585,6 +712,7 @@ impl<'m> KeptSession<'m> {
     }
 
     pub(crate) fn missing_after(&self, request: &Request, most: usize) -> Option<Request> {
+        let _turn = Turn::take();
         let mut request = *request;
         // SAFETY: as for `missing`
         let is_told = unsafe { bootcore_session_missing_after(&self.session, most, &mut request) };
@@ -592,17 +720,19 @@ impl<'m> KeptSession<'m> {
     }
 
     pub(crate) fn outcome(&self) -> Told {
+        let _turn = Turn::take();
         // SAFETY: the struct is only read, on one thread; the outcome's arrays have the room that is told
         Told::by(|outcome| unsafe { bootcore_session_outcome(&self.session, outcome) })
     }
 
-    pub(crate) fn memory(&self) -> &[u8] {
-        self.memory.bytes
+    pub(crate) fn memory(&self) -> &crate::Memory<'m> {
+        &self.memory
     }
 }
 
 impl Drop for KeptSession<'_> {
     fn drop(&mut self) {
+        let _turn = Turn::take();
         // SAFETY: the struct is as the calls before left it, and this is the last one
         unsafe { bootcore_session_free(&mut self.session) }
     }
@@ -640,19 +770,23 @@ pub(crate) struct KeptDigest {
     digest: Digest,
 }
 
-// SAFETY: calls on a digest may be made on whichever thread, one at a time. `Sync` it is not: of two calls that only read the
-// header does not say that they may come at once.
+// SAFETY: calls on a digest may be made on whichever thread
 unsafe impl Send for KeptDigest {}
+// SAFETY: two calls at once have it by `&`: they only look at what it keeps (the archive's functions take a copy of the struct
+// and borrow what it points to), and two that change nothing know nothing of each other; those that change it take `&mut`
+unsafe impl Sync for KeptDigest {}
 
 impl KeptDigest {
     pub(crate) fn make(machine: &crate::Machine, entry: &crate::Entry<'_>) -> Result<KeptDigest, Error> {
+        check()?;
         let (regions, modules) = (regions_of(machine), modules_of(entry));
         let (machine, entry) = (machine_of(machine, &regions), entry_of(entry, &modules));
         let mut kept = KeptDigest { digest: Digest { kept: ptr::null_mut() } };
         let mut refusal = Refusal::default();
         // SAFETY: each pointer is that of a slice or a vector that stands during the call, with its length, or null; no byte
         // of a file whose pointer is null is read; the struct keeps nothing yet
-        match unsafe { bootcore_digest_make(&mut kept.digest, &machine, &entry, &mut refusal) } {
+        let call = || unsafe { bootcore_digest_make(&mut kept.digest, &machine, &entry, &mut refusal) };
+        match in_turn(call) {
             DONE => Ok(kept),
             REFUSED => Err(Error::Refused(refusal_told(&refusal))),
             other => Err(Error::of_status(other)),
@@ -660,6 +794,7 @@ impl KeptDigest {
     }
 
     pub(crate) fn wanted(&self) -> Option<crate::FileRange> {
+        let _turn = Turn::take();
         let mut range = FileRange::default();
         // SAFETY: the struct is only read, on one thread, and the range is this call's own
         let is_told = unsafe { bootcore_digest_wanted(&self.digest, &mut range) };
@@ -667,29 +802,57 @@ impl KeptDigest {
     }
 
     pub(crate) fn feed(&mut self, bytes: &[u8]) -> u32 {
+        let _turn = Turn::take();
         // SAFETY: the struct is written by these calls alone, and never copied; the bytes are borrowed, with their length
         unsafe { bootcore_digest_feed(&mut self.digest, bytes.as_ptr().cast(), bytes.len()) }
     }
 
-    /// The digests, unless bytes are wanted; nothing else can be amiss.
-    pub(crate) fn told(&self) -> Option<crate::Digests> {
+    /// The digests, unless bytes are wanted.
+    pub(crate) fn told(&self) -> Result<Option<crate::Digests>, Error> {
+        let _turn = Turn::take();
         // SAFETY: the struct is only read, on one thread; there is room for as many parts as are told
         let call = |digests: &mut Digests, parts: &mut [PartDigest]| unsafe {
             bootcore_digest_told(&self.digest, digests, parts.as_mut_ptr(), parts.len())
         };
-        let (status, told) = DigestsTold::by(call);
-        (status == DONE).then(|| told.all())
+        match DigestsTold::by(call) {
+            (DONE, told) => Ok(Some(told.all())),
+            (WAITING, _) => Ok(None),
+            (other, _) => Err(Error::of_status(other)),
+        }
     }
 }
 
 impl Drop for KeptDigest {
     fn drop(&mut self) {
+        let _turn = Turn::take();
         // SAFETY: the struct is as the calls before left it, and this is the last one
         unsafe { bootcore_digest_free(&mut self.digest) }
     }
 }
 
+#[cfg(not(feature = "std"))]
+pub(crate) fn arena(memory: &'static mut [u8]) -> Result<(), &'static mut [u8]> {
+    static IS_GIVEN: AtomicBool = AtomicBool::new(false);
+    let _turn = match enter() {
+        Ok(turn) => turn,
+        Err(_) => return Err(memory),
+    };
+    if IS_GIVEN.swap(true, Ordering::Relaxed) {
+        return Err(memory);
+    }
+    // SAFETY: the memory is the arena's from now on, and what is kept there stays there, since no other arena is given
+    unsafe { bootcore_arena(memory.as_mut_ptr().cast(), memory.len()) };
+    Ok(())
+}
+
+#[cfg(not(feature = "std"))]
+pub(crate) fn arena_peak() -> usize {
+    // SAFETY: it takes nothing, and reads nothing but a number, while no other call runs
+    enter().map_or(0, |_turn| unsafe { bootcore_arena_peak() })
+}
+
 pub(crate) fn digest(machine: &crate::Machine, entry: &crate::Entry<'_>) -> Result<crate::Digests, Error> {
+    let _turn = enter()?;
     let (regions, modules) = (regions_of(machine), modules_of(entry));
     let (machine, entry) = (machine_of(machine, &regions), entry_of(entry, &modules));
     let mut refusal = Refusal::default();
@@ -711,6 +874,7 @@ pub(crate) fn image_head(handoff: &crate::Handoff) -> Vec<u8> {
         index: place.index,
         address: place.address,
         length: place.length,
+        reserved: 0,
     };
     // no handoff has so many that they can't be counted
     let places: Vec<_> = handoff.places.iter().take(u32::MAX as usize).map(place).collect();
@@ -729,7 +893,41 @@ pub(crate) fn image_head(handoff: &crate::Handoff) -> Vec<u8> {
     head
 }
 
+pub(crate) fn image_head_read(head: &[u8]) -> Result<crate::Handoff, Error> {
+    let _turn = enter()?;
+    let (mut handoff, mut fault) = (Handoff::default(), Refusal::default());
+    let mut places = vec![Place::default(); MAX_PLACES];
+    let mut call = |places: &mut [Place]| {
+        let (count, places) = (places.len(), places.as_mut_ptr());
+        // SAFETY: the head is borrowed, with its length; the places are this call's own, and have the room that is told
+        unsafe { bootcore_image_head_read(head.as_ptr().cast(), head.len(), &mut handoff, places, count, &mut fault) }
+    };
+    let mut status = call(&mut places);
+    if status == SMALL_ROOM {
+        // no head has room for more, whatever it says
+        places.resize(head.len() / IMAGE_PLACE, Place::default());
+        status = call(&mut places);
+    }
+    match status {
+        DONE => {
+            places.truncate(handoff.place_count as usize);
+            Ok(handoff_told(&handoff, &places))
+        }
+        REFUSED => Err(Error::BadImage(Fault::of(carried(&fault)))),
+        other => Err(Error::of_status(other)),
+    }
+}
+
+pub(crate) fn bad_region(machine: &crate::Machine) -> Result<Option<usize>, Error> {
+    check()?;
+    let regions = regions_of(machine);
+    // SAFETY: the machine and its regions stand during the call
+    let index = unsafe { bootcore_bad_region(&machine_of(machine, &regions)) };
+    Ok((index < regions.len()).then_some(index))
+}
+
 pub(crate) fn walk(image: &[u8]) -> Result<image::Seen, Error> {
+    let _turn = enter()?;
     let mut seen = Seen::default();
     let mut fault = Refusal::default();
     let (mut parts, mut modules) = (Vec::<SeenPart>::new(), Vec::<SeenModule>::new());
@@ -744,6 +942,7 @@ pub(crate) fn walk(image: &[u8]) -> Result<image::Seen, Error> {
             run_room: runs.len(),
             text: text.as_mut_ptr(),
             text_room: text.len(),
+            reserved: [0; 4],
         };
         // SAFETY: the image is borrowed, with its length; the arrays are this call's own, and have the room that is told
         let status = unsafe { bootcore_walk_all(image.as_ptr().cast(), image.len(), &mut seen, &arrays, &mut fault) };
@@ -783,5 +982,43 @@ fn seen_told(seen: &Seen, parts: &[SeenPart], modules: &[SeenModule], runs: &[Re
         initrd: (seen.initrd_length != 0).then(|| range(seen.initrd, seen.initrd_length)),
         rsdp_old: copy_of(seen.rsdp_old),
         rsdp_new: copy_of(seen.rsdp_new),
+    }
+}
+
+#[cfg(test)]
+mod tests {
+    use std::string::ToString;
+
+    use super::*;
+    use crate::version::{Wrong, WANTED};
+
+    #[test]
+    fn the_version_is_compared() {
+        assert!([10000, 10001, 10100, 19999].into_iter().all(is_right));
+        assert!(![0, 9999, 20000, 110000, u32::MAX].into_iter().any(is_right));
+        let words = "the archive is of version 2.3.4, and the crate wants 1.0 or a later 1.x";
+        assert_eq!((WANTED, Wrong(20304).to_string().as_str()), (10000, words));
+        assert_eq!(Error::WrongVersion(20304).to_string(), words);
+    }
+
+    #[test]
+    fn a_source_that_is_not_known_is_no_zeros() {
+        let step = |source| Step { address: 1 << 20, length: 7, offset: 0, source, file: 0, reserved: 0 };
+        for source in [SOURCE_FILE, SOURCE_LAYOUT, SOURCE_ZEROS] {
+            assert_eq!(step_given(&step_told(&step(source)).unwrap()), step(source));
+        }
+        for source in [0, 4, u32::MAX] {
+            assert_eq!(step_told(&step(source)), Err(Error::UnknownSource(source)));
+        }
+    }
+
+    #[test]
+    fn a_status_that_is_not_known_is_told_by_its_number() {
+        for status in [DONE, REFUSED, 7, 100] {
+            assert_eq!(Error::of_status(status), Error::Other(status));
+        }
+        for status in [SMALL_ROOM, 199, u32::MAX] {
+            assert_eq!(Error::of_status(status), Error::Misuse(crate::Misuse::Other(status)));
+        }
     }
 }

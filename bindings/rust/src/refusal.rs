@@ -1,6 +1,6 @@
 //! Why an entry or an image is refused.
 
-use std::fmt;
+use core::fmt;
 
 use crate::raw;
 
@@ -50,6 +50,17 @@ macro_rules! refusals {
                 }
             }
 
+            /// What a number means, and what it carries: the inverse of [`number`](Self::number), as for what was recorded.
+            pub fn from_number(number: u32, first: u64, second: u64) -> $name {
+                $name::of(Carried { number, first, second })
+            }
+
+            /// What it carries, 0 for nothing: as a recorder wants it beside its number.
+            pub fn carries(self) -> (u64, u64) {
+                let carried = self.carried();
+                (carried.first, carried.second)
+            }
+
             /// Its number, which keeps its meaning.
             pub fn number(self) -> u32 {
                 self.carried().number
@@ -67,12 +78,14 @@ macro_rules! refusals {
             }
         }
 
+        #[cfg(feature = "std")]
         impl std::error::Error for $name {}
     };
 }
 
 refusals! {
-    /// Why an entry is refused. Shown, it is a line as of `bootcore explain`.
+    /// Why an entry is refused. Shown, it is a line as of `bootcore explain`. Of a line that is too long
+    /// [`Entry::long_line`](crate::Entry::long_line) says which, and its limit.
     ///
     /// ```
     /// let refusal = bootcore::Refusal::NoFile { file: 0 };

@@ -11,7 +11,7 @@ fn entry(kernel: &[u8]) -> Entry<'_> {
 
 /// By the table of docs/BOOT-RULES.md: information lowest, the module from the next frame after the kernel on.
 fn is_first(handoff: &Handoff) {
-    let place = |role, address, length| Place { role, index: 0, address, length };
+    let place = |role, address, length| Place::new(role, 0, address, length);
     let wanted = [place(Role::Information, 0x1000, 4096), place(Role::Kernel, 0x100000, 80), place(Role::Module, 0x101000, 4096)];
     assert_eq!(handoff.places, wanted);
     assert_eq!((handoff.entry, handoff.protocol), (0, Protocol::Multiboot2));
@@ -21,9 +21,10 @@ fn is_first(handoff: &Handoff) {
     assert_eq!((registers.cr0, registers.cr3, registers.cr4), (0x11, 0, 0));
     assert_eq!((registers.efer, registers.gdt_base), (0, 0));
     let Segments { cs, ds, es, fs, gs, ss } = registers.segments();
-    let data = Segment { base: 0, limit: u32::MAX, selector: 0x18, type_: 3, s: 1, dpl: 0, p: 1, avl: 0, l: 0, db: 1, g: 1 };
-    assert_eq!(cs, Segment { selector: 0x10, type_: 11, ..data });
-    assert_eq!([ds, es, fs, gs, ss], [data; 5]);
+    let facts = |s: Segment| (s.base, s.limit, s.selector, s.type_, [s.s, s.dpl, s.p, s.avl, s.l, s.db, s.g]);
+    assert_eq!(facts(cs), (0, u32::MAX, 0x10, 11, [1, 0, 1, 0, 0, 1, 1]));
+    assert_eq!(facts(ds), (0, u32::MAX, 0x18, 3, [1, 0, 1, 0, 0, 1, 1]));
+    assert_eq!([es, fs, gs, ss], [ds; 4]);
 }
 
 #[test]
@@ -84,7 +85,8 @@ fn parts_are_those_of_the_stored_image() {
     assert_eq!((seen.protocol, seen.entry_address), (Protocol::Multiboot2, 0x100010));
     assert_eq!(seen.line, b"k");
     assert_eq!(seen.kernel_parts, [Range { address: 0x100000, length: 80 }]);
-    assert_eq!(seen.modules, [SeenModule { file: Range { address: 0x101000, length: 5 }, line: b"m".to_vec() }]);
+    let modules: Vec<_> = seen.modules.iter().map(|module| (module.file, &module.line[..])).collect();
+    assert_eq!(modules, [(Range { address: 0x101000, length: 5 }, &b"m"[..])]);
     let runs: Vec<_> = seen.runs.iter().map(|run| (run.range.address, run.range.length, run.kind().unwrap())).collect();
     let wanted = [(0, 0x9F000, Kind::Usable), (0xF0000, 0x10000, Kind::Reserved), (0x100000, 0x300000, Kind::Usable)];
     assert_eq!(runs, wanted);
@@ -111,7 +113,7 @@ fn copies_of_the_rsdp_and_an_initial_ramdisk_are_seen() {
         parts.fold(handoff.image_head(), |image, part| [&image[..], part].concat())
     };
     let kernel = multiboot2_kernel();
-    let entry = Multiboot2 { rsdp_old: b"RSD PTR old", rsdp_new: b"RSD PTR, a new one", ..Multiboot2::new(&kernel) };
+    let entry = Multiboot2::new(&kernel).rsdp_old(b"RSD PTR old").rsdp_new(b"RSD PTR, a new one");
     let seen = walk(&image_of(&entry.into())).unwrap();
     assert_eq!(seen.rsdp_old.as_deref(), Some(&b"RSD PTR old"[..]));
     assert_eq!(seen.rsdp_new.as_deref(), Some(&b"RSD PTR, a new one"[..]));
@@ -139,5 +141,46 @@ fn a_refusal_is_said_in_words() {
     let overlap = Refusal::SegmentsOverlap { one: 1, other: 2 };
     assert!(overlap.to_string().starts_with("refused 15 SegmentsOverlap(1, 2): "));
     assert_eq!((overlap.number(), overlap.meaning()), (15, "the two segments overlap: they share a byte"));
+    assert_eq!((Refusal::from_number(15, 1, 2), overlap.carries()), (overlap, (1, 2)));
+    assert_eq!(Error::from(overlap), Error::Refused(overlap));
+    assert_eq!(Refusal::from_number(9999, 1, 2), Refusal::Other { number: 9999, first: 1, second: 2 });
     assert_eq!(Refusal::BadTag { offset: 0x30 }.to_string().split(':').next(), Some("refused 7 BadTag(0x30)"));
+}
+
+#[test]
+fn a_line_that_is_too_long_is_told_with_its_limit() {
+    let (multiboot2, mut linux, machine) = (multiboot2_kernel(), linux_kernel(), machine());
+    let lines: Vec<String> = [0, 99, 100, 101, MAX_LINE, MAX_LINE + 1].iter().map(|length| "x".repeat(*length)).collect();
+    let agrees = |entry: Entry<'_>, file, length, limit| {
+        let long = entry.long_line().map(|line| (line.file, line.length, line.limit));
+        assert_eq!(long, (length > limit).then_some((file, length, limit)));
+        let refused = prepare(&machine, &entry) == Err(Refusal::LineTooLong.into());
+        assert_eq!(refused, long.is_some());
+    };
+    for line in &lines {
+        agrees(Multiboot2::new(&multiboot2).line(line).into(), 0, line.len(), MAX_LINE);
+        let module = Multiboot2::new(&multiboot2).module(b"", "m").module(b"", line);
+        agrees(module.into(), 2, line.len(), MAX_LINE);
+    }
+    for limit in [99, 100, MAX_LINE - 1, MAX_LINE, MAX_LINE + 1, usize::MAX] {
+        linux[0x238..0x23C].copy_from_slice(&(limit as u32).to_le_bytes());
+        for line in &lines {
+            agrees(Linux::new(&linux).line(line).into(), 0, line.len(), limit.min(MAX_LINE));
+        }
+    }
+}
+
+#[test]
+fn the_head_of_an_image_is_read_back() {
+    let kernel = linux64_kernel();
+    let mut handoff = prepare(&machine(), &Linux::new64(&kernel).line("k").initrd(File::Length(5)).into()).unwrap();
+    let head = handoff.image_head();
+    assert_eq!(Handoff::from_image_head(&head), Ok(handoff.clone()));
+    assert_eq!(Handoff::from_image_head(&head[..head.len() - 1]), Err(Fault::WrongLength.into()));
+    assert_eq!(Handoff::from_image_head(b"no image"), Err(Fault::BadMagic.into()));
+    let stored = Handoff::from_image_head(&stored_image()).unwrap();
+    assert_eq!(stored.places, prepare(&machine(), &entry(&multiboot2_kernel())).unwrap().places);
+    // more than an entry has
+    handoff.places = (256..700).map(|i| Place::new(Role::Module, i - 256, u64::from(i) << 12, 4096)).collect();
+    assert_eq!(Handoff::from_image_head(&handoff.image_head()), Ok(handoff));
 }

@@ -30,9 +30,9 @@ fn right(kernel: &[u8]) -> Entry<'_> {
 #[test]
 fn of_a_machine() {
     let right = right;
-    all(Misuse::BadSize, &Machine { size: SIZE as u64 + 1, ..machine() }, right);
-    all(Misuse::BadSize, &Machine { size: 0, ..machine() }, right);
-    all(Misuse::BadSize, &Machine { size: u64::MAX, ..machine() }, right);
+    all(Misuse::BadSize, &of_size(SIZE as u64 + 1), right);
+    all(Misuse::BadSize, &of_size(0), right);
+    all(Misuse::BadSize, &of_size(u64::MAX), right);
     let many = (0..MAX_REGIONS).fold(machine(), |machine, _| machine.region(0, 4096, Kind::Nvs));
     all(Misuse::TooManyRegions, &many, right);
     all(Misuse::BadRegion, &machine().region(1 << 52, 1, Kind::Usable), right);
@@ -44,21 +44,29 @@ fn of_a_machine() {
 }
 
 #[test]
+fn the_bad_region_is_told() {
+    let bad = |machine: Machine| machine.bad_region().unwrap();
+    assert_eq!(bad(machine()), None);
+    assert_eq!(bad(machine().region((1 << 52) - 1, 1, Kind::Nvs)), None);
+    assert_eq!(bad(machine().region(1 << 52, 1, Kind::Nvs).region(u64::MAX, u64::MAX, Kind::Usable)), Some(3));
+}
+
+#[test]
 fn of_an_entry() {
     let machine = &machine();
     all(Misuse::NoBytes, machine, |_| Multiboot2::new(File::Length(80)).into());
     all(Misuse::BadFile, machine, |_| Multiboot2::new(File::Unreadable).into());
     all(Misuse::BadFile, machine, |kernel| Multiboot2::new(kernel).module(File::Unreadable, "m").into());
     all(Misuse::BadFile, machine, |_| Linux::new(b"none").initrd(File::Unreadable).into());
-    all(Misuse::TooMany, machine, |kernel| {
+    all(Misuse::TooManyModules, machine, |kernel| {
         (0..=MAX_MODULES).fold(Multiboot2::new(kernel), |entry, _| entry.module(b"", "")).into()
     });
     let long = [0; MAX_RSDP + 1];
     let kernel = multiboot2_kernel();
-    let entry = Multiboot2 { rsdp_new: &long, ..Multiboot2::new(&kernel) }.into();
-    assert_eq!(misuse(prepare(machine, &entry)), Misuse::TooMany);
-    let entry = Multiboot2 { rsdp_old: &long, ..Multiboot2::new(&kernel) }.into();
-    assert_eq!(misuse(Plan::new(machine, &entry)), Misuse::TooMany);
+    let entry = Multiboot2::new(&kernel).rsdp_new(&long).into();
+    assert_eq!(misuse(prepare(machine, &entry)), Misuse::LongRsdp);
+    let entry = Multiboot2::new(&kernel).rsdp_old(&long).into();
+    assert_eq!(misuse(Plan::new(machine, &entry)), Misuse::LongRsdp);
 }
 
 #[test]
@@ -112,8 +120,8 @@ fn of_a_menu() {
     all(Misuse::BadIndex, &machine, &menu().first(1));
     all(Misuse::BadIndex, &machine, &menu().fallback(0).fallback(u32::MAX));
     let many = (0..=MAX_ENTRIES).fold(Menu::new(), |menu, _| menu.entry(Linux::new(b"")));
-    all(Misuse::TooMany, &machine, &many);
-    all(Misuse::BadSize, &Machine { size: 4096, ..machine.clone() }, &menu());
+    all(Misuse::TooManyEntries, &machine, &many);
+    all(Misuse::BadSize, &of_size(4096), &menu());
     all(Misuse::BadPool, &machine.clone().pool(0, 4096), &menu());
     let mut memory = memory();
     let of_length = Menu::new().entry(Linux::new(File::Length(5)));
@@ -146,12 +154,30 @@ fn of_a_session() {
 
 #[test]
 fn numbers_and_words() {
-    let mut words: Vec<_> = (101..=117).map(|number| Misuse::from_number(number).to_string()).collect();
+    let mut words: Vec<_> = (101..=119).map(|number| Misuse::from_number(number).to_string()).collect();
     assert!((0..200).all(|number| Misuse::from_number(number).number() == number));
     assert!(words.iter().all(|word| !word.is_empty()));
     words.sort();
     words.dedup();
-    assert_eq!(words.len(), 17);
+    assert_eq!(words.len(), 19);
     assert_eq!(Misuse::from_number(102), Misuse::Other(102)); // a reserved word: no program in Rust sets one
     assert_eq!(Error::Misuse(Misuse::BadSize).to_string(), Misuse::BadSize.to_string());
+}
+
+#[test]
+fn the_greatest_length_is_too_long_and_not_unreadable() {
+    let (kernel, machine) = (multiboot2_kernel(), machine());
+    let with = |file| Multiboot2::new(&kernel).module(file, "m").into();
+    assert_eq!(misuse(prepare(&machine, &with(File::Unreadable))), Misuse::BadFile);
+    let too_long = Err(Error::Refused(Refusal::NoRoom));
+    for length in [u64::MAX, u64::MAX - 1, 1 << 40] {
+        assert_eq!(prepare(&machine, &with(File::Length(length))), too_long);
+        assert_eq!(Plan::new(&machine, &with(File::Length(length))).map(|plan| plan.handoff().clone()), too_long);
+        let mut memory = memory();
+        let menu = Menu::new().entry(Linux::new(File::Length(length)));
+        let mut session = Session::new(Memory::new(0, &mut memory), &machine, &menu).unwrap();
+        assert_eq!(session.start(), Ok(Progress::Failed));
+        let refused = vec![RefusedEntry::new(0, Refusal::FileTooLong { file: 0 })];
+        assert_eq!(session.outcome(), Err(Error::NoEntry(refused)));
+    }
 }

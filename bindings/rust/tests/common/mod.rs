@@ -11,8 +11,19 @@ pub const SIZE: usize = 0x400000;
 /// Where the pool begins, which ends with memory.
 pub const POOL: usize = 0x300000;
 
+/// Over the freestanding archive calls take their memory from an arena, which is given once.
+#[cfg(not(feature = "std"))]
+fn give_arena() {
+    static GIVEN: std::sync::Once = std::sync::Once::new();
+    GIVEN.call_once(|| bootcore::arena(vec![0; 64 << 20].leak()).unwrap());
+}
+
+#[cfg(feature = "std")]
+fn give_arena() {}
+
 /// Digits by two; backslashes and ends of lines between them do not count.
 pub fn bytes_of(digits: &str) -> Vec<u8> {
+    give_arena();
     let digits: Vec<u8> = digits.bytes().filter(u8::is_ascii_hexdigit).collect();
     let byte = |pair: &[u8]| u8::from_str_radix(std::str::from_utf8(pair).unwrap(), 16).unwrap();
     digits.chunks(2).map(byte).collect()
@@ -27,11 +38,19 @@ fn first_file(description: &str) -> Vec<u8> {
 
 /// The machine of both examples.
 pub fn machine() -> Machine {
+    give_arena();
     Machine::new(SIZE as u64)
         .region(0, 0x9F000, Kind::Usable)
         .region(0xF0000, 0x10000, Kind::Reserved)
         .region(0x100000, 0x300000, Kind::Usable)
         .pool(POOL as u64, (SIZE - POOL) as u64)
+}
+
+/// The same of another size.
+pub fn of_size(size: u64) -> Machine {
+    let mut machine = machine();
+    machine.size = size;
+    machine
 }
 
 /// Its memory before a boot.
