@@ -537,6 +537,7 @@ static bootcore_digests reckon(void) {
         sha256_begin(&part);
         sha256_add(&part, memory + places[i].address, places[i].length);
         sha256_end(&part, wanted_parts[i].sha256);
+        wanted_parts[i].reserved = 0;
     }
     sha256_end(&image, wanted.image_sha256);
     wanted.part_count = outcome.handoff.place_count;
