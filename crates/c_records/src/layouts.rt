@@ -4,6 +4,7 @@ use crate::end_records::{HandoffRecord, PlaceRecord, RefusalRecord, RegistersRec
 use crate::given_records::{EntryRecord, FileRecord, MachineRecord, ModuleRecord, RegionRecord};
 use crate::plan_records::{PlanCountsRecord, StepRecord};
 use crate::seen_records::{ByteRange, SeenModuleRecord, SeenPartRecord, SeenRecord};
+use crate::unplaced_record::UnplacedRecord;
 
 const _: () = prove!(size_of::<FileRecord<'_>>() == 24);
 
@@ -27,7 +28,9 @@ const _: () = prove!(size_of::<HandoffRecord>() == 272);
 
 const _: () = prove!(size_of::<StepRecord>() == 32);
 
-const _: () = prove!(size_of::<PlanCountsRecord>() == 16);
+const _: () = prove!(size_of::<PlanCountsRecord>() == 24);
+
+const _: () = prove!(size_of::<UnplacedRecord>() == 56);
 
 const _: () = prove!(size_of::<SeenRecord>() == 104);
 

@@ -20,6 +20,7 @@ mod registers_record;
 mod seen_records;
 mod seen_telling;
 mod seen_vectors;
+mod unplaced_record;
 mod walk_stops;
 mod walk_telling;
 
@@ -46,5 +47,6 @@ pub use seen_records::{
 };
 pub use seen_telling::records_of;
 pub use seen_vectors::SeenVectors;
+pub use unplaced_record::UnplacedRecord;
 pub use walk_stops::{stop_status, stop_told};
 pub use walk_telling::{tell_records, tell_walk};
