@@ -72,6 +72,8 @@ enum {
     BOOTCORE_MAX_LINE = 4095,   /* bytes of a line; a Linux kernel may take fewer */
     BOOTCORE_MAX_RSDP = 256,    /* bytes of a copy of an RSDP */
     BOOTCORE_MAX_PLACES = 256,  /* an entry has no more parts */
+    BOOTCORE_MAX_STEPS = 520,   /* a plan has no more steps */
+    BOOTCORE_MAX_OWN = 278528,  /* and no more bytes of its own */
     BOOTCORE_MAX_REFUSALS = 32, /* a boot refuses no more entries */
     BOOTCORE_STACK = 24576      /* with libbootcore.a 16384 is enough */
 };
@@ -94,7 +96,8 @@ enum {
     BOOTCORE_STATUS_BAD_FILE = 103,     /* a file has the length BOOTCORE_UNREADABLE, where all are
                                          * wanted; of bootcore_carry_out: see there */
     BOOTCORE_STATUS_SMALL_ROOM = 104,   /* an array has too little room: too few places are told
-                                         * here, others last; of bootcore_carry_out: see there */
+                                         * here, others and a plan's last; of bootcore_carry_out:
+                                         * see there */
     BOOTCORE_STATUS_BAD_KIND = 105,     /* a region's kind is no BOOTCORE_KIND_.. */
     BOOTCORE_STATUS_BAD_SIZE = 106,     /* the size is no multiple of 4096 from 1 MiB to 4 GiB */
     BOOTCORE_STATUS_TOO_MANY_REGIONS = 107,
@@ -295,13 +298,13 @@ typedef struct bootcore_step {
 /* Where a call tells a plan: set the arrays and their room; the call sets the rest. */
 typedef struct bootcore_layout {
     bootcore_place *places; /* by ascending address */
-    size_t place_room;      /* at least BOOTCORE_MAX_PLACES */
+    size_t place_room;
     bootcore_step *steps;   /* by ascending address, none meets another */
     size_t step_room;
     uint8_t *own;           /* the bytes of parts that no file has: of BOOTCORE_SOURCE_LAYOUT */
     size_t own_room;
     bootcore_handoff handoff;
-    size_t step_count, own_length;
+    size_t place_count, step_count, own_length;
     bootcore_refusal refusal;
 } bootcore_layout;
 
@@ -312,14 +315,43 @@ typedef struct bootcore_layout {
  * zeros may be left out where memory is known to be zero, as a fresh mapping is, and nowhere else.
  * If the kernel's file may change meanwhile, read from a copy of it, for which the plan was made.
  * - DONE: the call tells all but the refusal (with entry 0).
- * - REFUSED: it tells the refusal, and step_count and own_length are 0.
- * - SMALL_ROOM: with places for BOOTCORE_MAX_PLACES, step_count and own_length say how
- *   much is wanted, and nothing else is told: a call without room for steps and bytes asks for it.
- * - NO_MEMORY: step_count and own_length are 0.
+ * - REFUSED: it tells the refusal, and place_count, step_count and own_length are 0.
+ * - SMALL_ROOM, after all other misuses and refusals: place_count, step_count and own_length say how
+ *   much is wanted, and nothing else is told: a call without any room asks for it. Arrays of
+ *   BOOTCORE_MAX_PLACES, BOOTCORE_MAX_STEPS and BOOTCORE_MAX_OWN are always enough.
+ * - NO_MEMORY: place_count, step_count and own_length are 0.
  * - Another misuse.
  * What is not told is as before. Equal machines, entries, kernels and lengths have equal plans. */
 BOOTCORE_CALL uint32_t bootcore_plan(const bootcore_machine *machine, const bootcore_entry *entry,
     bootcore_layout *layout);
+
+/* How the address of a part is chosen: `address`, the least or the greatest permitted one, or
+ * `address` if it is permitted and else the least. An address is permitted that is a multiple of
+ * `alignment` from `low` on, if the part ends at most at `high`, and all of it is usable and in no
+ * other part. */
+enum {
+    BOOTCORE_CHOICE_FIXED = 1,   BOOTCORE_CHOICE_LOWEST = 2,
+    BOOTCORE_CHOICE_HIGHEST = 3, BOOTCORE_CHOICE_PREFERRED = 4
+};
+
+/* A part that finds no place: what its choice says nothing of is 0. */
+typedef struct bootcore_unplaced_part {
+    uint32_t role, index;
+    uint64_t length; /* UINT64_MAX if it is above 4 GiB */
+    uint64_t alignment, low, high, address;
+    uint32_t choice;   /* a BOOTCORE_CHOICE_.. */
+    uint32_t reserved; /* 0 */
+} bootcore_unplaced_part;
+
+/* Tells of which part the refusals 19 and 20 speak: the first of an entry's parts that finds no
+ * place; each part that is placed before it has its place then. It reads what bootcore_prepare
+ * reads.
+ * - DONE: it tells the part; all of it is 0, its role too, if each part has its place.
+ * - REFUSED: it tells the refusal (with entry 0), for which no place is looked for.
+ * - NO_MEMORY, or a misuse.
+ * What is not told is as before. */
+BOOTCORE_CALL uint32_t bootcore_unplaced(const bootcore_machine *machine,
+    const bootcore_entry *entry, bootcore_unplaced_part *part, bootcore_refusal *refusal);
 
 /* Carries out the steps of a plan: call it after bootcore_plan answered DONE for this
  * layout. Files are in memory; the machine's memory is in one piece or more, which may lie anywhere

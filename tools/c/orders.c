@@ -41,6 +41,7 @@ static size_t fed_length;
 static bootcore_digest kept_digest, kept_before, *digest;
 static bootcore_digests digests, digests_before, *told_digests;
 static bootcore_part_digest part_digests[4], part_digests_before[4], *told_parts;
+static bootcore_unplaced_part part, part_before;
 static bootcore_refusal *told_refusal;
 
 static void right(void) {
@@ -94,6 +95,7 @@ static void right(void) {
     request.length = sizeof kernel;
     memset(&digests, 0xA5, sizeof digests);
     memset(part_digests, 0xA5, sizeof part_digests);
+    memset(&part, 0xA5, sizeof part);
     digest = &kept_digest;
     told_digests = &digests;
     told_parts = part_digests;
@@ -142,6 +144,7 @@ static void set_menu(void) { menu.reserved = 1; }
 static void unreadable_kernel(void) { entries[0].kernel.length = BOOTCORE_UNREADABLE; }
 static void unreadable_module(void) { modules[0].file.length = BOOTCORE_UNREADABLE; }
 static void few_places(void) { outcome.place_room = layout.place_room = BOOTCORE_MAX_PLACES - 1; }
+static void few_plan_places(void) { layout.place_room = 1; }
 static void few_steps(void) { layout.step_room = 1; }
 static void few_bytes(void) { layout.own_room = 1; }
 static void bad_kind(void) { regions[0].kind = 6; }
@@ -197,16 +200,17 @@ static const change of_load[] = {
     CHANGE(short_memory, BOOTCORE_STATUS_BAD_MEMORY), CHANGE(high_memory, BOOTCORE_STATUS_BAD_MEMORY),
     CHANGE(bad_protocol, BOOTCORE_STATUS_BAD_PROTOCOL), CHANGE(many_modules, BOOTCORE_STATUS_TOO_MANY_ENTRIES), CHANGE(more_modules, BOOTCORE_STATUS_TOO_MANY_ENTRIES),
     CHANGE(long_rsdp, BOOTCORE_STATUS_TOO_MANY_ENTRIES), CHANGE(no_kernel, BOOTCORE_STATUS_REFUSED), CHANGE(nothing, BOOTCORE_STATUS_DONE)};
-/* the same, but for memory and bytes beside the kernel's, which are not looked at; the room for steps is looked at last */
+/* the same, but for memory and bytes beside the kernel's, which are not looked at; the room is looked at last */
 static const change of_plan[] = {
     CHANGE(null_regions, BOOTCORE_STATUS_NULL), CHANGE(null_line, BOOTCORE_STATUS_NULL), CHANGE(null_kernel, BOOTCORE_STATUS_NULL),
     CHANGE(null_places, BOOTCORE_STATUS_NULL), CHANGE(null_own, BOOTCORE_STATUS_NULL), CHANGE(set_machine, BOOTCORE_STATUS_BAD_RESERVED),
     CHANGE(set_region, BOOTCORE_STATUS_BAD_RESERVED), CHANGE(set_entry, BOOTCORE_STATUS_BAD_RESERVED),
     CHANGE(unreadable_kernel, BOOTCORE_STATUS_BAD_FILE), CHANGE(unreadable_module, BOOTCORE_STATUS_BAD_FILE),
-    CHANGE(few_places, BOOTCORE_STATUS_SMALL_ROOM), CHANGE(bad_kind, BOOTCORE_STATUS_BAD_KIND), CHANGE(bad_size, BOOTCORE_STATUS_BAD_SIZE),
+    CHANGE(bad_kind, BOOTCORE_STATUS_BAD_KIND), CHANGE(bad_size, BOOTCORE_STATUS_BAD_SIZE),
     CHANGE(many_regions, BOOTCORE_STATUS_TOO_MANY_REGIONS), CHANGE(bad_region, BOOTCORE_STATUS_BAD_REGION), CHANGE(bad_pool, BOOTCORE_STATUS_BAD_POOL),
     CHANGE(bad_protocol, BOOTCORE_STATUS_BAD_PROTOCOL), CHANGE(many_modules, BOOTCORE_STATUS_TOO_MANY_ENTRIES), CHANGE(more_modules, BOOTCORE_STATUS_TOO_MANY_ENTRIES),
-    CHANGE(long_rsdp, BOOTCORE_STATUS_TOO_MANY_ENTRIES), CHANGE(no_kernel, BOOTCORE_STATUS_REFUSED), CHANGE(few_steps, BOOTCORE_STATUS_SMALL_ROOM),
+    CHANGE(long_rsdp, BOOTCORE_STATUS_TOO_MANY_ENTRIES), CHANGE(no_kernel, BOOTCORE_STATUS_REFUSED), CHANGE(few_plan_places, BOOTCORE_STATUS_SMALL_ROOM),
+    CHANGE(few_steps, BOOTCORE_STATUS_SMALL_ROOM),
     CHANGE(few_bytes, BOOTCORE_STATUS_SMALL_ROOM), CHANGE(nothing, BOOTCORE_STATUS_DONE)};
 static const change of_boot[] = {
     CHANGE(null_memory, BOOTCORE_STATUS_NULL), CHANGE(null_regions, BOOTCORE_STATUS_NULL), CHANGE(null_entries, BOOTCORE_STATUS_NULL),
@@ -294,6 +298,7 @@ static uint32_t fault(void) {
     return bootcore_session_fault(session, &memory, &request);
 }
 static uint32_t end(void) { return bootcore_session_outcome(session, &outcome); }
+static uint32_t unplaced(void) { return bootcore_unplaced(&machine, entries, &part, told_refusal); }
 static uint32_t carry_out(void) { return bootcore_carry_out(&layout, files, file_count, &memory, 1); }
 
 static uint32_t digest_make(void) { return bootcore_digest_make(digest, &machine, entries, told_refusal); }
@@ -303,14 +308,16 @@ static uint32_t digest_told(void) { return bootcore_digest_told(digest, told_dig
 
 static int tried, wrong;
 
-/* Whether a misuse has changed nothing; a plan without enough room for steps tells how much it wants. */
+/* Whether a misuse has changed nothing; a plan without enough room tells how much it wants. */
 static bool is_kept(void) {
+    layout_before.place_count = layout.place_count;
     layout_before.step_count = layout.step_count;
     layout_before.own_length = layout.own_length;
     return !memcmp(bytes, bytes_before, MEMORY) && !memcmp(places, places_before, sizeof places) &&
            !memcmp(refusals, refusals_before, sizeof refusals) && !memcmp(&outcome, &outcome_before, sizeof outcome) &&
            !memcmp(&layout, &layout_before, sizeof layout) && !memcmp(&digests, &digests_before, sizeof digests) &&
-           !memcmp(part_digests, part_digests_before, sizeof part_digests) && kept_digest.kept == kept_before.kept;
+           !memcmp(part_digests, part_digests_before, sizeof part_digests) && !memcmp(&part, &part_before, sizeof part) &&
+           kept_digest.kept == kept_before.kept;
 }
 
 typedef void changing(void);
@@ -390,9 +397,12 @@ int main(void) {
     memset(refusals_before, 0xA5, sizeof refusals_before);
     memset(&digests_before, 0xA5, sizeof digests_before);
     memset(part_digests_before, 0xA5, sizeof part_digests_before);
+    memset(&part_before, 0xA5, sizeof part_before);
     TRY(load, of_load);
     TRY(plan, of_plan);
     try_preparations();
+    /* it reads what a digest is made of, and keeps none */
+    try_all("unplaced", unplaced, of_digest_make + 1, sizeof of_digest_make / sizeof *of_digest_make - 1);
     TRY(boot, of_boot);
     TRY(carry_out, of_carrying);
     TRY(start, of_none);
