@@ -276,14 +276,17 @@ static bootcore_layout empty_layout(void) {
 /* The entry's plan with just the room that it asks for, and a status. */
 static bootcore_layout plan(const bootcore_entry *entry, uint32_t *status) {
     bootcore_layout layout = empty_layout(), untold = empty_layout();
+    layout.place_room = untold.place_room = 0;
     *status = bootcore_plan(&machine, entry, &layout);
     if (*status == BOOTCORE_STATUS_SMALL_ROOM) {
+        untold.place_count = layout.place_count;
         untold.step_count = layout.step_count;
         untold.own_length = layout.own_length;
         if (memcmp(&layout, &untold, sizeof layout) || layout.step_count > MOST_STEPS) {
             *status = UINT32_MAX;
             return layout;
         }
+        layout.place_room = layout.place_count;
         layout.steps = steps;
         layout.step_room = layout.step_count;
         layout.own = malloc(layout.own_length + !layout.own_length);

@@ -119,6 +119,7 @@ records! {
         own: *mut u8,
         own_room: usize,
         handoff: Handoff,
+        place_count: usize,
         step_count: usize,
         own_length: usize,
         refusal: Refusal,
@@ -456,16 +457,16 @@ pub(crate) fn prepare(machine: &crate::Machine, entry: &crate::Entry<'_>) -> Tol
 pub(crate) fn plan(machine: &crate::Machine, entry: &crate::Entry<'_>) -> Result<crate::Plan, Error> {
     let (regions, modules) = (regions_of(machine), modules_of(entry));
     let (machine, entry) = (machine_of(machine, &regions), entry_of(entry, &modules));
-    let mut places = vec![Place::default(); MAX_PLACES];
-    let (mut steps, mut own) = (Vec::<Step>::new(), Vec::<u8>::new());
+    let (mut places, mut steps, mut own) = (Vec::<Place>::new(), Vec::<Step>::new(), Vec::<u8>::new());
     let mut layout = Layout {
         places: places.as_mut_ptr(),
-        place_room: places.len(),
+        place_room: 0,
         steps: steps.as_mut_ptr(),
         step_room: 0,
         own: own.as_mut_ptr(),
         own_room: 0,
         handoff: Handoff::default(),
+        place_count: 0,
         step_count: 0,
         own_length: 0,
         refusal: Refusal::default(),
@@ -474,8 +475,11 @@ pub(crate) fn plan(machine: &crate::Machine, entry: &crate::Entry<'_>) -> Result
     // arrays are this call's own; no byte of a file whose pointer is null is read
     let mut status = unsafe { bootcore_plan(&machine, &entry, &mut layout) };
     if status == SMALL_ROOM {
+        places.resize(layout.place_count, Place::default());
         steps.resize(layout.step_count, Step::default());
         own.resize(layout.own_length, 0);
+        layout.places = places.as_mut_ptr();
+        layout.place_room = places.len();
         layout.steps = steps.as_mut_ptr();
         layout.step_room = steps.len();
         layout.own = own.as_mut_ptr();
@@ -485,7 +489,7 @@ pub(crate) fn plan(machine: &crate::Machine, entry: &crate::Entry<'_>) -> Result
     }
     match status {
         DONE => {
-            places.truncate(layout.handoff.place_count as usize);
+            places.truncate(layout.place_count);
             steps.truncate(layout.step_count);
             own.truncate(layout.own_length);
             Ok(crate::Plan { handoff: handoff_told(&layout.handoff, &places), steps, own })
@@ -505,6 +509,7 @@ pub(crate) fn carry_out(plan: &crate::Plan, files: &[&[u8]], memory: &mut [crate
         own: plan.own.as_ptr() as *mut u8,
         own_room: plan.own.len(),
         handoff: Handoff::default(),
+        place_count: 0,
         step_count: plan.steps.len(),
         own_length: plan.own.len(),
         refusal: Refusal::default(),
