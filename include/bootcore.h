@@ -148,7 +148,7 @@ typedef struct bootcore_machine {
     size_t region_count;
     uint64_t reserved[4];
 } bootcore_machine;
-/* The index of the region that BAD_KIND is about, or else BAD_REGION; region_count if none is so. */
+/* The index of the region that BAD_KIND is about, or else BAD_REGION; region_count if none is. */
 BOOTCORE_CALL size_t bootcore_bad_region(const bootcore_machine *machine);
 
 /* How a kernel is entered. Both Linux entries want two usable frames between 0x1000 and 0xA0000:
