@@ -41,8 +41,9 @@ typedef struct bootcore_crossing_machine {
     uint64_t pool_length;
 } bootcore_crossing_machine;
 
-/* How many steps a plan has, and how many bytes of its own. */
+/* How many places and steps a plan has, and how many bytes of its own. */
 typedef struct bootcore_counts {
+    uint64_t places;
     uint64_t steps;
     uint64_t own;
 } bootcore_counts;
@@ -70,7 +71,7 @@ BOOTCORE_HAS_SIZE(bootcore_file, 24);
 BOOTCORE_HAS_SIZE(bootcore_crossing_module, 40);
 BOOTCORE_HAS_SIZE(bootcore_crossing_entry, 120);
 BOOTCORE_HAS_SIZE(bootcore_crossing_machine, 24);
-BOOTCORE_HAS_SIZE(bootcore_counts, 16);
+BOOTCORE_HAS_SIZE(bootcore_counts, 24);
 BOOTCORE_HAS_SIZE(bootcore_crossing_request, 20);
 BOOTCORE_HAS_SIZE(bootcore_region, 24);
 BOOTCORE_HAS_SIZE(bootcore_registers, 288);
@@ -79,6 +80,7 @@ BOOTCORE_HAS_SIZE(bootcore_place, 32);
 BOOTCORE_HAS_SIZE(bootcore_handoff, 304);
 BOOTCORE_HAS_SIZE(bootcore_refusal, 32);
 BOOTCORE_HAS_SIZE(bootcore_step, 40);
+BOOTCORE_HAS_SIZE(bootcore_unplaced_part, 56);
 BOOTCORE_HAS_SIZE(bootcore_session, 8);
 BOOTCORE_HAS_SIZE(bootcore_seen, 136);
 BOOTCORE_HAS_SIZE(bootcore_seen_part, 24);
@@ -108,6 +110,11 @@ uint32_t bootcore_plan_arrays(const bootcore_crossing_machine *machine,
                               bootcore_counts *counts, bootcore_place *places, size_t place_room,
                               bootcore_step *steps, size_t step_room, uint8_t *own,
                               size_t own_room, bootcore_refusal *refusal);
+BOOTCORE_CALL
+uint32_t bootcore_unplaced_record(const bootcore_crossing_machine *machine,
+                                  const bootcore_region *regions, size_t region_count,
+                                  const bootcore_crossing_entry *entry,
+                                  bootcore_unplaced_part *part, bootcore_refusal *refusal);
 BOOTCORE_CALL
 uint32_t bootcore_boot_arrays(uint8_t *memory, size_t memory_length, uint32_t base,
                               const bootcore_crossing_machine *machine,

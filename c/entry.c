@@ -1,4 +1,4 @@
-/* One entry: loaded, prepared, planned. */
+/* One entry: loaded, prepared, planned; and its part that finds no place. */
 #include "given.h"
 
 /* What an outcome tells of a load or a preparation. */
@@ -91,13 +91,15 @@ uint32_t bootcore_plan(const bootcore_machine *machine, const bootcore_entry *en
                        bootcore_layout *layout) {
     bootcore_crossing_machine given_machine;
     bootcore_given_entry given;
-    bootcore_counts counts = {0, 0};
+    bootcore_counts counts = {0, 0, 0};
+    bootcore_place no_place;
     bootcore_step no_step;
     uint8_t no_byte;
     uint32_t status;
     /* steps of an older plan may stand there: whatever comes of this call, none of them is of it */
     if (layout) {
         layout->planned = 0;
+        layout->place_count = 0;
         layout->step_count = 0;
         layout->own_length = 0;
     }
@@ -112,21 +114,38 @@ uint32_t bootcore_plan(const bootcore_machine *machine, const bootcore_entry *en
     if (status != BOOTCORE_STATUS_DONE) {
         return status;
     }
-    /* the core's same answer further on says how much room is wanted */
-    if (layout->place_room < BOOTCORE_MAX_PLACES) {
-        return BOOTCORE_STATUS_SMALL_ROOM;
-    }
     given_machine = bootcore_machine_crossing(machine);
     bootcore_entry_crossing(entry, BOOTCORE_READS_KERNEL, &given);
     status = bootcore_plan_arrays(
         &given_machine, bootcore_regions_crossing(machine), bootcore_count_regions(machine),
-        &given.entry, &layout->handoff, &counts, layout->places, layout->place_room,
-        layout->step_room ? layout->steps : &no_step, layout->step_room,
+        &given.entry, &layout->handoff, &counts, layout->place_room ? layout->places : &no_place,
+        layout->place_room, layout->step_room ? layout->steps : &no_step, layout->step_room,
         layout->own_room ? layout->own : &no_byte, layout->own_room, &layout->refusal);
     if (status == BOOTCORE_STATUS_DONE || status == BOOTCORE_STATUS_SMALL_ROOM) {
+        layout->place_count = (size_t)counts.places;
         layout->step_count = (size_t)counts.steps;
         layout->own_length = (size_t)counts.own;
     }
     layout->planned = status == BOOTCORE_STATUS_DONE;
     return status;
+}
+
+BOOTCORE_CALL
+uint32_t bootcore_unplaced(const bootcore_machine *machine, const bootcore_entry *entry,
+                           bootcore_unplaced_part *part, bootcore_refusal *refusal) {
+    bootcore_crossing_machine given_machine;
+    bootcore_given_entry given;
+    uint32_t status;
+    if (bootcore_machine_has_null(machine) ||
+        bootcore_entry_has_null(entry, BOOTCORE_READS_KERNEL) || !part || !refusal) {
+        return BOOTCORE_STATUS_NULL;
+    }
+    status = bootcore_entry_misuse(machine, entry);
+    if (status != BOOTCORE_STATUS_DONE) {
+        return status;
+    }
+    given_machine = bootcore_machine_crossing(machine);
+    bootcore_entry_crossing(entry, BOOTCORE_READS_KERNEL, &given);
+    return bootcore_unplaced_record(&given_machine, bootcore_regions_crossing(machine),
+                                    bootcore_count_regions(machine), &given.entry, part, refusal);
 }

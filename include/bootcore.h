@@ -1,11 +1,9 @@
 /* bootcore: what a boot loader does with memory, for C99 and later, and C++98 and later.
  *
  * Kernels are those of Multiboot2, and Linux's bzImage: no vmlinux, no PVH. To load one entry into
- * memory: bootcore_load. To learn first what goes where, as a virtual machine monitor does:
- * bootcore_plan; it wants the kernel's file in memory, the others can be read straight to their
- * places. To boot a menu with fallbacks: bootcore_boot, or a session if a disk still reads; if
- * memory is mapped in several pieces, plan each entry instead. To measure what is handed over:
- * bootcore_digest_make. To check an image: bootcore_walk. docs/EMBED.md shows each.
+ * memory: bootcore_load. To learn first what goes where, and read files straight there:
+ * bootcore_plan. To boot a menu with fallbacks: bootcore_boot, or a session if a disk still reads.
+ * To measure what is handed over: bootcore_digest_make. To check an image: bootcore_walk.
  *
  * Archive. libbootcore.a wants memmove, memset and memcpy, and malloc, realloc and free, which
  * align as the C library's and always return; nothing else: no file, no clock, no thread. For
@@ -37,13 +35,11 @@
  * An array without elements may be null. Whatever else the values are, a call ends, and each
  * mistake in them has a status.
  *
- * Reserved words must be 0 in what a call is given. Those of what it tells are told as 0, and not
- * looked at where you hand it back.
- *
  * Versions. BOOTCORE_VERSION is this file's, bootcore_version() the archive's. Within 1.x a
  * function keeps its name and arguments, a struct its size and fields, a number its meaning. New
- * functions and numbers may come, and meanings for reserved words. But only where a reserved word
- * asks for it comes a source of steps, or an answer of a session that wants another call. */
+ * functions and numbers may come, and meanings for reserved words. These must be 0 in what a call
+ * is given; in what it tells they are 0, and not looked at. A source of steps, or an answer of a
+ * session that wants another call, comes only where a reserved word asks for it. */
 #ifndef BOOTCORE_H
 #define BOOTCORE_H
 
@@ -55,8 +51,8 @@
 extern "C" {
 #endif
 
-/* The convention of calls, also where the compiler's own is another, as for UEFI. The answer of a
- * BOOTCORE_CHECKED one must be looked at: it says whether anything was done. */
+/* The convention of calls, also where the compiler's own is another, as for UEFI. Of a
+ * BOOTCORE_CHECKED one the answer must be looked at: it says whether anything was done. */
 #if !defined(__x86_64__) || defined(__ILP32__) || !(defined(__GNUC__) || defined(__clang__))
 #error "bootcore is for x86-64, and for compilers with the attributes of GCC and Clang"
 #endif
@@ -72,7 +68,9 @@ enum {
     BOOTCORE_MAX_MODULES = 64,  /* of an entry */
     BOOTCORE_MAX_LINE = 4095,   /* bytes of a line; a Linux kernel may take fewer */
     BOOTCORE_MAX_RSDP = 256,    /* bytes of a copy of an RSDP */
-    BOOTCORE_MAX_PLACES = 256,  /* an entry has no more parts */
+    BOOTCORE_MAX_PLACES = 256,  /* an entry has no more parts, */
+    BOOTCORE_MAX_STEPS = 520,   /* a plan no more steps, */
+    BOOTCORE_MAX_OWN = 278528,  /* and no more bytes of its own */
     BOOTCORE_MAX_REFUSALS = 32, /* a boot refuses no more entries */
     BOOTCORE_PIECE = 4096,      /* bytes of each piece of a file, but for the last one */
     BOOTCORE_STACK = 24576      /* with libbootcore.a 16384 is enough */
@@ -89,13 +87,12 @@ enum {
     BOOTCORE_STATUS_NO_MEMORY = 4, /* malloc or realloc gave none. NULL, BAD_RESERVED, BAD_FILE and
                                     * too few places are told before it; it may replace others */
     BOOTCORE_STATUS_FAILED = 5,    /* a session: no entry is left, or memory ran out */
-    BOOTCORE_STATUS_OUTSIDE = 6,   /* a load: a part begins below the memory that is given; of
-                                    * bootcore_carry_out: not all of a step lies in it */
+    BOOTCORE_STATUS_OUTSIDE = 6,   /* a load: a part begins below memory; a step lies outside it */
 
     BOOTCORE_STATUS_NULL = 101,         /* a pointer is null that may not be */
     BOOTCORE_STATUS_BAD_RESERVED = 102, /* a reserved word is not 0 */
     BOOTCORE_STATUS_BAD_FILE = 103,     /* a file of no menu has the length BOOTCORE_UNREADABLE */
-    BOOTCORE_STATUS_SMALL_ROOM = 104,   /* too little room: of places it is told here, else last */
+    BOOTCORE_STATUS_SMALL_ROOM = 104,   /* too little room: in an outcome, or else told last */
     BOOTCORE_STATUS_BAD_KIND = 105,     /* a region's kind is no BOOTCORE_KIND_.. */
     BOOTCORE_STATUS_BAD_SIZE = 106,     /* the size is no multiple of 4096 from 1 MiB to 4 GiB */
     BOOTCORE_STATUS_TOO_MANY_REGIONS = 107,
@@ -109,8 +106,7 @@ enum {
     BOOTCORE_STATUS_LONG_RSDP = 114,    /* a copy of an RSDP is too long */
     BOOTCORE_STATUS_BAD_INDEX = 115,    /* a menu's first entry or a fallback is no entry */
     BOOTCORE_STATUS_NO_SESSION = 116,   /* no session, no digest is kept: not made, or freed */
-    BOOTCORE_STATUS_LOW_POOL = 117,     /* of a boot or a session the pool begins below the memory;
-                                         * a boot tells it also for NO_MEMORY */
+    BOOTCORE_STATUS_LOW_POOL = 117,     /* a pool begins below memory; a boot: also for NO_MEMORY */
     BOOTCORE_STATUS_UNWANTED = 118      /* a digest: more bytes than are wanted */
 };
 
@@ -122,8 +118,7 @@ BOOTCORE_CALL const char *bootcore_status_text(uint32_t status);
 /* Bytes of the caller's: a line, a file. */
 typedef struct bootcore_bytes { const void *bytes; size_t length; } bootcore_bytes;
 
-/* The length of a file of a menu that can't be read: its entry is refused (1). If only a piece
- * turns out so, tell it by bootcore_session_fault (2). */
+/* The length of a menu's file that can't be read: its entry is refused (1). */
 #define BOOTCORE_UNREADABLE (~(size_t)0)
 
 /* Kinds of memory: the numbers of an e820 entry. Where regions overlap, the greatest counts. An
@@ -148,7 +143,8 @@ typedef struct bootcore_machine {
     size_t region_count;
     uint64_t reserved[4];
 } bootcore_machine;
-/* The index of the region that BAD_KIND is about, or else BAD_REGION; region_count if none is so. */
+
+/* The index of the region that BAD_KIND is about, or else BAD_REGION; region_count if none is. */
 BOOTCORE_CALL size_t bootcore_bad_region(const bootcore_machine *machine);
 
 /* How a kernel is entered. Both Linux entries want two usable frames between 0x1000 and 0xA0000:
@@ -160,36 +156,30 @@ enum {
 };
 
 typedef struct bootcore_module {
-    bootcore_bytes file;
-    bootcore_bytes line; /* without a zero byte */
+    bootcore_bytes file, line; /* the line without a zero byte */
     uint64_t reserved[2];
 } bootcore_module;
 
-/* An entry. What its protocol has no use for is not looked at.
- * A Multiboot2 kernel is an ELF file, or a file with an address tag. A Linux kernel is a bzImage of
- * boot protocol 2.10 or later, for the 64-bit entry 2.12 with bit 0 of xloadflags. Copies of the
- * RSDP are for Multiboot2 alone. Linux looks for the RSDP from 0xE0000 to 0xFFFFF: lay it there, in
- * a reserved region; or name it by acpi_rsdp= in the line, where the kernel has that word.
- * Where a call looks at a file's length alone (a session; a plan, but of the kernel), its bytes may
- * be null. An initial ramdisk of length 0, as an empty file, is as none. */
+/* An entry. What its protocol has no use for is not looked at. A Multiboot2 kernel is an ELF file,
+ * or a file with an address tag. A Linux kernel is a bzImage of boot protocol 2.10 or later, for
+ * the 64-bit entry 2.12 with bit 0 of xloadflags. Linux looks for the RSDP from 0xE0000 to 0xFFFFF:
+ * lay it there, in a reserved region; or name it by acpi_rsdp= in the line, where the kernel has
+ * that word. Where a call looks at a file's length alone (a session; a plan, but of the kernel),
+ * its bytes may be null. An initial ramdisk of length 0, as an empty file, is as none. */
 typedef struct bootcore_entry {
     uint32_t protocol, reserved32;
-    bootcore_bytes kernel;
-    bootcore_bytes line;            /* without a zero byte */
-    bootcore_bytes initrd;          /* Linux */
-    bootcore_bytes rsdp_old;        /* Multiboot2: a copy of the RSDP of ACPI 1.0, */
+    bootcore_bytes kernel, line;    /* the line without a zero byte */
+    bootcore_bytes initrd;          /* Linux; what follows is for Multiboot2: */
+    bootcore_bytes rsdp_old;        /* a copy of the RSDP of ACPI 1.0, */
     bootcore_bytes rsdp_new;        /* and of that of ACPI 2.0 or later; without bytes: none */
-    const bootcore_module *modules; /* Multiboot2 */
+    const bootcore_module *modules;
     size_t module_count;
     uint64_t reserved[4];
 } bootcore_entry;
 
 /* Memory of the machine that is booted, where the caller has it: the bytes from an address on. */
 typedef struct bootcore_memory {
-    uint64_t address;
-    void *bytes;
-    size_t length;
-    uint64_t reserved;
+    uint64_t address; void *bytes; size_t length; uint64_t reserved;
 } bootcore_memory;
 
 /* ---- what is handed over */
@@ -213,9 +203,7 @@ typedef struct bootcore_registers {
 /* A segment register whole, as a virtual processor is given it without loading a descriptor. Its
  * limit is the offset of the last byte, already scaled by g, as in kvm_segment and the VMCS. */
 typedef struct bootcore_segment {
-    uint64_t base;
-    uint32_t limit;
-    uint16_t selector;
+    uint64_t base; uint32_t limit; uint16_t selector;
     uint8_t type, s, dpl, p, avl, l, db, g;
     uint16_t reserved;
 } bootcore_segment;
@@ -237,11 +225,9 @@ typedef struct bootcore_place {
     uint64_t address, length, reserved;
 } bootcore_place;
 
+/* The entry's index, how its kernel is entered, and how many places are told. */
 typedef struct bootcore_handoff {
-    uint32_t entry;       /* the index of the entry that is handed over */
-    uint32_t protocol;    /* how its kernel is entered */
-    uint32_t place_count; /* how many places are told */
-    uint32_t reserved;
+    uint32_t entry, protocol, place_count, reserved;
     bootcore_registers registers;
 } bootcore_handoff;
 
@@ -252,7 +238,7 @@ typedef struct bootcore_refusal {
     uint64_t first, second, reserved;
 } bootcore_refusal;
 
-/* Where a call tells what comes of it: set the arrays and their room; the call sets the rest. */
+/* Where a call tells what comes of it: set the arrays and their room; it sets the rest. */
 typedef struct bootcore_outcome {
     bootcore_place *places; /* by ascending address */
     size_t place_room;      /* at least BOOTCORE_MAX_PLACES */
@@ -267,13 +253,11 @@ typedef struct bootcore_outcome {
 
 /* Loads one entry into memory, and tells how its kernel is entered. There is no menu and no pool.
  * `memory` reaches at least to the machine's size. It may begin above 0 if no part lies below; the
- * two low frames of a Linux entry do. Memory is yours afterwards, also to change a part; but a walk
- * of such an image refuses what the rules do not give (82).
- * - DONE: memory holds each part at its place, and each other byte as before; the call tells the
- *   handoff and the first places (with entry 0), and refusal_count is 0.
+ * two low frames of a Linux entry do. Afterwards you may change parts; a walk refuses that (82).
+ * - DONE: memory holds each part at its place; the call tells the handoff (with entry 0) and the
+ *   first places, and refusal_count is 0.
  * - REFUSED: refusal_count is 1, and the call tells the refusal, if there is room.
- * - OUTSIDE, NO_MEMORY, or a misuse.
- * All that is not told is as before, and so is all of memory after any answer but DONE. */
+ * - OUTSIDE, NO_MEMORY, or a misuse. All else is as before, in memory too. */
 BOOTCORE_CHECKED uint32_t bootcore_load(const bootcore_memory *memory,
     const bootcore_machine *machine, const bootcore_entry *entry, bootcore_outcome *outcome);
 
@@ -302,13 +286,13 @@ typedef struct bootcore_step {
 /* Where a call tells a plan: set the arrays and their room; the call sets the rest. */
 typedef struct bootcore_layout {
     bootcore_place *places; /* by ascending address */
-    size_t place_room;      /* at least BOOTCORE_MAX_PLACES */
+    size_t place_room;
     bootcore_step *steps;   /* by ascending address, none meets another */
     size_t step_room;
     uint8_t *own;           /* the bytes of parts that no file has: of BOOTCORE_SOURCE_LAYOUT */
     size_t own_room;
     bootcore_handoff handoff;
-    size_t step_count, own_length;
+    size_t place_count, step_count, own_length;
     bootcore_refusal refusal;
     uint64_t planned;       /* 1 if the layout holds a whole plan, else 0 */
     uint64_t reserved[4];
@@ -319,13 +303,12 @@ typedef struct bootcore_layout {
  * held, each part is at its place then, and each other byte as before. Together the steps are
  * exactly the parts. Leave out steps of zeros only where memory is known to be zero, as a fresh
  * mapping is. If the kernel's file may change meanwhile, plan on a copy of it, and read from that.
- * - DONE: the call tells all but the refusal (with entry 0), and `planned` is 1.
- * - REFUSED: it tells the refusal.
- * - SMALL_ROOM: with places for BOOTCORE_MAX_PLACES, step_count and own_length say how much is
- *   wanted: a call without room for steps and bytes asks for it.
+ * - DONE: the call tells all but the refusal, and `planned` is 1. REFUSED: it tells the refusal.
+ * - SMALL_ROOM: place_count, step_count and own_length say how much is wanted: a call without any
+ *   room asks for it. BOOTCORE_MAX_PLACES, _STEPS and _OWN are always enough.
  * - NO_MEMORY, or another misuse.
- * But for DONE `planned` is 0, and the counts too if they don't say what is wanted. What is not
- * told is as before. Equal machines, entries, kernels and lengths have equal plans. */
+ * But for DONE `planned` is 0, and the counts too if they don't say what is wanted. All else is as
+ * before. Equal machines, entries, kernels and lengths have equal plans. */
 BOOTCORE_CHECKED uint32_t bootcore_plan(const bootcore_machine *machine,
     const bootcore_entry *entry, bootcore_layout *layout);
 
@@ -340,6 +323,31 @@ BOOTCORE_CHECKED uint32_t bootcore_plan(const bootcore_machine *machine,
 BOOTCORE_CHECKED uint32_t bootcore_carry_out(const bootcore_layout *layout,
     const bootcore_bytes *files, size_t file_count, const bootcore_memory *memory,
     size_t memory_count);
+
+/* How the address of a part is chosen: `address` alone; the least or the greatest permitted one; or
+ * `address` if it is permitted, and else the least. Permitted are the multiples of `alignment` from
+ * `low` on where the part ends at `high` at most, and is usable and in no other part. */
+enum {
+    BOOTCORE_CHOICE_FIXED = 1,   BOOTCORE_CHOICE_LOWEST = 2,
+    BOOTCORE_CHOICE_HIGHEST = 3, BOOTCORE_CHOICE_PREFERRED = 4
+};
+
+/* A part that finds no place. What its choice says nothing of is 0. */
+typedef struct bootcore_unplaced_part {
+    uint32_t role, index;
+    uint64_t length; /* UINT64_MAX if it is above 4 GiB */
+    uint64_t alignment, low, high, address;
+    uint32_t choice; /* BOOTCORE_CHOICE_.. */
+    uint32_t reserved;
+} bootcore_unplaced_part;
+
+/* Tells of which part the refusals 19 and 20 speak: the first that finds no place beside those that
+ * are placed before it. It looks at what bootcore_prepare looks at.
+ * - DONE: it tells the part; all of it is 0, its role too, if each part has a place.
+ * - REFUSED: it tells the refusal, for which no place is looked for.
+ * - NO_MEMORY, or a misuse. All else is as before. */
+BOOTCORE_CHECKED uint32_t bootcore_unplaced(const bootcore_machine *machine,
+    const bootcore_entry *entry, bootcore_unplaced_part *part, bootcore_refusal *refusal);
 
 /* ---- a menu */
 
@@ -361,8 +369,7 @@ typedef struct bootcore_menu {
  * - DONE: memory holds each part at its place, 0 elsewhere in the pool, and each other byte as
  *   before; the call tells the handoff and the places.
  * - REFUSED: no entry is left. Memory holds 0 in the pool, and each other byte as before.
- * - NO_MEMORY: bytes of the pool may have changed, and no other.
- * - A misuse.
+ * - NO_MEMORY: bytes of the pool may have changed, and no other. Or a misuse.
  * After the first two the call tells the refusals in order, as many as there is room for, and their
  * number. All that is not told is as before. */
 BOOTCORE_CHECKED uint32_t bootcore_boot(const bootcore_memory *memory,
@@ -371,25 +378,22 @@ BOOTCORE_CHECKED uint32_t bootcore_boot(const bootcore_memory *memory,
 /* ---- a menu, whose files come piece by piece */
 
 /* A boot that is told the pieces of its files as they come. Set `kept` to null at first; after that
- * only these calls write it. The struct may be moved, but use no copy of it. Call
- * bootcore_session_free in the end, however the boot ended. Make one call at a time on a session,
- * on whichever thread. */
+ * only these calls write it. The struct may be moved, but use no copy of it, and make one call at a
+ * time on it. Call bootcore_session_free in the end, however the boot ended. */
 typedef struct bootcore_session { void *kept; } bootcore_session;
 
 /* Pieces that are awaited, one after the other in a file: `length` bytes from the offset
  * piece * BOOTCORE_PIECE on. Of one that you hand back its attempt, file and piece are looked at,
  * and its length by bootcore_session_missing_after alone. */
 typedef struct bootcore_request {
-    uint32_t entry;   /* the index of the entry in the menu */
-    uint32_t attempt; /* which attempt it is, from 0 on */
-    uint32_t file;    /* the file's place in its entry, of which the kernel's is 0 */
-    uint32_t piece;   /* the first piece's index in the file */
+    uint32_t entry, attempt; /* the entry's index in the menu, and which attempt it is, from 0 on */
+    uint32_t file, piece;    /* the file's place in its entry, 0 of the kernel; the first piece */
     uint64_t length, reserved;
 } bootcore_request;
 
 /* Makes a session of a menu, which is not yet started; one that was kept before is freed then. Of
- * each file the length is looked at; its bytes come later. What is given is read during this call
- * alone. After any answer but DONE what was kept before is still kept. */
+ * each file the length is looked at; its bytes come later. After any answer but DONE what was kept
+ * before is still kept. */
 BOOTCORE_CHECKED uint32_t bootcore_session_make(bootcore_session *session,
     const bootcore_machine *machine, const bootcore_menu *menu);
 
@@ -398,13 +402,13 @@ BOOTCORE_CHECKED uint32_t bootcore_session_make(bootcore_session *session,
  * of a session, and don't write to its pool before the boot ended. The call that begins an attempt
  * refuses an entry for its files' lengths (1, 3, 21), and judges one of empty files; else the one
  * that brings the last piece of all its files judges it. This call and the next two answer:
- * - WAITING: pieces are awaited. No byte outside the pool changed.
+ * - WAITING: pieces are awaited. Pieces or a fault before the start answer it too.
  * - NEXT: the same, after one refusal or more. Ask again what is missing.
  * - DONE: an entry is handed over. Memory is as after bootcore_boot.
- * - FAILED: no entry is left, and the pool is 0; or memory ran out. No other byte changed.
+ * - FAILED: no entry is left, and the pool is 0; or memory ran out.
  * - NULL, BAD_RESERVED, BAD_MEMORY, NO_SESSION, LOW_POOL: all is as before.
- * After the end each further call without a misuse answers DONE or FAILED again, and changes
- * nothing. Pieces or a fault before the start answer WAITING, and change nothing. */
+ * But for DONE no byte outside the pool changes. After the end each further call without a misuse
+ * answers DONE or FAILED again, and changes nothing. */
 BOOTCORE_CHECKED uint32_t bootcore_session_start(bootcore_session *session,
     const bootcore_memory *memory);
 
@@ -412,15 +416,13 @@ BOOTCORE_CHECKED uint32_t bootcore_session_start(bootcore_session *session,
  * copied, fewer than were asked for or more. Each BOOTCORE_PIECE of them are a piece, and so is the
  * rest; only a file's last piece may be shorter. In whatever order pieces come, the boot ends in
  * the same way, unless memory runs out. A piece that is not awaited changes nothing: one that came
- * before, one of an earlier attempt, one that is cut or padded. bootcore_session_missing tells
- * whether one was taken: it is awaited until then. */
+ * before, one of an earlier attempt, one that is cut or padded. */
 BOOTCORE_CHECKED uint32_t bootcore_session_pieces(bootcore_session *session,
     const bootcore_memory *memory, const bootcore_request *request, const void *bytes,
     size_t length);
 
 /* Tells a session that the first piece of a request can't be read: its entry is refused (2), and
- * the next attempt begins, if there is one. A fault of a piece that is not awaited changes
- * nothing. */
+ * the next attempt begins, if there is one. If that piece is not awaited, nothing changes. */
 BOOTCORE_CHECKED uint32_t bootcore_session_fault(bootcore_session *session,
     const bootcore_memory *memory, const bootcore_request *request);
 
@@ -440,8 +442,7 @@ BOOTCORE_CHECKED bool bootcore_session_missing_after(const bootcore_session *ses
 BOOTCORE_CHECKED uint32_t bootcore_session_outcome(const bootcore_session *session,
     bootcore_outcome *outcome);
 
-/* Frees what a session keeps, if there is something; one may be made again. A session that is
- * freed, or made anew, before its end leaves in the pool what came. */
+/* Frees what a session keeps, if it does. Before the end what came is left in the pool. */
 BOOTCORE_CALL void bootcore_session_free(bootcore_session *session);
 
 /* ---- refusals, and what an image has wrong */
@@ -478,14 +479,14 @@ enum {
     BOOTCORE_FAULT_WRONG_LENGTH = 75,           BOOTCORE_FAULT_WALK_NO_MEMORY = 84
 };
 
-/* What a refusal's number means, not a status's, in the words of `bootcore explain`; of a walk's
- * fault, in those of docs/REFUSALS.md. Of any other number it says that there is none. Constant. */
+/* What the number of a refusal or a fault means, in the words of docs/REFUSALS.md; of any other
+ * number that there is none. Constant text. */
 BOOTCORE_CALL const char *bootcore_refusal_text(uint32_t number);
 
 /* Writes a refusal, or a walk's fault, as a line of text without its end: as `bootcore explain` has
  * it, `refused NUMBER NAME(WHAT IT CARRIES): MEANING`, or `bad image ..`. At most `length` bytes
- * are written, the last one a zero byte; the answer is the whole text's length without that byte. A
- * null buffer counts as one of length 0. A null refusal gives an empty text. */
+ * are written, the last one 0; the answer is the whole text's length without that byte. A null
+ * buffer counts as one of length 0. A null refusal gives an empty text. */
 BOOTCORE_CALL size_t bootcore_refusal_line(const bootcore_refusal *refusal, char *buffer,
     size_t length);
 

@@ -1,6 +1,6 @@
 /*
- * Each status of bootcore_load, bootcore_prepare, bootcore_plan and bootcore_carry_out but that of no
- * memory: calls that are right, and these with one thing changed; and the words of each status. Prints
+ * Each status of bootcore_load, bootcore_prepare, bootcore_plan, bootcore_unplaced and
+ * bootcore_carry_out but that of no memory: calls that are right, and these with one thing changed; and the words of each status. Prints
  * the name of each change whose status is another than it should be, or after which a byte is, and then
  * how many were tried.
  */
@@ -128,7 +128,7 @@ static void expect(const char *name, call c, uint32_t loads, uint32_t prepares, 
         same = !memcmp(&layout->handoff, &prepare.outcome.handoff, sizeof layout->handoff);
     } else {
         same = status != BOOTCORE_STATUS_REFUSED ||
-               (!layout->step_count && !layout->own_length &&
+               (!layout->place_count && !layout->step_count && !layout->own_length &&
                 (!c.outcome.refusal_room || !memcmp(&layout->refusal, &refusal, sizeof refusal)));
     }
     /* a plan that is not made leaves none, and tells its counts for SMALL_ROOM alone */
@@ -136,6 +136,7 @@ static void expect(const char *name, call c, uint32_t loads, uint32_t prepares, 
         bool is_counted = status == BOOTCORE_STATUS_SMALL_ROOM;
         same = same && !layout->planned && !layout->step_count == !is_counted;
         c.layout.planned = 0;
+        c.layout.place_count = is_counted ? layout->place_count : 0;
         c.layout.step_count = is_counted ? layout->step_count : 0;
         c.layout.own_length = is_counted ? layout->own_length : 0;
     } else {
@@ -195,7 +196,12 @@ static void try_changes(void) {
     ALL(BOOTCORE_STATUS_BAD_FILE, c.entry.kernel.length = BOOTCORE_UNREADABLE);
     ALL(BOOTCORE_STATUS_BAD_FILE, c.entry.modules = unreadable);
     ALL(BOOTCORE_STATUS_BAD_FILE, c.entry.protocol = BOOTCORE_PROTOCOL_LINUX; c.entry.initrd = unreadable[0].file);
-    ALL(BOOTCORE_STATUS_SMALL_ROOM, c.outcome.place_room = c.layout.place_room = BOOTCORE_MAX_PLACES - 1);
+    EACH(BOOTCORE_STATUS_SMALL_ROOM, BOOTCORE_STATUS_SMALL_ROOM, BOOTCORE_STATUS_DONE,
+         c.outcome.place_room = c.layout.place_room = BOOTCORE_MAX_PLACES - 1);
+    PLAN(BOOTCORE_STATUS_SMALL_ROOM, c.layout.place_room = 1);
+    PLAN(BOOTCORE_STATUS_SMALL_ROOM, c.layout.place_room = c.layout.step_room = c.layout.own_room = 0;
+         c.layout.places = NULL; c.layout.steps = NULL; c.layout.own = NULL);
+    ALL(BOOTCORE_STATUS_REFUSED, c.layout.place_room = 0; c.entry.kernel.length = 9);
     PLAN(BOOTCORE_STATUS_SMALL_ROOM, c.layout.step_room = 1);
     PLAN(BOOTCORE_STATUS_SMALL_ROOM, c.layout.own_room = 0; c.layout.own = NULL);
     ALL(BOOTCORE_STATUS_BAD_KIND, c.machine.regions = no_kind);
@@ -246,6 +252,7 @@ static void try_lines(void) {
 #define NO_POINTER(call) count(#call, "", call, BOOTCORE_STATUS_NULL, true)
 
 static void try_no_pointers(void) {
+    bootcore_unplaced_part part;
     call c = right();
     NO_POINTER(bootcore_load(NULL, &c.machine, &c.entry, &c.outcome));
     NO_POINTER(bootcore_load(&c.memory, NULL, &c.entry, &c.outcome));
@@ -257,6 +264,33 @@ static void try_no_pointers(void) {
     NO_POINTER(bootcore_plan(NULL, &c.entry, &c.layout));
     NO_POINTER(bootcore_plan(&c.machine, NULL, &c.layout));
     NO_POINTER(bootcore_plan(&c.machine, &c.entry, NULL));
+    NO_POINTER(bootcore_unplaced(NULL, &c.entry, &part, told.refusals));
+    NO_POINTER(bootcore_unplaced(&c.machine, NULL, &part, told.refusals));
+    NO_POINTER(bootcore_unplaced(&c.machine, &c.entry, NULL, told.refusals));
+    NO_POINTER(bootcore_unplaced(&c.machine, &c.entry, &part, NULL));
+}
+
+/* Which part finds no place: none, the kernel at its own address, a module. */
+static void try_unplaced(void) {
+    static const bootcore_region low[] = {{0, 0x100000, BOOTCORE_KIND_USABLE, 0}};
+    static const bootcore_region small[] = {{0, 0x102000, BOOTCORE_KIND_USABLE, 0}};
+    static const bootcore_unplaced_part every, kernel_part = {BOOTCORE_ROLE_KERNEL, 0, 0x2000, 0, 0, 0, 0x100000, BOOTCORE_CHOICE_FIXED, 0};
+    static const bootcore_unplaced_part module_part = {BOOTCORE_ROLE_MODULE, 0, 0x1000, 0x1000, 0x100000, (uint64_t)1 << 32, 0, BOOTCORE_CHOICE_LOWEST, 0};
+    bootcore_unplaced_part part;
+    bootcore_refusal refusal;
+    call c = right();
+    uint32_t status = bootcore_unplaced(&c.machine, &c.entry, &part, &refusal);
+    count("unplaced", "each part", status, BOOTCORE_STATUS_DONE, !memcmp(&part, &every, sizeof part));
+    c.machine.regions = low;
+    status = bootcore_unplaced(&c.machine, &c.entry, &part, &refusal);
+    count("unplaced", "no kernel's memory", status, BOOTCORE_STATUS_DONE, !memcmp(&part, &kernel_part, sizeof part));
+    c.machine.regions = small;
+    status = bootcore_unplaced(&c.machine, &c.entry, &part, &refusal);
+    count("unplaced", "no module's memory", status, BOOTCORE_STATUS_DONE, !memcmp(&part, &module_part, sizeof part));
+    c.entry.kernel.length = 9;
+    status = bootcore_unplaced(&c.machine, &c.entry, &part, &refusal);
+    count("unplaced", "no kernel", status, BOOTCORE_STATUS_REFUSED,
+          refusal.number == BOOTCORE_REFUSAL_NO_HEADER && !memcmp(&part, &module_part, sizeof part));
 }
 
 /* What the right plan is carried out with; each change starts from `right_carrying`. */
@@ -375,6 +409,7 @@ int main(void) {
     try_changes();
     try_lines();
     try_no_pointers();
+    try_unplaced();
     try_carrying();
     try_texts();
     printf("%d tried, %d wrong\n", tried, wrong);

@@ -118,6 +118,7 @@ int main(int argc, char **argv) {
     CHANGED(BOOTCORE_STATUS_NULL, c.arrays.runs = NULL);
     CHANGED(BOOTCORE_STATUS_NULL, c.arrays.text = NULL);
     CHANGED(BOOTCORE_STATUS_NULL, c.fault = NULL);
+    CHANGED(BOOTCORE_STATUS_BAD_RESERVED, c.arrays.reserved[3] = 1);
     CHANGED(BOOTCORE_STATUS_SMALL_ROOM, c.arrays.kernel_part_room = seen.kernel_part_count - 1);
     CHANGED(BOOTCORE_STATUS_SMALL_ROOM, c.arrays.module_room = seen.module_count - 1);
     CHANGED(BOOTCORE_STATUS_SMALL_ROOM, c.arrays.run_room = seen.run_count - 1);

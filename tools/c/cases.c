@@ -77,9 +77,8 @@ static bootcore_outcome empty_outcome(void) {
 
 /* Makes the call over memory that was just filled, with so many requests granted: a load of this entry, or a boot if it is null. */
 static uint32_t call(const bootcore_entry *entry, size_t grants) {
-    bootcore_memory whole;
+    bootcore_memory whole = {0, NULL, 0, 0};
     uint32_t status;
-    whole.address = 0;
     whole.bytes = memory;
     whole.length = numbers[SIZE];
     memset(memory, (int)numbers[FILL], numbers[SIZE]);
@@ -277,14 +276,17 @@ static bootcore_layout empty_layout(void) {
 /* The entry's plan with just the room that it asks for, and a status. */
 static bootcore_layout plan(const bootcore_entry *entry, uint32_t *status) {
     bootcore_layout layout = empty_layout(), untold = empty_layout();
+    layout.place_room = untold.place_room = 0;
     *status = bootcore_plan(&machine, entry, &layout);
     if (*status == BOOTCORE_STATUS_SMALL_ROOM) {
+        untold.place_count = layout.place_count;
         untold.step_count = layout.step_count;
         untold.own_length = layout.own_length;
         if (memcmp(&layout, &untold, sizeof layout) || layout.step_count > MOST_STEPS) {
             *status = UINT32_MAX;
             return layout;
         }
+        layout.place_room = layout.place_count;
         layout.steps = steps;
         layout.step_room = layout.step_count;
         layout.own = malloc(layout.own_length + !layout.own_length);
@@ -538,6 +540,7 @@ static bootcore_digests reckon(void) {
         sha256_begin(&part);
         sha256_add(&part, memory + places[i].address, places[i].length);
         sha256_end(&part, wanted_parts[i].sha256);
+        wanted_parts[i].reserved = 0;
     }
     sha256_end(&image, wanted.image_sha256);
     wanted.part_count = outcome.handoff.place_count;

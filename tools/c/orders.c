@@ -41,6 +41,7 @@ static size_t fed_length;
 static bootcore_digest kept_digest, kept_before, *digest;
 static bootcore_digests digests, digests_before, *told_digests;
 static bootcore_part_digest part_digests[4], part_digests_before[4], *told_parts;
+static bootcore_unplaced_part part, part_before;
 static bootcore_refusal *told_refusal;
 
 static void right(void) {
@@ -96,6 +97,7 @@ static void right(void) {
     request.length = sizeof kernel;
     memset(&digests, 0xA5, sizeof digests);
     memset(part_digests, 0xA5, sizeof part_digests);
+    memset(&part, 0xA5, sizeof part);
     digest = &kept_digest;
     told_digests = &digests;
     told_parts = part_digests;
@@ -150,6 +152,7 @@ static void set_outcome(void) { outcome.reserved[1] = layout.reserved[1] = (uint
 static void unreadable_kernel(void) { entries[0].kernel.length = BOOTCORE_UNREADABLE; }
 static void unreadable_module(void) { modules[0].file.length = BOOTCORE_UNREADABLE; }
 static void few_places(void) { outcome.place_room = layout.place_room = BOOTCORE_MAX_PLACES - 1; }
+static void few_plan_places(void) { layout.place_room = 1; }
 static void few_steps(void) { layout.step_room = 1; }
 static void few_bytes(void) { layout.own_room = 1; }
 static void bad_kind(void) { regions[0].kind = 6; }
@@ -205,16 +208,16 @@ static const change of_load[] = {
     CHANGE(short_memory, BAD_MEMORY), CHANGE(high_memory, BAD_MEMORY), CHANGE(bad_protocol, BAD_PROTOCOL),
     CHANGE(many_modules, TOO_MANY_MODULES), CHANGE(more_modules, TOO_MANY_MODULES), CHANGE(long_rsdp, LONG_RSDP),
     CHANGE(no_kernel, REFUSED), CHANGE(nothing, DONE)};
-/* the same, but for memory and bytes beside the kernel's, which are not looked at; the room for steps is looked at last */
+/* the same, but for memory and bytes beside the kernel's, which are not looked at; the room is looked at last */
 static const change of_plan[] = {
     CHANGE(null_regions, NULL), CHANGE(null_line, NULL), CHANGE(null_kernel, NULL), CHANGE(null_places, NULL), CHANGE(null_own, NULL),
     CHANGE(set_machine, BAD_RESERVED), CHANGE(set_region, BAD_RESERVED), CHANGE(set_module, BAD_RESERVED),
     CHANGE(set_entry_end, BAD_RESERVED), CHANGE(set_outcome, BAD_RESERVED), CHANGE(set_entry, BAD_RESERVED),
-    CHANGE(unreadable_kernel, BAD_FILE), CHANGE(unreadable_module, BAD_FILE), CHANGE(few_places, SMALL_ROOM),
+    CHANGE(unreadable_kernel, BAD_FILE), CHANGE(unreadable_module, BAD_FILE),
     CHANGE(bad_kind, BAD_KIND), CHANGE(bad_size, BAD_SIZE), CHANGE(many_regions, TOO_MANY_REGIONS), CHANGE(bad_region, BAD_REGION),
     CHANGE(bad_pool, BAD_POOL), CHANGE(bad_protocol, BAD_PROTOCOL), CHANGE(many_modules, TOO_MANY_MODULES),
-    CHANGE(more_modules, TOO_MANY_MODULES), CHANGE(long_rsdp, LONG_RSDP), CHANGE(no_kernel, REFUSED), CHANGE(few_steps, SMALL_ROOM),
-    CHANGE(few_bytes, SMALL_ROOM), CHANGE(nothing, DONE)};
+    CHANGE(more_modules, TOO_MANY_MODULES), CHANGE(long_rsdp, LONG_RSDP), CHANGE(no_kernel, REFUSED), CHANGE(few_plan_places, SMALL_ROOM),
+    CHANGE(few_steps, SMALL_ROOM), CHANGE(few_bytes, SMALL_ROOM), CHANGE(nothing, DONE)};
 static const change of_boot[] = {
     CHANGE(null_memory, NULL), CHANGE(null_regions, NULL), CHANGE(null_entries, NULL), CHANGE(null_line, NULL),
     CHANGE(null_kernel, NULL), CHANGE(null_module, NULL), CHANGE(null_places, NULL), CHANGE(set_machine, BAD_RESERVED),
@@ -294,6 +297,7 @@ static uint32_t fault(void) {
     return bootcore_session_fault(session, &memory, &request);
 }
 static uint32_t end(void) { return bootcore_session_outcome(session, &outcome); }
+static uint32_t unplaced(void) { return bootcore_unplaced(&machine, entries, &part, told_refusal); }
 static uint32_t carry_out(void) { return bootcore_carry_out(&layout, files, file_count, &memory, 1); }
 
 static uint32_t digest_make(void) { return bootcore_digest_make(digest, &machine, entries, told_refusal); }
@@ -307,13 +311,15 @@ static int tried, wrong;
 static bool is_kept(uint32_t (*call)(void), uint32_t status) {
     if (call == plan) {
         layout_before.planned = 0;
+        layout_before.place_count = status == BOOTCORE_STATUS_SMALL_ROOM ? layout.place_count : 0;
         layout_before.step_count = status == BOOTCORE_STATUS_SMALL_ROOM ? layout.step_count : 0;
         layout_before.own_length = status == BOOTCORE_STATUS_SMALL_ROOM ? layout.own_length : 0;
     }
     return !memcmp(bytes, bytes_before, MEMORY) && !memcmp(places, places_before, sizeof places) &&
            !memcmp(refusals, refusals_before, sizeof refusals) && !memcmp(&outcome, &outcome_before, sizeof outcome) &&
            !memcmp(&layout, &layout_before, sizeof layout) && !memcmp(&digests, &digests_before, sizeof digests) &&
-           !memcmp(part_digests, part_digests_before, sizeof part_digests) && kept_digest.kept == kept_before.kept;
+           !memcmp(part_digests, part_digests_before, sizeof part_digests) && !memcmp(&part, &part_before, sizeof part) &&
+           kept_digest.kept == kept_before.kept;
 }
 
 typedef void changing(void);
@@ -403,9 +409,12 @@ int main(void) {
     memset(refusals_before, 0xA5, sizeof refusals_before);
     memset(&digests_before, 0xA5, sizeof digests_before);
     memset(part_digests_before, 0xA5, sizeof part_digests_before);
+    memset(&part_before, 0xA5, sizeof part_before);
     TRY(load, of_load);
     TRY(plan, of_plan);
     try_preparations();
+    /* it reads what a digest is made of, and keeps none */
+    try_all("unplaced", unplaced, of_digest_make + 1, sizeof of_digest_make / sizeof *of_digest_make - 1);
     TRY(boot, of_boot);
     TRY(carry_out, of_carrying);
     TRY(start, of_none);

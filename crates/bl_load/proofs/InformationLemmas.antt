@@ -62,6 +62,14 @@ pub told_below : (line tags runs : ℕ) (old new : Option (List ℕ)) (given : B
 told_below line tags runs old new given l r t o n =
     omega (arith, most_load_base given, copy_size_small old o, copy_size_small new n)
 
+-- beside the modules' tags it takes at most 10864 bytes
+pub told_small : (line tags runs : ℕ) (old new : Option (List ℕ)) (given : Bool) → line ≤ 4095
+    → runs ≤ 256 → IfSome old IsRsdpCopy → IfSome new IsRsdpCopy
+    → size_by_lengths line [] runs (option_map length old) (option_map length new) given + tags
+    ≤ 10864 + tags
+told_small line tags runs old new given l r o n =
+    omega (arith, most_load_base given, copy_size_small old o, copy_size_small new n)
+
 -- the length of a copy is below 2^31
 pub copy_short : (copy : Option (List ℕ)) → IfSome copy IsRsdpCopy
     → IfSome (option_map length copy) (λ n. n < 2 ^ 31)

@@ -1,8 +1,9 @@
 -- A plan of an entry is one for all files that have the same kernel and the same lengths.
 use Rattle.std.proofs.Common.{◌≡◌, ℕ, List, ◌∷◌, length, map, sym, ap, subst, ◌∙◌}
-use Rattle.std.specs.Prelude.{Result, Ok, Err, IfOk}
+use Rattle.std.specs.Prelude.{Result, Ok, Err, IfOk, Option}
 use Rattle.bl_map.specs.MachineFacts.{MachineFacts}
 use Rattle.bl_mem.specs.FileSet.{nth_file}
+use Rattle.bl_plan.specs.declared.part.Row.{Row}
 use Rattle.bl_load.specs.declared.entry.Entry.{Entry}
 use Rattle.bl_load.specs.declared.entry.Entry.TheVariants.{Multiboot2, Linux}
 use Rattle.bl_load.specs.declared.known_file.KnownFile.{KnownFile}
@@ -14,9 +15,11 @@ use Rattle.bl_load.specs.Loadable.{lengths_of, IsLoadable}
 use Rattle.bl_load.specs.Origins.{PartOrigin, planned_origin, AreOrigins}
 use Rattle.bl_load.specs.Parts.{IsHandover, IsPrepFault}
 use Rattle.bl_load.specs.PlanContents.{handover_by}
+use Rattle.bl_load.specs.Unplaced.{IsUnplaced, IsFaultBeforePlacing}
 use Rattle.bl_load.specs.internal.KnownFiles.{blank_file, known_bytes}
 use Rattle.bl_load.proofs.FileLengthLemmas.{AreAsLong, as_long, blank_lengths}
 use Rattle.bl_load.proofs.OtherFilesLemmas.{origins_with, fault_with}
+use Rattle.bl_load.proofs.OtherFilesLemmas.{unplaced_with, early_fault_with}
 use Rattle.bl_load.proofs.OtherContentsLemmas.{handover_with}
 
 pub all_lengths : (kernel lengths : List ℕ) (texts : List (List ℕ))
@@ -70,6 +73,29 @@ same_fault facts (Multiboot2 k line modules old new) kernel lengths xs ys fault 
     (same_kernel kernel lengths xs ys a b) (same_lengths kernel lengths xs ys a b) fault is
 same_fault {A = A} facts (Linux k line initrd wide) kernel lengths xs ys fault a b is =
     fault_with facts (value_of {A = A} xs (Linux k line initrd wide)) ys
+    (same_kernel kernel lengths xs ys a b) (same_lengths kernel lengths xs ys a b) fault is
+
+pub same_unplaced : {A : Type 0} (facts : MachineFacts) (entry : Entry A)
+    (kernel lengths : List ℕ) (xs ys : List (List ℕ)) (which : Option Row)
+    → HaveKernelAndLengths kernel lengths xs → HaveKernelAndLengths kernel lengths ys
+    → IsUnplaced facts (value_of xs entry) which → IsUnplaced facts (value_of ys entry) which
+same_unplaced facts (Multiboot2 k line modules old new) kernel lengths xs ys which a b is =
+    unplaced_with facts (value_of xs (Multiboot2 k line modules old new)) ys
+    (same_kernel kernel lengths xs ys a b) (same_lengths kernel lengths xs ys a b) which is
+same_unplaced {A = A} facts (Linux k line initrd wide) kernel lengths xs ys which a b is =
+    unplaced_with facts (value_of {A = A} xs (Linux k line initrd wide)) ys
+    (same_kernel kernel lengths xs ys a b) (same_lengths kernel lengths xs ys a b) which is
+
+pub same_early_fault : {A : Type 0} (facts : MachineFacts) (entry : Entry A)
+    (kernel lengths : List ℕ) (xs ys : List (List ℕ)) (fault : PrepFault)
+    → HaveKernelAndLengths kernel lengths xs → HaveKernelAndLengths kernel lengths ys
+    → IsFaultBeforePlacing facts (value_of xs entry) fault
+    → IsFaultBeforePlacing facts (value_of ys entry) fault
+same_early_fault facts (Multiboot2 k line modules old new) kernel lengths xs ys fault a b is =
+    early_fault_with facts (value_of xs (Multiboot2 k line modules old new)) ys
+    (same_kernel kernel lengths xs ys a b) (same_lengths kernel lengths xs ys a b) fault is
+same_early_fault {A = A} facts (Linux k line initrd wide) kernel lengths xs ys fault a b is =
+    early_fault_with facts (value_of {A = A} xs (Linux k line initrd wide)) ys
     (same_kernel kernel lengths xs ys a b) (same_lengths kernel lengths xs ys a b) fault is
 
 pub same_loadable : {B : Type 0} (size : ℕ) (kernel lengths : List ℕ) (xs ys : List (List ℕ))

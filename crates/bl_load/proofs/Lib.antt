@@ -39,8 +39,12 @@ pub mod StepLemmas
 pub mod StepOrderLemmas
 pub mod StepSourceLemmas
 pub mod StepOriginLemmas
+pub mod PartCountLemmas
+pub mod RowCountLemmas
+pub mod PlanLimitLemmas
 pub mod AnyOrderLemmas
 pub mod FileLengthLemmas
 pub mod OtherFilesLemmas
 pub mod OtherContentsLemmas
 pub mod LengthLaws
+pub mod OneUnplacedLaws

@@ -1,7 +1,7 @@
 -- A value whose files after the kernel are others of the same lengths is read and refused in the same
 -- way, and its parts come from the same.
 use Rattle.std.proofs.Common.{◌≡◌, ◌+◌, ℕ, List, [], ◌∷◌, map}
-use Rattle.std.proofs.Common.{true, refl, sym, ap, ap₂, subst, ◌∙◌, ◌⊎◌, inl, inr}
+use Rattle.std.proofs.Common.{true, refl, sym, ap, ap₂, subst, ◌∙◌, ◌⊎◌, inl, inr, Option}
 use Rattle.std.specs.Prelude.{codes}
 use Rattle.bl_map.specs.MachineFacts.{MachineFacts}
 use Rattle.bl_mbi.specs.InfoToWriteFacts.{InfoToWriteFacts}
@@ -29,6 +29,7 @@ use Rattle.bl_load.specs.Origins.{Origin, made, file_range}
 use Rattle.bl_load.specs.Origins.{origin_from, PartOrigin, origin_at, AreOrigins}
 use Rattle.bl_load.specs.Parts.{HasRowFault, IsRefusal, IsPrepFault}
 use Rattle.bl_load.specs.Protocols.{has_params}
+use Rattle.bl_load.specs.Unplaced.{IsUnplacedOf, IsUnplaced, IsFaultBeforePlacing}
 use Rattle.bl_load.proofs.FileLengthLemmas.{with_files, AreAsLong}
 use Rattle.bl_load.proofs.FileLengthLemmas.{same_information, same_params, same_rows}
 
@@ -82,6 +83,25 @@ module _ (facts : MachineFacts) (value : EntryValue) (texts : List (List ℕ))
       → IsPrepFault facts (with_files texts value) fault
   fault_with (prep.Refused r) is = refused_with r is
   fault_with prep.NoMemory is = tt
+
+  -- ---- its first part without a place is told so
+
+  pub unplaced_with : (which : Option Row) → IsUnplaced facts value which
+      → IsUnplaced facts (with_files texts value) which
+  unplaced_with which is = record {
+    reading = is.reading;
+    lines = is.lines;
+    read = read_with is.reading is.read;
+    is =
+        subst (λ (rows : List Row). IsUnplacedOf facts [] rows which)
+        (sym (same_rows facts value texts long is.reading)) is.is;
+  }
+
+  pub early_fault_with : (fault : PrepFault) → IsFaultBeforePlacing facts value fault
+      → IsFaultBeforePlacing facts (with_files texts value) fault
+  early_fault_with (prep.Refused r) (inl lines) = inl lines
+  early_fault_with (prep.Refused r) (inr (lines, file)) = inr (lines, file_fault_with r file)
+  early_fault_with prep.NoMemory is = tt
 
   -- ---- its parts come from the same
 

@@ -151,7 +151,7 @@ rows_are_rows file facts value kernel loadable =
 
 -- ---- how many they are
 
-length-segment_rows : (k : ℕ) (segments : List Segment)
+pub length-segment_rows : (k : ℕ) (segments : List Segment)
     → length (segment_rows k segments) ≡ length segments
 length-segment_rows k [] = refl
 length-segment_rows k (s ∷ segments) = ap (λ (n : ℕ). suc n) (length-segment_rows (suc k) segments)
@@ -164,7 +164,7 @@ few_kernel_rows segments None some few =
     let e = length-segment_rows 0 segments in (omega arith, omega arith)
 few_kernel_rows segments (Some r) some few = (omega arith, omega arith)
 
-length-module_rows : (files : List (List ℕ)) (k : ℕ) (lines : List (List ℕ))
+pub length-module_rows : (files : List (List ℕ)) (k : ℕ) (lines : List (List ℕ))
     → length (module_rows files k lines) ≡ length lines
 length-module_rows files k [] = refl
 length-module_rows files k (line ∷ lines) =

@@ -1,11 +1,13 @@
 -- Plans whose parts come from the same have the same steps.
 use Rattle.std.proofs.Common.{◌≡◌, ℕ, ◌+◌, ◌-◌, List, [], ◌∷◌, ◌++◌, length, map, refl, sym, ap, ap₂}
-use Rattle.std.proofs.Common.{◌∙◌, subst}
+use Rattle.std.proofs.Common.{◌∙◌, subst, get_or}
+use Rattle.std.proofs.lemmas.List.Elements.{All-map}
 use Rattle.bl_map.specs.MachineFacts.{MachineFacts}
 use Rattle.bl_mem.specs.declared.segment.Segment.{Segment}
 use Rattle.bl_plan.specs.AddressOrder.{places_in_order}
 use Rattle.bl_plan.specs.Placed.{ArePlaced}
 use Rattle.bl_plan.specs.declared.part.Place.{Place}
+use Rattle.bl_plan.specs.declared.part.Role.{Role}
 use Rattle.bl_plan.proofs.OneListLaws as places
 use Rattle.bl_load.specs.declared.plan.Content.{Content}
 use Rattle.bl_load.specs.declared.plan.Content.TheVariants.{Own, File, Block}
@@ -15,11 +17,13 @@ use Rattle.bl_load.specs.declared.step.StepSource.TheVariants as source
 use Rattle.bl_load.specs.EntryValue.{EntryValue}
 use Rattle.bl_load.specs.KernelBlock.{span_of}
 use Rattle.bl_load.specs.KernelReading.{KernelReading}
+use Rattle.bl_load.specs.LeanPlans.{IsLean, IsLeanContent, IsLeanOrigin, AreLeanOrigins}
 use Rattle.bl_load.specs.Loadable.{content_length}
 use Rattle.bl_load.specs.Origins.{origin_of, PartOrigin}
 use Rattle.bl_load.specs.Origins.{planned_origin, origin_at, AreOrigins}
 use Rattle.bl_load.specs.PlanSteps.{one_step, block_steps, own_of, content_steps}
 use Rattle.bl_load.specs.PlanSteps.{steps_from, own_bytes}
+use Rattle.bl_load.specs.StepsByOrigins.{origin_length, own_of_origin, origin_steps, steps_by, own_by}
 use Rattle.bl_load.specs.Rows.{rows_of}
 use Rattle.bl_load.proofs.OneReadingLaws.{one_reading}
 
@@ -82,6 +86,49 @@ same_steps before (p ∷ ps) (q ∷ qs) is =
           (ap₂ (λ (xs ys : List Step). xs ++ zeros ++ ys) same.steps rest.0),
       ap₂ (λ (xs ys : List ℕ). xs ++ ys) same.own rest.1,
     )
+
+-- ---- the same by where the parts come from
+
+record IsBroughtBy {A : Type 0} (before at : ℕ) (c : Content A) : Type 0 where
+  steps : content_steps before at c ≡ origin_steps before at (origin_of c)
+  own : own_of c ≡ own_of_origin (origin_of c)
+  count : content_length c ≡ origin_length (origin_of c)
+
+brought : {A : Type 0} (before at : ℕ) (c : Content A) → IsBroughtBy before at c
+brought before at (Own bytes) = record { steps = refl; own = refl; count = refl }
+brought before at (File file offset count) = record { steps = refl; own = refl; count = refl }
+brought before at (Block file segments) = record { steps = refl; own = refl; count = refl }
+
+pub by_origins : {A : Type 0} (before : ℕ) (parts : List (PlannedPart A))
+    → (steps_from before parts ≡ steps_by before (map planned_origin parts))
+    × (own_bytes parts ≡ own_by (map planned_origin parts))
+by_origins before [] = (refl, refl)
+by_origins before (p ∷ parts) =
+    let at : ℕ = p.place.address in
+    let from = origin_of p.content in
+    let same = brought before at p.content in
+    let rest = by_origins (before + length (own_of_origin from)) parts in
+    let zeros : List Step =
+    one_step (at + origin_length from) (p.place.length - origin_length from) source.Zeros in (
+      rw (same.count, same.own)
+          (ap₂ (λ (xs ys : List Step). xs ++ zeros ++ ys) same.steps rest.0),
+      ap₂ (λ (xs ys : List ℕ). xs ++ ys) same.own rest.1,
+    )
+
+-- ---- what a plan holds itself is made
+
+lean_origin : {A : Type 0} (role : Role) (content : Content A) → IsLeanContent role content
+    → IsLeanOrigin role (origin_of content)
+lean_origin role (Own bytes) lean = lean
+lean_origin role (File file offset count) lean = lean
+lean_origin role (Block file segments) lean = lean
+
+pub lean_origins : {A : Type 0} (parts : List (PlannedPart A)) → IsLean parts
+    → AreLeanOrigins (map planned_origin parts)
+lean_origins parts lean =
+    All-map (λ (part : PartOrigin). IsLeanOrigin part.place.role part.origin) planned_origin parts
+    (λ k d within.
+    lean_origin (get_or parts k d).place.role (get_or parts k d).content (lean k d within))
 
 -- equal facts and equal values have parts that come from the same
 pub one_origins : (facts : MachineFacts) (value : EntryValue) (xs ys : List PartOrigin)

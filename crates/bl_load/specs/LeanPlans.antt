@@ -5,6 +5,7 @@ use Rattle.bl_plan.specs.declared.part.Role.TheVariants as role
 use Rattle.bl_load.specs.declared.plan.Content.{Content}
 use Rattle.bl_load.specs.declared.plan.Content.TheVariants.{Own, File, Block}
 use Rattle.bl_load.specs.declared.plan.PlannedPart.{PlannedPart}
+use Rattle.bl_load.specs.Origins.{Origin, made, file_range, file_block, PartOrigin}
 
 -- what a part of this role holds is made by the loader: no file's bytes, but in boot parameters the
 -- setup header of the kernel's file
@@ -29,3 +30,12 @@ IsLeanContent r (Block file segments) = Unit {0}
 -- bytes, so it takes no memory in proportion to what a header claims
 abbrev pub IsLean : {A : Type 0} → List (PlannedPart A) → Type 0
 IsLean parts = All (λ part. IsLeanContent part.place.role part.content) parts
+
+-- the same of where a part's bytes come from
+abbrev pub IsLeanOrigin : Role → Origin → Type 0
+IsLeanOrigin r (made bytes) = IsMade r
+IsLeanOrigin r (file_range file offset count) = Unit {0}
+IsLeanOrigin r (file_block file segments) = Unit {0}
+
+abbrev pub AreLeanOrigins : List PartOrigin → Type 0
+AreLeanOrigins parts = All (λ part. IsLeanOrigin part.place.role part.origin) parts

@@ -28,3 +28,5 @@ pub mod Steps
 pub mod PlanSteps
 pub mod LoadedBySteps
 pub mod Origins
+pub mod StepsByOrigins
+pub mod PlanLimits

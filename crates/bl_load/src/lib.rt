@@ -21,6 +21,7 @@ mod named_register;
 mod parts;
 mod placing;
 mod plan;
+mod plan_limits;
 mod preparing;
 mod preparing_by_lengths;
 mod refusal;
@@ -35,6 +36,7 @@ mod step;
 mod step_laws;
 mod steps;
 mod unplaced_row;
+mod unplaced_row_by_lengths;
 
 pub use bl_plan::{Choice, MAX_LINE, MAX_RSDP_LENGTH, Place, Protocol, Role, Row};
 pub use entry::{Entry, Module};
@@ -48,6 +50,7 @@ pub use length_laws::files_after_the_kernel_count_by_length;
 pub use loading::load;
 pub use named_register::NamedRegister;
 pub use plan::{Content, Plan, PlannedPart};
+pub use plan_limits::{MAX_OWN, MAX_STEPS, plans_are_small};
 pub use preparing::prepare;
 pub use preparing_by_lengths::prepare_by_lengths;
 pub use refusal::{PrepFault, Refusal};
@@ -59,6 +62,8 @@ pub use segment_descriptors::descriptors_of;
 pub use segment_registers::{SegmentName, SegmentRegister};
 pub use step::{Step, StepSource, Steps};
 pub use step_laws::{
-    carried_out_steps_are_determined, plan_steps_are_determined, steps_write_the_same_in_any_order,
+    carried_out_steps_are_determined, plan_steps_are_determined, plan_steps_are_those_of_origins,
+    steps_write_the_same_in_any_order,
 };
 pub use unplaced_row::unplaced;
+pub use unplaced_row_by_lengths::unplaced_by_lengths;

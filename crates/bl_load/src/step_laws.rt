@@ -9,6 +9,7 @@ ghost use Rattle.bl_load.specs.LoadedBySteps.{LoadsEntry};
 ghost use Rattle.bl_load.specs.Origins.{planned_origin, AreOrigins};
 ghost use Rattle.bl_load.specs.PlanSteps.{steps_from, own_bytes};
 ghost use Rattle.bl_load.specs.Steps.{carry_out, IsStep, StepsAscend};
+ghost use Rattle.bl_load.specs.StepsByOrigins.{steps_by, own_by};
 
 use std::alloc::Allocator;
 
@@ -22,6 +23,14 @@ pub fn plan_steps_are_determined<A: Allocator, B: Allocator>()
     ensures own { (facts : MachineFacts) (value : EntryValue) (parts : List (PlannedPart A))
         (others : List (PlannedPart B)) → AreOrigins facts value (map planned_origin parts)
         → AreOrigins facts value (map planned_origin others) → own_bytes parts ≡ own_bytes others }
+{}
+
+/// The steps of a plan, and its own bytes, are a function of where its parts lie and come from.
+pub fn plan_steps_are_those_of_origins<A: Allocator>()
+    ensures steps { (parts : List (PlannedPart A))
+        → steps_from 0 parts ≡ steps_by 0 (map planned_origin parts) }
+    ensures own { (parts : List (PlannedPart A))
+        → own_bytes parts ≡ own_by (map planned_origin parts) }
 {}
 
 /// Two lists of steps that load one entry, each with the bytes of its plan, make equal memory of

@@ -1,18 +1,22 @@
-//! One entry for C: it comes into memory, or what would is told, or the steps to it.
-ghost use Rattle.std.specs.Prelude.{ℕ, List, length, Result};
+//! One entry for C: it comes into memory, or what would is told, or the steps to it, or which part
+//! finds no place.
+ghost use Rattle.std.specs.Prelude.{ℕ, List, length, Option, Result};
 ghost use Rattle.bl_mem.specs.Memory.{memory_from};
 ghost use Rattle.bl_load.specs.HandoffFacts.{HandoffFacts};
+ghost use Rattle.bl_plan.specs.declared.part.Row.{Row};
 ghost use Rattle.c_abi.specs.Load.{IsGivenLoadEnd};
 ghost use Rattle.c_records.specs.LoadTold.{TellsEnd};
 ghost use Rattle.c_abi.specs.Plan.{PlanFacts, IsGivenPlanEnd};
 ghost use Rattle.c_abi.specs.PlanTold.{TellsPlan};
 ghost use Rattle.c_abi.specs.Prepare.{AreFilesOf, IsGivenPrepareEnd};
+ghost use Rattle.c_abi.specs.UnplacedPart.{IsSoughtEnd};
+ghost use Rattle.c_abi.specs.UnplacedTold.{TellsUnplaced};
 ghost use Rattle.c_records.specs.declared.load_fault.LoadFault.{LoadFault};
 
-use c_abi::{load_told, plan_told, prepare_told};
+use c_abi::{load_told, plan_told, prepare_told, unplaced_told};
 use c_records::{
     EntryRecord, HandoffRecord, MachineRecord, PlaceRecord, PlanCountsRecord, RefusalRecord,
-    RegionRecord, StepRecord,
+    RegionRecord, StepRecord, UnplacedRecord,
 };
 use std::alloc::Global;
 
@@ -73,7 +77,7 @@ pub extern "C" fn bootcore_plan_arrays(
     refusal: &mut RefusalRecord,
 ) -> u32
     ensures { (end : Result PlanFacts LoadFault)
-        × IsGivenPlanEnd machine.now regions.now entry.now (length places.old) end
+        × IsGivenPlanEnd machine.now regions.now entry.now end
         × TellsPlan end result
         (record {
           handoff = told.old;
@@ -94,4 +98,21 @@ pub extern "C" fn bootcore_plan_arrays(
     plan_told(
         alloc, machine, regions, entry, told, counts, places, steps, own, refusal,
     )
+}
+
+/// Which part of an entry finds no place is told, or that each has one.
+#[unsafe(no_mangle)]
+pub extern "C" fn bootcore_unplaced_record(
+    alloc: Global,
+    machine: &MachineRecord,
+    regions: &[RegionRecord],
+    entry: &EntryRecord<'_>,
+    told: &mut UnplacedRecord,
+    refusal: &mut RefusalRecord,
+) -> u32
+    ensures { (end : Result (Option Row) LoadFault)
+        × IsSoughtEnd machine.now regions.now entry.now end
+        × TellsUnplaced end result told.old told.new refusal.old refusal.new }
+{
+    unplaced_told(alloc, machine, regions, entry, told, refusal)
 }

@@ -3,6 +3,8 @@ mod LoadLemmas
 mod MenuLemmas
 mod PrepareLemmas
 mod PlanLemmas
+mod PlanLaws
+mod UnplacedLemmas
 mod DigestLemmas
 mod MachineLaws
 mod FaultLaws

@@ -2,6 +2,8 @@ pub mod Load
 pub mod Prepare
 pub mod Plan
 pub mod PlanTold
+pub mod UnplacedPart
+pub mod UnplacedTold
 pub mod Boot
 pub mod BootTold
 pub mod Sessions

@@ -4,15 +4,19 @@ use Rattle.std.specs.Prelude.{◌≡◌, ◌≤◌, ℕ, List, ◌∷◌, length
 use Rattle.bl_map.specs.MachineFacts.{MachineFacts}
 use Rattle.bl_load.specs.EntryValue.{EntryValue}
 use Rattle.bl_load.specs.HandoffFacts.{HandoffFacts, max_parts}
+use Rattle.bl_load.specs.LeanPlans.{AreLeanOrigins}
 use Rattle.bl_load.specs.LoadedBySteps.{LoadsEntry}
+use Rattle.bl_load.specs.Origins.{PartOrigin, AreOrigins}
+use Rattle.bl_load.specs.PlanLimits.{max_steps, max_own}
 use Rattle.bl_load.specs.Steps.{IsStep, StepsAscend}
+use Rattle.bl_load.specs.StepsByOrigins.{steps_by, own_by}
 use Rattle.bl_load.specs.declared.step.Step.{Step}
 use Rattle.bl_image.specs.ImageHandover.{handoff_of}
 use Rattle.c_records.specs.declared.given_records.RegionRecord.{RegionRecord}
 use Rattle.c_records.specs.declared.given_records.MachineRecord.{MachineRecord}
 use Rattle.c_records.specs.declared.given_records.EntryRecord.{EntryRecord}
 use Rattle.c_records.specs.declared.load_fault.LoadFault.{LoadFault}
-use Rattle.c_records.specs.Given.{lengths_beside, value_with}
+use Rattle.c_records.specs.Given.{entry_without_files, lengths_beside, value_with}
 use Rattle.c_records.specs.EntryFaults.{IsEntrySound}
 use Rattle.c_records.specs.Machines.{IsMachineGiven, IsMachineSound}
 use Rattle.c_abi.specs.Prepare.{AreFilesOf, IsNotPrepared}
@@ -27,17 +31,28 @@ pub record PlanFacts : Type 0 where
   pub steps : List Step
   pub own : List ℕ
 
--- its steps load an entry of this value, and its handoff is that of what they write
+-- its steps and its own bytes are those of an entry's parts, each of which lies and comes from
+-- where the rules say: so facts and value decide both. Its own bytes are made, and no file's but
+-- the setup header of a Linux kernel
+pub record HasStepsOf (facts : MachineFacts) (value : EntryValue) (plan : PlanFacts) : Type 0 where
+  pub parts : List PartOrigin
+  pub come_from : AreOrigins facts value parts
+  pub lean : AreLeanOrigins parts
+  pub steps_are : plan.steps ≡ steps_by 0 parts
+  pub own_is : plan.own ≡ own_by parts
+
+-- it is the plan of an entry of this value: its steps load the entry, and its handoff is that of
+-- what they write
 pub record IsPlanOf (facts : MachineFacts) (value : EntryValue) (plan : PlanFacts) : Type 0 where
+  pub is : HasStepsOf facts value plan
   pub loads : LoadsEntry facts value plan.steps plan.own
   pub handoff_is : plan.handoff ≡ handoff_of loads.handover
 
--- on the machine that is given, where no misuse stands: there is room for the places, and the
--- machine and the entry have none. It is the plan for all files of the entry; each step can be
--- carried out, and none begins before the one before it has ended
+-- on the machine that is given, where neither machine nor entry has a misuse, it is the plan for
+-- all files of the entry, and no larger than any may be. Each step can be carried out, and none
+-- begins before the one before it has ended
 pub record IsPlanned (machine : MachineRecord) (regions : List RegionRecord)
-    (entry : EntryRecord) (room : ℕ) (plan : PlanFacts) : Type 0 where
-  pub has_room : max_parts ≤ room
+    (entry : EntryRecord) (plan : PlanFacts) : Type 0 where
   pub facts : MachineFacts
   pub machine_is : IsMachineGiven machine regions facts
   pub machine_sound : IsMachineSound machine regions
@@ -47,12 +62,21 @@ pub record IsPlanned (machine : MachineRecord) (regions : List RegionRecord)
       → IsPlanOf facts (value_with entry texts) plan
   pub sound : All (IsStep (file_lengths entry) (length plan.own) facts.size) plan.steps
   pub ascending : AllPairs StepsAscend plan.steps
+  pub few_places : length plan.handoff.places ≤ max_parts
+  pub few_steps : length plan.steps ≤ max_steps
+  pub few_own : length plan.own ≤ max_own
 
--- how a call ends that has room for so many places: a fault is that of a preparation, for all files
--- of the entry
-abbrev pub IsGivenPlanEnd : MachineRecord → List RegionRecord → EntryRecord → ℕ
+-- how a call ends, whatever room there is: a fault is that of a preparation with room for the
+-- places, for all files of the entry
+abbrev pub IsGivenPlanEnd : MachineRecord → List RegionRecord → EntryRecord
     → Result PlanFacts LoadFault → Type 0
-IsGivenPlanEnd machine regions entry room (Ok plan) = IsPlanned machine regions entry room plan
-IsGivenPlanEnd machine regions entry room (Err fault) =
+IsGivenPlanEnd machine regions entry (Ok plan) = IsPlanned machine regions entry plan
+IsGivenPlanEnd machine regions entry (Err fault) =
     (texts : List (List ℕ)) → AreFilesOf entry texts
-    → IsNotPrepared machine regions entry texts room fault
+    → IsNotPrepared machine regions entry texts max_parts fault
+
+-- two entries are one but for the bytes of the files beside the kernel
+pub record AreKnownAlike (entry other : EntryRecord) : Type 0 where
+  pub value : entry_without_files entry ≡ entry_without_files other
+  pub kernel : entry.kernel.bytes.now ≡ other.kernel.bytes.now
+  pub lengths : lengths_beside entry ≡ lengths_beside other

@@ -55,9 +55,13 @@ pub record PlanTelling : Type 0 where
   pub steps : List StepRecord
   pub own : List ℕ
 
--- how many steps and own bytes a plan has
+-- how many places, steps and own bytes a plan has
 abbrev pub counts_told : PlanFacts → PlanCountsRecord
-counts_told plan = record { steps = length plan.steps; own = length plan.own }
+counts_told plan = record {
+  places = length plan.handoff.places;
+  steps = length plan.steps;
+  own = length plan.own;
+}
 
 -- all of it; behind what is told an array is as it was
 abbrev pub plan_told : PlanFacts → PlanTelling → PlanTelling
@@ -69,16 +73,19 @@ plan_told plan old = record {
   own = told_over plan.own old.own;
 }
 
--- the arrays have room for its steps and its own bytes
-pub record HasPlanRoom (plan : PlanFacts) (steps : List StepRecord) (own : List ℕ) : Type 0 where
+-- the arrays have room for its places, its steps and its own bytes
+pub record HasPlanRoom (plan : PlanFacts) (places : List PlaceRecord) (steps : List StepRecord)
+    (own : List ℕ) : Type 0 where
+  pub places_fit : length plan.handoff.places ≤ length places
   pub steps_fit : length plan.steps ≤ length steps
   pub own_fits : length plan.own ≤ length own
 
 -- all is told if there is room for it, and else how much is wanted
 pub data TellsPlanned (plan : PlanFacts) (status : ℕ) (old new : PlanTelling) : Type 0 where
-  tells_plan : HasPlanRoom plan old.steps old.own → status ≡ done_status → new ≡ plan_told plan old
-      → TellsPlanned plan status old new
-  tells_counts : ¬ HasPlanRoom plan old.steps old.own → status ≡ misuse_status SmallRoom
+  tells_plan : HasPlanRoom plan old.places old.steps old.own → status ≡ done_status
+      → new ≡ plan_told plan old → TellsPlanned plan status old new
+  tells_counts : ¬ HasPlanRoom plan old.places old.steps old.own
+      → status ≡ misuse_status SmallRoom
       → new ≡ record old { counts = counts_told plan } → TellsPlanned plan status old new
 
 -- a status, and what is told of a plan, or of a fault: all but the record of a refusal is as before

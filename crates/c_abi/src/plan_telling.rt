@@ -61,12 +61,21 @@ fn tell_steps(steps: &[Step], records: &mut [StepRecord])
     }
 }
 
-/// Whether arrays have room for a plan's steps and own bytes.
-fn fits_into<A: Allocator>(made: &SteppedPlan<A>, steps: &[StepRecord], own: &[u8]) -> bool
+/// Whether arrays have room for a plan's places, steps and own bytes.
+#[tactic(auto, using(crate::proofs::PlanLemmas::count_places))]
+fn fits_into<A: Allocator>(
+    made: &SteppedPlan<A>,
+    places: &[PlaceRecord],
+    steps: &[StepRecord],
+    own: &[u8],
+) -> bool
     ensures { MatchBool result
-        (spec.HasPlanRoom (plan_facts made.now) steps.now own.now)
-        (¬ spec.HasPlanRoom (plan_facts made.now) steps.now own.now) }
+        (spec.HasPlanRoom (plan_facts made.now) places.now steps.now own.now)
+        (¬ spec.HasPlanRoom (plan_facts made.now) places.now steps.now own.now) }
 {
+    if places.len() < made.plan.parts.len() {
+        return false;
+    }
     if steps.len() < made.told.steps.len() {
         return false;
     }
@@ -76,8 +85,9 @@ fn fits_into<A: Allocator>(made: &SteppedPlan<A>, steps: &[StepRecord], own: &[u
     true
 }
 
-/// Tells a plan with its steps, if there is room for these, and else how much is wanted; and the
-/// status.
+/// Tells a plan with its steps, if there is room for all of it, and else how much is wanted; and
+/// the status.
+#[tactic(auto, using(crate::proofs::PlanLemmas::count_places))]
 pub(crate) fn tell_stepped<A: Allocator>(
     made: &SteppedPlan<A>,
     told: &mut HandoffRecord,
@@ -87,17 +97,17 @@ pub(crate) fn tell_stepped<A: Allocator>(
     own: &mut [u8],
 ) -> u32
     requires few { length made.now.plan.parts.items ≤ 256 }
-    requires room { 256 ≤ length places.old }
     requires files { All HasSmallFile made.now.told.steps.items }
     ensures { spec.TellsPlanned (plan_facts made.now) result
         (plan_telling told.old counts.old places.old steps.old own.old)
         (plan_telling told.new counts.new places.new steps.new own.new) }
 {
     *counts = PlanCountsRecord {
+        places: made.plan.parts.len() as u64,
         steps: made.told.steps.len() as u64,
         own: made.told.own.len() as u64,
     };
-    if !fits_into(made, steps, own) {
+    if !fits_into(made, places, steps, own) {
         return Misuse::SmallRoom.status();
     }
     tell_plan(&made.plan, told, places);

@@ -1,5 +1,6 @@
 //! The steps that load an entry are told to C, which carries them out itself.
-ghost use Rattle.std.specs.Prelude.{ℕ, ◌≤◌, List, All, IfOk, IfErr, OnOk, Result, length};
+ghost use Rattle.std.specs.Prelude.{ℕ, List, All, IfOk, IfErr, OnOk, Result};
+ghost use Rattle.bl_load.specs.HandoffFacts.{max_parts};
 ghost use Rattle.c_abi.specs.Load.{IsEntryFault};
 ghost use Rattle.c_records.specs.EntryFaults.{IsEntrySound};
 ghost use Rattle.c_abi.specs.Prepare.{AreFilesOf, IsNotPrepared};
@@ -14,9 +15,8 @@ use crate::plan_telling::tell_stepped;
 use crate::preparing::prepare_row;
 use bl_load::Entry;
 use bl_map::Machine;
-use bl_plan::MAX_PARTS;
 use c_records::{
-    EntryRecord, HandoffRecord, LoadFault, MachineRecord, Misuse, PlaceRecord, PlanCountsRecord,
+    EntryRecord, HandoffRecord, LoadFault, MachineRecord, PlaceRecord, PlanCountsRecord,
     RefusalRecord, RegionRecord, StepRecord, load_fault_of_given, load_fault_of_prep, machine_of,
     take_entry, tell_load_fault,
 };
@@ -31,11 +31,12 @@ fn plan_of_entry<A: Allocator + Copy>(
 ) -> Result<SteppedPlan<A>, LoadFault>
     requires { IsTakenFrom row.now entry.now }
     ensures planned { IfOk result (λ made. IsPlanOn machine.now row.now (plan_facts made)) }
-    ensures few { IfOk result (λ made. length made.plan.parts.items ≤ 256) }
     ensures files { IfOk result (λ made. All HasSmallFile made.told.steps.items) }
     ensures fault { IfErr result (λ fault. (texts : List (List ℕ)) → AreFilesOf row.now texts
         → IsEntryFault machine.now row.now texts 0 fault) }
 {
+    // For the proof: a machine has few runs of memory.
+    let _size = machine.size();
     let plan = match prepare_row(alloc, machine, entry, row) {
         Ok(plan) => plan,
         Err(fault) => return Err(load_fault_of_prep(fault)),
@@ -54,7 +55,6 @@ fn plan_given<A: Allocator + Copy>(
 ) -> Result<SteppedPlan<A>, LoadFault>
     ensures planned { IfOk result (λ made. IsPlanOn machine.now row.now (plan_facts made)) }
     ensures sound { OnOk result (IsEntrySound row.now) }
-    ensures few { IfOk result (λ made. length made.plan.parts.items ≤ 256) }
     ensures files { IfOk result (λ made. All HasSmallFile made.told.steps.items) }
     ensures fault { IfErr result (λ fault. (texts : List (List ℕ)) → AreFilesOf row.now texts
         → IsEntryFault machine.now row.now texts 0 fault) }
@@ -65,25 +65,19 @@ fn plan_given<A: Allocator + Copy>(
     }
 }
 
-/// Plans an entry on the machine that is given, with room for so many places.
+/// Plans an entry on the machine that is given.
 fn plan_entry<A: Allocator + Copy>(
     alloc: A,
     machine: &MachineRecord,
     regions: &[RegionRecord],
     entry: &EntryRecord,
-    room: usize,
 ) -> Result<SteppedPlan<A>, LoadFault>
     ensures planned { IfOk result
-        (λ made. IsPlanned machine.now regions.now entry.now room (plan_facts made)) }
-    ensures few { IfOk result (λ made. length made.plan.parts.items ≤ 256) }
+        (λ made. IsPlanned machine.now regions.now entry.now (plan_facts made)) }
     ensures files { IfOk result (λ made. All HasSmallFile made.told.steps.items) }
-    ensures room { OnOk result (MAX_PARTS ≤ room) }
     ensures fault { IfErr result (λ fault. (texts : List (List ℕ)) → AreFilesOf entry.now texts
-        → IsNotPrepared machine.now regions.now entry.now texts room fault) }
+        → IsNotPrepared machine.now regions.now entry.now texts max_parts fault) }
 {
-    if room < MAX_PARTS {
-        return Err(LoadFault::Misused(Misuse::SmallRoom));
-    }
     let made = match machine_of(alloc, machine, regions) {
         Ok(made) => made,
         Err(fault) => return Err(load_fault_of_given(fault)),
@@ -92,8 +86,9 @@ fn plan_entry<A: Allocator + Copy>(
 }
 
 /// Tells the steps that load an entry, before the files beside its kernel have come, or why it
-/// would not be loaded. The checks are those of `prepare_told`, in its order. Then the steps and
-/// the plan's own bytes are told if there is room for all of them, and else how much is wanted.
+/// would not be loaded. The checks are those of `prepare_told`, in its order, but for that of the
+/// room. Then the plan is told if there is room for all its places, steps and own bytes, and else
+/// how many there are of each.
 pub fn plan_told<A: Allocator + Copy>(
     alloc: A,
     machine: &MachineRecord,
@@ -107,7 +102,7 @@ pub fn plan_told<A: Allocator + Copy>(
     refusal: &mut RefusalRecord,
 ) -> u32
     ensures { (end : Result PlanFacts LoadFault)
-        × IsGivenPlanEnd machine.now regions.now entry.now (length places.old) end
+        × IsGivenPlanEnd machine.now regions.now entry.now end
         × TellsPlan end result
         (record {
           handoff = told.old;
@@ -125,7 +120,7 @@ pub fn plan_told<A: Allocator + Copy>(
         })
         refusal.old refusal.new }
 {
-    match plan_entry(alloc, machine, regions, entry, places.len()) {
+    match plan_entry(alloc, machine, regions, entry) {
         Ok(made) => tell_stepped(&made, told, counts, places, steps, own),
         Err(fault) => tell_load_fault(fault, refusal),
     }

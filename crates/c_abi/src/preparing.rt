@@ -1,9 +1,11 @@
 //! What a load of an entry would hand over is told to C, which gives no memory to load into, and of
 //! the files after the kernel the lengths alone.
-ghost use Rattle.std.specs.Prelude.{◌≡◌, ℕ, ◌≤◌, List, length, IfOk, IfErr, OnOk, Result};
+ghost use Rattle.std.specs.Prelude.{◌≡◌, ℕ, ◌≤◌, List, length, map, IfOk, IfErr, OnOk, Result};
 ghost use Rattle.bl_load.specs.EntryValue.{value_of, file_count, IsWithinLimits};
 ghost use Rattle.bl_load.specs.HandoffFacts.{HandoffFacts};
+ghost use Rattle.bl_load.specs.LeanPlans.{IsLean};
 ghost use Rattle.bl_load.specs.Loadable.{lengths_of, IsLoadable};
+ghost use Rattle.bl_load.specs.Origins.{planned_origin, AreOrigins};
 ghost use Rattle.bl_load.specs.Parts.{IsHandover, IsPrepFault};
 ghost use Rattle.bl_load.specs.PlanContents.{handoff_by, handover_by};
 ghost use Rattle.c_records.specs.Given.{files_given};
@@ -38,6 +40,10 @@ pub(crate) fn prepare_row<A: Allocator + Copy>(
         → IsHandover machine.now (value_of texts entry.now) (handover_by texts plan)) }
     ensures loadable { IfOk result (λ plan. (texts : List (List ℕ)) → AreFilesOf row.now texts
         → IsLoadable (lengths_of texts) machine.now.size plan) }
+    ensures lean { IfOk result (λ plan. IsLean plan.parts.items) }
+    ensures origins { IfOk result (λ plan. (texts : List (List ℕ)) → AreFilesOf row.now texts
+        → AreOrigins machine.now (value_of texts entry.now)
+        (map planned_origin plan.parts.items)) }
     ensures fault { IfErr result (λ fault. (texts : List (List ℕ)) → AreFilesOf row.now texts
         → IsPrepFault machine.now (value_of texts entry.now) fault) }
 {

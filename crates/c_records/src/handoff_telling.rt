@@ -59,7 +59,7 @@ pub fn handoff_told<A: Allocator>(entry: u32, handoff: &Handoff<A>) -> HandoffRe
 /// Tells what a plan would hand over.
 pub fn tell_plan<A: Allocator>(plan: &Plan<A>, told: &mut HandoffRecord, places: &mut [PlaceRecord])
     requires few { length plan.now.parts.items ≤ 256 }
-    requires room { 256 ≤ length places.old }
+    requires room { length plan.now.parts.items ≤ length places.old }
     ensures handoff { told.new ≡ spec.handoff_told 0 (handoff_by plan.now) }
     ensures places { places.new ≡ spec.places_told (places_of plan.now) places.old }
 {

@@ -5,6 +5,7 @@ use crate::given_records::{EntryRecord, FileRecord, MachineRecord, ModuleRecord,
 use crate::plan_records::{PlanCountsRecord, StepRecord};
 use crate::seen_records::{ByteRange, SeenModuleRecord, SeenPartRecord, SeenRecord};
 use crate::segment_records::SegmentRecord;
+use crate::unplaced_record::UnplacedRecord;
 
 const _: () = prove!(size_of::<FileRecord<'_>>() == 24);
 
@@ -28,7 +29,9 @@ const _: () = prove!(size_of::<HandoffRecord>() == 304);
 
 const _: () = prove!(size_of::<StepRecord>() == 40);
 
-const _: () = prove!(size_of::<PlanCountsRecord>() == 16);
+const _: () = prove!(size_of::<PlanCountsRecord>() == 24);
+
+const _: () = prove!(size_of::<UnplacedRecord>() == 56);
 
 const _: () = prove!(size_of::<SeenRecord>() == 136);
 

@@ -23,6 +23,7 @@ mod seen_telling;
 mod seen_vectors;
 mod segment_records;
 mod segment_telling;
+mod unplaced_record;
 mod walk_stops;
 mod walk_telling;
 
@@ -53,5 +54,6 @@ pub use seen_telling::records_of;
 pub use seen_vectors::SeenVectors;
 pub use segment_records::SegmentRecord;
 pub use segment_telling::segments_told;
+pub use unplaced_record::UnplacedRecord;
 pub use walk_stops::{stop_status, stop_told};
 pub use walk_telling::{tell_records, tell_walk};

@@ -15,10 +15,11 @@ pub struct StepRecord {
     pub reserved: u64,
 }
 
-/// How many steps a plan has, and how many bytes it holds itself.
+/// How many places and steps a plan has, and how many bytes it holds itself.
 #[repr(C)]
 #[derive(Clone, Copy)]
 pub struct PlanCountsRecord {
+    pub places: u64,
     pub steps: u64,
     pub own: u64,
 }

@@ -1,7 +1,9 @@
 -- Plans as they are told. Own.
-use Rattle.std.specs.Prelude.{ℕ, ◌<◌, ◌^◌, List, length, All, AllPairs}
+use Rattle.std.specs.Prelude.{ℕ, ◌<◌, ◌≤◌, ◌^◌, List, length, All, AllPairs}
 use Rattle.bl_map.specs.MachineFacts.{MachineFacts}
+use Rattle.bl_load.specs.HandoffFacts.{max_parts}
 use Rattle.bl_load.specs.PlanContents.{handoff_by}
+use Rattle.bl_load.specs.PlanLimits.{max_steps, max_own}
 use Rattle.bl_load.specs.Steps.{IsStep, StepsAscend}
 use Rattle.bl_load.specs.declared.step.Step.{Step}
 use Rattle.c_records.specs.Given.{value_with}
@@ -30,3 +32,6 @@ pub record IsPlanOn (facts : MachineFacts) (entry : EntryRecord) (plan : PlanFac
       → IsPlanOf facts (value_with entry texts) plan
   pub sound : All (IsStep (file_lengths entry) (length plan.own) facts.size) plan.steps
   pub ascending : AllPairs StepsAscend plan.steps
+  pub few_places : length plan.handoff.places ≤ max_parts
+  pub few_steps : length plan.steps ≤ max_steps
+  pub few_own : length plan.own ≤ max_own

@@ -1,7 +1,7 @@
 use Rattle.std.proofs.Common.{refl, subst, sym}
 use Rattle.c_abi.specs.Load.{IsEntryFault}
 use Rattle.c_abi.proofs.LoadLemmas.{given_value, of_prepared_is}
-use Rattle.c_abi.proofs.PlanLemmas.{can_be, few_parts, is_plan_on, small_files}
+use Rattle.c_abi.proofs.PlanLemmas.{can_be, is_plan_on, small_files}
 use Rattle.c_abi.proofs.planning.plan_of_entry.Goals as goal
 
 pub returns-in-Err-clause-fault : goal.returns-in-Err-clause-fault
@@ -21,13 +21,9 @@ pub returns-in-Ok-steps-clause-planned : goal.returns-in-Ok-steps-clause-planned
 returns-in-Ok-steps-clause-planned g c =
     let told = c.in-Ok-steps.ensures in
     is_plan_on c.args.machine.now c.args.row.now c.args.entry.now c.in-Ok.plan
-    c.in-Ok.ensures.loadable c.in-Ok-steps.told told.sound c.requires.value
-    c.in-Ok.ensures.handover told.carried_out told.ascending
-
-pub returns-in-Ok-steps-clause-few : goal.returns-in-Ok-steps-clause-few
-returns-in-Ok-steps-clause-few g c =
-    few_parts c.args.machine.now c.args.row.now c.args.entry.now c.in-Ok.plan
-    c.in-Ok.ensures.loadable
+    c.in-Ok.ensures.loadable c.in-Ok-steps.told told.sound c.requires c.size-size.ensures.facts
+    c.in-Ok.ensures.lean c.in-Ok.ensures.origins c.in-Ok.ensures.handover told.carried_out
+    told.steps told.own told.ascending
 
 pub returns-in-Ok-steps-clause-files : goal.returns-in-Ok-steps-clause-files
 returns-in-Ok-steps-clause-files g c =

@@ -26,6 +26,15 @@ returns-clause-loadable g c =
     (c.deref.ensures.value ∙ c.in_ok-lengths.ensures) files))
     c.prepare_by_lengths.ensures.loadable
 
+pub returns-clause-origins : goal.returns-clause-origins
+returns-clause-origins g c =
+    IfOk-weaker c.prepare_by_lengths.result _ _
+    (λ plan is texts files.
+    is texts
+    (same_files c.args.row.now _ _ texts c.new-kernel.ensures
+    (c.deref.ensures.value ∙ c.in_ok-lengths.ensures) files))
+    c.prepare_by_lengths.ensures.origins
+
 pub returns-clause-fault : goal.returns-clause-fault
 returns-clause-fault g c =
     IfErr-weaker c.prepare_by_lengths.result _ _
