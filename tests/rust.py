@@ -220,7 +220,7 @@ def numbers() -> Iterator[Tuple[str, str]]:
                 yield prefix + said.get(name, name), number
     for file in ("raw", "lib", "arena"):
         for name, value in re.findall(r"(?m)^(?:pub(?:\(crate\))? )?const (\w+): \w+ = ([\w:]+);", source(f"src/{file}.rs")):
-            prefix = "BOOTCORE_" if re.match("SOURCE_|MAX_|IMAGE_PLACE$|ARENA$|PIECE$|UNREADABLE$|ABSENT$", name) else "BOOTCORE_STATUS_"
+            prefix = "BOOTCORE_" if re.match("SOURCE_|MAX_|ARENA$|PIECE$|UNREADABLE$|ABSENT$", name) else "BOOTCORE_STATUS_"
             yield prefix + name, {"usize::MAX": "SIZE_MAX", "u64::MAX": "UINT64_MAX"}.get(value, value)
 
 

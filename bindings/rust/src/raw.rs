@@ -45,7 +45,6 @@ const SOURCE_LAYOUT: u32 = 2;
 const SOURCE_ZEROS: u32 = 3;
 
 const MAX_PLACES: usize = 256;
-const IMAGE_PLACE: usize = 24;
 const MAX_REFUSALS: usize = 32;
 const UNREADABLE: usize = usize::MAX;
 const ABSENT: u64 = u64::MAX;
@@ -897,18 +896,9 @@ pub(crate) fn image_head_read(head: &[u8]) -> Result<crate::Handoff, Error> {
     let _turn = enter()?;
     let (mut handoff, mut fault) = (Handoff::default(), Refusal::default());
     let mut places = vec![Place::default(); MAX_PLACES];
-    let mut call = |places: &mut [Place]| {
-        let (count, places) = (places.len(), places.as_mut_ptr());
-        // SAFETY: the head is borrowed, with its length; the places are this call's own, and have the room that is told
-        unsafe { bootcore_image_head_read(head.as_ptr().cast(), head.len(), &mut handoff, places, count, &mut fault) }
-    };
-    let mut status = call(&mut places);
-    if status == SMALL_ROOM {
-        // no head has room for more, whatever it says
-        places.resize(head.len() / IMAGE_PLACE, Place::default());
-        status = call(&mut places);
-    }
-    match status {
+    let (room, to) = (places.len(), places.as_mut_ptr());
+    // SAFETY: the head is borrowed, with its length; the places are this call's own, and have the room that is told
+    match unsafe { bootcore_image_head_read(head.as_ptr().cast(), head.len(), &mut handoff, to, room, &mut fault) } {
         DONE => {
             places.truncate(handoff.place_count as usize);
             Ok(handoff_told(&handoff, &places))
