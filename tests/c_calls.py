@@ -54,7 +54,8 @@ def rounded(needs: Dict[Tuple[str, ...], int], call: str) -> Tuple[int, int]:
     """What was measured of a call, in the same way: a digest and a session as a whole are named after the call that begins them."""
     name = {"digest_make": "digest", "session_make": "session"}.get(call, call)
     up = lambda number: -(-number // 1000) * 1000
-    return up(needs["arena", name, "of", "a", "guest"]), up(needs["arena", name])
+    guest, most, of_menu = (needs[("arena", name, *of)] for of in (["of", "a", "guest"], [], ["of", "the", "largest", "menu"]))
+    return up(guest), up(max(most, of_menu))
 
 
 class Misuses(CoreChecks):
@@ -62,7 +63,7 @@ class Misuses(CoreChecks):
         driver = self.driver("orders", *self.sanitizers())
         if driver is not None:
             ran = run(driver, timeout=600)
-            self.ends("of each two misuses of a call from C the first is told, and nothing is changed", ran, 0, "2226 tried, 0 wrong\n")
+            self.ends("of each two misuses of a call from C the first is told, and nothing is changed", ran, 0, "2756 tried, 0 wrong\n")
 
 
 class Needs(CoreChecks):

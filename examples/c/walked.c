@@ -35,7 +35,7 @@ static uint8_t *read_file(const char *path, size_t *length) {
 
 /* Arrays with room for all that is seen; one that there is no memory for stays null. */
 static bootcore_seen_arrays arrays_for(const bootcore_seen *seen) {
-    bootcore_seen_arrays arrays;
+    bootcore_seen_arrays arrays = {.text = NULL};
     arrays.kernel_parts = calloc(seen->kernel_part_count, sizeof *arrays.kernel_parts);
     arrays.kernel_part_room = seen->kernel_part_count;
     arrays.modules = calloc(seen->module_count, sizeof *arrays.modules);

@@ -77,9 +77,8 @@ static bootcore_outcome empty_outcome(void) {
 
 /* Makes the call over memory that was just filled, with so many requests granted: a load of this entry, or a boot if it is null. */
 static uint32_t call(const bootcore_entry *entry, size_t grants) {
-    bootcore_memory whole;
+    bootcore_memory whole = {0, NULL, 0, 0};
     uint32_t status;
-    whole.address = 0;
     whole.bytes = memory;
     whole.length = numbers[SIZE];
     memset(memory, (int)numbers[FILL], numbers[SIZE]);
@@ -538,6 +537,7 @@ static bootcore_digests reckon(void) {
         sha256_begin(&part);
         sha256_add(&part, memory + places[i].address, places[i].length);
         sha256_end(&part, wanted_parts[i].sha256);
+        wanted_parts[i].reserved = 0;
     }
     sha256_end(&image, wanted.image_sha256);
     wanted.part_count = outcome.handoff.place_count;

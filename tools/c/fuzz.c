@@ -198,7 +198,7 @@ static void compare_plan(uint32_t status, const bootcore_outcome *outcome, const
     bootcore_entry bare = entry;
     bootcore_module lengths[4];
     bootcore_layout layout;
-    bootcore_memory pieces[2];
+    bootcore_memory pieces[2] = {{0, NULL, 0, 0}, {0, NULL, 0, 0}};
     size_t i, cut;
     uint32_t came;
     memset(&layout, 0, sizeof layout);
@@ -376,7 +376,7 @@ static void check_walk(const bootcore_outcome *outcome) {
 static void try_input(const uint8_t *bytes, size_t length) {
     static bootcore_refusal refusal, prepared_refusal;
     bootcore_outcome outcome, prepared;
-    bootcore_memory whole;
+    bootcore_memory whole = {0, NULL, 0, 0};
     uint32_t status;
     input = bytes;
     input_length = length;

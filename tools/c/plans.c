@@ -17,7 +17,7 @@
 
 #include <inttypes.h>
 
-enum { LARGE = 16 << 20, REGISTERS = sizeof(bootcore_registers) / sizeof(uint64_t) };
+enum { LARGE = 16 << 20, REGISTERS = offsetof(bootcore_registers, reserved) / sizeof(uint64_t) };
 
 static bootcore_place places[BOOTCORE_MAX_PLACES];
 
