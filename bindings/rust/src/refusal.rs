@@ -156,9 +156,9 @@ refusals! {
         EntryOutside = 17,
         /// The alignment of a relocatable kernel is no power of two.
         BadAlign = 18,
-        /// A part at a fixed address has a byte that is not usable.
+        /// A part at a fixed address has a byte that is not usable: [`unplaced`](crate::unplaced()) says which.
         NotUsable = 19,
-        /// No address is permitted for a part.
+        /// No address is permitted for a part: [`unplaced`](crate::unplaced()) says for which, and what it wants.
         NoRoom = 20,
         /// The pool is too small for the files.
         NoPool = 21,
