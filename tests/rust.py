@@ -53,6 +53,7 @@ fn main() {
         walk(b"no image").map(drop),
         Handoff::from_image_head(b"no head").map(drop),
         machine.bad_region().map(drop),
+        unplaced(&machine, &entry).map(drop),
         Session::new(memory, &machine, &menu).map(drop),
     ];
     for end in ends {
@@ -146,7 +147,7 @@ class Declared(CrateChecks):
             self.skipTest("no compiler of C is at hand")
         asserted = list(numbers())
         self.assertGreater(len(asserted), 80)
-        prefixes = "REFUSAL|FAULT|STATUS|PROTOCOL|ROLE|KIND|SOURCE"
+        prefixes = "REFUSAL|FAULT|STATUS|PROTOCOL|ROLE|KIND|SOURCE|CHOICE"
         names = set(re.findall(rf"\bBOOTCORE_(?:{prefixes})_\w+(?= = )", HEADER.read_text(encoding="utf-8")))
         self.assertGreater(len(names), 80)
         self.assertEqual(names - UNNAMED - {name for name, _ in asserted}, set(), "numbers that the crate lacks")
@@ -209,7 +210,7 @@ def numbers() -> Iterator[Tuple[str, str]]:
     """The numbers of the header as the crate has them: name and value."""
     variant = re.compile(r"\b([A-Z]\w+)(?: \{[^{}]*\})? = (\d+),")
     said = {"NO_BYTES": "NULL", "NO64_ENTRY": "NO_64_ENTRY", "UNUSABLE": "BAD"}
-    kinds = {"error": "STATUS", "entry": "PROTOCOL", "handoff": "ROLE", "machine": "KIND"}
+    kinds = {"error": "STATUS", "entry": "PROTOCOL", "handoff": "ROLE", "machine": "KIND", "unplaced": "CHOICE"}
     for file in ("refusal", *kinds):
         prefix = f"BOOTCORE_{kinds.get(file)}_"
         for line in re.split(r"(?m)^(?=    \w+ \{$)", source(f"src/{file}.rs")):
@@ -220,7 +221,7 @@ def numbers() -> Iterator[Tuple[str, str]]:
                 yield prefix + said.get(name, name), number
     for file in ("raw", "lib", "arena"):
         for name, value in re.findall(r"(?m)^(?:pub(?:\(crate\))? )?const (\w+): \w+ = ([\w:]+);", source(f"src/{file}.rs")):
-            prefix = "BOOTCORE_" if re.match("SOURCE_|MAX_|IMAGE_PLACE$|ARENA$|PIECE$|UNREADABLE$|ABSENT$", name) else "BOOTCORE_STATUS_"
+            prefix = "BOOTCORE_" if re.match("SOURCE_|MAX_|ARENA$|PIECE$|UNREADABLE$|ABSENT$", name) else "BOOTCORE_STATUS_"
             yield prefix + name, {"usize::MAX": "SIZE_MAX", "u64::MAX": "UINT64_MAX"}.get(value, value)
 
 
@@ -261,7 +262,7 @@ class Versions(CrateChecks):
         library = ["--crate-type", "rlib", "--cfg", 'feature="std"', "-l", "static=bootcore"]
         self.assert_good(run(*words, "bootcore", *library, CRATE / "src/lib.rs"))
         self.assert_good(run(*words, "begin", "--extern", f"bootcore={folder / 'libbootcore.rlib'}", folder / "begin.rs"))
-        self.ends("each call says that the archive is of another version", run(folder / "begin"), 0, f"{WRONG}\n" * 10)
+        self.ends("each call says that the archive is of another version", run(folder / "begin"), 0, f"{WRONG}\n" * 11)
 
 
 class Built(CrateChecks):

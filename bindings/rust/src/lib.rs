@@ -73,6 +73,7 @@ mod raw;
 mod records;
 mod refusal;
 mod turn;
+mod unplaced;
 mod version;
 
 #[cfg(not(feature = "std"))]
@@ -88,6 +89,7 @@ pub use machine::{Kind, Machine, Region};
 pub use memory::Memory;
 pub use plan::{Plan, Source, Step, Steps};
 pub use refusal::{Fault, Refusal};
+pub use unplaced::{unplaced, Choice, Unplaced};
 
 /// A machine has no more regions.
 pub const MAX_REGIONS: usize = 128;

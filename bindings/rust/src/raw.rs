@@ -28,6 +28,7 @@ use crate::image;
 use crate::plan::{Kept, KeptSource};
 use crate::refusal::{Carried, Fault};
 use crate::turn::Turn;
+use crate::unplaced::Choice;
 use crate::version::is_right;
 
 pub(crate) const DONE: u32 = 0;
@@ -45,7 +46,6 @@ const SOURCE_LAYOUT: u32 = 2;
 const SOURCE_ZEROS: u32 = 3;
 
 const MAX_PLACES: usize = 256;
-const IMAGE_PLACE: usize = 24;
 const MAX_REFUSALS: usize = 32;
 const UNREADABLE: usize = usize::MAX;
 const ABSENT: u64 = u64::MAX;
@@ -132,11 +132,24 @@ records! {
         own: *mut u8,
         own_room: usize,
         handoff: Handoff,
+        place_count: usize,
         step_count: usize,
         own_length: usize,
         refusal: Refusal,
         planned: u64,
         reserved: [u64; 4],
+    }
+    #[derive(Default)]
+    UnplacedPart {
+        role: u32,
+        index: u32,
+        length: u64,
+        alignment: u64,
+        low: u64,
+        high: u64,
+        address: u64,
+        choice: u32,
+        reserved: u32,
     }
     Menu {
         entries: *const Entry,
@@ -211,6 +224,7 @@ extern "sysv64" {
     fn bootcore_load(memory: *const Memory, machine: *const Machine, entry: *const Entry, outcome: *mut Outcome) -> u32;
     fn bootcore_prepare(machine: *const Machine, entry: *const Entry, outcome: *mut Outcome) -> u32;
     fn bootcore_plan(machine: *const Machine, entry: *const Entry, layout: *mut Layout) -> u32;
+    fn bootcore_unplaced(machine: *const Machine, entry: *const Entry, part: *mut UnplacedPart, refusal: *mut Refusal) -> u32;
     fn bootcore_carry_out(
         layout: *const Layout,
         files: *const Bytes,
@@ -462,6 +476,19 @@ fn handoff_told(handoff: &Handoff, places: &[Place]) -> crate::Handoff {
     }
 }
 
+fn unplaced_told(part: &UnplacedPart) -> crate::Unplaced {
+    crate::Unplaced {
+        role: Role::from_number(part.role),
+        index: part.index,
+        length: part.length,
+        alignment: part.alignment,
+        low: part.low,
+        high: part.high,
+        address: part.address,
+        choice: Choice::from_number(part.choice),
+    }
+}
+
 fn carried(refusal: &Refusal) -> Carried {
     Carried { number: refusal.number, first: refusal.first, second: refusal.second }
 }
@@ -572,16 +599,16 @@ pub(crate) fn plan(machine: &crate::Machine, entry: &crate::Entry<'_>) -> Result
     let _turn = enter()?;
     let (regions, modules) = (regions_of(machine), modules_of(entry));
     let (machine, entry) = (machine_of(machine, &regions), entry_of(entry, &modules));
-    let mut places = vec![Place::default(); MAX_PLACES];
-    let (mut steps, mut own) = (Vec::<Step>::new(), Vec::<u8>::new());
+    let (mut places, mut steps, mut own) = (Vec::<Place>::new(), Vec::<Step>::new(), Vec::<u8>::new());
     let mut layout = Layout {
         places: places.as_mut_ptr(),
-        place_room: places.len(),
+        place_room: 0,
         steps: steps.as_mut_ptr(),
         step_room: 0,
         own: own.as_mut_ptr(),
         own_room: 0,
         handoff: Handoff::default(),
+        place_count: 0,
         step_count: 0,
         own_length: 0,
         refusal: Refusal::default(),
@@ -592,8 +619,11 @@ pub(crate) fn plan(machine: &crate::Machine, entry: &crate::Entry<'_>) -> Result
     // arrays are this call's own; no byte of a file whose pointer is null is read
     let mut status = unsafe { bootcore_plan(&machine, &entry, &mut layout) };
     if status == SMALL_ROOM {
+        places.resize(layout.place_count, Place::default());
         steps.resize(layout.step_count, Step::default());
         own.resize(layout.own_length, 0);
+        layout.places = places.as_mut_ptr();
+        layout.place_room = places.len();
         layout.steps = steps.as_mut_ptr();
         layout.step_room = steps.len();
         layout.own = own.as_mut_ptr();
@@ -603,13 +633,26 @@ pub(crate) fn plan(machine: &crate::Machine, entry: &crate::Entry<'_>) -> Result
     }
     match status {
         DONE => {
-            places.truncate(layout.handoff.place_count as usize);
+            places.truncate(layout.place_count);
             steps.truncate(layout.step_count);
             own.truncate(layout.own_length);
             let steps = steps.iter().map(step_told).collect::<Result<_, _>>()?;
             Ok(crate::Plan { handoff: handoff_told(&layout.handoff, &places), steps, own })
         }
         REFUSED => Err(Error::Refused(refusal_told(&layout.refusal))),
+        other => Err(Error::of_status(other)),
+    }
+}
+
+pub(crate) fn unplaced(machine: &crate::Machine, entry: &crate::Entry<'_>) -> Result<Option<crate::Unplaced>, Error> {
+    let _turn = enter()?;
+    let (regions, modules) = (regions_of(machine), modules_of(entry));
+    let (machine, entry) = (machine_of(machine, &regions), entry_of(entry, &modules));
+    let (mut part, mut refusal) = (UnplacedPart::default(), Refusal::default());
+    // SAFETY: as for `prepare`, with a part and a refusal of this call's own
+    match unsafe { bootcore_unplaced(&machine, &entry, &mut part, &mut refusal) } {
+        DONE => Ok((part.role != 0).then(|| unplaced_told(&part))),
+        REFUSED => Err(Error::Refused(refusal_told(&refusal))),
         other => Err(Error::of_status(other)),
     }
 }
@@ -625,6 +668,7 @@ pub(crate) fn carry_out(plan: &crate::Plan, files: &[&[u8]], memory: &mut [crate
         own: plan.own.as_ptr() as *mut u8,
         own_room: plan.own.len(),
         handoff: Handoff::default(),
+        place_count: 0,
         step_count: steps.len(),
         own_length: plan.own.len(),
         refusal: Refusal::default(),
@@ -897,18 +941,9 @@ pub(crate) fn image_head_read(head: &[u8]) -> Result<crate::Handoff, Error> {
     let _turn = enter()?;
     let (mut handoff, mut fault) = (Handoff::default(), Refusal::default());
     let mut places = vec![Place::default(); MAX_PLACES];
-    let mut call = |places: &mut [Place]| {
-        let (count, places) = (places.len(), places.as_mut_ptr());
-        // SAFETY: the head is borrowed, with its length; the places are this call's own, and have the room that is told
-        unsafe { bootcore_image_head_read(head.as_ptr().cast(), head.len(), &mut handoff, places, count, &mut fault) }
-    };
-    let mut status = call(&mut places);
-    if status == SMALL_ROOM {
-        // no head has room for more, whatever it says
-        places.resize(head.len() / IMAGE_PLACE, Place::default());
-        status = call(&mut places);
-    }
-    match status {
+    let (room, to) = (places.len(), places.as_mut_ptr());
+    // SAFETY: the head is borrowed, with its length; the places are this call's own, and have the room that is told
+    match unsafe { bootcore_image_head_read(head.as_ptr().cast(), head.len(), &mut handoff, to, room, &mut fault) } {
         DONE => {
             places.truncate(handoff.place_count as usize);
             Ok(handoff_told(&handoff, &places))

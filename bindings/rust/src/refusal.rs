@@ -162,9 +162,9 @@ refusals! {
         EntryOutside = 17,
         /// The alignment is no power of two: kernel_alignment of a relocatable kernel.
         BadAlign = 18,
-        /// A part at a fixed address has a byte that is not usable.
+        /// A part at a fixed address has a byte that is not usable: [`unplaced`](crate::unplaced()) says which.
         NotUsable = 19,
-        /// No address is permitted for a part.
+        /// No address is permitted for a part: [`unplaced`](crate::unplaced()) says for which, and what it wants.
         NoRoom = 20,
         /// The pool is too small for the files: in all, or beside the parts.
         NoPool = 21,
