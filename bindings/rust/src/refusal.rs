@@ -85,7 +85,8 @@ macro_rules! refusals {
 
 refusals! {
     /// Why an entry is refused. Shown, it is a line as of `bootcore explain`. Of a line that is too long
-    /// [`Entry::long_line`](crate::Entry::long_line) says which, and its limit.
+    /// [`Entry::long_line`](crate::Entry::long_line) says which, and its limit; of a part that finds no place
+    /// [`unplaced`](crate::unplaced()) says which, and what it wants.
     ///
     /// ```
     /// let refusal = bootcore::Refusal::NoFile { file: 0 };
@@ -162,9 +163,9 @@ refusals! {
         EntryOutside = 17,
         /// The alignment is no power of two: kernel_alignment of a relocatable kernel.
         BadAlign = 18,
-        /// A part at a fixed address has a byte that is not usable: [`unplaced`](crate::unplaced()) says which.
+        /// A part at a fixed address has a byte that is not usable.
         NotUsable = 19,
-        /// No address is permitted for a part: [`unplaced`](crate::unplaced()) says for which, and what it wants.
+        /// No address is permitted for a part.
         NoRoom = 20,
         /// The pool is too small for the files: in all, or beside the parts.
         NoPool = 21,
