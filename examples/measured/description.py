@@ -4,12 +4,14 @@ that say the same exactly one is accepted: docs/FORMATS.md, "The description of 
 import tomllib
 from typing import Any, Dict, List, NamedTuple, Optional, Tuple
 
+from limits import DESCRIPTION_BYTES
 from reading import fault, shown
 
 KINDS = ["usable", "reserved", "acpi", "nvs", "bad"]
 PROTOCOLS = ["multiboot2", "linux", "linux64"]
 FRAME = 0x1000
 ALL_FRAMES = 0xFFFFF000  # no part ends above it
+HIGHEST = (1 << 64) - 1  # of numbers
 
 
 class Region(NamedTuple):
@@ -83,7 +85,7 @@ def written(described: Described) -> bytes:
 
 def value(table: Dict[str, Any], key: str, kind: type) -> Any:
     found = table.get(key)
-    if type(found) is not kind:  # a truth value is an int, too
+    if type(found) is not kind or (kind is int and not 0 <= found <= HIGHEST):  # a truth value is an int, too
         fault(f"its key {key} is missing, or no {kind.__name__}")
     return found
 
@@ -121,6 +123,8 @@ def entry_of(table: Dict[str, Any], size: int, regions: List[Region]) -> Describ
 
 def read_description(text: bytes) -> Described:
     """What it says. Its one form is what the writer above makes of that, so nothing else is compared."""
+    if len(text) > DESCRIPTION_BYTES:
+        fault(f"it has more than {DESCRIPTION_BYTES} bytes")
     try:
         table = tomllib.loads(text.decode())
     except (ValueError, RecursionError):

@@ -16,11 +16,15 @@ def fault(what: str) -> NoReturn:
     raise Fault(what)
 
 
-def file_bytes(path: Path) -> bytes:
+def file_bytes(path: Path, most: int) -> bytes:
     try:
-        return path.read_bytes()
-    except OSError as error:
-        raise BadInput(f"{path}: {error.strerror}") from None
+        with open(path, "rb") as file:
+            held = file.read(most + 1)
+    except (OSError, ValueError) as error:  # a name with a zero byte is a wrong value
+        raise BadInput(f"{path}: {getattr(error, 'strerror', error)}") from None
+    if len(held) > most:
+        raise BadInput(f"{path} has more than {most} bytes")
+    return held
 
 
 def shown(text: bytes) -> str:
@@ -30,14 +34,11 @@ def shown(text: bytes) -> str:
 
 
 class Fields:
-    """Bytes that are taken from front to back."""
+    """Bytes that are taken from front to back. What was passed is never copied again, so the time is linear."""
 
-    def __init__(self, held: bytes, what: str, order: str) -> None:
-        self.held, self.what, self.at = held, what, 0
+    def __init__(self, held: bytes, what: str, order: str, at: int = 0) -> None:
+        self.held, self.what, self.at = held, what, at
         self.order = order  # of a number's bytes, little or big
-
-    def rest(self) -> bytes:
-        return self.held[self.at :]
 
     def take(self, length: int) -> bytes:
         if length > len(self.held) - self.at:
@@ -48,6 +49,15 @@ class Fields:
     def number(self, length: int) -> int:
         return int.from_bytes(self.take(length), self.order)
 
+    def is_unused(self) -> bool:
+        """Whether nothing follows but what fills up a firmware's room: zeros, or bytes 0xFF."""
+        ahead = self.held[self.at : self.at + 12]  # too few for an event; only where these are alike is the rest looked at
+        return any(ahead.count(fill) == len(ahead) and self.held.count(fill, self.at) == self.left for fill in (b"\0", b"\xff"))
+
+    @property
+    def left(self) -> int:
+        return len(self.held) - self.at
+
     def end(self) -> None:
-        if self.at != len(self.held):
+        if self.left:
             raise BadInput(f"{self.what} goes on behind its end")

@@ -12,7 +12,7 @@ from tests.support import TOP
 
 ALGORITHMS = {"sha1": 0x04, "sha256": 0x0B, "sha384": 0x0C, "sha512": 0x0D}
 NO_ACTION, SEPARATOR, VERSION, IPL = 0x03, 0x04, 0x08, 0x0D
-VARIABLE, APPLICATION, ACTION = 0x80000001, 0x80000003, 0x80000007
+VARIABLE, APPLICATION, DRIVER, RUNTIME_DRIVER, ACTION = 0x80000001, 0x80000003, 0x80000004, 0x80000005, 0x80000007
 
 
 class Event(NamedTuple):
@@ -92,7 +92,7 @@ def untold(events: Iterable[Event], banks: Iterable[str], text: str) -> Tuple[Se
                 place += 2 + size
         else:
             free.update(range(at + 4, at + 8))
-            if event.pcr not in (4, 8, 12) or event.kind == APPLICATION:
+            if event.pcr not in (2, 4, 8, 12) or event.kind == APPLICATION:
                 free.update(range(data, end))
         if event.pcr == 12:
             for value in re.findall(r'^(?:kernel|initrd) = "(.*)"$', text, re.M):
@@ -139,6 +139,11 @@ def quote_of(pcrs: Pcrs, selected: Selected, nonce: bytes, bank: str = "sha256")
     clock = struct.pack(">QIIBQ", 123456, 7, 2, 1, 0x2020031200000000)
     rest = struct.pack(">I", len(selected)) + banks + struct.pack(">H", len(digest)) + digest
     return start + struct.pack(">H", len(nonce)) + nonce + clock + rest
+
+
+def plain_of(pcrs: Pcrs, selected: Selected) -> bytes:
+    """As tpm2_pcrread writes it, and tpm2_quote by -F values: the values alone."""
+    return b"".join(pcrs[name][pcr] for name, chosen in selected for pcr in sorted(chosen))
 
 
 def pcr_file_of(pcrs: Pcrs, selected: Selected) -> bytes:

@@ -1,0 +1,64 @@
+"""A machine in QEMU, from the disk to the verdict."""
+
+from typing import List, Optional, Tuple
+
+from examples.measured.tests import boots
+from examples.measured.tests.boots import FILES
+from examples.measured.tests.cases import GOOD, WRONG
+from examples.measured.tests.checker import CHECKER, CheckerChecks
+from tests.support import TOP, Ran, run
+
+
+class Machine(CheckerChecks):
+    """A machine in QEMU with a TPM, from the boot manager's disk to the verdict, by the commands of docs/MEASURED.md."""
+
+    def test_machine(self) -> None:
+        sentence = "a machine with a TPM boots, and the verdict is as it should be"
+        if not (TOP / "examples/efi/out/BOOTX64.EFI").exists():
+            self.leave_out(sentence, "examples/efi/build has not made the boot manager")
+            return
+        (self.room / "vmlinuz").write_bytes(FILES["vmlinuz"])
+        (self.room / "initrd.img").write_bytes(b"hello")
+        made = run(TOP / "examples/efi/make_esp", "esp", "vmlinuz", "initrd.img", cwd=self.room)
+        self.assertEqual(made.status, 0, f"ran: {made}\n{made.err.decode(errors='replace')}")
+        ran = run(CHECKER / "trial", "esp", "seen", cwd=self.room, env={"NONCE": NONCE}, timeout=900)
+        if ran.status == 127:
+            self.leave_out(sentence, ran.err.decode(errors="replace").strip())
+            return
+        told = "made seen, with the log and a quote of the machine's TPM\n"
+        self.ends("a machine with a TPM boots, and its log and a quote are kept", ran, 0, told)
+        self.says(sentence, self.checked(), GOOD, 'booted    "Linux" by the protocol linux64\n')
+        self.says("a machine's quote with another nonce", self.checked(nonce="00"), WRONG, "the quote's nonce is c0ffee, not 00")
+        policy = (CHECKER / "policy.toml").read_text(encoding="utf-8")
+        (self.room / "policy").write_text(policy.replace("console=tty0", "console=tty1"), encoding="utf-8")
+        self.says("a machine's line that the policy has not", self.checked(policy="policy"), WRONG, "has other lines than those")
+        self.check_logs((self.room / "seen/log").read_bytes())
+        (self.room / "esp/bootcore/initrd.img").write_bytes(b"hellp")
+        self.says("a machine's ramdisk that is not known", self.checked(), WRONG, 'the event\'s text is "bootcore/initrd.img"')
+
+    def check_logs(self, log: bytes) -> None:
+        place = log.rindex(b"length = 0x") + 11
+        digit = b"2" if log[place] == 0x31 else b"1"
+        first, events = boots.parted(log)
+
+        def spelled(listed: List[Tuple[int, bytes]]) -> bytes:
+            return first + b"".join(event for _, event in listed)
+
+        last = max(i for i, (pcr, _) in enumerate(events) if pcr == 12)
+        files = [i for i, (pcr, _) in enumerate(events) if pcr == 9]
+        swapped = list(events)
+        swapped[files[-1]], swapped[files[-2]] = events[files[-2]], events[files[-1]]
+        for sentence, changed, said in (
+            ("with another number in its map", log[:place] + digit + log[place + 1 :], "is not the image of its description"),
+            ("without one of its files", spelled(events[: files[0]] + events[files[0] + 1 :]), "PCR 9 of sha256 is not"),
+            ("with two files in another order", spelled(swapped), "PCR 9 of sha256 is not what the log gives"),
+            ("that is cut before its handover", spelled(events[:last]), "PCR 12 of sha256 is not what the log gives"),
+        ):
+            (self.room / "changed").write_bytes(changed)
+            self.says(f"a machine's log {sentence}", self.checked(log="changed"), WRONG, said)
+
+    def checked(self, **named: Optional[str]) -> Ran:
+        kept = {"log": "seen/log", "pcrs": "seen/pcrs", "quote": "seen/quote", "nonce": NONCE}
+        kept.update({"signature": "seen/signature", "key": "seen/key.pem"})
+        policy = str(CHECKER / "policy.toml")
+        return self.checker(self.room, **{**kept, "known": "esp", "policy": policy, **named})
