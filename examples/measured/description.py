@@ -85,7 +85,8 @@ def written(described: Described) -> bytes:
 
 def value(table: Dict[str, Any], key: str, kind: type) -> Any:
     found = table.get(key)
-    if type(found) is not kind or (kind is int and not 0 <= found <= HIGHEST):  # a truth value is an int, too
+    is_of_kind = type(found) is kind  # a truth value is an int, too
+    if not is_of_kind or (isinstance(found, int) and not 0 <= found <= HIGHEST):
         fault(f"its key {key} is missing, or no {kind.__name__}")
     return found
 
@@ -117,8 +118,8 @@ def entry_of(table: Dict[str, Any], size: int, regions: List[Region]) -> Describ
     initrd = value(table, "initrd", str) if "initrd" in table and not for_multiboot2 else None
     if "" in copies or initrd == "" or any(copy != copy.lower() for copy in copies if copy):
         fault("it has an empty copy of the RSDP or an empty initrd, or a copy in upper case")
-    plain = [value(table, key, str) for key in ("title", "kernel", "line")]
-    return Described(size, regions, plain[0], protocol, *plain[1:], *copies, modules, initrd)
+    title, kernel, line = (value(table, key, str) for key in ("title", "kernel", "line"))
+    return Described(size, regions, title, protocol, kernel, line, copies[0], copies[1], modules, initrd)
 
 
 def read_description(text: bytes) -> Described:

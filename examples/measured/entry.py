@@ -1,7 +1,7 @@
 """An entry of the policy, and whether a description is of it."""
 
 import re
-from typing import List, NamedTuple
+from typing import List, NamedTuple, Set
 
 from description import PROTOCOLS, Described
 from reading import BadInput
@@ -58,7 +58,7 @@ def entry_of(table: Table) -> Entry:
 def has_lines(entry: Entry, described: Described) -> bool:
     """Whether the lines that were handed over are the entry's, with one address for the mark in all of them."""
     came = [described.line, *(module.line for module in described.modules)]
-    addresses = set()
+    addresses: Set[str] = set()
     for wanted, line in zip(entry.lines, came):
         found = re.fullmatch(ADDRESS.join(re.escape(part) for part in wanted.split(MARK)), line, re.S)
         if found is None:

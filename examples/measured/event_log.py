@@ -1,6 +1,7 @@
 """The event log of a firmware, in the crypto-agile form of the TCG PC Client Platform Firmware Profile, and its replay."""
 
 import hashlib
+import struct
 from typing import Any, Callable, Dict, Iterable, List, NamedTuple
 
 from limits import EVENTS
@@ -65,10 +66,11 @@ def read_logs(log: bytes, final: bytes = b"") -> List[Log]:
     is open how many do. So there may be several ways to join them, and only PCRs tell which one is right."""
     fields = Fields(log, "the log", "little")
     sizes = read_first_event(fields)
+    reader = EventReader(sizes)
     events: List[Event] = []
     while not fields.is_unused():
-        events.append(read_event(fields, sizes, len(events) + 1))
-    added = read_final_events(final, sizes) if final else []
+        events.append(reader.read(fields, len(events) + 1))
+    added = read_final_events(final, reader) if final else []
     banks = [bank_name(bank) for bank in sizes]
     return [Log(banks, joined(events, added[shared:])) for shared in overlaps(events, added)]
 
@@ -94,29 +96,53 @@ def read_first_event(fields: Fields) -> Dict[int, int]:
     return sizes
 
 
-def read_event(fields: Fields, sizes: Dict[int, int], number: int) -> Event:
-    if number > EVENTS:
-        raise BadInput(f"{fields.what} has more than {EVENTS} events")
-    pcr, kind, count = fields.number(4), fields.number(4), fields.number(4)
-    digests: Dict[str, bytes] = {}
-    for _ in range(count):
-        bank = fields.number(2)
-        if bank not in sizes or bank_name(bank) in digests:
-            raise BadInput(f"event {number} of the log has the bank {bank_name(bank)}, which its first event lacks, or twice")
-        digests[bank_name(bank)] = fields.take(sizes[bank])
-    if len(digests) != len(sizes) or (pcr >= PCR_COUNT and kind != NO_ACTION):
-        raise BadInput(f"event {number} of the log lacks a bank's digest, or is of no PCR")
-    return Event(number, pcr, kind, digests, fields.take(fields.number(4)))
+class EventReader:
+    def __init__(self, sizes: Dict[int, int]) -> None:
+        self.sizes, self.names = sizes, {bank: bank_name(bank) for bank in sizes}
+        # an event whose digests come in the order of the first event's banks, as firmwares write them: where which bytes stand
+        self.usual = struct.Struct("<II4x" + "".join(f"2x{size}s" for size in sizes.values()) + "I")
+        self.marks = [(8, struct.pack("<I", len(sizes)))]
+        place = 12
+        for bank, size in sizes.items():
+            self.marks.append((place, struct.pack("<H", bank)))
+            place += 2 + size
+
+    def read(self, fields: Fields, number: int) -> Event:
+        if number > EVENTS:
+            raise BadInput(f"{fields.what} has more than {EVENTS} events")
+        held, at = fields.held, fields.at
+        for place, mark in self.marks:
+            if not held.startswith(mark, at + place):
+                return self.read_any(fields, number)
+        if at + self.usual.size > len(held):
+            return self.read_any(fields, number)
+        pcr, kind, *digests, length = self.usual.unpack_from(held, at)
+        if pcr >= PCR_COUNT:
+            return self.read_any(fields, number)
+        fields.at = at + self.usual.size
+        return Event(number, pcr, kind, dict(zip(self.names.values(), digests)), fields.take(length))
+
+    def read_any(self, fields: Fields, number: int) -> Event:
+        pcr, kind, count = fields.number(4), fields.number(4), fields.number(4)
+        digests: Dict[str, bytes] = {}
+        for _ in range(count):
+            bank = fields.number(2)
+            if bank not in self.sizes or self.names[bank] in digests:
+                raise BadInput(f"event {number} of the log has the bank {bank_name(bank)}, which its first event lacks, or twice")
+            digests[self.names[bank]] = fields.take(self.sizes[bank])
+        if len(digests) != len(self.sizes) or (pcr >= PCR_COUNT and kind != NO_ACTION):
+            raise BadInput(f"event {number} of the log lacks a bank's digest, or is of no PCR")
+        return Event(number, pcr, kind, digests, fields.take(fields.number(4)))
 
 
-def read_final_events(table: bytes, sizes: Dict[int, int]) -> List[Event]:
+def read_final_events(table: bytes, reader: EventReader) -> List[Event]:
     fields = Fields(table, "the final events table", "little")
     if fields.number(8) != 1:
         raise BadInput("the final events table is of another version than 1")
     count = fields.number(8)
     events: List[Event] = []
     while len(events) < count:
-        events.append(read_event(fields, sizes, len(events) + 1))
+        events.append(reader.read(fields, len(events) + 1))
     if not fields.is_unused():
         fields.end()
     return events
@@ -124,6 +150,8 @@ def read_final_events(table: bytes, sizes: Dict[int, int]) -> List[Event]:
 
 def overlaps(events: List[Event], final: List[Event]) -> List[int]:
     """With how many of the final events the log may end, the most first: by the borders of Knuth, Morris and Pratt."""
+    if not final:
+        return [0]
     ours, theirs = [event[1:] for event in events[-len(final) :]], [event[1:] for event in final]
     borders: List[int] = []
     at = 0
@@ -137,7 +165,7 @@ def overlaps(events: List[Event], final: List[Event]) -> List[int]:
         at = advanced(at, event) if place else 0
         borders.append(at)
     at = 0
-    for event in ours if theirs else []:
+    for event in ours:
         at = advanced(at, event)
     found = [at]
     while found[-1] and len(found) < MOST_WAYS:

@@ -164,7 +164,8 @@ def varied(boots: List[Boot], learned: Learned) -> Iterator[str]:
         values = dict.fromkeys(replayed(boot.log, bank, pcr) for boot in boots)
         if len(values) > 1:
             where, event = first_other(boots, bank, pcr)
-            yield f"PCR {pcr} varied, {len(values)} values: {event} of {shown(where.encode())} is the first that the first boot has not"
+            told = f"{event} of {shown(where.encode())} is the first that the first boot has not"
+            yield f"PCR {pcr} varied, {len(values)} values: {told}"
     if len(learned.images) > 1:
         yield f"the image varied, {len(learned.images)} digests: it depends on the memory map"
 

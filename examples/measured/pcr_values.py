@@ -4,7 +4,7 @@ import re
 from pathlib import Path
 from typing import Dict, List, Optional, Tuple
 
-from event_log import BANKS, PCR_COUNT, SIZES, bank_name
+from event_log import PCR_COUNT, SIZES, bank_name
 from limits import SMALL_BYTES
 from reading import BadInput, Fields, file_bytes
 
@@ -62,7 +62,7 @@ def named_selection(words: str) -> Selection:
     chosen = [(it[1], range(PCR_COUNT) if it[2] == "all" else map(int, it[2].split(","))) for it in found if it]
     selection = [(bank, sorted(set(pcrs))) for bank, pcrs in chosen]
     if None in found or any(bank not in SIZES or pcrs[-1] >= PCR_COUNT for bank, pcrs in selection):
-        raise ValueError(f"{words} selects no PCRs; it may be sha256:0,1,2 or sha1:all+sha256:all; the banks are {', '.join(BANKS.values())}")
+        raise ValueError(f"{words} selects no PCRs: sha1:all+sha256:0,1,2 does, of the banks {', '.join(SIZES)}")
     return selection
 
 
@@ -88,10 +88,10 @@ def written_values(held: bytes) -> Values:
         raise BadInput("the PCR values are neither those of tpm2_pcrread nor those of tpm2_quote; plain ones need --selection")
     chosen: List[Tuple[str, int]] = []
     for place in range(MOST_BANKS):
-        bank, size, bits = fields.number(2), fields.number(1), fields.take(SELECTED_BYTES)
+        number, size, bits = fields.number(2), fields.number(1), fields.take(SELECTED_BYTES)
         fields.take(1)  # the record's last byte, which aligns the next one
         if place < count:
-            chosen += [(bank_name(bank), pcr) for pcr in selected(bits[:size])]
+            chosen += [(bank_name(number), pcr) for pcr in selected(bits[:size])]
     digests: List[bytes] = []
     for _ in range(fields.number(4)):
         used = fields.number(4)

@@ -109,7 +109,7 @@ def pcrs_of(table: Table) -> Dict[int, List[bytes]]:
 
 
 def revoked_of(words: List[str]) -> Set[bytes]:
-    """Digests, and titles as they are measured: no digest has a title's length and is one."""
+    """Digests, and titles as they are measured. A title that looks like a digest counts as one."""
     return {bytes.fromhex(word) if is_digest(word) else word.encode() for word in words}
 
 

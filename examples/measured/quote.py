@@ -1,7 +1,7 @@
 """A TPM's quote: what it signs (TPMS_ATTEST of the TPM 2.0 Library, Part 2), and what must hold of it."""
 
 from pathlib import Path
-from typing import List, NamedTuple, Optional
+from typing import NamedTuple, Optional
 
 from event_log import SIZES, STRONG, bank_name, digest
 from limits import SMALL_BYTES

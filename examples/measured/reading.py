@@ -1,7 +1,7 @@
 """Inputs, read field by field; what can't be read and what is not as it should be."""
 
 from pathlib import Path
-from typing import NoReturn
+from typing import Any, NoReturn
 
 
 class BadInput(Exception):
@@ -33,12 +33,15 @@ def shown(text: bytes) -> str:
     return '"' + "".join(chr(byte) if 0x20 <= byte < 0x7F else f"\\x{byte:02x}" for byte in cut) + '"'
 
 
+FILLS = (bytes(12), b"\xff" * 12)  # no event begins so
+
+
 class Fields:
     """Bytes that are taken from front to back. What was passed is never copied again, so the time is linear."""
 
     def __init__(self, held: bytes, what: str, order: str, at: int = 0) -> None:
         self.held, self.what, self.at = held, what, at
-        self.order = order  # of a number's bytes, little or big
+        self.order: Any = order  # of a number's bytes, little or big
 
     def take(self, length: int) -> bytes:
         if length > len(self.held) - self.at:
@@ -51,8 +54,10 @@ class Fields:
 
     def is_unused(self) -> bool:
         """Whether nothing follows but what fills up a firmware's room: zeros, or bytes 0xFF."""
-        ahead = self.held[self.at : self.at + 12]  # too few for an event; only where these are alike is the rest looked at
-        return any(ahead.count(fill) == len(ahead) and self.held.count(fill, self.at) == self.left for fill in (b"\0", b"\xff"))
+        ahead = self.held[self.at : self.at + len(FILLS[0])]  # only where these are alike is the rest looked at
+        if len(ahead) == len(FILLS[0]) and ahead not in FILLS:
+            return False
+        return any(self.held.count(fill, self.at) == self.left for fill in (b"\0", b"\xff"))
 
     @property
     def left(self) -> int:

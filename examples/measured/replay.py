@@ -44,7 +44,7 @@ def check_replay(log: Log, values: Values, policy: Policy) -> None:
 
 
 def check_banks(log: Log, values: Values, policy: Policy) -> None:
-    """Each bank that the TPM has is in the log and among the values: a bank that one of them lacks could have been told anything."""
+    """Each bank that the TPM has is in the log and among the values: one that either lacks could have been told anything."""
     sides = {"in the log": log.banks, "among the PCR values": list(values)}
     for where, banks in sides.items():
         if policy.bank not in banks:
@@ -74,7 +74,8 @@ def check_bank(log: Log, values: Dict[int, bytes], bank: str) -> None:
         if not any(values[pcr]):
             fault(f"PCR {pcr} of {bank} is zero: since its reset the TPM was told nothing there, and the log says otherwise")
     if differ:
-        fault(f"PCR {listed(differ)} of {bank} is not what the log gives: an event there is missing, added, changed or in another place")
+        why = "an event there is missing, added, changed or in another place"
+        fault(f"PCR {listed(differ)} of {bank} is not what the log gives: {why}")
 
 
 def check_separator(log: Log, bank: str, pcr: int) -> None:

@@ -13,6 +13,8 @@ from replay import WANTED, listed, others_that_differ
 from signature import Key, check_signature, read_key, read_signature
 from verdict import Verdict, verdict
 
+MOST_REMARKS = 100
+
 
 class Vouched(NamedTuple):
     """Who says what the PCRs are."""
@@ -109,20 +111,24 @@ def by(report: Report) -> str:
 
 
 def remarks(report: Report) -> List[str]:
+    made = all_remarks(report)
+    left_out = [f"{len(made) - MOST_REMARKS} remarks more"] if len(made) > MOST_REMARKS else []
+    return made[:MOST_REMARKS] + left_out
+
+
+def all_remarks(report: Report) -> List[str]:
     found, policy = report.found, report.policy
     made = []
     if len(found.handovers) > 1:
         made.append(f"the handover was measured {len(found.handovers)} times; the last one counts")
-    attempted = dict.fromkeys(shown(attempt.title) for attempt in found.attempts[:-1])
-    made += [f"{title} was attempted before" for title in attempted]
-    made += found.said
     unjudged = [pcr for pcr in (0, 7) if pcr not in policy.pcrs]
     if unjudged:
         made.append(f"PCR {listed(unjudged)}: any firmware and any Secure Boot, for the policy has no values of them")
     differ = others_that_differ(found.log, report.vouched.values, policy.bank)
     if differ:
         made.append(f"PCR {listed(differ)}: not what the log gives; what ran later may have measured there")
-    return made
+    attempted = dict.fromkeys(shown(attempt.title) for attempt in found.attempts[:-1])
+    return [*made, *(f"{title} was attempted before" for title in attempted), *found.said]
 
 
 # ---- as JSON

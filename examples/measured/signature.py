@@ -65,7 +65,10 @@ def is_pair(held: bytes) -> bool:
         fields.end()
     except BadInput:
         return False
-    return all(0 < len(part) <= LONGEST_NUMBER for part in parts) and held == encoded(0x30, b"".join(encoded(2, part.lstrip(b"\0") or b"\0") for part in parts))
+    if not all(0 < len(part) <= LONGEST_NUMBER for part in parts):
+        return False
+    return held == encoded(0x30, b"".join(encoded(2, part.lstrip(b"\0") or b"\0") for part in parts))
+
 
 
 def encoded(tag: int, content: bytes) -> bytes:

@@ -1,17 +1,12 @@
 """Texts in an event log. A text counts only if its digest was measured: then nothing else was, no program and no handover."""
 
-from typing import NamedTuple, Optional
+from typing import Optional
 
 from event_log import Event, digest
 
 SEPARATORS = [bytes(4), b"\xff" * 4]
 LONGEST = 256  # of a firmware's
 GRUB = [b"grub_cmd: ", b"kernel_cmdline: ", b"module_cmdline: "]  # GRUB measures what follows, without the zero byte
-
-
-class Text(NamedTuple):
-    text: bytes
-    by: str
 
 
 def is_printable(text: bytes) -> bool:

@@ -20,19 +20,19 @@ class Verdict(NamedTuple):
     attempts: List[Attempt]
     managers: List[str]
     drivers: List[str]
-    said: List[str]  # texts of the firmware and of other boot managers, for remarks
+    said: List[str]  # texts of the firmware and of other boot managers
 
 
 def verdict(logs: List[Log], values: Values, policy: Policy) -> Verdict:
     log = replayed_log(logs, values, policy)
-    said: List[str] = []
+    said: Dict[str, None] = {}
     check_revoked(log, policy)
     drivers = drivers_loaded(log, policy, said)
     managers = started(log, policy, said)
     made = attempts(log, policy, said)
     read = files_read(log, policy)
     over = handovers(handover_events(log, policy, said), policy, made[-1], read)
-    return Verdict(log, over, made, managers, drivers, said)
+    return Verdict(log, over, made, managers, drivers, list(said))
 
 
 def check_revoked(log: Log, policy: Policy) -> None:
@@ -47,13 +47,11 @@ def check_revoked(log: Log, policy: Policy) -> None:
 # ---- what was loaded and started
 
 
-def say(said: List[str], event: Event, text: bytes) -> None:
-    told = f"PCR {event.pcr} has the text {shown(text)}"
-    if told not in said:
-        said.append(told)
+def say(said: Dict[str, None], event: Event, text: bytes) -> None:
+    said[f"PCR {event.pcr} has the text {shown(text)}"] = None
 
 
-def drivers_loaded(log: Log, policy: Policy, said: List[str]) -> List[str]:
+def drivers_loaded(log: Log, policy: Policy, said: Dict[str, None]) -> List[str]:
     """A driver can change whatever the firmware does for who comes after it, the measuring too. So each one must be known, or all
     of them by the value of PCR 2. The kind of an event is in no PCR: what is no text of the firmware is a driver."""
     if policy.drivers is None and DRIVERS in policy.pcrs:
@@ -71,7 +69,7 @@ def drivers_loaded(log: Log, policy: Policy, said: List[str]) -> List[str]:
     return names
 
 
-def started(log: Log, policy: Policy, said: List[str]) -> List[str]:
+def started(log: Log, policy: Policy, said: Dict[str, None]) -> List[str]:
     """The names of what was started. The kind of an event is in no PCR: so what is no text of the firmware is an application. What
     was started last did not return: the firmware may have programs of its own, which it does not measure."""
     names: List[str] = []
@@ -93,7 +91,7 @@ def started(log: Log, policy: Policy, said: List[str]) -> List[str]:
 # ---- what was chosen, and read
 
 
-def attempts(log: Log, policy: Policy, said: List[str]) -> List[Attempt]:
+def attempts(log: Log, policy: Policy, said: Dict[str, None]) -> List[Attempt]:
     made = choices(log, policy.bank)
     for event, text in made.others:
         check_other(event, text, "GRUB", policy, made.is_late(event))
@@ -133,7 +131,7 @@ def files_read(log: Log, policy: Policy) -> List[bytes]:
     return read
 
 
-def handover_events(log: Log, policy: Policy, said: List[str]) -> List[Event]:
+def handover_events(log: Log, policy: Policy, said: Dict[str, None]) -> List[Event]:
     found: List[Event] = []
     for event in log.of_pcr(HANDOVERS):
         other = options_text(event, policy.bank)

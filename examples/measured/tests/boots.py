@@ -63,7 +63,7 @@ def parted(log: bytes) -> Tuple[bytes, List[Tuple[int, bytes]]]:
     at = 32 + struct.unpack_from("<I", log, 28)[0]
     first, events = log[:at], []
     sizes = {ALGORITHMS[bank]: hashlib.new(bank).digest_size for bank in ALGORITHMS}
-    while any(log[at : at + 12]):
+    while len(set(log[at : at + 12])) > 1:  # where bytes are alike, no event begins
         pcr, _, count = struct.unpack_from("<III", log, at)
         end = at + 12
         for _ in range(count):
@@ -72,6 +72,15 @@ def parted(log: bytes) -> Tuple[bytes, List[Tuple[int, bytes]]]:
         events.append((pcr, log[at:end]))
         at = end
     return first, events
+
+
+def data_start(event: bytes) -> int:
+    """Where the length of an event's data stands."""
+    sizes = {ALGORITHMS[bank]: hashlib.new(bank).digest_size for bank in ALGORITHMS}
+    at = 12
+    for _ in range(struct.unpack_from("<I", event, 8)[0]):
+        at += 2 + sizes[struct.unpack_from("<H", event, at)[0]]
+    return at
 
 
 def untold(events: Iterable[Event], banks: Iterable[str], text: str) -> Tuple[Set[int], Set[int]]:

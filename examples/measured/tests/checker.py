@@ -80,17 +80,15 @@ class Within(CheckerChecks):
         super().setUpClass()
         sys.path[:0] = [str(CHECKER), str(TOP / "model")]
         try:
-            cls.form = importlib.import_module("description")
-            cls.event_log = importlib.import_module("event_log")
-            cls.image = importlib.import_module("image_digest")
-            cls.policy = importlib.import_module("policy")
-            cls.reading = importlib.import_module("reading")
-            cls.verdict = importlib.import_module("verdict")
+            for name in ("description", "event_log", "image_digest", "policy", "reading", "report", "running", "verdict"):
+                setattr(cls, name, importlib.import_module(name))
             cls.model = importlib.import_module("rules.description")
+            cls.booting = importlib.import_module("rules.booting")
+            cls.model_lines = staticmethod(importlib.import_module("program").lines)
         finally:
             del sys.path[:2]
         asked: Dict[tuple, bytes] = {}
-        program_digest = cls.image.program_digest
+        program_digest = cls.image_digest.program_digest
 
         def digest_once(held: Dict[str, bytes]) -> bytes:
             """The same files have the same image: the program is asked once."""
@@ -99,6 +97,6 @@ class Within(CheckerChecks):
                 asked[key] = program_digest(held)
             return asked[key]
 
-        for changed in (mock.patch.dict(os.environ, cls.env), mock.patch.object(cls.image, "program_digest", digest_once)):
+        for changed in (mock.patch.dict(os.environ, cls.env), mock.patch.object(cls.image_digest, "program_digest", digest_once)):
             changed.start()
             cls.addClassCleanup(changed.stop)

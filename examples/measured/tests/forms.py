@@ -15,7 +15,7 @@ class Form(Within):
     def described(self, text: bytes) -> Optional[object]:
         """What a text says, if it is in its one form."""
         try:
-            return self.form.read_description(text)
+            return self.description.read_description(text)
         except self.reading.Fault:
             return None
 
@@ -30,7 +30,7 @@ class Form(Within):
         for text in (LINUX, MULTIBOOT2, cases.OTHER_MAP, cases.NO_ROOM, cases.TOO_LARGE, cases.ODD_TEXT):
             described = self.described(text.encode())
             self.assertIsNotNone(described, text)
-            self.assert_text("the writer", text, self.form.written(described))
+            self.assert_text("the writer", text, self.description.written(described))
 
     def test_refused(self) -> None:
         """each description in another form is refused"""
@@ -56,8 +56,8 @@ class Form(Within):
             (0x8000, usable, (0x2000, 0x4000)),
             (0x3000, usable, (0x2000, 0x3000)),
         ):
-            regions = [self.form.Region(base, length, "usable") for base, length in listed]
-            self.assertEqual(self.form.pool_of(size, regions), wanted, f"{size:#x}, {listed}")
+            regions = [self.description.Region(base, length, "usable") for base, length in listed]
+            self.assertEqual(self.description.pool_of(size, regions), wanted, f"{size:#x}, {listed}")
 
     def test_changed(self) -> None:
         """a description with another byte is refused, or says something else by the model too"""

@@ -1,6 +1,5 @@
 """Inputs that are none, and bad words."""
 
-import importlib
 import time
 from pathlib import Path
 
@@ -168,11 +167,10 @@ class Inputs(CheckerChecks):
 class Programs(Within):
     def test_time(self) -> None:
         """a program that does not end is ended, with what it started"""
-        running = importlib.import_module("running")
         (self.room / "program").write_text("#!/bin/sh\nsleep 60 & echo $! >started\nwait\n")
         (self.room / "program").chmod(0o755)
         with self.assertRaises(self.reading.BadInput) as raised:
-            running.ran([str(self.room / "program")], self.room, 0.5)
+            self.running.ran([str(self.room / "program")], self.room, 0.5)
         self.assertIn("has not ended after 0.5 seconds", str(raised.exception))
         process = int((self.room / "started").read_text())
         for _ in range(100):

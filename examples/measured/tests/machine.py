@@ -8,6 +8,8 @@ from examples.measured.tests.cases import GOOD, WRONG
 from examples.measured.tests.checker import CHECKER, CheckerChecks
 from tests.support import TOP, Ran, run
 
+NONCE = "c0ffee"
+
 
 class Machine(CheckerChecks):
     """A machine in QEMU with a TPM, from the boot manager's disk to the verdict, by the commands of docs/MEASURED.md."""
