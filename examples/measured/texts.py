@@ -19,17 +19,16 @@ def is_separator(event: Event, bank: str) -> bool:
 
 def firmware_text(event: Event, bank: str) -> Optional[bytes]:
     """What the firmware says of itself in PCR 2 or 4. A program's bytes are not all printable, so it is none."""
-    text = event.data.rstrip(b"\0")
-    if 0 < len(text) <= LONGEST and is_printable(text) and event.digests[bank] in (digest(bank, text), digest(bank, event.data)):
-        return text
-    return None
+    text, came = event.data.rstrip(b"\0"), event.digests[bank]
+    is_measured = digest(bank, event.data) == came or (digest(bank, text) == came and event.data in (text, text + b"\0"))
+    return text if 0 < len(text) <= LONGEST and is_printable(text) and is_measured else None
 
 
 def grub_text(event: Event, bank: str) -> Optional[bytes]:
     """What GRUB has in PCR 8. The texts of the boot manager here are measured with a zero byte, so none of them is one."""
-    text = event.data[:-1]
+    text, end = event.data[:-1], event.data[-1:]
     for word in GRUB:
-        if text.startswith(word) and b"\0" not in text and digest(bank, text[len(word) :]) == event.digests[bank]:
+        if text.startswith(word) and end == b"\0" and b"\0" not in text and digest(bank, text[len(word) :]) == event.digests[bank]:
             return text
     return None
 

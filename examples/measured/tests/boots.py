@@ -101,10 +101,10 @@ def untold(events: Iterable[Event], banks: Iterable[str], text: str) -> Tuple[Se
                 place += 2 + size
         else:
             free.update(range(at + 4, at + 8))
-            if event.pcr not in (2, 4, 8, 12) or event.kind == APPLICATION:
+            if event.pcr not in (2, 4, 8, 12) or event.kind in (APPLICATION, DRIVER, RUNTIME_DRIVER):
                 free.update(range(data, end))
         if event.pcr == 12:
-            for value in re.findall(r'^(?:kernel|initrd) = "(.*)"$', text, re.M):
+            for value in re.findall(r'^(?:kernel|initrd|file) = "(.*)"$', text, re.M):
                 place = data + text.index(f'"{value}"') + 1
                 paths.update(range(place, place + len(value)))
         at = end

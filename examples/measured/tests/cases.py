@@ -616,6 +616,13 @@ MACHINE = [
         policy=with_key("texts", "grub_cmd: set root=hd0"),
     ),
     Case(
+        "GRUB's commands without their zero byte",
+        "is not what was measured",
+        logged=at(8, 0, with_data(b"grub_cmd: set root=hd0x")),
+        happened=at(8, 0, before(GRUB)),
+        policy=with_key("texts", "grub_cmd: set root=hd0"),
+    ),
+    Case(
         "a choice that says that it is a command of GRUB's",
         "is not what was measured",
         happened=at(8, 0, before(Event(8, IPL, b"bootcore_choice: a\0", b"grub_cmd: bootcore_choice: a\0\0"))),
