@@ -34,7 +34,7 @@ def check_replay(log: Log, values: Values, policy: Policy) -> None:
     for pcr in policy.pcrs:
         if pcr not in values[policy.bank]:
             fault(f"PCR {pcr} of {policy.bank} is not among the PCR values")
-    for bank in log.banks:
+    for bank in sorted(log.banks, key=lambda it: it != policy.bank):
         check_bank(log, values[bank], bank)
     for pcr in (it for it in SEPARATED if it in values[policy.bank]):
         check_separator(log, policy.bank, pcr)

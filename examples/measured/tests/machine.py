@@ -35,8 +35,28 @@ class Machine(CheckerChecks):
         (self.room / "policy").write_text(policy.replace("console=tty0", "console=tty1"), encoding="utf-8")
         self.says("a machine's line that the policy has not", self.checked(policy="policy"), WRONG, "has other lines than those")
         self.check_logs((self.room / "seen/log").read_bytes())
+        self.check_learned("a machine")
+        self.check_driver()
         (self.room / "esp/bootcore/initrd.img").write_bytes(b"hellp")
         self.says("a machine's ramdisk that is not known", self.checked(), WRONG, 'the event\'s text is "bootcore/initrd.img"')
+
+    def check_learned(self, whose: str, seen: str = "seen") -> None:
+        learned = run(CHECKER / "learn", "--known", "esp", f"{seen}/log", cwd=self.room)
+        (self.room / "learned").write_bytes(learned.out)
+        ran = self.checked(seen=seen, policy="learned")
+        self.says(f"by the policy that is made of {whose}'s log, it is as it should be", ran, GOOD, 'manager   EFI/BOOT/BOOTX64.EFI\n')
+        with self.check(f"that policy of {whose} leaves nothing open"):
+            self.assertNotIn(b"remark", ran.out)
+
+    def check_driver(self) -> None:
+        """A network card of QEMU's has a driver in its ROM, which the firmware loads before it boots."""
+        ran = run(CHECKER / "trial", "esp", "driven", "-device", "e1000", cwd=self.room, env={"NONCE": NONCE}, timeout=900)
+        if ran.status != 0 and b"rom" in (self.room / "driven/monitor").read_bytes():
+            self.leave_out("a machine with a driver is refused", "QEMU's ROM of the card e1000 is not at hand")
+            return
+        ran = self.checked(seen="driven")
+        self.says("a machine with a driver that the policy does not name", ran, WRONG, "a driver was loaded that the policy does not name")
+        self.check_learned("a machine with a driver", "driven")
 
     def check_logs(self, log: bytes) -> None:
         place = log.rindex(b"length = 0x") + 11
@@ -59,8 +79,8 @@ class Machine(CheckerChecks):
             (self.room / "changed").write_bytes(changed)
             self.says(f"a machine's log {sentence}", self.checked(log="changed"), WRONG, said)
 
-    def checked(self, **named: Optional[str]) -> Ran:
-        kept = {"log": "seen/log", "pcrs": "seen/pcrs", "quote": "seen/quote", "nonce": NONCE}
-        kept.update({"signature": "seen/signature", "key": "seen/key.pem"})
+    def checked(self, seen: str = "seen", **named: Optional[str]) -> Ran:
+        kept = {"log": f"{seen}/log", "pcrs": f"{seen}/pcrs", "quote": f"{seen}/quote", "nonce": NONCE}
+        kept.update({"signature": f"{seen}/signature", "key": f"{seen}/key.pem", "unsigned": None})
         policy = str(CHECKER / "policy.toml")
         return self.checker(self.room, **{**kept, "known": "esp", "policy": policy, **named})
