@@ -2,6 +2,7 @@
 
 import hashlib
 import struct
+from functools import partial
 from typing import Any, Callable, Dict, Iterable, List, NamedTuple
 
 from limits import EVENTS
@@ -11,7 +12,8 @@ from reading import BadInput, Fields
 BANKS = {0x04: "sha1", 0x0B: "sha256", 0x0C: "sha384", 0x0D: "sha512", 0x27: "sha3_256", 0x28: "sha3_384", 0x29: "sha3_512"}
 STRONG = [bank for bank in BANKS.values() if bank != "sha1"]  # those that a verdict may rest on
 HASHES: Dict[str, Callable[[bytes], Any]] = {bank: getattr(hashlib, bank) for bank in BANKS.values()}
-SIZES = {bank: make(b"").digest_size for bank, make in HASHES.items()}
+HASHES["sha1"] = partial(hashlib.new, "sha1", usedforsecurity=False)  # a system that forbids SHA-1 has it for this
+SIZES = {"sha1": 20, "sha256": 32, "sha384": 48, "sha512": 64, "sha3_256": 32, "sha3_384": 48, "sha3_512": 64}
 NO_ACTION = 3  # EV_NO_ACTION: it tells something, and extends no PCR
 PCR_COUNT = 24
 LOCALITY = b"StartupLocality\0"
@@ -42,7 +44,7 @@ class Log:
         for event in events:
             if event.kind != NO_ACTION:
                 self.extending[event.pcr].append(event)
-            elif event.data[:16] == LOCALITY and len(event.data) == 17:
+            elif event.pcr == 0 and event.data[:16] == LOCALITY and len(event.data) == 17:
                 self.locality = event.data[16]
 
     def of_pcr(self, pcr: int) -> List[Event]:

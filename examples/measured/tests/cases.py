@@ -349,6 +349,12 @@ LOG = [
         "PCR 0 of sha256 is not",
         logged=at(0, 0, with_data(b"StartupLocality\0\3")),
     ),
+    Case(
+        "a locality that another PCR's event tells",
+        "PCR 0 of sha256 is not",
+        logged=at(0, 0, lambda it: [it._replace(data=b"StartupLocality\0\3")]),
+        happened=at(0, 0, lambda it: [it, it._replace(pcr=1, data=b"StartupLocality\0\3")]),
+    ),
     Case("a PCR of the TPM that is zero", "PCR 12 of sha256 is zero", values=valued("sha256", 12, None)),
     Case(
         "a PCR of the TPM with another value",
@@ -732,6 +738,11 @@ HANDOVER = [
         "a description that is too long",
         "it has more than 65536 bytes",
         logged=at(12, 0, with_data(b"#" * 65537)),
+    ),
+    Case(
+        "a description with a key of many parts, which a reader of TOML takes a minute for",
+        'is not in its one form: line 1 is "a.a.a.a',
+        logged=at(12, 0, with_data(b"a" + 32000 * b".a" + b" = 0x1\n")),
     ),
     Case(
         "a description with a number above 64 bits",

@@ -37,6 +37,13 @@ class Inputs(CheckerChecks):
             (folder / "log").write_bytes(held + rest)
             self.says(f"{sentence} behind a log are no events", self.checker(folder), GOOD, cases.LINUX_SAID)
 
+    def test_long_log(self) -> None:
+        """It takes a second; where each event cost as much as the log is long, it took minutes."""
+        small = boots.Event(10, boots.IPL, b"", b"")
+        folder = self.folder("long", Case("", "", happened=cases.ended(*[small] * 83_000)))
+        self.assertGreater((folder / "log").stat().st_size, 4_000_000)
+        self.says("a log of four million bytes is judged", self.checker(folder), GOOD, cases.LINUX_SAID)
+
     def test_final_events(self) -> None:
         folder = self.folder("final", Case("", ""))
         events = boots.linux_boot(FILES)
