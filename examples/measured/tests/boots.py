@@ -203,6 +203,20 @@ def application(sections: List[bytes], signed: bytes = b"") -> bytes:
     return bytes(held) + b"".join(reversed(sections)) + signed
 
 
+def driver() -> bytes:
+    """A UEFI driver that a firmware loads and starts, and that ends with EFI_ABORTED."""
+    code = b"\x48\xb8" + struct.pack("<Q", 0x8000000000000015) + b"\xc3"  # mov rax, ..; ret
+    held = bytearray(application([code.ljust(512, b"\0")]))
+    optional = 0x40 + 24
+    struct.pack_into("<I", held, optional + 16, 0x1000)  # where it is entered
+    struct.pack_into("<II", held, optional + 32, 0x1000, 0x200)  # how sections are aligned
+    struct.pack_into("<I", held, optional + 56, 0x2000)  # its length in memory
+    struct.pack_into("<H", held, optional + 68, 11)  # EFI_IMAGE_SUBSYSTEM_EFI_BOOT_SERVICE_DRIVER
+    struct.pack_into("<I", held, optional + 108, 16)  # of how many directories the header tells
+    struct.pack_into("<I", held, optional + 240 + 36, 0x60000020)  # the section is code
+    return bytes(held)
+
+
 def without_signature(held: bytes) -> bytes:
     """What is measured of an application of the form above."""
     optional = 0x40 + 24

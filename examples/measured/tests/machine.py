@@ -1,5 +1,6 @@
 """A machine in QEMU, from the disk to the verdict."""
 
+import shutil
 from typing import List, Optional, Tuple
 
 from examples.measured.tests import boots
@@ -9,6 +10,20 @@ from examples.measured.tests.checker import CHECKER, CheckerChecks
 from tests.support import TOP, Ran, run
 
 NONCE = "c0ffee"
+MENU = """\
+timeout 1
+fallback 1
+
+title A driver
+efi driver.efi
+
+title Linux
+protocol linux64
+kernel bootcore/vmlinuz
+line console=tty0 console=ttyS0 acpi_rsdp=@rsdp@
+ramdisk bootcore/initrd.img
+"""
+ENTRY = '\n[[entry]]\ntitle = "A driver"\nprotocol = "efi"\n'
 
 
 class Machine(CheckerChecks):
@@ -37,6 +52,7 @@ class Machine(CheckerChecks):
         self.check_logs((self.room / "seen/log").read_bytes())
         self.check_learned("a machine")
         self.check_driver()
+        self.check_driver_as_program()
         (self.room / "esp/bootcore/initrd.img").write_bytes(b"hellp")
         self.says("a machine's ramdisk that is not known", self.checked(), WRONG, 'the event\'s text is "bootcore/initrd.img"')
 
@@ -57,6 +73,22 @@ class Machine(CheckerChecks):
         ran = self.checked(seen="driven")
         self.says("a machine with a driver that the policy does not name", ran, WRONG, "a driver was loaded that the policy does not name")
         self.check_learned("a machine with a driver", "driven")
+
+    def check_driver_as_program(self) -> None:
+        """The menu's first entry is a program, and the file is a driver."""
+        known = self.room / "esp"
+        shutil.copytree(known, self.room / "other")
+        (self.room / "other/driver.efi").write_bytes(boots.driver())
+        (self.room / "other/bootcore/menu.txt").write_text(MENU, encoding="utf-8")
+        ran = run(CHECKER / "trial", "other", "started", cwd=self.room, env={"NONCE": NONCE}, timeout=900)
+        self.ends("a machine that is given a driver in place of a program boots", ran, 0, None)
+        policy = (CHECKER / "policy.toml").read_text(encoding="utf-8") + ENTRY
+        for sentence, text, status, said in (
+            ("a machine with a driver in place of a program", policy, WRONG, "a driver was loaded that the policy does not name"),
+            ("a machine with a driver that the policy names", f'drivers = ["driver.efi"]\n{policy}', GOOD, "drivers   driver.efi\n"),
+        ):
+            (self.room / "policy").write_text(text, encoding="utf-8")
+            self.says(sentence, self.checked(seen="started", known="other", policy="policy"), status, said)
 
     def check_logs(self, log: bytes) -> None:
         place = log.rindex(b"length = 0x") + 11
