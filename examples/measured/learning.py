@@ -55,20 +55,24 @@ class Learned:
             raise BadInput(f"{boot.name} has no choice in PCR 8, or no handover in PCR 12")
         described = read_description(over[-1].data)
         self.images[over[-1].digests[bank]] = None
-        names = [described.kernel, *described.ramdisks, *(module.file for module in described.modules)]
         read = log.of_pcr(FILES)
-        for name, event in zip(names, read[len(read) - len(names) :]):
+        before = [event for event in read if event.number < made.attempts[-1].event.number]
+        own = read[len(before) :]
+        names = names_of(described, own)
+        if len(names) != len(own):
+            raise BadInput(f"{boot.name} has {len(own)} files behind its last choice, and describes {len(names)}")
+        for name, event in zip(names, own):
             if self.digests.setdefault(name, event.digests[bank]) != event.digests[bank]:
                 self.remark(f"{shown(name.encode())} had several digests; the policy has that of the last boot")
                 self.digests[name] = event.digests[bank]
-        self.files.update({event.digests[bank]: path_of(event) for event in read[: len(read) - len(names)]})
+        self.files.update({event.digests[bank]: path_of(event) for event in before})
         for attempt, after in zip(made.attempts, [*made.attempts[1:], None]):
             if after is None:
-                self.entries[entry_text(attempt, described)] = None
+                self.entries[entry_text(attempt, described, names)] = None
             elif any(attempt.event.number < event.number < after.event.number for event in read):
                 self.remark(f"{shown(attempt.title)} was attempted and given up: its entry must be added by hand")
             else:
-                self.entries[entry_text(attempt, None)] = None
+                self.entries[entry_text(attempt, None, [])] = None
 
     def applications(self, log: Log, pcr: int, found: Dict[bytes, str]) -> None:
         for event in log.of_pcr(pcr):
@@ -113,15 +117,23 @@ def path_of(event: Event) -> str:
     return shown(event.data.rstrip(b"\0"))
 
 
-def entry_text(attempt: Attempt, described: Optional[Described]) -> str:
+def names_of(described: Described, own: List[Event]) -> List[str]:
+    """The paths of an entry's files. A description leaves out ramdisks that are all empty; their events have their paths."""
+    if described.protocol == "multiboot2":
+        return [described.kernel, *(module.file for module in described.modules)]
+    empty = [text_of(event.data.strip(b"/\0"), "a path") for event in own[1:]]
+    return [described.kernel, *(described.ramdisks or empty)]
+
+
+def entry_text(attempt: Attempt, described: Optional[Described], names: List[str]) -> str:
     """With its lines as they were measured; without a description it is an EFI program's."""
     lines = [text_of(line, "a line") for line in attempt.lines] or [""]
     pairs = [("title", text_of(attempt.title, "a title")), ("protocol", described.protocol if described else PROGRAM)]
     if described:
         pairs.append(("kernel", described.kernel))
     made = ["", "[[entry]]", *(f"{key} = {text_value(value)}" for key, value in [*pairs, ("line", lines[0])])]
-    if described and described.ramdisks:
-        made.append(f"ramdisks = {array(described.ramdisks)}")
+    if described and not described.modules and names[1:]:
+        made.append(f"ramdisks = {array(names[1:])}")
     for module, line in zip(described.modules if described else [], lines[1:]):
         made += ["", "[[entry.module]]", f"file = {text_value(module.file)}", f"line = {text_value(line)}"]
     return "\n".join(made)

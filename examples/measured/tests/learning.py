@@ -4,7 +4,7 @@ from pathlib import Path
 from typing import List
 
 from examples.measured.tests import boots, cases
-from examples.measured.tests.boots import FILES, IPL, Event, told
+from examples.measured.tests.boots import FILES, IPL, LINUX, Event, told
 from examples.measured.tests.cases import BAD_WORDS, GOOD, UNREADABLE, WRONG, Case, at, before
 from examples.measured.tests.checker import CHECKER, CheckerChecks
 from tests.support import Ran, run
@@ -72,6 +72,12 @@ class Learning(CheckerChecks):
         self.learned(folder, "log")
         self.as_learned("by the policy of a boot with modules it is as it should be", folder, GOOD, cases.KERNEL_SAID)
 
+    def test_empty(self) -> None:
+        text = LINUX.replace('initrd = "initrd.img\\u000amore.img"\n', "")
+        folder = self.folder("learn-empty", Case("", "", text=text, known=cases.EMPTY, booted=cases.EMPTY))
+        self.learned(folder, "--known", "known", "log")
+        self.as_learned("by the policy of a boot with empty ramdisks it is as it should be", folder, GOOD, "ramdisk   more.img\n")
+
     def test_varied(self) -> None:
         folder = self.folder("learn-varied", Case("", ""))
         other_map = boots.linux_boot(FILES, cases.OTHER_MAP)
@@ -105,10 +111,13 @@ class Learning(CheckerChecks):
         held = (folder / "log").read_bytes()
         (folder / "cut").write_bytes(held[:-1])
         (folder / "short").write_bytes(boots.log_of(boots.firmware(FILES["BOOTX64.EFI"]), ["sha256"]))
+        fewer = at(12, 0, cases.saying("more.img", "more.img\\u000aone"))(boots.linux_boot(FILES))
+        (folder / "fewer").write_bytes(boots.log_of(fewer, ["sha256"]))
         (folder / "banks").write_bytes(boots.log_of(boots.linux_boot(FILES), ["sha1", "sha256"]))
         for sentence, words, status, said in (
             ("a log that is cut", ["cut"], UNREADABLE, "the log ends too early"),
             ("a log of no such boot", ["short"], UNREADABLE, "short has no choice in PCR 8, or no handover in PCR 12"),
+            ("a log with fewer files than it describes", ["fewer"], UNREADABLE, "fewer has 3 files behind its last choice, and describes 4"),
             ("logs of other banks", ["log", "banks"], UNREADABLE, "or has other banks than the first log"),
             ("a log that lacks the bank", ["--bank", "sha384", "log"], UNREADABLE, "log lacks the bank sha384"),
             ("a log that there is not", ["none"], UNREADABLE, "none: No such file"),
