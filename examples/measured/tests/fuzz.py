@@ -77,12 +77,12 @@ class Fuzz(Within):
     # ---- what is changed
 
     def base(self, name: str, text: str, status: int, policy: str = POLICY, values: Callable = cases.same) -> Base:
-        """All five inputs of one boot; the log ends before the firmware does, and the final events go on."""
+        """All five inputs of one boot; the log ends before the firmware does, and the final events go on, or begin with its last two."""
         folder = self.folder(name, Case("", "", policy=policy))
         make = boots.linux_boot if text == LINUX else boots.multiboot2_boot
         events = full(make(FILES, text))
         pcrs = values(boots.pcrs_of(events, BANKS))
-        held = {"log": boots.log_of(events[:-2], BANKS), "final": boots.final_of(events[-4:], BANKS)}
+        held = {"log": boots.log_of(events[:-2], BANKS), "final": boots.final_of(events[-4 if text == MULTIBOOT2 else -2 :], BANKS)}
         held["pcrs"] = boots.pcr_file_of(pcrs, SELECTED)
         held["quote"] = boots.quote_of(pcrs, SELECTED, NONCE)
         (self.room / "quote").write_bytes(held["quote"])
