@@ -64,7 +64,7 @@ class Quotes(CheckerChecks):
                 "PCR 2 of sha1 is not among",
             ),
             *(
-                (f"a quote without PCR {pcr}", self.quoted(f"no{pcr}", over(*cases.ALL_BANKS, but=pcr)), WRONG, f"PCR {pcr} of sha1 is not")
+                (f"a quote without PCR {pcr}", self.quoted(f"no{pcr}", over(*cases.ALL_BANKS, but=pcr)), WRONG, f"PCR {pcr} of sha256 is not")
                 for pcr in (2, 4, 8, 9, 12)
             ),
         ):
