@@ -27,7 +27,7 @@ class Result(unittest.TestResult):
         message = getattr(test, "_message", None)
         if isinstance(message, str):
             return message
-        prepared = re.fullmatch(r"setUp(?:Class|Module) \((?:tests\.)?(\w+)(?:\.(\w+))?\)", str(test))
+        prepared = re.fullmatch(r"setUp(?:Class|Module) \((?:[\w.]*\btests\.)?(\w+)(?:\.(\w+))?\)", str(test))
         if prepared:  # what its checks share could not be made
             part, group = prepared.groups()
             return f"the checks of {part}" + (f", {group}" if group else "")
@@ -94,10 +94,12 @@ class InOrder(unittest.TestLoader):
         return sorted(super().getTestCaseNames(testCaseClass), key=line)
 
     def loadTestsFromModule(self, module, *args, **kwargs):
+        # a part's checks stand in its module, or in those that it names
         found = [
             it
-            for it in vars(module).values()
-            if isinstance(it, type) and issubclass(it, unittest.TestCase) and it.__module__ == module.__name__
+            for each in (module, *getattr(module, "MODULES", ()))
+            for it in vars(each).values()
+            if isinstance(it, type) and issubclass(it, unittest.TestCase) and it.__module__ == each.__name__
         ]
         return self.suiteClass(self.loadTestsFromTestCase(it) for it in found)
 

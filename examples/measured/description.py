@@ -1,15 +1,21 @@
 """The description of a handover, as its event has it. Nothing hashes this text: only the image shows what it says. So of all texts
 that say the same exactly one is accepted: docs/FORMATS.md, "The description of a measured boot"."""
 
+import re
 import tomllib
-from typing import Any, Dict, List, NamedTuple, Optional, Tuple
+from typing import Any, Dict, List, NamedTuple, NoReturn, Optional, Tuple
 
+from limits import DESCRIPTION_BYTES
 from reading import fault, shown
 
 KINDS = ["usable", "reserved", "acpi", "nvs", "bad"]
 PROTOCOLS = ["multiboot2", "linux", "linux64"]
 FRAME = 0x1000
 ALL_FRAMES = 0xFFFFF000  # no part ends above it
+HIGHEST = (1 << 64) - 1  # of numbers
+# what any line of the one form looks like: other TOML takes its reader up to a minute
+HEADER, NUMBER, TEXT = r"\[\[(?:region|entry|entry\.module)\]\]", "0x[0-9a-f]+", r'"(?:[^"\\]|\\.)*"'
+LINE = re.compile(rf"(?:{HEADER}|[a-z_0-9]+ = (?:{NUMBER}|{TEXT}|\[{NUMBER}, {NUMBER}\]))?")
 
 
 class Region(NamedTuple):
@@ -83,7 +89,8 @@ def written(described: Described) -> bytes:
 
 def value(table: Dict[str, Any], key: str, kind: type) -> Any:
     found = table.get(key)
-    if type(found) is not kind:  # a truth value is an int, too
+    is_of_kind = type(found) is kind  # a truth value is an int, too
+    if not is_of_kind or (isinstance(found, int) and not 0 <= found <= HIGHEST):
         fault(f"its key {key} is missing, or no {kind.__name__}")
     return found
 
@@ -115,16 +122,21 @@ def entry_of(table: Dict[str, Any], size: int, regions: List[Region]) -> Describ
     initrd = value(table, "initrd", str) if "initrd" in table and not for_multiboot2 else None
     if "" in copies or initrd == "" or any(copy != copy.lower() for copy in copies if copy):
         fault("it has an empty copy of the RSDP or an empty initrd, or a copy in upper case")
-    plain = [value(table, key, str) for key in ("title", "kernel", "line")]
-    return Described(size, regions, plain[0], protocol, *plain[1:], *copies, modules, initrd)
+    title, kernel, line = (value(table, key, str) for key in ("title", "kernel", "line"))
+    return Described(size, regions, title, protocol, kernel, line, copies[0], copies[1], modules, initrd)
 
 
 def read_description(text: bytes) -> Described:
     """What it says. Its one form is what the writer above makes of that, so nothing else is compared."""
+    if len(text) > DESCRIPTION_BYTES:
+        fault(f"it has more than {DESCRIPTION_BYTES} bytes")
     try:
-        table = tomllib.loads(text.decode())
+        other = next((i for i, line in enumerate(text.decode().split("\n")) if not LINE.fullmatch(line)), None)
+        table = tomllib.loads(text.decode()) if other is None else {}
     except (ValueError, RecursionError):
         fault("it is no text of TOML")
+    if other is not None:
+        fault_in_line(text.split(b"\n"), other)
     entries = tables(table, "entry")
     if len(entries) != 1:
         fault(f"it has {len(entries)} entries")
@@ -133,6 +145,9 @@ def read_description(text: bytes) -> Described:
     if text != wanted:
         came, should = text.split(b"\n"), wanted.split(b"\n")
         at = next((i for i, pair in enumerate(zip(came, should)) if pair[0] != pair[1]), min(len(came), len(should)))
-        line = shown(came[at]) if at < len(came) else "missing"
-        fault(f"it is not in its one form: line {at + 1} is {line}")
+        fault_in_line(came, at)
     return described
+
+
+def fault_in_line(lines: List[bytes], at: int) -> NoReturn:
+    fault(f"it is not in its one form: line {at + 1} is {shown(lines[at]) if at < len(lines) else 'missing'}")

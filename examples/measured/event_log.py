@@ -1,15 +1,23 @@
 """The event log of a firmware, in the crypto-agile form of the TCG PC Client Platform Firmware Profile, and its replay."""
 
 import hashlib
-from typing import Dict, Iterator, List, NamedTuple
+import struct
+from functools import partial
+from typing import Any, Callable, Dict, Iterable, List, NamedTuple
 
+from limits import EVENTS
 from reading import BadInput, Fields
 
 # by their TCG numbers, those that Python can replay; a log may have others
 BANKS = {0x04: "sha1", 0x0B: "sha256", 0x0C: "sha384", 0x0D: "sha512", 0x27: "sha3_256", 0x28: "sha3_384", 0x29: "sha3_512"}
 STRONG = [bank for bank in BANKS.values() if bank != "sha1"]  # those that a verdict may rest on
+HASHES: Dict[str, Callable[[bytes], Any]] = {bank: getattr(hashlib, bank) for bank in BANKS.values()}
+HASHES["sha1"] = partial(hashlib.new, "sha1", usedforsecurity=False)  # a system that forbids SHA-1 has it for this
+SIZES = {"sha1": 20, "sha256": 32, "sha384": 48, "sha512": 64, "sha3_256": 32, "sha3_384": 48, "sha3_512": 64}
 NO_ACTION = 3  # EV_NO_ACTION: it tells something, and extends no PCR
 PCR_COUNT = 24
+LOCALITY = b"StartupLocality\0"
+MOST_WAYS = 8  # to join a log and its final events
 # what the firmware measures into PCR 5 as it ends: a log that was read before lacks it
 EXIT_CALLED = b"Exit Boot Services Invocation"
 EXIT_FAILED = b"Exit Boot Services Returned with Failure"
@@ -28,38 +36,45 @@ class Event(NamedTuple):
         return f"PCR {self.pcr}, event {self.number}"
 
 
-class Log(NamedTuple):
-    banks: List[str]
-    events: List[Event]
+class Log:
+    def __init__(self, banks: List[str], events: List[Event]) -> None:
+        self.banks, self.events = banks, events
+        self.locality = 0  # of the TPM's start
+        self.extending: Dict[int, List[Event]] = {pcr: [] for pcr in range(PCR_COUNT)}
+        for event in events:
+            if event.kind != NO_ACTION:
+                self.extending[event.pcr].append(event)
+            elif event.pcr == 0 and event.data[:16] == LOCALITY and len(event.data) == 17:
+                self.locality = event.data[16]
 
     def of_pcr(self, pcr: int) -> List[Event]:
         """What extended this PCR. No kind of event counts here but EV_NO_ACTION: no PCR has the kind."""
-        return [event for event in self.events if event.pcr == pcr and event.kind != NO_ACTION]
+        return self.extending[pcr]
 
 
 def digest(bank: str, measured: bytes) -> bytes:
-    return hashlib.new(bank, measured).digest()
+    return HASHES[bank](measured).digest()
 
 
 def bank_name(number: int) -> str:
     return BANKS.get(number, f"{number:#06x}")
 
 
-def read_log(log: bytes, final: bytes = b"") -> Log:
-    """A log, and the final events table where there is one: its first events may stand in the log already."""
+# ---- the reader
+
+
+def read_logs(log: bytes, final: bytes = b"") -> List[Log]:
+    """A log, and the final events where there are some. Their first ones may stand in the log already; where events are equal it
+    is open how many do. So there may be several ways to join them, and only PCRs tell which one is right."""
     fields = Fields(log, "the log", "little")
     sizes = read_first_event(fields)
+    reader = EventReader(sizes)
     events: List[Event] = []
-    while not is_unused(fields.rest()):
-        events.append(read_event(fields, sizes, len(events) + 1))
-    if final:
-        events = joined(events, list(read_final_events(final, sizes)))
-    return Log([bank_name(bank) for bank in sizes], events)
-
-
-def is_unused(rest: bytes) -> bool:
-    """Behind the last event a firmware's area for its log has zeros, or bytes 0xFF."""
-    return rest.count(0) == len(rest) or rest.count(0xFF) == len(rest)
+    while not fields.is_unused():
+        events.append(reader.read(fields, len(events) + 1))
+    added = read_final_events(final, reader) if final else []
+    banks = [bank_name(bank) for bank in sizes]
+    return [Log(banks, joined(events, added[shared:])) for shared in overlaps(events, added)]
 
 
 def read_first_event(fields: Fields) -> Dict[int, int]:
@@ -70,46 +85,97 @@ def read_first_event(fields: Fields) -> Dict[int, int]:
     if pcr != 0 or kind != NO_ACTION or told.take(16) != b"Spec ID Event03\0":
         raise BadInput("the log is none of the crypto-agile form")
     told.take(8)  # the platform's class, the profile's version, the size of a native number
-    sizes = {}
+    sizes: Dict[int, int] = {}
     for _ in range(told.number(4)):
         bank, size = told.number(2), told.number(2)
-        if bank in sizes or (bank in BANKS and hashlib.new(BANKS[bank]).digest_size != size):
+        if bank in sizes or SIZES.get(bank_name(bank), size) != size:
             raise BadInput(f"the log's first event has the bank {bank_name(bank)} twice, or with another size")
         sizes[bank] = size
     told.take(told.number(1))  # the vendor's
     told.end()
+    if not sizes:
+        raise BadInput("the log's first event has no bank")
     return sizes
 
 
-def read_event(fields: Fields, sizes: Dict[int, int], number: int) -> Event:
-    pcr, kind, count = (fields.number(4) for _ in range(3))
-    digests = {}
-    for _ in range(count):
-        bank = fields.number(2)
-        if bank not in sizes or bank_name(bank) in digests:
-            raise BadInput(f"event {number} of the log has the bank {bank_name(bank)}, which its first event lacks, or twice")
-        digests[bank_name(bank)] = fields.take(sizes[bank])
-    if len(digests) != len(sizes) or (pcr >= PCR_COUNT and kind != NO_ACTION):
-        raise BadInput(f"event {number} of the log lacks a bank's digest, or is of no PCR")
-    return Event(number, pcr, kind, digests, fields.take(fields.number(4)))
+class EventReader:
+    def __init__(self, sizes: Dict[int, int]) -> None:
+        self.sizes, self.names = sizes, {bank: bank_name(bank) for bank in sizes}
+        # an event whose digests come in the order of the first event's banks, as firmwares write them: where which bytes stand
+        self.usual = struct.Struct("<II4x" + "".join(f"2x{size}s" for size in sizes.values()) + "I")
+        self.marks = [(8, struct.pack("<I", len(sizes)))]
+        place = 12
+        for bank, size in sizes.items():
+            self.marks.append((place, struct.pack("<H", bank)))
+            place += 2 + size
+
+    def read(self, fields: Fields, number: int) -> Event:
+        if number > EVENTS:
+            raise BadInput(f"{fields.what} has more than {EVENTS} events")
+        held, at = fields.held, fields.at
+        for place, mark in self.marks:
+            if not held.startswith(mark, at + place):
+                return self.read_any(fields, number)
+        if at + self.usual.size > len(held):
+            return self.read_any(fields, number)
+        pcr, kind, *digests, length = self.usual.unpack_from(held, at)
+        if pcr >= PCR_COUNT:
+            return self.read_any(fields, number)
+        fields.at = at + self.usual.size
+        return Event(number, pcr, kind, dict(zip(self.names.values(), digests)), fields.take(length))
+
+    def read_any(self, fields: Fields, number: int) -> Event:
+        pcr, kind, count = fields.number(4), fields.number(4), fields.number(4)
+        digests: Dict[str, bytes] = {}
+        for _ in range(count):
+            bank = fields.number(2)
+            if bank not in self.sizes or self.names[bank] in digests:
+                raise BadInput(f"event {number} of the log has the bank {bank_name(bank)}, which its first event lacks, or twice")
+            digests[self.names[bank]] = fields.take(self.sizes[bank])
+        if len(digests) != len(self.sizes) or (pcr >= PCR_COUNT and kind != NO_ACTION):
+            raise BadInput(f"event {number} of the log lacks a bank's digest, or is of no PCR")
+        return Event(number, pcr, kind, digests, fields.take(fields.number(4)))
 
 
-def read_final_events(table: bytes, sizes: Dict[int, int]) -> Iterator[Event]:
+def read_final_events(table: bytes, reader: EventReader) -> List[Event]:
     fields = Fields(table, "the final events table", "little")
     if fields.number(8) != 1:
         raise BadInput("the final events table is of another version than 1")
-    for number in range(fields.number(8)):
-        yield read_event(fields, sizes, number + 1)
+    count = fields.number(8)
+    events: List[Event] = []
+    while len(events) < count:
+        events.append(reader.read(fields, len(events) + 1))
+    if not fields.is_unused():
+        fields.end()
+    return events
 
 
-def joined(events: List[Event], final: List[Event]) -> List[Event]:
-    """Of the final events those that the log has at its end come once."""
-    plain = [event._replace(number=0) for event in events]
-    again = [event._replace(number=0) for event in final]
-    shared = min(len(plain), len(again))
-    while plain[len(plain) - shared :] != again[:shared]:
-        shared -= 1
-    added = final[shared:]
+def overlaps(events: List[Event], final: List[Event]) -> List[int]:
+    """With how many of the final events the log may end, the most first: by the borders of Knuth, Morris and Pratt."""
+    if not final:
+        return [0]
+    ours, theirs = [event[1:] for event in events[-len(final) :]], [event[1:] for event in final]
+    borders: List[int] = []
+    at = 0
+
+    def advanced(at: int, event: tuple) -> int:
+        while at and (at == len(theirs) or theirs[at] != event):
+            at = borders[at - 1]
+        return at + (theirs[at] == event)
+
+    for place, event in enumerate(theirs):
+        at = advanced(at, event) if place else 0
+        borders.append(at)
+    at = 0
+    for event in ours:
+        at = advanced(at, event)
+    found = [at]
+    while found[-1] and len(found) < MOST_WAYS:
+        found.append(borders[found[-1] - 1])
+    return found
+
+
+def joined(events: List[Event], added: List[Event]) -> List[Event]:
     return events + [event._replace(number=len(events) + 1 + i) for i, event in enumerate(added)]
 
 
@@ -118,21 +184,21 @@ def joined(events: List[Event], final: List[Event]) -> List[Event]:
 
 def first_value(pcr: int, bank: str) -> bytes:
     """After a reset; PCR 17 to 22 wait for a launch of a measured environment."""
-    return (b"\xff" if 17 <= pcr <= 22 else b"\0") * hashlib.new(bank).digest_size
+    return (b"\xff" if 17 <= pcr <= 22 else b"\0") * SIZES[bank]
 
 
-def extended(bank: str, value: bytes, digests: List[bytes]) -> bytes:
+def extended(bank: str, value: bytes, digests: Iterable[bytes]) -> bytes:
+    make = HASHES[bank]
     for each in digests:
-        value = digest(bank, value + each)
+        value = make(value + each).digest()
     return value
 
 
 def replayed(log: Log, bank: str, pcr: int) -> bytes:
     value = first_value(pcr, bank)
-    for event in log.events:
-        if pcr == 0 and event.kind == NO_ACTION and event.data[:16] == b"StartupLocality\0":
-            value = value[:-1] + event.data[16:17]
-    return extended(bank, value, [event.digests[bank] for event in log.of_pcr(pcr)])
+    if pcr == 0:
+        value = value[:-1] + bytes([log.locality])
+    return extended(bank, value, (event.digests[bank] for event in log.of_pcr(pcr)))
 
 
 def is_replayed(log: Log, bank: str, pcr: int, value: bytes) -> bool:

@@ -3,68 +3,87 @@
 import re
 import tomllib
 from pathlib import Path
-from typing import Any, Dict, List, NamedTuple
+from typing import Dict, List, NamedTuple, Optional, Set
 
 from application import application_digest
-from description import PROTOCOLS, Described
-from event_log import PCR_COUNT, digest
+from description import Described
+from entry import Entry, entry_of
+from event_log import BANKS, PCR_COUNT, SIZES, digest
+from limits import FILE_BYTES, POLICY_BYTES
 from reading import BadInput, file_bytes
+from tables import HEX, Table, hex_of, named, only, table_list, table_of, texts
 
-MARK, ADDRESS = "@rsdp@", "(0x[0-9a-f]{1,16})"  # of the firmware's RSDP, in a line as it is handed over
-PROGRAM = "efi"  # in a protocol's place: an EFI program, which the firmware measures itself
-HEX = re.compile(r"(?:[0-9a-fA-F]{2})+")
-
-
-class Module(NamedTuple):
-    file: str
-    line: str
+KEYS = ["managers", "drivers", "files", "texts", "revoked", "banks", "digests", "pcr", "machine", "entry"]
+BY_SIZE = {SIZES[bank]: bank for bank in reversed(list(BANKS.values()))}  # of equally long ones that of SHA-2
+SHORTEST = 64  # digits of a digest; a shorter word is a file's name
 
 
-class Entry(NamedTuple):
-    title: str
-    protocol: str
-    line: str
-    files: List[str]  # in the order in which they are measured, the kernel first; none of a program
-    modules: List[Module]
+class Known(NamedTuple):
+    """A file that may be read: its digest of the deciding bank, and its contents if they are there."""
 
-    @property
-    def lines(self) -> List[str]:
-        return [self.line, *(module.line for module in self.modules)]
-
-    @property
-    def measured_lines(self) -> List[bytes]:
-        return [line.encode() for line in self.lines]
+    digest: bytes
+    contents: Optional[bytes]
 
 
 class Policy:
     """Its digests are those of one bank."""
 
-    def __init__(self, table: Dict[str, Any], folder: Path, bank: str) -> None:
+    def __init__(self, table: Table, folder: Path, bank: str) -> None:
         self.folder, self.bank = folder, bank
-        only(table, ["managers", "files", "pcr", "entry"], "the policy")
-        self.managers = dict(self.manager(name) for name in texts(table, "managers", "the policy"))
+        only(table, KEYS, "the policy")
+        self.managers = self.applications(texts(table, "managers", "the policy"))
+        self.drivers = self.applications(texts(table, "drivers", "the policy")) if "drivers" in table else None
         self.entries = [entry_of(it) for it in table_list(table, "entry", "the policy")]
-        self.pcrs = pcrs_of(table.get("pcr", {}))
+        self.pcrs = pcrs_of(table_of(table, "pcr", "the policy"))
+        self.texts = {word.encode() for word in texts(table, "texts", "the policy")}
+        self.revoked = revoked_of(texts(table, "revoked", "the policy"))
+        self.banks = banks_of(table)
+        self.machines = machines_of(table)
         if not self.managers or not self.entries:
-            raise BadInput("the policy has no managers, or no entry")
-        self.contents = {name: file_bytes(folder / name) for name in self.file_names(table)}
-        self.digests = {name: digest(bank, held) for name, held in self.contents.items()}
-        self.names = {self.digests[name]: name for name in self.contents}
+            raise BadInput(f"the policy has no managers that {bank} tells, or no entry")
+        listed = texts(table, "files", "the policy")
+        names = dict.fromkeys([name for entry in self.entries for name in entry.files])
+        names.update(dict.fromkeys(name for name in listed if not is_digest(name)))
+        digests = digests_of(table_of(table, "digests", "the policy"), list(names))
+        self.files = {name: self.known(name, digests.get(name, {})) for name in names}
+        self.names = {bytes.fromhex(name): name for name in listed if is_digest(name)}
+        self.names.update({known.digest: name for name, known in self.files.items()})
 
-    def file_names(self, table: Dict[str, Any]) -> List[str]:
-        named = [name for entry in self.entries for name in entry.files]
-        return list(dict.fromkeys(named + texts(table, "files", "the policy")))
+    def applications(self, names: List[str]) -> Dict[bytes, str]:
+        """By their digests; each is named so, or by the application itself. Digests of other banks say nothing here."""
+        found = {}
+        for name in names:
+            if is_digest(name):
+                found[bytes.fromhex(name)] = name
+            else:
+                found[application_digest(self.bank, file_bytes(self.folder / name, FILE_BYTES), name)] = name
+        return {came: name for came, name in found.items() if len(came) == SIZES[self.bank]}
 
-    def manager(self, name: str) -> tuple:
-        """By its digest, or by the application itself."""
-        if HEX.fullmatch(name) and len(name) >= 64:
-            return bytes.fromhex(name), name
-        return application_digest(self.bank, file_bytes(self.folder / name), name), name
+    def known(self, name: str, digests: Dict[str, bytes]) -> Known:
+        if self.bank in digests and not (self.folder / name).exists():
+            return Known(digests[self.bank], None)
+        held = file_bytes(self.folder / name, FILE_BYTES)
+        if any(digest(bank, held) != wanted for bank, wanted in digests.items()):
+            raise BadInput(f"{self.folder / name} has another digest than the policy says")
+        return Known(digest(self.bank, held), held)
+
+    def contents(self, name: str) -> bytes:
+        held = self.files[name].contents
+        if held is None:
+            raise BadInput(f"{self.folder / name} is not there: the image can't be computed without it")
+        return held
+
+    def has_files(self, entry: Entry, described: Described) -> bool:
+        """As many as are described; which ones, their digests alone tell. Ramdisks that are all empty are none."""
+        others = entry.files[1:]
+        if not entry.modules and not any(self.contents(name) for name in others):
+            others = []
+        return len(others) == len(described.modules) + len(described.ramdisks)
 
 
 def read_policy(path: Path, folder: Path, bank: str) -> Policy:
     try:
-        table = tomllib.loads(file_bytes(path).decode())
+        table = tomllib.loads(file_bytes(path, POLICY_BYTES).decode())
     except (ValueError, RecursionError) as error:
         raise BadInput(f"the policy is no TOML: {error}") from None
     return Policy(table, folder, bank)
@@ -73,91 +92,58 @@ def read_policy(path: Path, folder: Path, bank: str) -> Policy:
 # ---- its tables
 
 
-def only(table: Dict[str, Any], keys: List[str], where: str) -> None:
-    unknown = [key for key in table if key not in keys]
-    if unknown:
-        raise BadInput(f"{where} has the key {unknown[0]!r}; it may have {', '.join(keys)}")
+def is_digest(word: str) -> bool:
+    return len(word) >= SHORTEST and HEX.fullmatch(word) is not None
 
 
-def text(table: Dict[str, Any], key: str, where: str, otherwise: str = "") -> str:
-    found = table.get(key, otherwise)
-    if not isinstance(found, str):
-        raise BadInput(f"{where}: {key} is no text")
-    return found
-
-
-def named(table: Dict[str, Any], key: str, where: str) -> str:
-    found = text(table, key, where)
-    if not found:
-        raise BadInput(f"{where} has no {key}")
-    return found
-
-
-def texts(table: Dict[str, Any], key: str, where: str) -> List[str]:
-    found = table.get(key, [])
-    if not isinstance(found, list) or not all(isinstance(item, str) and item for item in found):
-        raise BadInput(f"{where}: {key} is no array of texts")
-    return found
-
-
-def table_list(table: Dict[str, Any], key: str, where: str) -> List[Dict[str, Any]]:
-    found = table.get(key, [])
-    if not isinstance(found, list) or not all(isinstance(item, dict) for item in found):
-        raise BadInput(f"{where}: {key} is no array of tables")
-    return found
-
-
-def entry_of(table: Dict[str, Any]) -> Entry:
-    title = named(table, "title", "an entry of the policy")
-    where = f"the policy's entry {title!r}"
-    protocol, line = named(table, "protocol", where), text(table, "line", where)
-    if protocol == PROGRAM:
-        only(table, ["title", "protocol", "line"], where)
-        return Entry(title, protocol, line, [], [])
-    if protocol not in PROTOCOLS:
-        raise BadInput(f"{where} has the protocol {protocol!r}; it may be {', '.join([*PROTOCOLS, PROGRAM])}")
-    own = "module" if protocol == "multiboot2" else "ramdisks"
-    only(table, ["title", "protocol", "line", "kernel", own], where)
-    modules = [Module(named(it, "file", where), text(it, "line", where)) for it in table_list(table, "module", where)]
-    for it in table_list(table, "module", where):
-        only(it, ["file", "line"], f"a module of {where}")
-    files = [named(table, "kernel", where), *texts(table, "ramdisks", where), *(module.file for module in modules)]
-    return Entry(title, protocol, line, files, modules)
-
-
-def pcrs_of(table: Any) -> Dict[int, List[bytes]]:
+def pcrs_of(table: Table) -> Dict[int, List[bytes]]:
     """The values that a PCR may have, by its number."""
-    if not isinstance(table, dict) or not all(key.isdecimal() and int(key) < PCR_COUNT for key in table):
-        raise BadInput("the policy: pcr is no table of PCR numbers")
-    values = {int(key): texts(table, key, "the policy's pcr") for key in table}
-    if not all(HEX.fullmatch(item) for items in values.values() for item in items):
-        raise BadInput("the policy's pcr has a value that is none in hexadecimal digits")
-    return {pcr: [bytes.fromhex(item) for item in items] for pcr, items in values.items()}
+    values: Dict[int, List[bytes]] = {}
+    for key in table:
+        if not re.fullmatch("[0-9]{1,3}", key) or int(key) >= PCR_COUNT:
+            raise BadInput(f"the policy: pcr is no table of PCR numbers, it has {key!r}")
+        if int(key) in values:
+            raise BadInput(f"the policy's pcr has PCR {int(key)} twice")
+        values[int(key)] = [hex_of(word, "the policy's pcr") for word in texts(table, key, "the policy's pcr")]
+    return values
 
 
-# ---- an entry and a description
+def revoked_of(words: List[str]) -> Set[bytes]:
+    """Digests, and titles as they are measured. A title that looks like a digest counts as one."""
+    return {bytes.fromhex(word) if is_digest(word) else word.encode() for word in words}
 
 
-def has_lines(entry: Entry, described: Described) -> bool:
-    """Whether the lines that were handed over are the entry's, with one address for the mark in all of them."""
-    came = [described.line, *(module.line for module in described.modules)]
-    addresses = set()
-    for wanted, line in zip(entry.lines, came):
-        found = re.fullmatch(ADDRESS.join(re.escape(part) for part in wanted.split(MARK)), line, re.S)
-        if found is None:
-            return False
-        addresses.update(found.groups())
-    return len(came) == len(entry.lines) and len(addresses) <= 1
+def banks_of(table: Table) -> List[str]:
+    banks = texts(table, "banks", "the policy")
+    unknown = [bank for bank in banks if bank not in SIZES]
+    if unknown:
+        raise BadInput(f"the policy's banks have {unknown[0]!r}; it may be {', '.join(SIZES)}")
+    return banks
 
 
-def has_files(entry: Entry, described: Described, policy: Policy) -> bool:
-    """As many as are described; which ones, their digests alone tell. Ramdisks that are all empty are none."""
-    others = entry.files[1:]
-    if not entry.modules and not any(policy.contents[name] for name in others):
-        others = []
-    return len(others) == len(described.modules) + len(described.ramdisks)
+def machines_of(table: Table) -> Dict[str, str]:
+    """Names of machines by their keys' fingerprints."""
+    machines: Dict[str, str] = {}
+    for it in table_list(table, "machine", "the policy"):
+        name = named(it, "name", "a machine of the policy")
+        where = f"the policy's machine {name!r}"
+        only(it, ["name", "key"], where)
+        key = hex_of(named(it, "key", where), where).hex()
+        if key in machines or len(key) != 64:
+            raise BadInput(f"{where} has another machine's key, or none of 32 bytes")
+        machines[key] = name
+    return machines
 
 
-def described_title(entry: Entry) -> str:
-    """A description's titles are of 64 printable characters at most: the boot manager cuts longer ones."""
-    return "".join(chr(byte) if 0x20 <= byte < 0x7F else "?" for byte in entry.title.encode()[:64])
+def digests_of(table: Table, names: List[str]) -> Dict[str, Dict[str, bytes]]:
+    """Of files, by their names and the banks that their lengths tell."""
+    digests: Dict[str, Dict[str, bytes]] = {}
+    for name in table:
+        if name not in names:
+            raise BadInput(f"the policy's digests have {name!r}, which is no file of the policy")
+        words = [table[name]] if isinstance(table[name], str) else texts(table, name, "the policy's digests")
+        held = [hex_of(word, "the policy's digests") for word in words]
+        if not held or any(len(each) not in BY_SIZE for each in held) or len({len(each) for each in held}) != len(held):
+            raise BadInput(f"the policy's digests of {name!r} are none, have two of one length, or one of no bank's")
+        digests[name] = {BY_SIZE[len(each)]: each for each in held}
+    return digests

@@ -1,70 +1,163 @@
-"""The verdict in words."""
+"""The verdict in words, and as JSON."""
 
 from argparse import Namespace
-from typing import Iterator, List
+from typing import Any, Dict, Iterator, List, NamedTuple, Optional
 
-from event_log import Log, read_log
+from event_log import read_logs
+from limits import LOG_BYTES
 from pcr_values import Values, read_values
-from policy import read_policy
-from quote import check_quote, check_signature, quoted_values, read_quote, read_signature
-from reading import file_bytes, shown
-from verdict import FILES, HANDOVERS, STARTED, TEXTS, Handover, Verdict, others_that_differ, verdict
+from policy import Policy, read_policy
+from quote import Quote, check_counts, check_quote, quoted_bank, quoted_values, read_quote
+from reading import fault, file_bytes, shown
+from replay import WANTED, listed, others_that_differ
+from signature import Key, check_signature, read_key, read_signature
+from verdict import Verdict, verdict
+
+MOST_REMARKS = 100
+
+
+class Vouched(NamedTuple):
+    """Who says what the PCRs are."""
+
+    values: Values
+    quote: Optional[Quote]
+    key: Optional[Key]  # the one that signed it
+    machine: str  # whose key that is, if the policy says it
+
+
+class Report(NamedTuple):
+    found: Verdict
+    vouched: Vouched
+    policy: Policy
+    key_name: str
+
+    @property
+    def is_signed(self) -> bool:
+        return self.vouched.key is not None
+
+
+def report(words: Namespace) -> Report:
+    """All inputs are read before anything is judged."""
+    policy = read_policy(words.policy, words.known, words.bank)
+    logs = read_logs(file_bytes(words.log, LOG_BYTES), file_bytes(words.final, LOG_BYTES) if words.final else b"")
+    vouched = vouched_values(words, policy)
+    return Report(verdict(logs, vouched.values, policy), vouched, policy, str(words.key))
+
+
+def vouched_values(words: Namespace, policy: Policy) -> Vouched:
+    quote = read_quote(words.quote) if words.quote else None
+    values = read_values(words.pcrs, quote.selection if quote else words.selection)
+    if quote is None:
+        return Vouched(values, None, None, "")
+    signature = read_signature(words.signature) if words.signature else None
+    key = read_key(words.key) if words.key else None
+    check_quote(quote, words.nonce, values, signature)
+    machine = ""
+    if signature and key:
+        check_signature(quote.message, signature.bank or quoted_bank(quote), signature, key, words.key)
+        machine = machine_of(key, policy, words.machine)
+    check_counts(quote, words.resets, words.restarts)
+    return Vouched(quoted_values(quote, values), quote, key, machine)
+
+
+def machine_of(key: Key, policy: Policy, wanted: Optional[str]) -> str:
+    machine = policy.machines.get(key.fingerprint, "")
+    if policy.machines and not machine:
+        fault(f"the key is no machine's of the policy, by its fingerprint {key.fingerprint}")
+    if wanted is not None and machine != wanted:
+        fault(f"the key is {machine or 'no machine'}'s, not {wanted}'s")
+    return machine
+
+
+# ---- in words
 
 
 def line(word: str, *told: object) -> str:
     return f"{word:9} {' '.join(map(str, told))}"
 
 
-def report(words: Namespace) -> List[str]:
-    """All inputs are read before anything is judged."""
-    policy = read_policy(words.policy, words.known, words.bank)
-    log = read_log(file_bytes(words.log), file_bytes(words.final) if words.final else b"")
-    values = read_values(words.pcrs)
-    vouched = f"PCR {STARTED}, {TEXTS}, {FILES} and {HANDOVERS} of {words.bank}"
-    if words.quote is None:
-        vouched += "; nobody has signed their values"
-    else:
-        quote = read_quote(words.quote)
-        signature = read_signature(words.signature) if words.signature else None
-        check_quote(quote, words.nonce, values, signature)
-        if signature:
-            check_signature(quote, signature, words.key)
-        values = quoted_values(quote, values)
-        vouched += f", quoted with the nonce {quote.nonce.hex()} after {quote.resets} resets and {quote.restarts} restarts of the TPM"
-        vouched += f"; the signature is by {words.key}" if signature else "; the signature was not checked"
-    found = verdict(log, values, policy)
-    return [*booted(found), line("by", vouched), *remarks(found, log, values, words.bank)]
-
-
-def booted(found: Verdict) -> Iterator[str]:
-    last = found.handovers[-1]
+def lines_of(report: Report) -> Iterator[str]:
+    last = report.found.handovers[-1]
     described = last.described
     yield line("booted", shown(described.title.encode()), "by the protocol", described.protocol)
     yield line("line", shown(described.line.encode()))
-    yield from files(last)
-    usable = sum(region.length for region in described.regions if region.kind == "usable")
-    yield line("machine", f"{len(described.regions)} ranges of memory, {usable} bytes usable")
-    yield line("image", last.image.hex())
-    yield line("manager", ", ".join(found.managers))
-
-
-def files(last: Handover) -> Iterator[str]:
     yield line("kernel", last.entry.files[0])
     for number, name in enumerate(last.entry.files[1:]):
         if last.entry.modules:
-            yield line("module", name, "with the line", shown(last.described.modules[number].line.encode()))
+            yield line("module", name, "with the line", shown(described.modules[number].line.encode()))
         else:
             yield line("ramdisk", name)
+    usable = sum(region.length for region in described.regions if region.kind == "usable")
+    yield line("machine", f"{len(described.regions)} ranges of memory, {usable} bytes usable")
+    yield line("image", last.image.hex())
+    yield line("manager", ", ".join(report.found.managers))
+    if report.found.drivers:
+        yield line("drivers", ", ".join(report.found.drivers))
+    yield line("by", by(report))
+    for remark in remarks(report):
+        yield line("remark", remark)
 
 
-def remarks(found: Verdict, log: Log, values: Values, bank: str) -> Iterator[str]:
-    count = len(found.handovers)
-    if count > 1:
-        yield line("remark", f"the handover was measured {count} times; the last one counts")
-    for attempt in found.attempts[:-1]:
-        yield line("remark", shown(attempt.title), "was attempted before")
-    differ = others_that_differ(log, values, bank)
+def by(report: Report) -> str:
+    quote, machine = report.vouched.quote, report.vouched.machine
+    others = [bank for bank in report.vouched.values if bank != report.policy.bank]
+    told = f"PCR {listed(WANTED[:-1])} and {WANTED[-1]} of {report.policy.bank}" + (f", and of {listed(others)}" if others else "")
+    if quote is None:
+        return told + "; nobody has signed their values"
+    told += f", quoted with the nonce {quote.nonce.hex()} after {quote.resets} resets and {quote.restarts} restarts of the TPM"
+    if not report.is_signed:
+        return told + "; the signature was not checked"
+    return told + f"; the signature is by {report.key_name}" + (f", the key of {machine}" if machine else "")
+
+
+def remarks(report: Report) -> List[str]:
+    made = all_remarks(report)
+    left_out = [f"{len(made) - MOST_REMARKS} remarks more"] if len(made) > MOST_REMARKS else []
+    return made[:MOST_REMARKS] + left_out
+
+
+def all_remarks(report: Report) -> List[str]:
+    found, policy = report.found, report.policy
+    made = []
+    if len(found.handovers) > 1:
+        made.append(f"the handover was measured {len(found.handovers)} times; the last one counts")
+    unjudged = [pcr for pcr in (0, 7) if pcr not in policy.pcrs]
+    if unjudged:
+        made.append(f"PCR {listed(unjudged)}: any firmware and any Secure Boot, for the policy has no values of them")
+    differ = others_that_differ(found.log, report.vouched.values, policy.bank)
     if differ:
-        yield line("remark", f"PCR {', '.join(map(str, differ))}: not what the log gives; what ran later may have measured there")
-    for other in (it for it in values if it not in log.banks):
-        yield line("remark", f"the log lacks the bank {other}, so its values say nothing")
+        made.append(f"PCR {listed(differ)}: not what the log gives; what ran later may have measured there")
+    attempted = dict.fromkeys(shown(attempt.title) for attempt in found.attempts[:-1])
+    return [*made, *(f"{title} was attempted before" for title in attempted), *found.said]
+
+
+# ---- as JSON
+
+
+def told_of(report: Report) -> Dict[str, Any]:
+    last = report.found.handovers[-1]
+    described, quote = last.described, report.vouched.quote
+    told: Dict[str, Any] = {
+        "title": last.entry.title,
+        "protocol": described.protocol,
+        "line": described.line,
+        "modules": [module.line for module in described.modules],
+        "files": last.entry.files,
+        "image": last.image.hex(),
+        "managers": report.found.managers,
+        "drivers": report.found.drivers,
+        "remarks": remarks(report),
+        "bank": report.policy.bank,
+        "pcrs": {bank: {str(pcr): it.hex() for pcr, it in values.items()} for bank, values in report.vouched.values.items()},
+        "quote": None,
+    }
+    if quote is not None:
+        told["quote"] = {
+            "nonce": quote.nonce.hex(),
+            "clock": quote.clock,
+            "resets": quote.resets,
+            "restarts": quote.restarts,
+            "key": report.vouched.key.fingerprint if report.vouched.key else None,
+            "machine": report.vouched.machine or None,
+        }
+    return told

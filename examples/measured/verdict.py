@@ -1,116 +1,118 @@
 """What a log and PCR values say was booted, and whether the policy allows it."""
 
-from typing import Dict, List, NamedTuple, Sequence
+from typing import Dict, List, NamedTuple
 
-from description import Described, read_description
-from event_log import BANKS, Event, Log, digest, is_replayed, replayed
-from image_digest import image_digest
+from choices import Attempt, choices
+from event_log import Event, Log
+from handovers import Handover, handovers
 from pcr_values import Values
-from policy import Entry, Policy, described_title, has_files, has_lines
-from reading import Fault, fault, shown
+from policy import Policy
+from reading import fault, shown
+from replay import DRIVERS, FILES, HANDOVERS, STARTED, replayed_log
+from texts import firmware_text, is_separator, options_text
 
-# whose values the verdict rests on: what was started, texts, files, handovers
-STARTED, TEXTS, FILES, HANDOVERS = 4, 8, 9, 12
-# these and the firmware's are as the log says; a kernel that runs extends others, which its own log has
-COMPARED = [*range(10), HANDOVERS]
-SEPARATORS = [bytes(4), b"\xff" * 4]
 STARTING = [b"Calling EFI Application from Boot Option", b"Returning from EFI Application from Boot Option"]
-CHOICE, KERNEL_LINE, MODULE_LINE = b"bootcore_choice: ", b"kernel_cmdline: ", b"module_cmdline: "
-
-
-class Attempt(NamedTuple):
-    """An entry that was attempted, by the texts that were measured."""
-
-    event: Event
-    title: bytes
-    lines: List[bytes]
-
-
-class Handover(NamedTuple):
-    event: Event
-    described: Described
-    entry: Entry
-    image: bytes
 
 
 class Verdict(NamedTuple):
+    log: Log
     handovers: List[Handover]  # the last one counts
     attempts: List[Attempt]
     managers: List[str]
+    drivers: List[str]
+    said: List[str]  # texts of the firmware and of other boot managers
 
 
-# ---- the log is what the TPM was told
+def verdict(logs: List[Log], values: Values, policy: Policy) -> Verdict:
+    log = replayed_log(logs, values, policy)
+    said: Dict[str, None] = {}
+    check_revoked(log, policy)
+    drivers = drivers_loaded(log, policy, said)
+    managers = started(log, policy, said)
+    made = attempts(log, policy, said)
+    read = files_read(log, policy)
+    over = handovers(handover_events(log, policy, said), policy, made[-1], read)
+    return Verdict(log, over, made, managers, drivers, list(said))
 
 
-def check_replay(log: Log, values: Values, bank: str, wanted: Sequence[int]) -> None:
-    for where, banks in (("in the log", log.banks), ("among the PCR values", list(values))):
-        if bank not in banks:
-            fault(f"the bank {bank} is not {where}, only {', '.join(banks) or 'none'}")
-    for pcr in wanted:
-        if pcr not in values[bank]:
-            fault(f"PCR {pcr} of {bank} is not among the PCR values")
-    for each in (it for it in log.banks if it in values and it in BANKS.values()):
-        check_bank(log, values[each], each)
+def check_revoked(log: Log, policy: Policy) -> None:
+    """In each bank: what is revoked by a digest of one bank is revoked in all."""
+    for pcr in (DRIVERS, STARTED, FILES, HANDOVERS):
+        for event in log.of_pcr(pcr):
+            for came in event.digests.values():
+                if came in policy.revoked:
+                    fault(f"{event.name}: what was measured there is revoked, by its digest {came.hex()}")
 
 
-def check_bank(log: Log, values: Dict[int, bytes], bank: str) -> None:
-    differ = [pcr for pcr in COMPARED if pcr in values and not is_replayed(log, bank, pcr, values[pcr])]
-    for pcr in differ:
-        if not any(values[pcr]):
-            fault(f"PCR {pcr} of {bank} is zero: since its reset the TPM was told nothing there, and the log says otherwise")
-    if differ:
-        listed = ", ".join(map(str, differ))
-        fault(f"PCR {listed} of {bank} is not what the log gives: an event there is missing, added, changed or in another place")
+# ---- what was loaded and started
 
 
-def others_that_differ(log: Log, values: Values, bank: str) -> List[int]:
-    """For a remark: PCRs that the verdict does not rest on."""
-    return [pcr for pcr, value in values[bank].items() if pcr not in COMPARED and replayed(log, bank, pcr) != value]
+def say(said: Dict[str, None], event: Event, text: bytes) -> None:
+    said[f"PCR {event.pcr} has the text {shown(text)}"] = None
 
 
-# ---- each event is one that the policy allows
+def drivers_loaded(log: Log, policy: Policy, said: Dict[str, None]) -> List[str]:
+    """A driver can change whatever the firmware does for who comes after it, the measuring too. So each one must be known, or all
+    of them by the value of PCR 2. The kind of an event is in no PCR: what is no text of the firmware is a driver."""
+    if policy.drivers is None and DRIVERS in policy.pcrs:
+        return []
+    names: List[str] = []
+    known: Dict[bytes, str] = policy.drivers or {}
+    for event in log.of_pcr(DRIVERS):
+        came, text = event.digests[policy.bank], firmware_text(event, policy.bank)
+        if came in known:
+            names.append(known[came])
+        elif text is not None:
+            say(said, event, text)
+        elif not is_separator(event, policy.bank):
+            fault(f"{event.name}: a driver was loaded that the policy does not name, with the digest {came.hex()}")
+    return names
 
 
-def started(log: Log, policy: Policy) -> List[str]:
-    """The names of what was started. The kind of an event is in no PCR: so what is no text known here is an application. What
+def started(log: Log, policy: Policy, said: Dict[str, None]) -> List[str]:
+    """The names of what was started. The kind of an event is in no PCR: so what is no text of the firmware is an application. What
     was started last did not return: the firmware may have programs of its own, which it does not measure."""
     names: List[str] = []
     is_back = True
     for event in log.of_pcr(STARTED):
-        came = event.digests[policy.bank]
-        is_back = event.data in SEPARATORS + STARTING and came == digest(policy.bank, event.data)
-        if not is_back and came not in policy.managers:
-            fault(f"{event.name}: something was started that the policy does not name, with the digest {came.hex()}")
+        came, text = event.digests[policy.bank], firmware_text(event, policy.bank)
+        is_back = came not in policy.managers
         if not is_back:
             names.append(policy.managers[came])
+        elif text is not None and text not in STARTING:
+            say(said, event, text)
+        elif text is None and not is_separator(event, policy.bank):
+            fault(f"{event.name}: something was started that the policy does not name, with the digest {came.hex()}")
     if is_back:
         fault("PCR 4: " + ("the firmware went on behind what was started last" if names else "nothing was started"))
     return names
 
 
-def attempts(log: Log, policy: Policy) -> List[Attempt]:
-    made: List[Attempt] = []
-    for event in log.of_pcr(TEXTS):
-        if digest(policy.bank, event.data) != event.digests[policy.bank]:
-            fault(f"{event.name}: its text {shown(event.data)} is not what was measured")
-        word = next((it for it in (CHOICE, KERNEL_LINE, MODULE_LINE) if event.data.startswith(it)), None)
-        if word is None or event.data.find(b"\0") != len(event.data) - 1:
-            fault(f"{event.name}: {shown(event.data)} is no text of the boot manager")
-        told = event.data[len(word) : -1]
-        if word == CHOICE:
-            made.append(Attempt(event, told, []))
-        elif not made or (word == KERNEL_LINE) != (not made[-1].lines):
-            fault(f"{event.name}: {shown(event.data)} is not the text that follows there")
-        else:
-            made[-1].lines.append(told)
-    if not made:
+# ---- what was chosen, and read
+
+
+def attempts(log: Log, policy: Policy, said: Dict[str, None]) -> List[Attempt]:
+    made = choices(log, policy.bank)
+    for event, text in made.others:
+        check_other(event, text, "GRUB", policy, made.is_late(event))
+        say(said, event, text)
+    if not made.attempts:
         fault("PCR 8: the boot manager measured no choice")
-    for attempt in made:
+    for attempt in made.attempts:
         check_attempt(attempt, policy)
-    return made
+    return made.attempts
+
+
+def check_other(event: Event, text: bytes, by: str, policy: Policy, is_late: bool) -> None:
+    if is_late:
+        fault(f"{event.name}: {shown(text)} is a text of {by}'s behind those of the boot manager")
+    if text not in policy.texts:
+        fault(f"{event.name}: {shown(text)} is a text of {by}'s, which was started before; the policy's texts lack it")
 
 
 def check_attempt(attempt: Attempt, policy: Policy) -> None:
+    if attempt.title in policy.revoked:
+        fault(f"{attempt.event.name}: the entry {shown(attempt.title)} is revoked")
     titled = [entry for entry in policy.entries if entry.title.encode() == attempt.title]
     if not titled:
         fault(f"{attempt.event.name}: the policy has no entry {shown(attempt.title)}")
@@ -129,55 +131,13 @@ def files_read(log: Log, policy: Policy) -> List[bytes]:
     return read
 
 
-# ---- the handovers
-
-
-def handovers(log: Log, policy: Policy, chosen: Attempt, read: List[bytes]) -> List[Handover]:
-    events = log.of_pcr(HANDOVERS)
-    if not events:
-        fault("PCR 12: nothing was handed over")
-    return [handover(event, policy, chosen, read) for event in events]
-
-
-def handover(event: Event, policy: Policy, chosen: Attempt, read: List[bytes]) -> Handover:
-    try:
-        described = read_description(event.data)
-    except Fault as wrong:
-        fault(f"{event.name}: its description is refused: {wrong}")
-    try:
-        entry = entry_of(described, policy, chosen, read)
-        image = image_digest(described, [policy.contents[name] for name in entry.files])
-    except Fault as wrong:
-        fault(f"{event.name}: {wrong}")
-    if digest(policy.bank, image) != event.digests[policy.bank]:
-        fault(f"{event.name}: what was handed over is not the image of its description with the known files, {image.hex()}")
-    return Handover(event, described, entry, image)
-
-
-def entry_of(described: Described, policy: Policy, chosen: Attempt, read: List[bytes]) -> Entry:
-    """The policy's entry that was handed over: it was chosen last, and its files were read last. That holds of each handover, not
-    of the last one alone: a kernel that was handed over before might have run, and have measured what came after it."""
-    entries = [it for it in policy.entries if (it.title.encode(), it.measured_lines) == (chosen.title, chosen.lines)]
-    if described.title not in [described_title(it) for it in entries]:
-        fault(f"{shown(described.title.encode())} was handed over, and {shown(chosen.title)} was chosen last")
-    with_lines = [it for it in entries if has_lines(it, described)]
-    if not with_lines:
-        fault(f"its lines are not those that were measured: {shown(described.line.encode())}")
-    of_form = [it for it in with_lines if it.protocol == described.protocol and has_files(it, described, policy)]
-    if not of_form:
-        fault(f"the policy's entry has another protocol than {described.protocol}, or another number of files")
-    for entry in of_form:
-        wanted = [policy.digests[name] for name in entry.files]
-        if read[-len(wanted) :] == wanted:
-            return entry
-    fault(f"its files are not those that were read last: {', '.join(of_form[0].files)}")
-
-
-def verdict(log: Log, values: Values, policy: Policy) -> Verdict:
-    check_replay(log, values, policy.bank, [STARTED, TEXTS, FILES, HANDOVERS, *policy.pcrs])
-    for pcr, allowed in policy.pcrs.items():
-        if values[policy.bank][pcr] not in allowed:
-            fault(f"PCR {pcr} of {policy.bank} has a value that the policy does not name, {values[policy.bank][pcr].hex()}")
-    managers = started(log, policy)
-    made = attempts(log, policy)
-    return Verdict(handovers(log, policy, made[-1], files_read(log, policy)), made, managers)
+def handover_events(log: Log, policy: Policy, said: Dict[str, None]) -> List[Event]:
+    found: List[Event] = []
+    for event in log.of_pcr(HANDOVERS):
+        other = options_text(event, policy.bank)
+        if other is None:
+            found.append(event)
+        else:
+            check_other(event, other, "another boot manager", policy, bool(found))
+            say(said, event, other)
+    return found

@@ -1,11 +1,12 @@
 """The cases of the checker of measured boots: a boot, what is changed of it, and what the checker must say."""
 
+import hashlib
 from typing import Callable, Dict, List, NamedTuple, Optional
 
-from tests import measured_boots as boots
-from tests.measured_boots import FILES, IPL, LINUX, MULTIBOOT2, POLICY, Change, Event, Pcrs, at, attempt, told
+from examples.measured.tests import boots
+from examples.measured.tests.boots import FILES, IPL, LINUX, MULTIBOOT2, POLICY, Change, Event, Pcrs, at, attempt, told
 
-GOOD, WRONG, UNREADABLE, BAD_WORDS = 0, 1, 2, 64
+GOOD, WRONG, UNREADABLE, UNSIGNED, BAD_WORDS = 0, 1, 2, 3, 64
 ALL_BANKS = ["sha1", "sha256", "sha384", "sha512"]
 OTHER_MANAGER = boots.application([b"other".ljust(512, b"\0")])
 KERNEL_LINES = ['say "hello"', "first @ @rsdp@", ""]
@@ -28,6 +29,7 @@ class Case(NamedTuple):
     known: Dict[str, Optional[bytes]] = {}  # files of the folder that are others; None if one is not there
     booted: Dict[str, bytes] = {}  # files of the machine that are others
     banks: List[str] = ["sha256"]
+    log_banks: List[str] = []  # of the log, if it has others than the TPM
     words: List[str] = []
 
 
@@ -154,6 +156,33 @@ SHELL = attempt("Shell", ["-options"], [], FILES)
 SHELL_POLICY = POLICY + '\n[[entry]]\ntitle = "Shell"\nprotocol = "efi"\nline = "-options"\n'
 GIVEN_UP = attempt("Kernel", KERNEL_LINES, ["kernel.elf"], FILES)
 EMPTY = {"initrd.img": b"", "more.img": b""}
+DRIVER = Event(2, boots.DRIVER, b"driver", b"where it was loaded")
+OPTIONS = told(12, IPL, "quiet splash\0".encode("utf-16-le"))
+GRUB = Event(8, IPL, b"set root=hd0", b"grub_cmd: set root=hd0\0")
+
+
+def digest_of(event: Event) -> str:
+    return event.digest("sha256").hex()
+
+
+def sha256(held: bytes) -> str:
+    return hashlib.sha256(held).hexdigest()
+
+
+def with_key(key: str, *words: str) -> str:
+    return f"{key} = [{', '.join(chr(34) + word + chr(34) for word in words)}]\n{POLICY}"
+
+
+def with_digest(name: str, digest: str) -> str:
+    return POLICY.replace("\n[[entry]]", f'\n[digests]\n"{name}" = "{digest}"\n\n[[entry]]', 1)
+
+
+def valued_policy(pcr: int, happened: Change) -> str:
+    """With the value that a PCR has after a boot."""
+    value = boots.pcrs_of(happened(boots.linux_boot(FILES)), ["sha256"])["sha256"][pcr].hex()
+    return POLICY.replace("\n[[entry]]", f'\n[pcr]\n{pcr} = ["{value}"]\n\n[[entry]]', 1)
+
+
 PCR_POLICY = POLICY.replace("\n[[entry]]", "\n[pcr]\n17 = ['" + 32 * "ff" + "']\n\n[[entry]]", 1)
 
 AS_IT_SHOULD_BE = [
@@ -231,6 +260,68 @@ AS_IT_SHOULD_BE = [
         happened=lined("@rsdp@ or @rsdp@"),
         policy=TWO_MARKS,
     ),
+    Case(
+        "a driver is known by its digest",
+        f"drivers   {digest_of(DRIVER)}",
+        happened=at(2, 0, before(DRIVER)),
+        policy=with_key("drivers", digest_of(DRIVER)),
+    ),
+    Case(
+        "a driver is known by its file",
+        "drivers   driver.efi",
+        happened=at(2, 0, after(Event(2, boots.RUNTIME_DRIVER, boots.without_signature(OTHER_MANAGER), b""))),
+        known={"driver.efi": OTHER_MANAGER},
+        policy=with_key("drivers", "driver.efi"),
+    ),
+    Case(
+        "drivers are known by the value of PCR 2",
+        LINUX_SAID,
+        happened=at(2, 0, before(DRIVER)),
+        policy=valued_policy(2, at(2, 0, before(DRIVER))),
+    ),
+    Case(
+        "a firmware may tell of its setup",
+        'remark    PCR 4 has the text "Entering ROM Based Setup"',
+        happened=at(4, 0, before(told(4, boots.ACTION, b"Entering ROM Based Setup"))),
+    ),
+    Case(
+        "a firmware may measure a text without its zero byte",
+        'remark    PCR 2 has the text "Start Option ROM Scan"',
+        happened=at(2, 0, before(Event(2, boots.ACTION, b"Start Option ROM Scan", b"Start Option ROM Scan\0"))),
+    ),
+    Case(
+        "another boot manager's options are known",
+        'remark    PCR 12 has the text "quiet splash"',
+        happened=at(12, 0, before(OPTIONS)),
+        policy=with_key("texts", "quiet splash"),
+    ),
+    Case(
+        "GRUB's commands are known",
+        'remark    PCR 8 has the text "grub_cmd: set root=hd0"',
+        happened=at(8, 0, before(GRUB)),
+        policy=with_key("texts", "grub_cmd: set root=hd0"),
+    ),
+    Case(
+        "a file that was read besides is known by its digest",
+        LINUX_SAID,
+        policy=POLICY.replace('"menu.txt"', f'"{sha256(FILES["menu.txt"])}"'),
+        known={"menu.txt": None},
+    ),
+    Case(
+        "a file of an entry that was not booted is known by its digest",
+        LINUX_SAID,
+        happened=at(8, 0, before(*GIVEN_UP)),
+        policy=with_digest("kernel.elf", sha256(FILES["kernel.elf"])),
+        known={"kernel.elf": None},
+    ),
+    Case("a policy's digest is that of the known file", LINUX_SAID, policy=with_digest("vmlinuz", sha256(FILES["vmlinuz"]))),
+    Case("what was not measured may be revoked", LINUX_SAID, policy=with_key("revoked", "Linux 2", 32 * "00")),
+    Case("a policy may name the banks", LINUX_SAID, banks=ALL_BANKS, policy=with_key("banks", *ALL_BANKS)),
+    Case(
+        "a separator may have the bytes 0xFF",
+        LINUX_SAID,
+        happened=lambda it: [told(e.pcr, e.kind, b"\xff" * 4) if e.kind == boots.SEPARATOR else e for e in it],
+    ),
 ]
 
 LOG = [
@@ -258,6 +349,12 @@ LOG = [
         "PCR 0 of sha256 is not",
         logged=at(0, 0, with_data(b"StartupLocality\0\3")),
     ),
+    Case(
+        "a locality that another PCR's event tells",
+        "PCR 0 of sha256 is not",
+        logged=at(0, 0, lambda it: [it._replace(data=b"StartupLocality\0\3")]),
+        happened=at(0, 0, lambda it: [it, it._replace(pcr=1, data=b"StartupLocality\0\3")]),
+    ),
     Case("a PCR of the TPM that is zero", "PCR 12 of sha256 is zero", values=valued("sha256", 12, None)),
     Case(
         "a PCR of the TPM with another value",
@@ -281,6 +378,44 @@ LOG = [
         "PCR values without PCR 12",
         "PCR 12 of sha256 is not among the PCR values",
         values=lambda it: {"sha256": it["sha256"][:12]},
+    ),
+    Case(
+        "a log from which a bank was stripped",
+        "the bank sha1 is among the PCR values and not in the log",
+        banks=["sha1", "sha256"],
+        log_banks=["sha256"],
+    ),
+    Case(
+        "PCR values from which a bank was stripped",
+        "the bank sha1 is in the log and not among the PCR values",
+        banks=["sha1", "sha256"],
+        values=lambda it: {"sha256": it["sha256"]},
+    ),
+    Case(
+        "a log and values that lack a bank of the policy's",
+        "the bank sha1 is in the policy and not in the log",
+        policy=with_key("banks", "sha1", "sha256"),
+    ),
+    Case(
+        "a log and values with a bank that the policy's machine has not",
+        "the bank sha384 is in the log and not in the policy",
+        banks=["sha256", "sha384"],
+        policy=with_key("banks", "sha256"),
+    ),
+    Case(
+        "a bank with fewer PCRs than the verdict rests on",
+        "PCR 12 of sha1 is not among the PCR values",
+        banks=["sha1", "sha256"],
+        values=lambda it: {**it, "sha1": it["sha1"][:12]},
+    ),
+    *(
+        Case(f"a PCR {pcr} without a separator", f"PCR {pcr}: there is no separator", happened=at(pcr, place, gone))
+        for pcr, place in ((0, -1), (1, 0), (2, 0), (4, 1), (5, 0), (7, -1))
+    ),
+    Case(
+        "a separator that tells an error",
+        "PCR 7: there is no separator",
+        happened=at(7, -1, lambda _: [told(7, boots.SEPARATOR, b"\1\0\0\0")]),
     ),
 ]
 
@@ -410,6 +545,121 @@ MACHINE = [
         "PCR 17 of sha256 has a value that the policy does not name",
         policy=PCR_POLICY.replace("ff", "fe"),
     ),
+    Case(
+        "a driver that the policy does not name",
+        "PCR 2, event 7: a driver was loaded that the policy does not name, with the digest",
+        happened=at(2, 0, before(DRIVER)),
+    ),
+    Case(
+        "a runtime driver behind the separator",
+        "a driver was loaded that the policy does not name",
+        happened=at(2, 0, after(Event(2, boots.RUNTIME_DRIVER, b"driver", b""))),
+    ),
+    Case(
+        "a driver in place of an entry's program",
+        "a driver was loaded that the policy does not name",
+        policy=SHELL_POLICY,
+        happened=at(8, 0, before(*SHELL, DRIVER)),
+    ),
+    Case(
+        "a driver that says that it is a text of the firmware",
+        "a driver was loaded that the policy does not name",
+        happened=at(2, 0, before(DRIVER._replace(kind=boots.ACTION, data=b"Start Option ROM Scan"))),
+    ),
+    Case(
+        "a driver that says that it is a separator",
+        "a driver was loaded that the policy does not name",
+        happened=at(2, 0, before(DRIVER._replace(kind=boots.SEPARATOR, data=bytes(4)))),
+    ),
+    Case(
+        "a driver beside those that the policy names",
+        "a driver was loaded that the policy does not name",
+        happened=at(2, 0, before(DRIVER, Event(2, boots.DRIVER, b"another", b""))),
+        policy=with_key("drivers", digest_of(DRIVER)),
+    ),
+    Case(
+        "a PCR 2 that the policy does not name, with drivers that it names",
+        "PCR 2 of sha256 has a value that the policy does not name",
+        happened=at(2, 0, before(DRIVER)),
+        policy=with_key("drivers", digest_of(DRIVER)).replace("\n[[entry]]", f'\n[pcr]\n2 = ["{32 * "00"}"]\n\n[[entry]]', 1),
+    ),
+    Case(
+        "an application that says that it is a text of the firmware",
+        "something was started that the policy does not name",
+        happened=at(4, 0, before(Event(4, boots.ACTION, b"shell", b"Entering ROM Based Setup"))),
+    ),
+    Case(
+        "a firmware's setup behind the boot manager",
+        "the firmware went on behind what was started last",
+        happened=ended(told(4, boots.ACTION, b"Entering ROM Based Setup")),
+    ),
+    Case(
+        "another boot manager's options that the policy does not have",
+        '"quiet splash" is a text of another boot manager\'s, which was started before; the policy\'s texts lack it',
+        happened=at(12, 0, before(OPTIONS)),
+    ),
+    Case(
+        "another boot manager's options behind the handover",
+        '"quiet splash" is a text of another boot manager\'s behind those of the boot manager',
+        happened=at(12, 0, after(OPTIONS)),
+        policy=with_key("texts", "quiet splash"),
+    ),
+    Case(
+        "a handover of an unknown image that says that it is options",
+        "its description is refused",
+        happened=at(12, 0, before(Event(12, IPL, 16 * b"a\0", 16 * b"a\0"))),
+        policy=with_key("texts", 16 * "a"),
+    ),
+    Case(
+        "GRUB's commands that the policy does not have",
+        '"grub_cmd: set root=hd0" is a text of GRUB\'s, which was started before; the policy\'s texts lack it',
+        happened=at(8, 0, before(GRUB)),
+    ),
+    Case(
+        "GRUB's commands behind the choice",
+        '"grub_cmd: set root=hd0" is a text of GRUB\'s behind those of the boot manager',
+        happened=ended(GRUB),
+        policy=with_key("texts", "grub_cmd: set root=hd0"),
+    ),
+    Case(
+        "GRUB's commands without their zero byte",
+        "is not what was measured",
+        logged=at(8, 0, with_data(b"grub_cmd: set root=hd0x")),
+        happened=at(8, 0, before(GRUB)),
+        policy=with_key("texts", "grub_cmd: set root=hd0"),
+    ),
+    Case(
+        "a choice that says that it is a command of GRUB's",
+        "is not what was measured",
+        happened=at(8, 0, before(Event(8, IPL, b"bootcore_choice: a\0", b"grub_cmd: bootcore_choice: a\0\0"))),
+        policy=with_key("texts", "grub_cmd: bootcore_choice: a", "grub_cmd: bootcore_choice: a\\u0000"),
+    ),
+    Case(
+        "an entry that is revoked",
+        'PCR 8, event 15: the entry "Linux" is revoked',
+        policy=with_key("revoked", "Linux"),
+    ),
+    Case(
+        "an entry that was given up and is revoked",
+        'the entry "Kernel" is revoked',
+        happened=at(8, 0, before(*GIVEN_UP)),
+        policy=with_key("revoked", "Kernel"),
+    ),
+    *(
+        Case(f"{what} that is revoked", said, policy=with_key("revoked", revoked), banks=["sha1", "sha256", "sha384"])
+        for what, revoked, said in (
+            ("a file", sha256(FILES["initrd.img"]), "PCR 9, event 18: what was measured there is revoked, by its digest"),
+            ("a file of another bank's digest", hashlib.sha384(FILES["initrd.img"]).hexdigest(), "measured there is revoked"),
+            ("a boot manager", DIGEST, "PCR 4, event 13: what was measured there is revoked"),
+            ("an image", boots.image_digest(LINUX, FILES).hex(), "the image that was handed over is revoked, by its digest"),
+        )
+    ),
+    Case(
+        "a driver that is revoked, with the value of PCR 2 that the policy names",
+        "PCR 2, event 7: what was measured there is revoked",
+        happened=at(2, 0, before(DRIVER)),
+        policy=valued_policy(2, at(2, 0, before(DRIVER))).replace("managers", f'revoked = ["{digest_of(DRIVER)}"]\nmanagers', 1),
+    ),
 ]
 
 HANDOVER = [
@@ -479,92 +729,24 @@ HANDOVER = [
         "is not the image",
         happened=at(12, 0, before(Event(12, IPL, b"else", LINUX.encode()))),
     ),
-]
-
-# ---- texts that say what a description in its one form says, or nothing: what stands in place of what
-
-OTHER_FORMS = [
-    ("size = ", "size  = "),
-    ("size = ", "size="),
-    ("size = ", " size = "),
-    ("size = ", "\tsize = "),
-    ("size = ", "\nsize = "),
-    ("size = ", "\ufeffsize = "),
-    ("size = ", '"size" = '),
-    ("size = ", "fill = 0x0\nsize = "),
-    ("pool = ", "default = 0x0\npool = "),
-    ("pool = ", "fallback = []\npool = "),
-    ("size = 0x100000000\n", ""),
-    ("0x100000000", "4294967296"),
-    ("0x100000000", "0x1_0000_0000"),
-    ("0x100000000", "0x0100000000"),
-    ("0x100000000", "0o40000000000"),
-    ("0x100000000", "-0x1"),
-    ("0x100000000", "-1"),
-    ("0x100000000", "true"),
-    ("0x100000000", "1e9"),
-    ("0x100000000", '"0x100000000"'),
-    ("[0x100000, 0x800000]", "[0x100000,0x800000]"),
-    ("[0x100000, 0x800000]", "[0x100000, 0x800000,]"),
-    ("[0x100000, 0x800000]", "[0x100000, 0x7ff000]"),
-    ("[0x100000, 0x800000]", "[0x900000, 0xf00000]"),
-    ("[0x100000, 0x800000]", "[0x0, 0x0]"),
-    ("\n\n", "\n"),
-    ("\n\n", "\n\n\n"),
-    ("\n\n", "\n \n"),
-    ("\n", "\r\n"),
-    ("\n", " \n"),
-    ("\n", " # a comment\n"),
-    ("\n", "\n# a comment\n"),
-    ("[[region]]", "[[ region ]]"),
-    ("[[region]]", '[["region"]]'),
-    ("[[region]]", "[region]"),
-    ("[[region]]", '[[file]]\nname = "x"\nhex = ""\n\n[[region]]'),
-    ("base = 0x0\nlength = 0x9f000\n", "length = 0x9f000\nbase = 0x0\n"),
-    ("base = 0x0\nlength = 0x9f000\n", "length = 0x9f000\n"),
-    ("base = 0x0\nlength = 0x9f000\n", "base = 0x9f000\nlength = 0x0\n"),
-    ("base = 0x0\n", "base = 0x00\n"),
-    ("base = 0x0\n", "base = 0x1000\n"),
-    ("0x9f000\nkind", "0x9F000\nkind"),
-    ("0x9f000\nkind", "0x8f000\nkind = \"usable\"\n\n[[region]]\nbase = 0x8f000\nlength = 0x10000\nkind"),
-    ("length = 0x61000", "length = 0x61001"),
-    ("length = 0x61000\n", "length = 0x61000\nmore = 0x0\n"),
-    ('kind = "reserved"', 'kind = "usable"'),
-    ('"reserved"', "'reserved'"),
-    ('"reserved"', '"""reserved"""'),
-    ('"reserved"', '"\\u0072eserved"'),
-    ('"reserved"', '"Reserved"'),
-    ('"reserved"', '"free"'),
-    ('"reserved"', "0x2"),
-    ('"linux64"', '"linux_64"'),
-    ('title = "Linux"\nprotocol = "linux64"\n', 'protocol = "linux64"\ntitle = "Linux"\n'),
-    ('title = "Linux"\n', ""),
-    ('title = "Linux"', "title = 'Linux'"),
-    ('title = "Linux"', 'title = "\\u004cinux"'),
-    ('kernel = "vmlinuz"\n', ""),
-    ("\\u000a", "\\n"),
-    ("\\u000a", "\\u000A"),
-    ("\\u000a", "\\U0000000a"),
-    ("more.img", "more\\/.img"),
-    ("more.img", "m\u00f6re.img\\u00f6"),
-    ("initrd.img\\u000amore.img", ""),
-    ('initrd = "', 'rsdp_old = "52"\ninitrd = "'),
-    ('more.img"\n', 'more.img"\n\n[[entry.module]]\nfile = "x"\nline = ""\n'),
-    ("[[entry]]\n", '[[entry]]\ntitle = "a"\nprotocol = "linux"\nkernel = "k"\nline = ""\n\n[[entry]]\n'),
-    ("[[entry]]\n", "[entry]\n"),
-    ("[[entry]]\n", "[[entries]]\n"),
-    ('\\"hello\\"', "\\u0022hello\\u0022"),
-    ('"say \\"hello\\""', "'say \"hello\"'"),
-    ('rsdp_new = "52534420505452202f"', 'rsdp_new = "52534420505452202F"'),
-    ('rsdp_new = "52534420505452202f"', 'rsdp_new = ""'),
-    ('rsdp_new = "52534420505452202f"', "rsdp_new = 0x52"),
-    ('rsdp_old = "5253442050545220"\nrsdp_new = "52534420505452202f"\n', 'rsdp_new = "52"\nrsdp_old = "52"\n'),
-    ('rsdp_old = "5253442050545220"\n', 'rsdp_old = "5253442050545220"\ninitrd = "x"\n'),
-    ('file = "two"\nline = ""\n', 'file = "two"\n'),
-    ('file = "two"\nline = ""\n', 'line = ""\nfile = "two"\n'),
-    ('line = ""\n', 'line = ""'),
-    ('line = ""\n', 'line = ""\n\n'),
-    ('more.img"\n', 'more.img"'),
-    ('more.img"\n', 'more.img"\n\n'),
-    ('more.img"\n', 'more.img"\nfile = "x"\n'),
+    Case(
+        "more handovers than a boot can have",
+        "PCR 12: 17 handovers were measured, more than 16",
+        happened=at(12, 0, lambda it: 17 * [it]),
+    ),
+    Case(
+        "a description that is too long",
+        "it has more than 65536 bytes",
+        logged=at(12, 0, with_data(b"#" * 65537)),
+    ),
+    Case(
+        "a description with a key of many parts, which a reader of TOML takes a minute for",
+        'is not in its one form: line 1 is "a.a.a.a',
+        logged=at(12, 0, with_data(b"a" + 32000 * b".a" + b" = 0x1\n")),
+    ),
+    Case(
+        "a description with a number above 64 bits",
+        "its key size is missing, or no int",
+        logged=at(12, 0, saying("size = 0x1", "size = 0x" + 17 * "1")),
+    ),
 ]

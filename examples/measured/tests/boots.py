@@ -12,7 +12,7 @@ from tests.support import TOP
 
 ALGORITHMS = {"sha1": 0x04, "sha256": 0x0B, "sha384": 0x0C, "sha512": 0x0D}
 NO_ACTION, SEPARATOR, VERSION, IPL = 0x03, 0x04, 0x08, 0x0D
-VARIABLE, APPLICATION, ACTION = 0x80000001, 0x80000003, 0x80000007
+VARIABLE, APPLICATION, DRIVER, RUNTIME_DRIVER, ACTION = 0x80000001, 0x80000003, 0x80000004, 0x80000005, 0x80000007
 
 
 class Event(NamedTuple):
@@ -63,7 +63,7 @@ def parted(log: bytes) -> Tuple[bytes, List[Tuple[int, bytes]]]:
     at = 32 + struct.unpack_from("<I", log, 28)[0]
     first, events = log[:at], []
     sizes = {ALGORITHMS[bank]: hashlib.new(bank).digest_size for bank in ALGORITHMS}
-    while any(log[at : at + 12]):
+    while len(set(log[at : at + 12])) > 1:  # where bytes are alike, no event begins
         pcr, _, count = struct.unpack_from("<III", log, at)
         end = at + 12
         for _ in range(count):
@@ -72,6 +72,15 @@ def parted(log: bytes) -> Tuple[bytes, List[Tuple[int, bytes]]]:
         events.append((pcr, log[at:end]))
         at = end
     return first, events
+
+
+def data_start(event: bytes) -> int:
+    """Where the length of an event's data stands."""
+    sizes = {ALGORITHMS[bank]: hashlib.new(bank).digest_size for bank in ALGORITHMS}
+    at = 12
+    for _ in range(struct.unpack_from("<I", event, 8)[0]):
+        at += 2 + sizes[struct.unpack_from("<H", event, at)[0]]
+    return at
 
 
 def untold(events: Iterable[Event], banks: Iterable[str], text: str) -> Tuple[Set[int], Set[int]]:
@@ -92,10 +101,10 @@ def untold(events: Iterable[Event], banks: Iterable[str], text: str) -> Tuple[Se
                 place += 2 + size
         else:
             free.update(range(at + 4, at + 8))
-            if event.pcr not in (4, 8, 12) or event.kind == APPLICATION:
+            if event.pcr not in (2, 4, 8, 12) or event.kind in (APPLICATION, DRIVER, RUNTIME_DRIVER):
                 free.update(range(data, end))
         if event.pcr == 12:
-            for value in re.findall(r'^(?:kernel|initrd) = "(.*)"$', text, re.M):
+            for value in re.findall(r'^(?:kernel|initrd|file) = "(.*)"$', text, re.M):
                 place = data + text.index(f'"{value}"') + 1
                 paths.update(range(place, place + len(value)))
         at = end
@@ -139,6 +148,11 @@ def quote_of(pcrs: Pcrs, selected: Selected, nonce: bytes, bank: str = "sha256")
     clock = struct.pack(">QIIBQ", 123456, 7, 2, 1, 0x2020031200000000)
     rest = struct.pack(">I", len(selected)) + banks + struct.pack(">H", len(digest)) + digest
     return start + struct.pack(">H", len(nonce)) + nonce + clock + rest
+
+
+def plain_of(pcrs: Pcrs, selected: Selected) -> bytes:
+    """As tpm2_pcrread writes it, and tpm2_quote by -F values: the values alone."""
+    return b"".join(pcrs[name][pcr] for name, chosen in selected for pcr in sorted(chosen))
 
 
 def pcr_file_of(pcrs: Pcrs, selected: Selected) -> bytes:
@@ -187,6 +201,20 @@ def application(sections: List[bytes], signed: bytes = b"") -> bytes:
         header = struct.pack("<8sIIIIIIHHI", b"s", 512, 0x1000 * (i + 1), 512, place, 0, 0, 0, 0, 0)
         held[optional + 240 + 40 * i : optional + 280 + 40 * i] = header
     return bytes(held) + b"".join(reversed(sections)) + signed
+
+
+def driver() -> bytes:
+    """A UEFI driver that a firmware loads and starts, and that ends with EFI_ABORTED."""
+    code = b"\x48\xb8" + struct.pack("<Q", 0x8000000000000015) + b"\xc3"  # mov rax, ..; ret
+    held = bytearray(application([code.ljust(512, b"\0")]))
+    optional = 0x40 + 24
+    struct.pack_into("<I", held, optional + 16, 0x1000)  # where it is entered
+    struct.pack_into("<II", held, optional + 32, 0x1000, 0x200)  # how sections are aligned
+    struct.pack_into("<I", held, optional + 56, 0x2000)  # its length in memory
+    struct.pack_into("<H", held, optional + 68, 11)  # EFI_IMAGE_SUBSYSTEM_EFI_BOOT_SERVICE_DRIVER
+    struct.pack_into("<I", held, optional + 108, 16)  # of how many directories the header tells
+    struct.pack_into("<I", held, optional + 240 + 36, 0x60000020)  # the section is code
+    return bytes(held)
 
 
 def without_signature(held: bytes) -> bytes:

@@ -1,0 +1,110 @@
+"""The signature of a quote (TPMT_SIGNATURE of the TPM 2.0 Library, Part 2, or plain), and the key that it is by."""
+
+import base64
+import binascii
+import hashlib
+import re
+import shutil
+import tempfile
+from pathlib import Path
+from typing import List, NamedTuple
+
+from event_log import STRONG, bank_name
+from limits import OPENSSL_SECONDS, SMALL_BYTES
+from reading import BadInput, Fields, fault, file_bytes
+from running import ran
+
+RSASSA, RSAPSS, ECDSA = 0x14, 0x16, 0x18
+OF_PSS = ["-sigopt", "rsa_padding_mode:pss", "-sigopt", "rsa_pss_saltlen:auto"]
+RSA_LENGTHS = [128, 256, 384, 512]  # no signature that says its scheme has one of these
+LONGEST_NUMBER = 67  # of a curve's, with a zero byte before it
+KEY = re.compile(rb"\s*-----BEGIN PUBLIC KEY-----\s([A-Za-z0-9+/=\s]+)-----END PUBLIC KEY-----\s*")
+
+
+class Signature(NamedTuple):
+    bank: str  # the hash of what is signed; empty where a plain signature does not say it
+    signed: bytes  # as OpenSSL takes it
+    ways: List[List[str]]  # OpenSSL's options; a plain signature may be of one of two schemes
+
+
+class Key(NamedTuple):
+    pem: bytes
+    fingerprint: str  # the SHA-256 of its DER, as openssl pkey -pubin -outform DER | sha256sum says it
+
+
+def read_signature(path: Path) -> Signature:
+    held = file_bytes(path, SMALL_BYTES)
+    if held[:1] == b"\x30" and is_pair(held):
+        return Signature("", held, [[]])
+    if len(held) in RSA_LENGTHS:
+        return Signature("", held, [[], OF_PSS])
+    fields = Fields(held, "the signature", "big")
+    scheme, bank = fields.number(2), bank_name(fields.number(2))
+    if scheme not in (RSASSA, RSAPSS, ECDSA) or bank not in STRONG:
+        raise BadInput("the signature's scheme is none of RSASSA, RSAPSS and ECDSA with SHA-2 or SHA-3")
+    parts = [fields.take(fields.number(2)) for _ in range(2 if scheme == ECDSA else 1)]
+    fields.end()
+    if scheme == ECDSA:
+        if any(len(part) > LONGEST_NUMBER for part in parts):
+            raise BadInput("the signature has a number that is too long for any curve")
+        numbers = b"".join(encoded(2, part.lstrip(b"\0").rjust(1, b"\0")) for part in parts)
+        return Signature(bank, encoded(0x30, numbers), [[]])
+    return Signature(bank, parts[0], [OF_PSS if scheme == RSAPSS else []])
+
+
+def is_pair(held: bytes) -> bool:
+    """Whether it is ECDSA's pair of whole numbers in DER, as it is encoded below."""
+    fields = Fields(held, "the signature", "big")
+    try:
+        start = 3 if held[1:2] == b"\x81" else 2
+        fields.take(start)
+        parts = []
+        for _ in range(2):
+            fields.take(1)
+            parts.append(fields.take(fields.number(1)))
+        fields.end()
+    except BadInput:
+        return False
+    if not all(0 < len(part) <= LONGEST_NUMBER for part in parts):
+        return False
+    return held == encoded(0x30, b"".join(encoded(2, part.lstrip(b"\0") or b"\0") for part in parts))
+
+
+
+def encoded(tag: int, content: bytes) -> bytes:
+    """A value in DER; a whole number, which has the tag 2, gets a zero byte where it would be negative."""
+    if tag == 2 and content[0] >= 0x80:
+        content = b"\0" + content
+    length = bytes([len(content)]) if len(content) < 0x80 else bytes([0x81, len(content)])
+    return bytes([tag]) + length + content
+
+
+# ---- the key
+
+
+def read_key(path: Path) -> Key:
+    """One key alone: of two, what is told here and what openssl takes might differ."""
+    found = KEY.fullmatch(file_bytes(path, SMALL_BYTES))
+    try:
+        der = base64.b64decode(b"".join(found[1].split()), validate=True) if found else b""
+    except binascii.Error:
+        der = b""
+    if not der:
+        raise BadInput(f"{path} is no public key in PEM, as tpm2_createak -f pem writes it")
+    pem = b"-----BEGIN PUBLIC KEY-----\n" + base64.encodebytes(der) + b"-----END PUBLIC KEY-----\n"
+    return Key(pem, hashlib.sha256(der).hexdigest())
+
+
+def check_signature(message: bytes, bank: str, signature: Signature, key: Key, name: Path) -> None:
+    openssl = shutil.which("openssl")
+    if openssl is None:
+        raise BadInput("the quote's signature can't be checked: openssl is not at hand")
+    with tempfile.TemporaryDirectory() as folder:
+        room = Path(folder)
+        for file, held in (("key", key.pem), ("message", message), ("signature", signature.signed)):
+            (room / file).write_bytes(held)
+        if ran([openssl, "pkey", "-pubin", "-in", "key", "-noout"], room, OPENSSL_SECONDS).status != 0:
+            raise BadInput(f"{name} is no public key: openssl can't read it")
+        words = [openssl, "dgst", f"-{bank.replace('_', '-')}", "-verify", "key", "-signature", "signature"]
+        if not any(ran([*words, *way, "message"], room, OPENSSL_SECONDS).status == 0 for way in signature.ways):
+            fault("the quote's signature is not this key's")

@@ -1,0 +1,1 @@
+"""The tests of the checker of measured boots: `./test measured` runs them."""

@@ -1,0 +1,195 @@
+"""Inputs that are none, and bad words."""
+
+import time
+from pathlib import Path
+
+from examples.measured.tests import boots, cases
+from examples.measured.tests.boots import FILES, POLICY
+from examples.measured.tests.cases import BAD_WORDS, DIGEST, GOOD, UNREADABLE, WRONG, Case
+from examples.measured.tests.checker import CheckerChecks, Within
+
+
+class Inputs(CheckerChecks):
+    def test_logs(self) -> None:
+        folder = self.folder("logs", Case("", ""))
+        held, first = (folder / "log").read_bytes(), boots.first_event(["sha256"])
+        small = boots.spelled(boots.Event(1, boots.IPL, b"", b""), ["sha256"])
+        last = boots.spelled(boots.exit_events()[-1], ["sha256"])
+        for sentence, changed, said in (
+            ("an empty log", b"", "the log ends too early"),
+            ("a log that is cut within an event", held[:-1], "the log ends too early"),
+            ("a log of the older form", bytes(4) + b"\x08\0\0\0" + held[8:], "the log is none of the crypto-agile form"),
+            ("a log with something behind it", held + b"\1\0", "the log ends too early"),
+            ("a log with a bank of another size", held.replace(b"\x0b\0\x20\0", b"\x0b\0\x21\0", 1), "or with another size"),
+            ("an event of a PCR that there is not", boots.log_of([boots.told(24, 1, b"")], ["sha256"]), "or is of no PCR"),
+            ("an event of another bank", first + boots.spelled(boots.told(1, 1, b""), ["sha1"]), "has the bank sha1"),
+            ("a log without a bank", boots.first_event([]), "the log's first event has no bank"),
+            ("a log of no bank with an event", boots.log_of([boots.told(4, 1, b"")], []), "the log's first event has no bank"),
+            ("a log with more events than a boot has", first + 100_001 * small, "the log has more than 100000 events"),
+            ("a log that is too long", held + bytes(8 << 20), "log has more than 8388608 bytes"),
+            ("an event whose data go on behind the log", held[:-len(last)] + last[:46] + b"\xff" * 4 + last[50:], "ends too early"),
+            ("an event with four thousand million digests", held + bytes(8) + b"\xff" * 4 + bytes(40), "event 23 of the log has"),
+            ("an event without a digest", first + boots.spelled(boots.told(1, 1, b""), []), "lacks a bank's digest"),
+        ):
+            (folder / "log").write_bytes(changed)
+            self.says(sentence, self.checker(folder), UNREADABLE, said)
+        for sentence, rest in (("zeros", bytes(1000)), ("bytes 0xFF", b"\xff" * 1000)):
+            (folder / "log").write_bytes(held + rest)
+            self.says(f"{sentence} behind a log are no events", self.checker(folder), GOOD, cases.LINUX_SAID)
+
+    def test_long_log(self) -> None:
+        """It takes a second; where each event cost as much as the log is long, it took minutes."""
+        small = boots.Event(10, boots.IPL, b"", b"")
+        folder = self.folder("long", Case("", "", happened=cases.ended(*[small] * 83_000)))
+        self.assertGreater((folder / "log").stat().st_size, 4_000_000)
+        self.says("a log of four million bytes is judged", self.checker(folder), GOOD, cases.LINUX_SAID)
+
+    def test_final_events(self) -> None:
+        folder = self.folder("final", Case("", ""))
+        events = boots.linux_boot(FILES)
+        for sentence, kept, final in (
+            ("a final events table goes on where the log ends", events[:-2], events[-2:]),
+            ("a final events table may have events of the log", events[:-1], events[-4:]),
+            ("a final events table may be empty", events, []),
+            ("a final events table may be all of the log", events, events),
+            ("a final events table may be all of a log, and more", events[:-2], events),
+        ):
+            (folder / "log").write_bytes(boots.log_of(kept, ["sha256"]))
+            (folder / "table").write_bytes(boots.final_of(final, ["sha256"]))
+            self.says(sentence, self.checker(folder, final="table"), GOOD, cases.LINUX_SAID)
+        (folder / "table").write_bytes(boots.final_of(events, ["sha256"]) + bytes(32))
+        ran = self.checker(folder, final="table")
+        self.says("zeros behind a final events table are no events", ran, GOOD, cases.LINUX_SAID)
+        whole = boots.final_of(events, ["sha256"])
+        for sentence, table, said in (
+            ("of another version", b"\2" + bytes(15), " is of another version"),
+            ("with bytes behind its events", whole + b"\1", " goes on behind its end"),
+            ("with more events than it counts", whole[:8] + b"\1" + whole[9:], " goes on behind its end"),
+            ("with fewer events than it counts", whole[:8] + b"\xff" + whole[9:], " ends too early"),
+            ("that counts to the end of numbers", whole[:8] + b"\xff" * 8 + whole[16:], " ends too early"),
+            ("that is cut", whole[:15], " ends too early"),
+        ):
+            (folder / "table").write_bytes(table)
+            ran = self.checker(folder, final="table")
+            self.says(f"a final events table {sentence}", ran, UNREADABLE, f"the final events table{said}")
+
+    def test_equal_events(self) -> None:
+        """What is measured twice stands in the table alone, or in both: the PCRs tell."""
+        folder = self.folder("equal", Case("", "", happened=boots.at(12, 0, lambda it: [it, it])))
+        happened = boots.at(12, 0, lambda it: [it, it])(boots.linux_boot(FILES))
+        at = [i for i, event in enumerate(happened) if event.pcr == 12][1]
+        for sentence, kept, final in (
+            ("an event that stands in the final events alone, and is equal to the log's last one", at, at),
+            ("the same event in both", at + 1, at),
+            ("both equal events in both", at + 1, at - 1),
+            ("both equal events in the final events alone", at - 1, at - 1),
+        ):
+            (folder / "log").write_bytes(boots.log_of(happened[:kept], ["sha256"]))
+            (folder / "table").write_bytes(boots.final_of(happened[final:], ["sha256"]))
+            ran = self.checker(folder, final="table")
+            self.says(sentence, ran, GOOD, "the handover was measured 2 times; the last one counts")
+        (folder / "table").write_bytes(boots.final_of(happened[at + 1 :], ["sha256"]))
+        (folder / "log").write_bytes(boots.log_of(happened[:at], ["sha256"]))
+        self.says("an equal event that stands nowhere", self.checker(folder, final="table"), WRONG, "PCR 12 of sha256 is not what")
+
+    def test_files(self) -> None:
+        folder = self.folder("files", Case("", ""))
+        (folder / "empty").write_bytes(b"")
+        for sentence, named, said in (
+            ("a log that there is not", {"log": "none"}, "none: No such file"),
+            ("PCR values that are none", {"pcrs": "policy"}, "PCR values"),
+            ("empty PCR values", {"pcrs": "empty"}, "the file of PCR values ends too early"),
+            ("known files that there are not", {"known": "none"}, "No such file"),
+            ("a policy that there is not", {"policy": "none"}, "none: No such file"),
+            ("a policy that is no TOML", {"policy": "pcrs"}, "the policy is no TOML"),
+        ):
+            self.says(sentence, self.checker(folder, **named), UNREADABLE, said)
+        for sentence, old, new, said in (
+            ("a policy with an unknown key", "files =", "file =", "the policy has the key 'file'"),
+            ("a policy without a boot manager", '["BOOTX64.EFI"]', "[]", "the policy has no managers"),
+            ("a boot manager that is no application", '["BOOTX64.EFI"]', '["vmlinuz"]', "vmlinuz is no EFI application"),
+            ("a policy whose file is not there", '"more.img"]', '"none.img"]', "none.img: No such file"),
+            ("a policy with another protocol", '"linux64"', '"elf"', "'elf'; it may be multiboot2, linux, linux64, efi"),
+            ("a policy's entry without a title", 'title = "Linux"', "", "an entry of the policy has no title"),
+            ("a policy's entry without a kernel", 'kernel = "vmlinuz"', "", "has no kernel"),
+            ("a policy's entry with another's key", 'kernel = "vmlinuz"', 'kernel = "vmlinuz"\nmodule = []', "has the key 'module'"),
+            ("a policy's line that is no text", "line = 'say", "line = 1 #", "line is no text"),
+            ("a policy's PCR that there is not", "\n[[entry]]", "\npcr.24 = []\n[[entry]]", "pcr is no table of PCR numbers"),
+            ("a policy that has a PCR twice", "\n[[entry]]", "\npcr.7 = []\npcr.07 = []\n[[entry]]", "the policy's pcr has PCR 7 twice"),
+            ("a policy's PCR in other digits", "\n[[entry]]", "\npcr.'\u0667' = []\n[[entry]]", "pcr is no table of PCR numbers"),
+            ("a policy's PCR of many digits", "\n[[entry]]", f"\npcr.{'9' * 5000} = []\n[[entry]]", "is no table of PCR numbers"),
+            ("a policy's bank that there is not", "files =", 'banks = ["md5"]\nfiles =', "the policy's banks have 'md5'"),
+            ("a policy's driver that is no driver", "files =", 'drivers = ["vmlinuz"]\nfiles =', "vmlinuz is no EFI application"),
+            ("a policy's digest of no file", "\n[[entry]]", "\ndigests.x = '00'\n[[entry]]", "which is no file of the policy"),
+            ("a policy's digest of no bank", "\n[[entry]]", "\ndigests.vmlinuz = '00'\n[[entry]]", "or one of no bank's"),
+            ("a policy's digest that is no text", "\n[[entry]]", "\ndigests.vmlinuz = 1\n[[entry]]", "is no array of texts"),
+            ("a policy's digest of another file", "\n[[entry]]", f"\ndigests.vmlinuz = '{DIGEST}'\n[[entry]]", "has another digest"),
+            ("a policy without a manager of this bank", '["BOOTX64.EFI"]', f'["{2 * DIGEST}"]', "has no managers that sha256 tells"),
+            ("a policy's machine without a key", "\n[[entry]]", "\n[[machine]]\nname = 'a'\n[[entry]]", "machine 'a' has no key"),
+            ("a policy's machine with a short key", "\n[[entry]]", "\n[[machine]]\nname = 'a'\nkey = '00'\n[[entry]]", "none of 32"),
+            ("a policy's PCR value that is none", "\n[[entry]]", "\npcr.7 = ['g']\n[[entry]]", "none in hexadecimal digits"),
+        ):
+            (folder / "policy").write_text(POLICY.replace(old, new, 1), encoding="utf-8")
+            self.says(sentence, self.checker(folder), UNREADABLE, said)
+
+    def test_program(self) -> None:
+        folder = self.folder("program", Case("", ""))
+        ran = self.checker(folder, env={"BOOTCORE": str(folder / "none")})
+        self.says("a program that there is not", ran, UNREADABLE, "none: No such file")
+        for sentence, script, said in (
+            ("a program that fails", "exit 3", "ends with the status 3, and tells no digest"),
+            ("a program that says too much", "yes", "says more than 1048576 bytes"),
+            ("a program that says nothing", "true", "ends with the status 0, and tells no digest"),
+        ):
+            (folder / "program").write_text(f"#!/bin/sh\n{script}\n")
+            (folder / "program").chmod(0o755)
+            self.says(sentence, self.checker(folder, env={"BOOTCORE": str(folder / "program")}), UNREADABLE, said)
+
+    def test_words(self) -> None:
+        folder = self.folder("words", Case("", ""))
+        for sentence, words, named in (
+            ("no log", [], {"log": None}),
+            ("a quote without a nonce", [], {"quote": "quote"}),
+            ("a nonce without a quote", [], {"nonce": "00"}),
+            ("a nonce of no digits", [], {"quote": "quote", "nonce": "no"}),
+            ("an empty nonce", ["--nonce", ""], {"quote": "quote"}),
+            ("a blank nonce", [], {"quote": "quote", "nonce": "  "}),
+            ("a nonce with blanks", [], {"quote": "quote", "nonce": "c0 ff ee"}),
+            ("a nonce of half a byte", [], {"quote": "quote", "nonce": "c0f"}),
+            ("a selection of no PCR", [], {"selection": "sha256:24"}),
+            ("a selection of no bank", [], {"selection": "md5:1"}),
+            ("a selection of nothing", [], {"selection": "sha256:"}),
+            ("a selection beside a quote", [], {"quote": "quote", "nonce": "00", "selection": "sha256:1"}),
+            ("a machine without a key", [], {"quote": "quote", "nonce": "00", "machine": "rack"}),
+            ("a count of resets without a quote", [], {"resets": "1"}),
+            ("a count of resets that is none", [], {"quote": "quote", "nonce": "00", "resets": "-1"}),
+            ("a part of an option's name", ["--unsig"], {"unsigned": None}),
+            ("a key without a signature", [], {"quote": "quote", "nonce": "00", "key": "key"}),
+            ("a bank that decides nothing", ["--bank", "sha1"], {}),
+            ("a word more", ["more"], {}),
+        ):
+            self.says(f"refused: {sentence}", self.checker(folder, *words, **named), BAD_WORDS, "usage: ")
+
+
+class Programs(Within):
+    def test_time(self) -> None:
+        """a program that does not end is ended, with what it started"""
+        (self.room / "program").write_text("#!/bin/sh\nsleep 60 & echo $! >started\nwait\n")
+        (self.room / "program").chmod(0o755)
+        with self.assertRaises(self.reading.BadInput) as raised:
+            self.running.ran([str(self.room / "program")], self.room, 0.5)
+        self.assertIn("has not ended after 0.5 seconds", str(raised.exception))
+        process = int((self.room / "started").read_text())
+        for _ in range(100):
+            if not is_running(process):
+                return
+            time.sleep(0.05)
+        self.fail(f"what it started, {process}, goes on")
+
+
+def is_running(process: int) -> bool:
+    """A process that has ended may still wait for its parent to hear of it."""
+    try:
+        return Path(f"/proc/{process}/stat").read_text().rpartition(")")[2].split()[0] not in "ZX"
+    except OSError:
+        return False

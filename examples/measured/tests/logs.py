@@ -1,0 +1,50 @@
+"""Logs, and the boots that they tell of."""
+
+from concurrent.futures import ThreadPoolExecutor
+from typing import Dict
+
+from examples.measured.tests import boots, cases
+from examples.measured.tests.boots import FILES, LINUX
+from examples.measured.tests.cases import GOOD, UNREADABLE, WRONG, Case
+from examples.measured.tests.checker import CheckerChecks, Within
+
+
+class Bytes(Within):
+    """Each byte of a log is told by a PCR, or does not matter."""
+
+    def status(self, log: bytes, values: Dict[str, Dict[int, bytes]], policy: object) -> int:
+        try:
+            self.verdict.verdict(self.event_log.read_logs(log), values, policy)
+        except self.reading.Fault:
+            return WRONG
+        except self.reading.BadInput:
+            return UNREADABLE
+        return GOOD
+
+    def test_bytes(self) -> None:
+        folder = self.folder("bytes", Case("", ""))
+        events = boots.linux_boot(FILES)
+        pcrs = boots.pcrs_of(events, ["sha256"])
+        values = {"sha256": dict(enumerate(pcrs["sha256"]))}
+        policy = self.policy.read_policy(folder / "policy", folder / "known", "sha256")
+        log = (folder / "log").read_bytes()
+        free, paths = boots.untold(events, ["sha256"], LINUX)
+        with self.check("each byte of a log is told by a PCR, but those of kinds, paths and what the firmware tells beside"):
+            good = {place for place in range(len(log)) if self.status(cases.one_byte(log, place), values, policy) == GOOD}
+            self.assertEqual(sorted(free - good), [], "bytes that do not matter, and are refused")
+            self.assertEqual(sorted(good - free - paths), [], "bytes that matter, and are not looked at")
+        with self.check("a log that is cut after each of its bytes is refused, but where the firmware is about to end"):
+            good = {place for place in range(len(log)) if self.status(log[:place], values, policy) == GOOD}
+            self.assertEqual(good, {len(boots.log_of(events[:-2], ["sha256"]))}, "where it may be cut")
+
+
+class Boots(CheckerChecks):
+    def test_cases(self) -> None:
+        tables = ((GOOD, cases.AS_IT_SHOULD_BE), (WRONG, cases.LOG), (WRONG, cases.MACHINE), (WRONG, cases.HANDOVER))
+        listed = [(status, case) for status, table in tables for case in table]
+        folders = [self.folder(f"case{i}", case) for i, (_, case) in enumerate(listed)]
+        with ThreadPoolExecutor() as pool:
+            ran = pool.map(lambda it: self.checker(it[0], *it[1][1].words), zip(folders, listed))
+            for (status, case), each in zip(listed, ran):
+                prefix = "as it should be: " if status == GOOD else "not as it should be: "
+                self.says(prefix + case.sentence, each, status, case.said)
