@@ -1,4 +1,5 @@
 pub mod HandleSteps
+pub mod LookSteps
 pub mod SessionHandleSteps
 pub mod DigestHandleSteps
 pub mod RawBoxSteps
