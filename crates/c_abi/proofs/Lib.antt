@@ -10,3 +10,4 @@ mod PrepareLaws
 mod SizeLemmas
 mod TextLaws
 mod ResultLemmas
+mod InsideLemmas
