@@ -1,5 +1,4 @@
 pub mod HandleSteps
-pub mod LookSteps
 pub mod SessionHandleSteps
 pub mod DigestHandleSteps
 pub mod RawBoxSteps

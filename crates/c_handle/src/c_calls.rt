@@ -72,31 +72,41 @@ impl Handle {
     }
 
     /// Tells the first piece that the session awaits, and whether there is one.
-    pub fn missing_told(&self, told: &mut RequestRecord) -> bool
-        ensures { (bytes : List ℕ) → MatchOption self.now.kept
+    pub fn missing_told(&mut self, alloc: Global, told: &mut RequestRecord) -> bool
+        ensures kept { self.new.kept ≡ self.old.kept }
+        ensures told { (bytes : List ℕ) → MatchOption self.old.kept
             (TellsRequest [] None result told.old told.new)
             (λ session. TellsRequest session.boot.menu.attempts
             (first_request session.boot (state_at bytes session.phase))
             result told.old told.new) }
     {
-        match self.look() {
-            Some(session) => tell_request(session.menu(), session.missing(), told),
+        match self.take(alloc) {
+            Some(session) => {
+                let is_told = tell_request(session.menu(), session.missing(), told);
+                self.keep(session);
+                is_told
+            }
             None => false,
         }
     }
 
     /// Tells the first piece that the session awaits after that of a record, which it then is, and
     /// whether there is one.
-    pub fn missing_after_told(&self, told: &mut RequestRecord) -> bool
-        ensures { (bytes : List ℕ) → MatchOption self.now.kept
+    pub fn missing_after_told(&mut self, alloc: Global, told: &mut RequestRecord) -> bool
+        ensures kept { self.new.kept ≡ self.old.kept }
+        ensures told { (bytes : List ℕ) → MatchOption self.old.kept
             (TellsRequest [] None result told.old told.new)
             (λ session. TellsRequest session.boot.menu.attempts
             (request_after session.boot (state_at bytes session.phase) (record_ticket told.old))
             result told.old told.new) }
     {
         let ticket = ticket_in(told);
-        match self.look() {
-            Some(session) => tell_request(session.menu(), session.missing_after(ticket), told),
+        match self.take(alloc) {
+            Some(session) => {
+                let is_told = tell_request(session.menu(), session.missing_after(ticket), told);
+                self.keep(session);
+                is_told
+            }
             None => false,
         }
     }

@@ -1,7 +1,7 @@
 //! A handle to a digest.
 ghost use Rattle.std.specs.Prelude.{◌≡◌, Option, None, Some, option_map};
 ghost use Rattle.bl_digest.specs.PlanInSteps.{DigestingFacts};
-ghost use Rattle.c_handle.specs.Handles.{handle_owns, handle_shares, coded_kept_digest, digest_type};
+ghost use Rattle.c_handle.specs.Handles.{handle_owns, coded_kept_digest, digest_type};
 
 use crate::raw_box::RawBox;
 use bl_digest::Digesting;
@@ -23,8 +23,6 @@ pub struct DigestHandle {
 
 impl Model for DigestHandle {
     ghost also_owns = { λ h. handle_owns digest_type h.alloc h.at h.kept };
-
-    ghost also_shares = { λ h _ κ. handle_shares digest_type h.at h.kept κ };
 }
 
 // What it keeps is plain data, and its block may be freed by any thread.
@@ -63,17 +61,6 @@ impl DigestHandle {
                 alloc,
             })
         }
-    }
-
-    /// The digest that is kept, if there is one.
-    pub fn look(&self) -> Option<&Digesting<Global>>
-        ensures { option_map (λ digest. digest.now) result ≡ self.now.kept }
-    {
-        let at = self.at;
-        if at.is_null() {
-            return None;
-        }
-        Some(unsafe { &*(at as *const Digesting<Global>) })
     }
 
     /// Takes the digest that is kept, if there is one; none is kept from here on.

@@ -1,7 +1,7 @@
 //! A handle to a session.
 ghost use Rattle.std.specs.Prelude.{◌≡◌, Option, None, Some, option_map};
 ghost use Rattle.bl_session.specs.session.Phases.{SessionFacts};
-ghost use Rattle.c_handle.specs.Handles.{handle_owns, handle_shares, coded_kept_session, session_type};
+ghost use Rattle.c_handle.specs.Handles.{handle_owns, coded_kept_session, session_type};
 
 use crate::raw_box::RawBox;
 use bl_session::OwnedSession;
@@ -24,8 +24,6 @@ pub struct Handle {
 
 impl Model for Handle {
     ghost also_owns = { λ h. handle_owns session_type h.alloc h.at h.kept };
-
-    ghost also_shares = { λ h _ κ. handle_shares session_type h.at h.kept κ };
 }
 
 // What it keeps is plain data, and its block may be freed by any thread.
@@ -64,17 +62,6 @@ impl Handle {
                 alloc,
             })
         }
-    }
-
-    /// The session that is kept, if there is one.
-    pub fn look(&self) -> Option<&OwnedSession<Global>>
-        ensures { option_map (λ session. session.now) result ≡ self.now.kept }
-    {
-        let at = self.at;
-        if at.is_null() {
-            return None;
-        }
-        Some(unsafe { &*(at as *const OwnedSession<Global>) })
     }
 
     /// Takes the session that is kept, if there is one; none is kept from here on.

@@ -29,25 +29,35 @@ impl Handle {
     }
 
     /// The first piece that the session awaits, as `OwnedSession::missing`; None if none is kept.
-    pub fn missing(&self) -> Option<Request>
-        ensures { (bytes : List ℕ) → MatchOption self.now.kept (result ≡ None)
+    pub fn missing(&mut self, alloc: Global) -> Option<Request>
+        ensures kept { self.new.kept ≡ self.old.kept }
+        ensures missing { (bytes : List ℕ) → MatchOption self.old.kept (result ≡ None)
             (λ session. result ≡ first_request session.boot (state_at bytes session.phase)) }
     {
-        match self.look() {
-            Some(session) => session.missing(),
+        match self.take(alloc) {
+            Some(session) => {
+                let request = session.missing();
+                self.keep(session);
+                request
+            }
             None => None,
         }
     }
 
     /// The first piece that the session awaits after a ticket's, as `OwnedSession::missing_after`;
     /// None if none is kept.
-    pub fn missing_after(&self, ticket: Ticket) -> Option<Request>
-        ensures { (bytes : List ℕ) → MatchOption self.now.kept (result ≡ None)
+    pub fn missing_after(&mut self, alloc: Global, ticket: Ticket) -> Option<Request>
+        ensures kept { self.new.kept ≡ self.old.kept }
+        ensures missing { (bytes : List ℕ) → MatchOption self.old.kept (result ≡ None)
             (λ session. result
             ≡ request_after session.boot (state_at bytes session.phase) ticket) }
     {
-        match self.look() {
-            Some(session) => session.missing_after(ticket),
+        match self.take(alloc) {
+            Some(session) => {
+                let request = session.missing_after(ticket);
+                self.keep(session);
+                request
+            }
             None => None,
         }
     }
