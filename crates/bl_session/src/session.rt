@@ -9,7 +9,7 @@ ghost use Rattle.bl_session.specs.session.BootMemory.{IsMemoryAt};
 ghost use Rattle.bl_session.specs.session.Phases.{boot_facts, state_at, is_waiting};
 ghost use Rattle.bl_store.specs.Events.{event_facts};
 ghost use Rattle.bl_session.specs.session.Phases.{phase_facts, end_facts, told_end, not_started};
-ghost use Rattle.bl_session.specs.session.Phases.{LiesWithin};
+ghost use Rattle.bl_session.specs.session.Phases.{LiesWithin, KeepsFramesIn};
 ghost use Rattle.bl_session.specs.runs.Run.{final_phase};
 
 use crate::menu::Menu;
@@ -106,6 +106,7 @@ impl<'a, A: Allocator + Copy> Session<'a, A> {
         ensures room { self.old.phase ≡ not_started → is_waiting self.new.phase ≡ true
             → HasRoom (M.room memory.new)
             self.old.boot.machine.pool.start self.old.boot.machine.pool.end }
+        ensures staged { KeepsFramesIn self.old.boot.machine.pool self.new.phase }
         ensures kept { KeepsSizeAndRoom M.lender M.bytes M.room memory.old memory.new }
     {
         let boot = BootContext {
@@ -141,6 +142,7 @@ impl<'a, A: Allocator + Copy> Session<'a, A> {
             (event_facts event.entry) ≡ false → self.new ≡ self.old }
         ensures room { is_waiting self.new.phase ≡ true → HasRoom (M.room memory.new)
             self.old.boot.machine.pool.start self.old.boot.machine.pool.end }
+        ensures staged { KeepsFramesIn self.old.boot.machine.pool self.new.phase }
         ensures kept { KeepsSizeAndRoom M.lender M.bytes M.room memory.old memory.new }
     {
         let boot = BootContext {

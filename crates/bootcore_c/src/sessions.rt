@@ -152,7 +152,7 @@ pub extern "C" fn bootcore_session_outcome_arrays(
       count = count.new;
     } in MatchOption session.old.kept
         ((result ≡ progress_status (Err NoSession)) × (after ≡ before))
-        (λ session. TellsOutcome session.phase result before after) }
+        (λ session. TellsOutcome session result before after) }
 {
     match session.take(alloc) {
         Some(kept) => {

@@ -12,3 +12,4 @@ mod PrepareLaws
 mod SizeLemmas
 mod TextLaws
 mod ResultLemmas
+mod InsideLemmas

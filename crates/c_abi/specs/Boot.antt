@@ -7,7 +7,7 @@ use Rattle.bl_stage.specs.Files.{File, missing, whole, size_of}
 use Rattle.bl_session.specs.session.BootMemory.{IsMemoryAt}
 use Rattle.bl_session.specs.menu.Menu.{MenuFacts}
 use Rattle.bl_session.specs.session.Outcome.{IsOutcome, HasEnded}
-use Rattle.bl_session.specs.session.Phases.{PhaseFacts, boot_facts, state_at}
+use Rattle.bl_session.specs.session.Phases.{PhaseFacts, boot_facts, state_at, HandsOverWithin}
 use Rattle.bl_session.specs.runs.Run.{final_phase}
 use Rattle.bl_session.specs.declared.session.outcome.BootFault.{BootFault}
 use Rattle.bl_session.specs.declared.session.outcome.Outcome.{Outcome}
@@ -34,12 +34,14 @@ given_files entries = map stored_given (menu_files entries)
 -- ---- the end
 
 -- memory that held the old bytes holds the new ones, where a boot on a machine of these facts ended
--- so: the files alone decide, and no byte outside the pool and the parts has changed
+-- so: the files alone decide, no byte outside the pool and the parts has changed, and what is handed
+-- over lies in memory
 pub record HasBootEnded (facts : MachineFacts) (menu : MenuFacts) (files : List File)
     (old new : List ℕ) (end : PhaseFacts) : Type 0 where
   pub outcome : HasEnded (state_at new end)
       → IsOutcome (boot_facts facts menu (map size_of files)) files (λ _. None) (state_at new end)
   pub memory : IsMemoryAt facts.pool (state_at new end) old new
+  pub inside : HandsOverWithin facts.size end
 
 -- a boot on the machine that is given ended so, where no misuse stands: there is room for the
 -- places, memory ends with the machine's, and the machine and the menu have none

@@ -4,7 +4,7 @@ use Rattle.std.specs.Prelude.{Option, None, Some, Result, Ok, Err, if◌then◌e
 use Rattle.bl_map.specs.MachineFacts.{MachineFacts}
 use Rattle.bl_load.specs.HandoffFacts.{max_parts}
 use Rattle.bl_session.specs.session.Phases.{PhaseFacts, SessionFacts, boot_facts, end_facts}
-use Rattle.bl_session.specs.session.Phases.{not_started}
+use Rattle.bl_session.specs.session.Phases.{not_started, HandsOverWithin}
 use Rattle.c_records.specs.declared.given_records.RegionRecord.{RegionRecord}
 use Rattle.c_records.specs.declared.given_records.MachineRecord.{MachineRecord}
 use Rattle.c_records.specs.declared.given_records.FileRecord.{FileRecord}
@@ -93,11 +93,12 @@ abbrev pub telling_after_outcome : Option PhaseFacts → Telling → Telling
 telling_after_outcome None old = old
 telling_after_outcome (Some end) old = end_told end old
 
--- a status and what is told of the outcome of a session that stands so: nothing if there is room
--- for fewer places than there may be
-abbrev pub TellsOutcome : PhaseFacts → ℕ → (old new : Telling) → Type 0
-TellsOutcome phase status old new =
+-- a status and what is told of the outcome of a session, which lies in memory if it is handed over:
+-- nothing if there is room for fewer places than there may be
+abbrev pub TellsOutcome : SessionFacts → ℕ → (old new : Telling) → Type 0
+TellsOutcome session status old new =
     MatchBool (nat_lt (length old.places) max_parts)
     ((status ≡ misuse_status SmallRoom) × (new ≡ old))
-    ((status ≡ outcome_status (end_facts phase))
-    × (new ≡ telling_after_outcome (end_facts phase) old))
+    ((status ≡ outcome_status (end_facts session.phase))
+    × (new ≡ telling_after_outcome (end_facts session.phase) old)
+    × HandsOverWithin session.boot.machine.size session.phase)

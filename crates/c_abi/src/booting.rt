@@ -23,6 +23,7 @@ use c_records::{
 use std::alloc::Allocator;
 
 /// Boots a menu from files in slices.
+#[tactic(auto, using(crate::proofs::InsideLemmas::end_within))]
 fn boot_slices<M: PhysMem, A: Allocator + Copy>(
     alloc: A,
     memory: &mut M,

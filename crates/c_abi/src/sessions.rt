@@ -68,6 +68,7 @@ pub fn session_given<A: Allocator + Copy>(
 }
 
 /// Tells the outcome of a session, with its status: 2 while there is none.
+#[tactic(auto, using(crate::proofs::InsideLemmas::phase_within))]
 pub fn outcome_told<A: Allocator + Copy>(
     session: &OwnedSession<A>,
     told: &mut HandoffRecord,
@@ -75,7 +76,7 @@ pub fn outcome_told<A: Allocator + Copy>(
     refusals: &mut [RefusalRecord],
     count: &mut u64,
 ) -> u32
-    ensures { TellsOutcome session.now.phase result
+    ensures { TellsOutcome session.now result
         (record {
           handoff = told.old;
           places = places.old;

@@ -1,5 +1,5 @@
 -- What a call leaves that may change a session through its handle. Own.
-use Rattle.std.specs.Prelude.{◌≡◌, ◌≢◌, ℕ, List, Option, MatchBool, OnErr, OnOk, IfErr, IfOk}
+use Rattle.std.specs.Prelude.{◌≡◌, ◌≢◌, ℕ, List, false, Option, MatchBool, OnErr, OnOk, IfErr, IfOk}
 use Rattle.std.specs.Prelude.{Result, length}
 use Rattle.bl_mem.specs.Memory.{memory_from}
 use Rattle.bl_session.specs.declared.session.outcome.Progress.{Progress}
@@ -8,7 +8,7 @@ use Rattle.bl_store.specs.Events.{EventFacts}
 use Rattle.bl_session.specs.session.BootSteps.{attempt_number}
 use Rattle.bl_session.specs.session.BootSteps as steps
 use Rattle.bl_session.specs.session.BootMemory.{IsMemoryAt}
-use Rattle.bl_session.specs.session.Phases.{SessionFacts, state_at, not_started}
+use Rattle.bl_session.specs.session.Phases.{SessionFacts, state_at, not_started, KeepsFramesIn}
 use Rattle.c_handle.specs.declared.handle_fault.HandleFault.{HandleFault}
 use Rattle.c_handle.specs.Faults.{IsHandleFault, IsMachineMemory}
 use Rattle.c_handle.specs.Handles.{RelatesKept}
@@ -31,7 +31,9 @@ pub record IsStarted (old new : Option SessionFacts) (base : ℕ) (before after 
       → IsMemoryAt one.boot.machine.pool (state_at (memory_from base after) other.phase)
       (memory_from base before) (memory_from base after)))
   pub same : OnOk told (RelatesKept old new ⊥ (λ one other. one.phase ≢ not_started
-      → memory_from base after ≡ memory_from base before))
+      → (other ≡ one) × (memory_from base after ≡ memory_from base before)))
+  pub staged : OnOk told (RelatesKept old new ⊥
+      (λ one other. KeepsFramesIn one.boot.machine.pool other.phase))
 
 -- an event of what a handle keeps
 pub record IsStepped (old new : Option SessionFacts) (base : ℕ) (before after : List ℕ)
@@ -52,3 +54,7 @@ pub record IsStepped (old new : Option SessionFacts) (base : ℕ) (before after 
       (IsMemoryAt one.boot.machine.pool (state_at (memory_from base after) other.phase)
       (memory_from base before) (memory_from base after))
       (memory_from base after ≡ memory_from base before)))
+  pub same : OnOk told (RelatesKept old new ⊥ (λ one other.
+      is_taken (state_at (memory_from base before) one.phase) event ≡ false → other ≡ one))
+  pub staged : OnOk told (RelatesKept old new ⊥
+      (λ one other. KeepsFramesIn one.boot.machine.pool other.phase))

@@ -1,11 +1,11 @@
 //! The calls through a handle over memory in a slice, as one in C has it.
-ghost use Rattle.std.specs.Prelude.{◌≡◌, ◌≢◌, IfErr, IfOk, MatchBool, OnErr, OnOk, length};
+ghost use Rattle.std.specs.Prelude.{◌≡◌, ◌≢◌, false, IfErr, IfOk, MatchBool, OnErr, OnOk, length};
 ghost use Rattle.bl_mem.specs.Memory.{memory_from};
 ghost use Rattle.bl_session.specs.session.BootSteps.{StepsToOrFails, StartsOrFails, is_taken};
 ghost use Rattle.bl_session.specs.session.BootSteps.{attempt_number};
 ghost use Rattle.bl_session.specs.session.BootSteps as boot;
 ghost use Rattle.bl_session.specs.session.BootMemory.{IsMemoryAt};
-ghost use Rattle.bl_session.specs.session.Phases.{state_at, not_started};
+ghost use Rattle.bl_session.specs.session.Phases.{state_at, not_started, KeepsFramesIn};
 ghost use Rattle.bl_store.specs.Events.{event_facts};
 ghost use Rattle.c_handle.specs.Faults.{IsHandleFault, IsMachineMemory};
 ghost use Rattle.c_handle.specs.Handles.{RelatesKept};
@@ -46,7 +46,9 @@ impl Handle {
             (memory_from base bytes.old) (memory_from base bytes.new))) }
         ensures same { OnOk result (RelatesKept self.old.kept self.new.kept ⊥
             (λ old new. old.phase ≢ not_started
-            → memory_from base bytes.new ≡ memory_from base bytes.old)) }
+            → (new ≡ old) × (memory_from base bytes.new ≡ memory_from base bytes.old))) }
+        ensures staged { OnOk result (RelatesKept self.old.kept self.new.kept ⊥
+            (λ old new. KeepsFramesIn old.boot.machine.pool new.phase)) }
     {
         match self.take(alloc) {
             Some(mut session) => {
@@ -88,6 +90,11 @@ impl Handle {
             (IsMemoryAt old.boot.machine.pool (state_at (memory_from base bytes.new) new.phase)
             (memory_from base bytes.old) (memory_from base bytes.new))
             (memory_from base bytes.new ≡ memory_from base bytes.old))) }
+        ensures same { OnOk result (RelatesKept self.old.kept self.new.kept ⊥
+            (λ old new. is_taken (state_at (memory_from base bytes.old) old.phase)
+            (event_facts event.entry) ≡ false → new ≡ old)) }
+        ensures staged { OnOk result (RelatesKept self.old.kept self.new.kept ⊥
+            (λ old new. KeepsFramesIn old.boot.machine.pool new.phase)) }
     {
         match self.take(alloc) {
             Some(mut session) => {

@@ -1,11 +1,11 @@
 //! One call of a session over memory in a slice.
-ghost use Rattle.std.specs.Prelude.{◌≡◌, ◌≢◌, IfErr, IfOk, MatchBool, OnErr, OnOk, length};
+ghost use Rattle.std.specs.Prelude.{◌≡◌, ◌≢◌, false, IfErr, IfOk, MatchBool, OnErr, OnOk, length};
 ghost use Rattle.bl_mem.specs.Memory.{memory_from};
 ghost use Rattle.bl_session.specs.session.BootSteps.{StepsToOrFails, StartsOrFails, is_taken};
 ghost use Rattle.bl_session.specs.session.BootSteps.{attempt_number};
 ghost use Rattle.bl_session.specs.session.BootSteps as boot;
 ghost use Rattle.bl_session.specs.session.BootMemory.{IsMemoryAt};
-ghost use Rattle.bl_session.specs.session.Phases.{state_at, not_started};
+ghost use Rattle.bl_session.specs.session.Phases.{state_at, not_started, KeepsFramesIn};
 ghost use Rattle.bl_store.specs.Events.{event_facts};
 ghost use Rattle.c_handle.specs.Faults.{IsMemoryFault, IsMachineMemory};
 
@@ -56,7 +56,10 @@ pub fn start_in_slice<A: Allocator + Copy>(
         (state_at (memory_from base bytes.new) session.new.phase)
         (memory_from base bytes.old) (memory_from base bytes.new)) }
     ensures same { OnOk result (session.old.phase ≢ not_started
-        → memory_from base bytes.new ≡ memory_from base bytes.old) }
+        → (session.new ≡ session.old)
+        × (memory_from base bytes.new ≡ memory_from base bytes.old)) }
+    ensures staged { OnOk result
+        (KeepsFramesIn session.old.boot.machine.pool session.new.phase) }
 {
     check_memory(session.machine(), base, bytes.len())?;
     let mut memory = SliceMemory::from_base(base, bytes);
@@ -87,6 +90,11 @@ pub fn event_in_slice<A: Allocator + Copy>(
         (state_at (memory_from base bytes.new) session.new.phase)
         (memory_from base bytes.old) (memory_from base bytes.new))
         (memory_from base bytes.new ≡ memory_from base bytes.old)) }
+    ensures same { OnOk result
+        (is_taken (state_at (memory_from base bytes.old) session.old.phase)
+        (event_facts event.entry) ≡ false → session.new ≡ session.old) }
+    ensures staged { OnOk result
+        (KeepsFramesIn session.old.boot.machine.pool session.new.phase) }
 {
     check_memory(session.machine(), base, bytes.len())?;
     let mut memory = SliceMemory::from_base(base, bytes);

@@ -1,13 +1,14 @@
 -- Where a session stands, by its fields and by what memory holds. Own.
-use Rattle.std.specs.Prelude.{ℕ, ◌+◌, ◌≤◌, Bool, true, false, List, drop, All, Option, None}
+use Rattle.std.specs.Prelude.{◌≡◌, ℕ, ◌+◌, ◌≤◌, Bool, true, false, List, drop, All, Option, None}
 use Rattle.std.specs.Prelude.{Some, Result, Ok, Err}
 use Rattle.std.specs.Borrow.{Bor}
+use Rattle.std.specs.declared.ops.Range.{Range}
 use Rattle.bl_map.specs.MachineFacts.{MachineFacts}
 use Rattle.bl_load.specs.HandoffFacts.{HandoffFacts}
 use Rattle.bl_load.specs.Handover.{Handover}
 use Rattle.bl_load.specs.PlanContents.{handover_in}
 use Rattle.bl_load.specs.declared.refused_entry.RefusedEntry.{RefusedEntry}
-use Rattle.bl_stage.specs.Staged.{Staging}
+use Rattle.bl_stage.specs.Staged.{Staging, AreStaged}
 use Rattle.bl_stage.specs.PieceStates.{piece_states}
 use Rattle.bl_session.specs.declared.session.outcome.BootFault.{BootFault}
 use Rattle.bl_session.specs.declared.session.outcome.BootFault.TheVariants.{NoEntryLeft, NoMemory}
@@ -96,3 +97,20 @@ boot_facts machine menu sizes = record { machine = machine; menu = menu; sizes =
 -- each part that is handed over lies within a memory of this size
 abbrev pub LiesWithin : ℕ → HandoffFacts → Type 0
 LiesWithin size handoff = All (λ place. place.address + place.length ≤ size) handoff.places
+
+-- what a session hands over, if it does, lies within a memory of this size
+abbrev pub HandsOverWithin : ℕ → PhaseFacts → Type 0
+HandsOverWithin size not_started = Unit {0}
+HandsOverWithin size (waits entry rest earlier stage) = Unit {0}
+HandsOverWithin size (hands_over entry earlier handoff) = LiesWithin size handoff
+HandsOverWithin size (has_none earlier) = Unit {0}
+HandsOverWithin size lacks_memory = Unit {0}
+
+-- each frame that a session which waits has of a file is a frame of this pool, and none is named
+-- twice
+abbrev pub KeepsFramesIn : Range ℕ → PhaseFacts → Type 0
+KeepsFramesIn pool not_started = Unit {0}
+KeepsFramesIn pool (waits entry rest earlier stage) = (stage.pool ≡ pool) × AreStaged stage
+KeepsFramesIn pool (hands_over entry earlier handoff) = Unit {0}
+KeepsFramesIn pool (has_none earlier) = Unit {0}
+KeepsFramesIn pool lacks_memory = Unit {0}

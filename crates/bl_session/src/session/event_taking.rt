@@ -6,6 +6,7 @@ ghost use Rattle.bl_session.specs.session.BootSteps.{is_wanted};
 ghost use Rattle.bl_store.specs.Events.{fault};
 ghost use Rattle.bl_store.specs.Events.{event_facts};
 ghost use Rattle.bl_session.specs.declared.session.phase.Phase.TheVariants.{Waits};
+ghost use Rattle.bl_session.specs.session.Phases.{phase_facts, KeepsFramesIn};
 ghost use Rattle.bl_session.specs.internal.session.KeptPhases.{IsPhaseKept};
 ghost use Rattle.bl_session.specs.internal.session.PhaseMoves.{phase_after};
 ghost use Rattle.bl_session.specs.internal.attempt.AttemptStates.{HasPoolRoom};
@@ -107,6 +108,8 @@ pub fn take_event<M: PhysMem, A: Allocator + Copy>(
         (M.bytes memory.old) (M.room memory.old) }
     ensures taken { HasTakenEvent boot.now (event_facts event.entry) phase.old phase.new
         (M.bytes memory.old) (M.bytes memory.new) result }
+    ensures staged { KeepsFramesIn boot.now.machine.now.pool
+        (phase_facts boot.now.menu.now.attempts phase.new) }
     ensures kept { KeepsSizeAndRoom M.lender M.bytes M.room memory.old memory.new }
 {
     let attempt = number_of(phase);

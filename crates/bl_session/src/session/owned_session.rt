@@ -1,6 +1,6 @@
 //! A boot that owns its machine and its menu.
-ghost use Rattle.std.specs.Prelude.{◌≡◌, ◌≢◌, ℕ, List, true, false, IfOk, IfSome, MatchBool};
-ghost use Rattle.std.specs.Prelude.{length, option_map};
+ghost use Rattle.std.specs.Prelude.{◌≡◌, ◌≢◌, true, false, IfOk, IfSome, MatchBool, length};
+ghost use Rattle.std.specs.Prelude.{option_map};
 ghost use Rattle.bl_mem.specs.Memory.{HasRoom, KeepsSizeAndRoom};
 ghost use Rattle.bl_session.specs.session.BootSteps.{StepsToOrFails, StartsOrFails, is_taken};
 ghost use Rattle.bl_session.specs.session.BootSteps as boot;
@@ -8,21 +8,22 @@ ghost use Rattle.bl_session.specs.session.BootMemory.{IsMemoryAt};
 ghost use Rattle.bl_session.specs.session.Phases.{boot_facts, state_at, is_waiting};
 ghost use Rattle.bl_store.specs.Events.{event_facts};
 ghost use Rattle.bl_session.specs.session.Phases.{end_facts, told_end, not_started, LiesWithin};
-ghost use Rattle.bl_session.specs.session.Requests.{first_request, request_after};
+ghost use Rattle.bl_session.specs.session.Phases.{KeepsFramesIn};
 ghost use Rattle.bl_session.specs.runs.Run.{final_phase};
 
-use crate::attempt::request::Request;
 use crate::menu::Menu;
 use crate::session::boot_end::{boot_end, into_boot_end};
 use crate::session::event_taking::take_event;
 use crate::session::outcome::{BootFault, Outcome, Progress};
-use crate::session::phase::{BootContext, Phase, awaits_pieces};
+use crate::session::phase::{BootContext, Phase};
 use crate::session::starting::begin_first;
 use bl_map::Machine;
 use bl_mem::PhysMem;
-use bl_store::{Event, Ticket};
+use bl_store::Event;
 use std::alloc::Allocator;
 use std::marker::Model;
+
+mod awaiting;
 
 /// A boot on its way that may be kept where no borrow can, as by C. Contracts see it as a session.
 #[derive(Drop)]
@@ -102,6 +103,7 @@ impl<A: Allocator + Copy> OwnedSession<A> {
         ensures room { self.old.phase ≡ not_started → is_waiting self.new.phase ≡ true
             → HasRoom (M.room memory.new)
             self.old.boot.machine.pool.start self.old.boot.machine.pool.end }
+        ensures staged { KeepsFramesIn self.old.boot.machine.pool self.new.phase }
         ensures kept { KeepsSizeAndRoom M.lender M.bytes M.room memory.old memory.new }
     {
         let boot = BootContext {
@@ -133,6 +135,7 @@ impl<A: Allocator + Copy> OwnedSession<A> {
             (event_facts event.entry) ≡ false → self.new ≡ self.old }
         ensures room { is_waiting self.new.phase ≡ true → HasRoom (M.room memory.new)
             self.old.boot.machine.pool.start self.old.boot.machine.pool.end }
+        ensures staged { KeepsFramesIn self.old.boot.machine.pool self.new.phase }
         ensures kept { KeepsSizeAndRoom M.lender M.bytes M.room memory.old memory.new }
     {
         let boot = BootContext {
@@ -142,41 +145,6 @@ impl<A: Allocator + Copy> OwnedSession<A> {
             sizes: &self.sizes,
         };
         take_event(&boot, memory, &mut self.phase, event)
-    }
-
-    /// Whether an attempt waits for pieces.
-    pub fn is_waiting(&self) -> bool
-        ensures { result ≡ is_waiting self.now.phase }
-    {
-        awaits_pieces(&self.phase)
-    }
-
-    /// The first piece that the attempt awaits, as `Session::missing`.
-    pub fn missing(&self) -> Option<Request>
-        ensures { (bytes : List ℕ)
-            → result ≡ first_request self.now.boot (state_at bytes self.now.phase) }
-    {
-        let boot = BootContext {
-            alloc: self.alloc,
-            machine: &self.machine,
-            menu: &self.menu,
-            sizes: &self.sizes,
-        };
-        boot.missing(&self.phase)
-    }
-
-    /// The first piece that the attempt awaits after that of a ticket, of whatever attempt.
-    pub fn missing_after(&self, ticket: Ticket) -> Option<Request>
-        ensures { (bytes : List ℕ)
-            → result ≡ request_after self.now.boot (state_at bytes self.now.phase) ticket }
-    {
-        let boot = BootContext {
-            alloc: self.alloc,
-            machine: &self.machine,
-            menu: &self.menu,
-            sizes: &self.sizes,
-        };
-        boot.missing_after(&self.phase, ticket)
     }
 
     /// The end, once there is one.

@@ -2,7 +2,7 @@
 ghost use Rattle.std.specs.Prelude.{◌≡◌, ℕ, List};
 ghost use Rattle.bl_session.specs.session.BootSteps.{attempt_number};
 ghost use Rattle.bl_session.specs.session.BootSteps as boot;
-ghost use Rattle.bl_session.specs.session.Phases.{phase_facts, is_waiting};
+ghost use Rattle.bl_session.specs.session.Phases.{phase_facts, is_waiting, KeepsFramesIn};
 ghost use Rattle.bl_session.specs.internal.session.KeptPhases.{state_of, IsPhaseKept};
 
 use crate::attempt::cursor::Cursor;
@@ -77,14 +77,17 @@ pub fn progress_of<A: Allocator>(
     phase: &Phase<A>,
 ) -> Progress
     requires { IsPhaseKept machine.now menu.now phase.now }
-    ensures { (bytes : List ℕ)
+    ensures progress { (bytes : List ℕ)
         → result ≡ boot.progress attempt (state_of menu.now.attempts bytes phase.now) }
+    ensures staged { KeepsFramesIn machine.now.pool (phase_facts menu.now.attempts phase.now) }
 {
     // For the proof: the number is small.
     menu.attempts();
     match phase {
         Phase::Unstarted => Progress::Waiting,
         Phase::Waits(waiting) => {
+            // For the proof: the files' frames lie in the pool.
+            waiting.stage.are_staged();
             let running = waiting.earlier.len();
             if running == attempt {
                 Progress::Waiting

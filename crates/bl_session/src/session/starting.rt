@@ -1,6 +1,7 @@
 //! A session starts: its first attempt begins.
 ghost use Rattle.std.specs.Prelude.{◌≡◌, [], OnOk, length};
 ghost use Rattle.bl_mem.specs.Memory.{KeepsSizeAndRoom};
+ghost use Rattle.bl_session.specs.session.Phases.{phase_facts, KeepsFramesIn};
 ghost use Rattle.bl_session.specs.internal.session.KeptPhases.{IsPhaseKept};
 ghost use Rattle.bl_session.specs.internal.attempt.AttemptStates.{HasPoolRoom};
 ghost use Rattle.bl_session.specs.internal.session.BootCalls.{GoesFrom, LeadsToPhase};
@@ -57,6 +58,8 @@ pub fn begin_first<M: PhysMem, A: Allocator + Copy>(
     requires size { length (M.bytes memory.old) ≡ boot.now.machine.now.size }
     ensures started { HasStarted boot.now phase.old phase.new
         (M.bytes memory.old) (M.bytes memory.new) (M.room memory.new) result }
+    ensures staged { KeepsFramesIn boot.now.machine.now.pool
+        (phase_facts boot.now.menu.now.attempts phase.new) }
     ensures kept { KeepsSizeAndRoom M.lender M.bytes M.room memory.old memory.new }
 {
     let attempt = number_of(phase);

@@ -1,4 +1,4 @@
-use Rattle.std.proofs.Common.{◌≡◌, MatchBool, rules}
+use Rattle.std.proofs.Common.{◌≡◌, MatchBool, false, rules}
 use Rattle.bl_session.specs.session.BootSteps.{StepsToOrFails, attempt_number, is_taken}
 use Rattle.bl_session.specs.session.BootSteps as boot
 use Rattle.bl_session.specs.session.BootMemory.{IsMemoryAt}
@@ -48,4 +48,15 @@ returns-clause-memory g c =
           c.args.base c.args.bytes.now c.from_base-memory.result c.event.new.memory
           c.from_base-memory.ensures.base c.from_base-memory.ensures.bytes
           c.event.ensures.kept.size c.event.ensures.memory,
+    )
+
+pub returns-clause-same : goal.returns-clause-same
+returns-clause-same g c =
+    search (
+      rules,
+      over_slice (λ before after. is_taken (state_at before c.args.session.now.phase)
+          (event_facts c.args.event) ≡ false → c.event.new.self ≡ c.args.session.now)
+          c.args.base c.args.bytes.now c.from_base-memory.result c.event.new.memory
+          c.from_base-memory.ensures.base c.from_base-memory.ensures.bytes
+          c.event.ensures.kept.size c.event.ensures.unchanged,
     )

@@ -48,11 +48,13 @@ returns-clause-memory g c =
     )
 
 pub returns-clause-same : goal.returns-clause-same
-returns-clause-same g c = λ other.
-    search (
-      rules,
-      over_slice (λ before after. after ≡ before)
-          c.args.base c.args.bytes.now c.from_base-memory.result c.start.new.memory
-          c.from_base-memory.ensures.base c.from_base-memory.ensures.bytes
-          c.start.ensures.kept.size (c.start.ensures.unchanged other).1,
-    )
+returns-clause-same g c = λ other. (
+  (c.start.ensures.unchanged other).0,
+  search (
+    rules,
+    over_slice (λ before after. after ≡ before)
+        c.args.base c.args.bytes.now c.from_base-memory.result c.start.new.memory
+        c.from_base-memory.ensures.base c.from_base-memory.ensures.bytes
+        c.start.ensures.kept.size (c.start.ensures.unchanged other).1,
+  ),
+)

@@ -9,3 +9,6 @@ returns-clause-progress g c = rw (← c.self.view_is) c.take_event.ensures.taken
 
 pub returns-clause-memory : goal.returns-clause-memory
 returns-clause-memory g c = rw (← c.self.view_is) c.take_event.ensures.taken.memory
+
+pub returns-clause-staged : goal.returns-clause-staged
+returns-clause-staged g c = rw (← c.self.view_is) c.take_event.ensures.staged

@@ -18,12 +18,12 @@ returns-clause-taken g c =
           w.in-Waits.running w.take_in_attempt-ended.new.running old
           (bytes w.take_in_attempt-ended.new.memory) new w.take_in_attempt-ended.result
           c.number_of-attempt.result c.progress_of.result w.in-Waits.is
-          (w.phase-is ∙ w.go_on.ensures) (ap bytes w.memory-is) counts (c.progress_of.ensures new)
+          (w.phase-is ∙ w.go_on.ensures) (ap bytes w.memory-is) counts (c.progress_of.ensures.progress new)
           w.take_in_attempt-ended.ensures.taken
       | in_default w ↦
           stays boot (event_facts c.args.event) c.args.phase.now c.match-phase.phase old new
           c.number_of-attempt.result c.progress_of.result w.in_default.not-Waits w.phase-is
-          (ap bytes w.memory-is) counts (c.progress_of.ensures new) c.requires.standing
+          (ap bytes w.memory-is) counts (c.progress_of.ensures.progress new) c.requires.standing
     ]
 
 pub returns-clause-kept : goal.returns-clause-kept

@@ -12,3 +12,6 @@ returns-clause-memory g c = rw (← c.self.view_is) c.begin_first.ensures.starte
 
 pub returns-clause-room : goal.returns-clause-room
 returns-clause-room g c = rw (← c.self.view_is) c.begin_first.ensures.started.room
+
+pub returns-clause-staged : goal.returns-clause-staged
+returns-clause-staged g c = rw (← c.self.view_is) c.begin_first.ensures.staged
