@@ -1,4 +1,4 @@
-/* Made by tools/c_texts from the tables of docs/REFUSALS.md. */
+/* Made by tools/refusals from the tables of docs/REFUSALS.md. */
 static const struct refusal_text texts[] = {
     {1, A_NUMBER, "NoFile",
      "the file can't be read: it is missing, or no regular file"},

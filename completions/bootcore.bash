@@ -1,5 +1,5 @@
 # shellcheck shell=bash
-# Made by tools/completions. Completes bootcore's command line in bash. To use it, source this file, in ~/.bashrc for example:
+# Completes bootcore's command line in bash. To use it, source this file, in ~/.bashrc for example:
 #   . PATH-OF-THIS-REPOSITORY/completions/bootcore.bash
 
 _bootcore() {

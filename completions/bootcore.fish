@@ -1,4 +1,4 @@
-# Made by tools/completions. Completes bootcore's command line in fish. To use it, source this file, in
+# Completes bootcore's command line in fish. To use it, source this file, in
 # ~/.config/fish/config.fish for example:
 #   source PATH-OF-THIS-REPOSITORY/completions/bootcore.fish
 

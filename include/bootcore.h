@@ -450,6 +450,7 @@ BOOTCORE_CALL void bootcore_session_free(bootcore_session *session);
  * its entry, of which the kernel's is 0; of 7 a tag's offset in the kernel's file, of 8 and 9 a
  * tag's type; of 13 to 15 the index of a program header, and `second` of 15 that of another. */
 enum {
+    /* >>> tools/refusals: constants of refusals */
     BOOTCORE_REFUSAL_NO_FILE = 1,               BOOTCORE_REFUSAL_NO_ENTRY = 16,
     BOOTCORE_REFUSAL_FILE_FAULT = 2,            BOOTCORE_REFUSAL_ENTRY_OUTSIDE = 17,
     BOOTCORE_REFUSAL_FILE_TOO_LONG = 3,         BOOTCORE_REFUSAL_BAD_ALIGN = 18,
@@ -465,16 +466,19 @@ enum {
     BOOTCORE_REFUSAL_SEGMENT_CUT = 13,          BOOTCORE_REFUSAL_LINE_HAS_NUL = 28,
     BOOTCORE_REFUSAL_ADDRESS_TOO_HIGH = 14,     BOOTCORE_REFUSAL_MAP_TOO_LONG = 29,
     BOOTCORE_REFUSAL_SEGMENTS_OVERLAP = 15,     BOOTCORE_REFUSAL_NO_64_ENTRY = 30
+    /* <<< */
 };
 
 /* Why an image is refused by a walk: 71 to 75, it is no image (`first` is of 74 a part's index); 81
  * to 83, no kernel can be entered with it. At 77 and 84 memory ran out. */
 enum {
+    /* >>> tools/refusals: constants of faults */
     BOOTCORE_FAULT_BAD_MAGIC = 71,              BOOTCORE_FAULT_READ_NO_MEMORY = 77,
     BOOTCORE_FAULT_BAD_VERSION = 72,            BOOTCORE_FAULT_OUTSIDE_IMAGE = 81,
     BOOTCORE_FAULT_BAD_HEADER = 73,             BOOTCORE_FAULT_BAD_INFO = 82,
     BOOTCORE_FAULT_BAD_PART = 74,               BOOTCORE_FAULT_BAD_STATE = 83,
     BOOTCORE_FAULT_WRONG_LENGTH = 75,           BOOTCORE_FAULT_WALK_NO_MEMORY = 84
+    /* <<< */
 };
 
 /* What a refusal's number means, not a status's, in the words of `bootcore explain`; of a walk's

@@ -19,20 +19,19 @@ MANUAL_PAGE = TOP / "docs/bootcore.1"
 
 DRAWN_BY_PROGRAM = ["first", "second", "boot"]
 TOOLS = [
-    ("each link to a definition or a clause names one that its file declares", "tools/anchors", "--check"),
-    ("no name is declared more than once but those of tools/names.txt", "tools/names"),
-    ("each quoted line stands in its source", "tools/quotes"),
-    ("each file of definitions or proofs that a crate's page lists is there", "tools/listed"),
-    ("each name that a page uses exists", "tools/mentioned"),
-    ("no table cell of a page has more than 160 characters, no row and no line more than 200 beside links", "tools/widths"),
-    ("no definition that a reader must believe, and no exported clause, uses one of specs/internal", "tools/believed", "--check"),
-    ("a reader's hour in docs/THEOREMS.md has the lines that it counts", "tools/hour", "--check"),
-    ("explain has the name and the meaning of each refusal that docs/REFUSALS.md has", "tools/refusals"),
-    ("the core for C has the numbers and the words of docs/REFUSALS.md", "tools/c_texts", "--check"),
+    ("each link to a definition or a clause names one that its file declares", "tools/pages", "anchors"),
+    ("no name is declared more than once but those of tools/checks/names.txt", "tools/pages", "names"),
+    ("each quoted line stands in its source", "tools/pages", "quotes"),
+    ("each file of definitions or proofs that a crate's page lists is there", "tools/pages", "listed"),
+    ("each name that a page uses exists", "tools/pages", "mentioned"),
+    ("no table cell of a page has more than 160 characters, no row and no line more than 200 beside links", "tools/pages", "widths"),
+    ("no definition that a reader must believe, and no exported clause, uses one of specs/internal", "tools/pages", "believed"),
+    ("a reader's hour in docs/THEOREMS.md has the lines that it counts", "tools/pages", "hour"),
+    ("CONTRIBUTING.md lists each place where a refusal and a key stand", "tools/pages", "places"),
+    ("each list of refusals has the numbers, the names and the meanings of docs/REFUSALS.md", "tools/refusals", "--check"),
     ("each must-fail edit changes a line that stands once, those of docs/EDITS.md in the function named there", "tools/edits"),
-    ("the completions are those of the table of tools/completions, which has the calls of USAGE", "tools/completions", "--check"),
+    ("the completions have the subcommands, options and values of the usage text", "tools/pages", "completions"),
     ("docs/PLANTS.md has a row of each crate but those of tests, and a reason in each", "tools/plants", "--check"),
-    ("CONTRIBUTING.md lists each place where a refusal and a key stand", "tools/refusal_places", "--check"),
 ]
 
 EXAMPLE_PROGRAMS = ["guest", "by_hand", "disk", "disk_boot", "check", "guest_from_files"]

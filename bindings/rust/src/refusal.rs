@@ -79,95 +79,101 @@ refusals! {
     /// assert_eq!(refusal.to_string(), "refused 1 NoFile(0): the file can't be read: it is missing, or no regular file");
     /// ```
     Refusal {
-        /// A file can't be read.
+        // >>> tools/refusals: refusals
+        /// The file can't be read: it is missing, or no regular file.
         NoFile {
             /// Its place in the entry, of which the kernel's is 0.
             file: first
         } = 1,
-        /// A piece of a file did not come.
+        /// A piece of the file did not come.
         FileFault {
-            /// The file's place in the entry.
+            /// Its place in the entry, of which the kernel's is 0.
             file: first
         } = 2,
-        /// A file is too long.
+        /// The file is too long: it has more than 0x40000000 bytes.
         FileTooLong {
-            /// Its place in the entry.
+            /// Its place in the entry, of which the kernel's is 0.
             file: first
         } = 3,
-        /// There is no Multiboot2 header.
+        /// No Multiboot2 header in the first 32768 bytes, at a multiple of 8, with a right sum.
         NoHeader = 4,
-        /// The Multiboot2 header is cut.
+        /// The Multiboot2 header is cut: its length is below 24, passes the file's end, or passes the first
+        /// 32768 bytes.
         HeaderCut = 5,
-        /// The header is for another architecture.
+        /// The header is for another architecture than i386.
         BadArchitecture = 6,
-        /// A header tag is bad.
+        /// A bad header tag at this offset: it is cut, has a bad size, or is an address tag that the file
+        /// can't meet.
         BadTag {
             /// Its offset in the kernel's file.
             offset: first
         } = 7,
         /// A header tag of an unknown type is required.
         UnsupportedTag {
-            /// Its type.
+            /// The tag's type.
             tag: first
         } = 8,
-        /// Information is required that is never given.
+        /// A required request names type 9, the ELF symbols, which are never given, or a type that the
+        /// specification does not have.
         UnsupportedRequest {
-            /// The type of its tag.
+            /// The tag's type.
             tag: first
         } = 9,
         /// A console is required, and there is none.
         NoConsole = 10,
-        /// The kernel is no ELF file, and has no address tag.
+        /// Not an ELF file; without an address tag it must be one.
         NotElf = 11,
-        /// The ELF file breaks a rule.
+        /// A bad ELF file: its header or a program header breaks a rule.
         BadElf = 12,
-        /// A segment passes the file's end.
+        /// The segment is cut: its bytes pass the file's end.
         SegmentCut {
             /// The index of its program header.
             segment: first
         } = 13,
-        /// A segment ends above 4 GiB.
+        /// The segment lies too high: it ends above 4 GiB.
         AddressTooHigh {
             /// The index of its program header.
             segment: first
         } = 14,
-        /// Two segments share a byte.
+        /// The two segments overlap: they share a byte.
         SegmentsOverlap {
             /// The index of a program header.
             one: first,
             /// The index of the other.
             other: second
         } = 15,
-        /// No entry address is named.
+        /// No entry address: there is no entry address tag, and the file names no entry in a segment.
         NoEntry = 16,
-        /// The entry address lies in no segment.
+        /// The entry lies in no segment at its linked address; of a Linux kernel by the 64-bit entry: the
+        /// payload has at most 0x200 bytes.
         EntryOutside = 17,
-        /// The alignment of a relocatable kernel is no power of two.
+        /// The alignment is no power of two: kernel_alignment of a relocatable kernel.
         BadAlign = 18,
         /// A part at a fixed address has a byte that is not usable.
         NotUsable = 19,
         /// No address is permitted for a part.
         NoRoom = 20,
-        /// The pool is too small for the files.
+        /// The pool is too small for the files: in all, or beside the parts.
         NoPool = 21,
-        /// The kernel is no bzImage.
+        /// Not a bzImage.
         NotBzImage = 22,
-        /// Its boot protocol is too old.
+        /// The boot protocol is older than 2.10.
         OldProtocol = 23,
-        /// It is not loaded at 1 MiB or above.
+        /// The kernel is not loaded high.
         NotHigh = 24,
-        /// Its setup code is cut.
+        /// The setup is cut: the setup header ends too early, or there is no payload.
         SetupCut = 25,
-        /// The address that it prefers is bad.
+        /// The kernel can't be relocated, and its preferred address is not from 1 MiB to 4 GiB.
         BadPreferred = 26,
-        /// The line is too long.
+        /// A line is too long: it has more than 4095 bytes, or more than the kernel takes.
         LineTooLong = 27,
         /// A line has a zero byte.
         LineHasNul = 28,
-        /// The memory map is too long for the boot parameters.
+        /// The memory map has too many runs for a Linux kernel: more than 128.
         MapTooLong = 29,
-        /// The kernel has no 64-bit entry.
+        /// No 64-bit entry: the boot protocol is older than 2.12, or xloadflags has bit 0 clear.
         No64Entry = 30,
+        // <<<
     }
 }
 
@@ -180,24 +186,29 @@ refusals! {
     /// assert_eq!(walk(b"no image").unwrap_err(), Error::BadImage(Fault::BadMagic));
     /// ```
     Fault {
-        /// It does not begin as an image.
+        // >>> tools/refusals: faults
+        /// The first eight bytes are not BLIMAGE and a zero byte.
         BadMagic = 71,
-        /// Its version is unknown.
+        /// Another version than 1 and 2.
         BadVersion = 72,
-        /// Its head is bad.
+        /// A protocol, a register or a number of parts that is not allowed, or a word after that number that
+        /// is not 0; version 1 with protocol 3.
         BadHeader = 73,
-        /// A part's record is bad.
+        /// Record i is bad: its role, its address, its length or its end; role 8 is allowed with protocol 3
+        /// alone.
         BadPart {
             /// The part's index.
             part: first
         } = 74,
-        /// Its length is not what its head says.
+        /// The image ends too early, or goes on after its end.
         WrongLength = 75,
-        /// An address leads out of the image.
+        /// The entry lies in no part of the kernel, or an address that the kernel follows leads out of the
+        /// parts.
         OutsideImage = 81,
-        /// The boot information or the boot parameters are bad.
+        /// The information, the boot parameters or a line break their form.
         BadInfo = 82,
-        /// The registers are none with which a kernel is entered.
+        /// A register, the descriptors, or where the page tables lead, are not those of the entry state.
         BadState = 83,
+        // <<<
     }
 }

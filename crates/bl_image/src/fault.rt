@@ -49,6 +49,7 @@ impl ImageFault {
         ensures { result ≡ image_fault_number self }
     {
         match self {
+            // >>> tools/refusals: numbers of ImageFault
             ImageFault::BadMagic => 71,
             ImageFault::BadVersion => 72,
             ImageFault::BadHeader => 73,
@@ -56,6 +57,7 @@ impl ImageFault {
             ImageFault::WrongLength => 75,
             ImageFault::DeviceFault => 76,
             ImageFault::NoMemory => 77,
+            // <<<
         }
     }
 }

@@ -11,6 +11,7 @@ use thiserror::Error;
 /// place in the entry, the kernel being 0.
 #[derive(Clone, Copy, Debug, PartialEq, Eq, Error)]
 pub enum Refusal {
+    // >>> tools/refusals: variants of Refusal
     NoFile(u32),
     FileFault(u32),
     FileTooLong(u32),
@@ -41,67 +42,16 @@ pub enum Refusal {
     LineHasNul,
     MapTooLong,
     No64Entry,
+    // <<<
 }
 
 impl Refusal {
-    /// What the refusal means, without what it carries.
-    fn meaning(self) -> &'static str {
-        match self {
-            Refusal::NoFile(_) => "a file can't be read",
-            Refusal::FileFault(_) => "a file did not come",
-            Refusal::FileTooLong(_) => "a file is too long",
-            Refusal::NoHeader => "no Multiboot2 header",
-            Refusal::HeaderCut => "the Multiboot2 header is cut",
-            Refusal::BadArchitecture => "a header for another architecture",
-            Refusal::BadTag(_) => "a bad header tag",
-            Refusal::UnsupportedTag(_) => "a header tag of this type is required",
-            Refusal::UnsupportedRequest(_) => "information of this type is required",
-            Refusal::NoConsole => "a console is required",
-            Refusal::NotElf => "not an ELF file",
-            Refusal::BadElf => "a bad ELF file",
-            Refusal::SegmentCut(_) => "a segment is cut",
-            Refusal::AddressTooHigh(_) => "a segment lies too high",
-            Refusal::SegmentsOverlap(_, _) => "segments overlap",
-            Refusal::NoEntry => "no entry address",
-            Refusal::EntryOutside => "the entry lies in no segment",
-            Refusal::BadAlign => "the alignment is no power of two",
-            Refusal::NotUsable => "a fixed part is not usable memory",
-            Refusal::NoRoom => "no address is permitted for a part",
-            Refusal::NoPool => "the pool is too small",
-            Refusal::NotBzImage => "not a bzImage",
-            Refusal::OldProtocol => "the boot protocol is older than 2.10",
-            Refusal::NotHigh => "the kernel is not loaded high",
-            Refusal::SetupCut => "the setup is cut",
-            Refusal::BadPreferred => "no preferred address from 1 MiB to 4 GiB",
-            Refusal::LineTooLong => "a line is too long",
-            Refusal::LineHasNul => "a line has a zero byte",
-            Refusal::MapTooLong => "the memory map has too many runs",
-            Refusal::No64Entry => "no 64-bit entry",
-        }
-    }
-
-    /// The file, the segment, or the tag's place or type that the refusal carries; of two segments
-    /// the first.
-    fn carried(self) -> Option<u64> {
-        match self {
-            Refusal::NoFile(number) => Some(number as u64),
-            Refusal::FileFault(number) => Some(number as u64),
-            Refusal::FileTooLong(number) => Some(number as u64),
-            Refusal::BadTag(place) => Some(place),
-            Refusal::UnsupportedTag(kind) => Some(kind as u64),
-            Refusal::UnsupportedRequest(kind) => Some(kind as u64),
-            Refusal::SegmentCut(number) => Some(number as u64),
-            Refusal::AddressTooHigh(number) => Some(number as u64),
-            Refusal::SegmentsOverlap(number, _) => Some(number as u64),
-            _ => None,
-        }
-    }
-
     /// The refusal's number.
     pub fn number(self) -> u32
         ensures { result ≡ numbers.refusal_number self }
     {
         match self {
+            // >>> tools/refusals: numbers of Refusal
             Refusal::NoFile(_) => 1,
             Refusal::FileFault(_) => 2,
             Refusal::FileTooLong(_) => 3,
@@ -132,22 +82,15 @@ impl Refusal {
             Refusal::LineHasNul => 28,
             Refusal::MapTooLong => 29,
             Refusal::No64Entry => 30,
+            // <<<
         }
     }
 }
 
-/// By hand, since a derived one is proved as one function of 30 texts, which took a twelfth of the
-/// crate's proof.
+/// As its number: what it means is a text of the program, which a loader has no need of.
 impl fmt::Display for Refusal {
     fn fmt<W: fmt::Write>(&self, f: &mut fmt::Formatter<W>) -> fmt::Result {
-        f.write_str(self.meaning())?;
-        if let Some(number) = self.carried() {
-            write!(f, ": {number}")?;
-        }
-        if let Refusal::SegmentsOverlap(_, other) = *self {
-            write!(f, ", {other}")?;
-        }
-        Ok(())
+        write!(f, "refusal {}", self.number())
     }
 }
 

@@ -10,11 +10,13 @@ use Rattle.bl_map.specs.NormalMap.{region_end}
 use Rattle.bl_map.specs.MachineFacts.{IsSize, IsPool}
 
 abbrev pub map_fault_number : MapFault → ℕ
+-- >>> tools/refusals: number cases of MapFault
 map_fault_number BadSize = 1
-map_fault_number (BadRegion index) = 2
+map_fault_number (BadRegion i) = 2
 map_fault_number TooManyRegions = 3
 map_fault_number BadPool = 4
 map_fault_number NoMemory = 5
+-- <<<
 
 -- a region ends at most at 2^52
 abbrev pub HasAllowedEnd : Region → Type 0

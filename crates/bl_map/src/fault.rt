@@ -29,11 +29,13 @@ impl MapFault {
         ensures { result ≡ map_fault_number self }
     {
         match self {
+            // >>> tools/refusals: numbers of MapFault
             MapFault::BadSize => 1,
             MapFault::BadRegion(_) => 2,
             MapFault::TooManyRegions => 3,
             MapFault::BadPool => 4,
             MapFault::NoMemory => 5,
+            // <<<
         }
     }
 }

@@ -5,8 +5,10 @@ use Rattle.bl_mbi.specs.declared.fault.InfoFault.TheVariants.{WrongLength, BadRe
 use Rattle.bl_mbi.specs.declared.fault.InfoFault.TheVariants.{BadOrder, NoMemory}
 
 abbrev pub info_fault_number : InfoFault → ℕ
+-- >>> tools/refusals: number cases of InfoFault
 info_fault_number WrongLength = 61
 info_fault_number BadReserved = 62
-info_fault_number (BadTag at) = 63
-info_fault_number (BadOrder at) = 64
+info_fault_number (BadTag offset) = 63
+info_fault_number (BadOrder offset) = 64
 info_fault_number NoMemory = 65
+-- <<<

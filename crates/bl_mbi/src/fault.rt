@@ -48,11 +48,13 @@ impl InfoFault {
         ensures { result ≡ info_fault_number self }
     {
         match self {
+            // >>> tools/refusals: numbers of InfoFault
             InfoFault::WrongLength => 61,
             InfoFault::BadReserved => 62,
             InfoFault::BadTag(_) => 63,
             InfoFault::BadOrder(_) => 64,
             InfoFault::NoMemory => 65,
+            // <<<
         }
     }
 }

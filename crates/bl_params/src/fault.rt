@@ -30,9 +30,11 @@ impl ParamFault {
         ensures { result ≡ param_fault_number self }
     {
         match self {
+            // >>> tools/refusals: numbers of ParamFault
             ParamFault::WrongLength => 66,
             ParamFault::BadParams(_) => 67,
             ParamFault::NoMemory => 68,
+            // <<<
         }
     }
 }

@@ -27,10 +27,12 @@ use Rattle.bl_params.specs.SizesAndOffsets.{params_size, page_tables_size, page_
 use Rattle.bl_params.specs.SizesAndOffsets.{mapped_page_count}
 
 abbrev pub walk_fault_number : WalkFault → ℕ
+-- >>> tools/refusals: number cases of WalkFault
 walk_fault_number OutsideImage = 81
 walk_fault_number BadInfo = 82
 walk_fault_number BadState = 83
 walk_fault_number NoMemory = 84
+-- <<<
 
 -- the ranges that a kernel follows, each an address and a number of bytes
 pub data IsFollowed (h : Handover) : ℕ → ℕ → Type 0 where

@@ -38,10 +38,12 @@ impl WalkFault {
         ensures { result ≡ walk_fault_number self }
     {
         match self {
+            // >>> tools/refusals: numbers of WalkFault
             WalkFault::OutsideImage => 81,
             WalkFault::BadInfo => 82,
             WalkFault::BadState => 83,
             WalkFault::NoMemory => 84,
+            // <<<
         }
     }
 }

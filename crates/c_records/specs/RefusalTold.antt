@@ -8,6 +8,7 @@ use Rattle.c_records.specs.declared.end_records.RefusalRecord.{RefusalRecord}
 -- what it carries first: a file's place in its entry, the offset of a tag, a type, a segment's
 -- index; 0 if nothing
 abbrev pub first_carried : Refusal → ℕ
+-- >>> tools/refusals: first carried cases of Refusal
 first_carried (refusal.NoFile first) = first
 first_carried (refusal.FileFault first) = first
 first_carried (refusal.FileTooLong first) = first
@@ -38,9 +39,11 @@ first_carried refusal.LineTooLong = 0
 first_carried refusal.LineHasNul = 0
 first_carried refusal.MapTooLong = 0
 first_carried refusal.No64Entry = 0
+-- <<<
 
 -- what it carries beside it: the other segment's index
 abbrev pub second_carried : Refusal → ℕ
+-- >>> tools/refusals: second carried cases of Refusal
 second_carried (refusal.NoFile first) = 0
 second_carried (refusal.FileFault first) = 0
 second_carried (refusal.FileTooLong first) = 0
@@ -71,6 +74,7 @@ second_carried refusal.LineTooLong = 0
 second_carried refusal.LineHasNul = 0
 second_carried refusal.MapTooLong = 0
 second_carried refusal.No64Entry = 0
+-- <<<
 
 -- the refusal of the entry with this index
 abbrev pub refusal_record : ℕ → Refusal → RefusalRecord

@@ -9,6 +9,7 @@ fn first_carried(refusal: Refusal) -> u64
     ensures { result ≡ spec.first_carried refusal }
 {
     match refusal {
+        // >>> tools/refusals: first carried of Refusal
         Refusal::NoFile(first) => first as u64,
         Refusal::FileFault(first) => first as u64,
         Refusal::FileTooLong(first) => first as u64,
@@ -18,6 +19,7 @@ fn first_carried(refusal: Refusal) -> u64
         Refusal::SegmentCut(first) => first as u64,
         Refusal::AddressTooHigh(first) => first as u64,
         Refusal::SegmentsOverlap(first, _) => first as u64,
+        // <<<
         _ => 0,
     }
 }
@@ -26,7 +28,9 @@ fn second_carried(refusal: Refusal) -> u64
     ensures { result ≡ spec.second_carried refusal }
 {
     match refusal {
+        // >>> tools/refusals: second carried of Refusal
         Refusal::SegmentsOverlap(_, second) => second as u64,
+        // <<<
         _ => 0,
     }
 }

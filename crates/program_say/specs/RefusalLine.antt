@@ -16,6 +16,7 @@ pair_told i j = codes "(" ++ decimal i ++ codes ", " ++ decimal j ++ codes ")"
 -- what it carries: the place of a file in its entry, the offset of a tag in the kernel's file, the
 -- type of a tag, or the indices of program headers
 abbrev pub refusal_told : Refusal → List ℕ
+-- >>> tools/refusals: bracket cases of Refusal
 refusal_told (refusals.NoFile file) = number_told file
 refusal_told (refusals.FileFault file) = number_told file
 refusal_told (refusals.FileTooLong file) = number_told file
@@ -25,6 +26,7 @@ refusal_told (refusals.UnsupportedRequest type) = number_told type
 refusal_told (refusals.SegmentCut i) = number_told i
 refusal_told (refusals.AddressTooHigh i) = number_told i
 refusal_told (refusals.SegmentsOverlap i j) = pair_told i j
+-- <<<
 refusal_told _ = []
 
 -- its number and its name

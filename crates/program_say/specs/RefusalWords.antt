@@ -4,6 +4,7 @@ use Rattle.bl_load.specs.declared.refusal.Refusal.{Refusal}
 use Rattle.bl_load.specs.declared.refusal.Refusal.TheVariants as refusals
 
 abbrev pub refusal_name : Refusal → List ℕ
+-- >>> tools/refusals: name cases of Refusal
 refusal_name (refusals.NoFile file) = codes "NoFile"
 refusal_name (refusals.FileFault file) = codes "FileFault"
 refusal_name (refusals.FileTooLong file) = codes "FileTooLong"
@@ -34,8 +35,10 @@ refusal_name refusals.LineTooLong = codes "LineTooLong"
 refusal_name refusals.LineHasNul = codes "LineHasNul"
 refusal_name refusals.MapTooLong = codes "MapTooLong"
 refusal_name refusals.No64Entry = codes "No64Entry"
+-- <<<
 
 abbrev pub refusal_meaning : Refusal → List ℕ
+-- >>> tools/refusals: meaning cases of Refusal
 refusal_meaning (refusals.NoFile file) =
     codes "the file can't be read: it is missing, or no regular file"
 refusal_meaning (refusals.FileFault file) = codes "a piece of the file did not come"
@@ -44,16 +47,16 @@ refusal_meaning (refusals.FileTooLong file) =
 refusal_meaning refusals.NoHeader =
     codes "no Multiboot2 header in the first 32768 bytes, at a multiple of 8, with a right sum"
 refusal_meaning refusals.HeaderCut =
-    codes "the Multiboot2 header is cut: its length is below 24, passes the file's end, or "
-    ++ codes "passes the first 32768 bytes"
+    codes "the Multiboot2 header is cut: its length is below 24, passes the file's end, or passes "
+    ++ codes "the first 32768 bytes"
 refusal_meaning refusals.BadArchitecture = codes "the header is for another architecture than i386"
 refusal_meaning (refusals.BadTag offset) =
-    codes "a bad header tag at this offset: it is cut, has a bad size, or is an address tag "
-    ++ codes "that the file can't meet"
+    codes "a bad header tag at this offset: it is cut, has a bad size, or is an address tag that "
+    ++ codes "the file can't meet"
 refusal_meaning (refusals.UnsupportedTag type) = codes "a header tag of an unknown type is required"
 refusal_meaning (refusals.UnsupportedRequest type) =
-    codes "a required request names type 9, the ELF symbols, which are never given, or a type "
-    ++ codes "that the specification does not have"
+    codes "a required request names type 9, the ELF symbols, which are never given, or a type that "
+    ++ codes "the specification does not have"
 refusal_meaning refusals.NoConsole = codes "a console is required, and there is none"
 refusal_meaning refusals.NotElf = codes "not an ELF file; without an address tag it must be one"
 refusal_meaning refusals.BadElf =
@@ -87,3 +90,4 @@ refusal_meaning refusals.MapTooLong =
     codes "the memory map has too many runs for a Linux kernel: more than 128"
 refusal_meaning refusals.No64Entry =
     codes "no 64-bit entry: the boot protocol is older than 2.12, or xloadflags has bit 0 clear"
+-- <<<

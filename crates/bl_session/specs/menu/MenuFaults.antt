@@ -25,6 +25,8 @@ HasMenuFault entries default fallbacks NoMemory =
 
 -- the number of why there is no menu
 abbrev pub menu_fault_number : MenuFault → ℕ
+-- >>> tools/refusals: number cases of MenuFault
 menu_fault_number BadIndex = 51
 menu_fault_number TooMany = 52
 menu_fault_number NoMemory = 53
+-- <<<

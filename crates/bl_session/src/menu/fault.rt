@@ -29,9 +29,11 @@ impl MenuFault {
         ensures { result ≡ menu_fault_number self }
     {
         match self {
+            // >>> tools/refusals: numbers of MenuFault
             MenuFault::BadIndex => 51,
             MenuFault::TooMany => 52,
             MenuFault::NoMemory => 53,
+            // <<<
         }
     }
 }

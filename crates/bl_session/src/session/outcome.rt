@@ -55,8 +55,10 @@ impl<A: Allocator> BootFault<A> {
         ensures { result ≡ boot_fault_number self.now }
     {
         match self {
+            // >>> tools/refusals: numbers of BootFault
             BootFault::NoEntryLeft(_) => 40,
             BootFault::NoMemory => 41,
+            // <<<
         }
     }
 }

@@ -10,19 +10,23 @@ use Rattle.program_say.specs.blame.BadKeyWords.{bad_key_words}
 use Rattle.program_say.specs.blame.BracketedNumber.{number_told}
 
 abbrev pub map_fault_name : MapFault → List ℕ
+-- >>> tools/refusals: name cases of MapFault
 map_fault_name faults.BadSize = codes "BadSize"
 map_fault_name (faults.BadRegion i) = codes "BadRegion"
 map_fault_name faults.TooManyRegions = codes "TooManyRegions"
 map_fault_name faults.BadPool = codes "BadPool"
 map_fault_name faults.NoMemory = codes "NoMemory"
+-- <<<
 
 abbrev pub map_fault_meaning : MapFault → List ℕ
+-- >>> tools/refusals: meaning cases of MapFault
 map_fault_meaning faults.BadSize = codes "a bad size: not 1 MiB to 4 GiB in whole frames"
 map_fault_meaning (faults.BadRegion i) = codes "the region with this index ends above 2^52"
 map_fault_meaning faults.TooManyRegions = codes "more than 128 regions"
 map_fault_meaning faults.BadPool =
     codes "a bad pool: not whole frames, or with a byte that is not usable"
 map_fault_meaning faults.NoMemory = codes "out of memory while a machine was made"
+-- <<<
 
 -- the index of a region, in brackets
 abbrev pub map_fault_told : MapFault → List ℕ

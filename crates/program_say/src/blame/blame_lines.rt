@@ -19,11 +19,13 @@ fn map_fault_name(fault: MapFault) -> &'static str
     ensures { result.now ≡ blames.map_fault_name fault }
 {
     match fault {
+        // >>> tools/refusals: names of MapFault
         MapFault::BadSize => "BadSize",
         MapFault::BadRegion(_) => "BadRegion",
         MapFault::TooManyRegions => "TooManyRegions",
         MapFault::BadPool => "BadPool",
         MapFault::NoMemory => "NoMemory",
+        // <<<
     }
 }
 
@@ -32,11 +34,13 @@ fn map_fault_meaning(fault: MapFault) -> &'static str
     ensures { result.now ≡ blames.map_fault_meaning fault }
 {
     match fault {
+        // >>> tools/refusals: meanings of MapFault
         MapFault::BadSize => "a bad size: not 1 MiB to 4 GiB in whole frames",
         MapFault::BadRegion(_) => "the region with this index ends above 2^52",
         MapFault::TooManyRegions => "more than 128 regions",
         MapFault::BadPool => "a bad pool: not whole frames, or with a byte that is not usable",
         MapFault::NoMemory => "out of memory while a machine was made",
+        // <<<
     }
 }
 

@@ -16,6 +16,7 @@ fn say_carried<A: Allocator + Copy>(
     ensures { OnOk result (out.new.items ≡ out.old.items ++ refusal_told refusal) }
 {
     match refusal {
+        // >>> tools/refusals: brackets of Refusal
         Refusal::NoFile(n)
         | Refusal::FileFault(n)
         | Refusal::FileTooLong(n)
@@ -25,6 +26,7 @@ fn say_carried<A: Allocator + Copy>(
         Refusal::UnsupportedTag(n) => say!(out, "({n})"),
         Refusal::BadTag(offset) => say!(out, "(0x{offset:x})"),
         Refusal::SegmentsOverlap(i, j) => say!(out, "({i}, {j})"),
+        // <<<
         _ => Ok(()),
     }
 }

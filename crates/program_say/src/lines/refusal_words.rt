@@ -9,6 +9,7 @@ pub fn refusal_name(refusal: Refusal) -> &'static str
     ensures { result.now ≡ words.refusal_name refusal }
 {
     match refusal {
+        // >>> tools/refusals: names of Refusal
         Refusal::NoFile(_) => "NoFile",
         Refusal::FileFault(_) => "FileFault",
         Refusal::FileTooLong(_) => "FileTooLong",
@@ -39,6 +40,7 @@ pub fn refusal_name(refusal: Refusal) -> &'static str
         Refusal::LineHasNul => "LineHasNul",
         Refusal::MapTooLong => "MapTooLong",
         Refusal::No64Entry => "No64Entry",
+        // <<<
     }
 }
 
@@ -47,6 +49,7 @@ pub fn refusal_meaning(refusal: Refusal) -> &'static str
     ensures { result.now ≡ words.refusal_meaning refusal }
 {
     match refusal {
+        // >>> tools/refusals: meanings of Refusal
         Refusal::NoFile(_) => "the file can't be read: it is missing, or no regular file",
         Refusal::FileFault(_) => "a piece of the file did not come",
         Refusal::FileTooLong(_) => "the file is too long: it has more than 0x40000000 bytes",
@@ -59,8 +62,8 @@ pub fn refusal_meaning(refusal: Refusal) -> &'static str
         }
         Refusal::BadArchitecture => "the header is for another architecture than i386",
         Refusal::BadTag(_) => {
-            "a bad header tag at this offset: it is cut, has a bad size, or is an address tag \
-             that the file can't meet"
+            "a bad header tag at this offset: it is cut, has a bad size, or is an address tag that \
+             the file can't meet"
         }
         Refusal::UnsupportedTag(_) => "a header tag of an unknown type is required",
         Refusal::UnsupportedRequest(_) => {
@@ -104,5 +107,6 @@ pub fn refusal_meaning(refusal: Refusal) -> &'static str
         Refusal::No64Entry => {
             "no 64-bit entry: the boot protocol is older than 2.12, or xloadflags has bit 0 clear"
         }
+        // <<<
     }
 }

@@ -7,7 +7,7 @@ from functools import lru_cache
 from pathlib import Path
 from typing import Dict, Tuple
 
-TOP = Path(__file__).resolve().parent.parent
+TOP = Path(__file__).resolve().parent.parent.parent
 MARK = re.compile(r"(pub|abbrev|unfoldable|data|record) ")
 OWNER = re.compile(r"(?:impl|(?:pub )?trait)[ <]")
 ITEM = re.compile(

@@ -1,4 +1,3 @@
-#!/usr/bin/env python3
 """The names that pages use exist. It looks at each text between backticks that stands outside of blocks of code, word by word:
 
 - a path (`docs/FORMATS.md`, `lib.rt`): a file or a folder, from the top, from the page's folder, or by the end of its path. In a
@@ -19,20 +18,17 @@ at commands, there and in blocks of code that name no language:
 
 and at all words that begin as a crate's name does, each of which is in crates.txt or a word of a source; at each `status N`, one of the
 manual page; and at each link whose text is a file's name, which leads to a file of that name. A name that is not this repository's and
-that no source has is a line of tools/mentioned.txt. It shows each name that does not exist, and each line of that list that is not
-needed; the status is 1 if there is one.
+that no source has is a line of tools/checks/mentioned.txt.
 """
 import collections
 import fnmatch
 import os
 import pathlib
 import re
-import sys
 
-TOP = pathlib.Path(__file__).resolve().parent.parent
-PAGES = ["README.md", "CONTRIBUTING.md", "SECURITY.md", "docs/*.md", "crates/*/README.md", "cases/README.md", "model/README.md",
-         "bindings/*/README.md"]
-EXCEPTIONS = "tools/mentioned.txt"
+from checks.pages import ALL, TOP, paths, text_of
+
+EXCEPTIONS = "tools/checks/mentioned.txt"
 TOOLCHAIN = {"--only"}  # options of `rt` that no script here uses
 
 PLACEHOLDER = re.compile(r"(?<![A-Za-z])(NAME|CRATE|FILE|FUNCTION|TYPE|METHOD|VERSION|OUT)")
@@ -87,7 +83,7 @@ class Names:
         self.members = collections.defaultdict(set)
         texts = []
         for path in self.files:
-            if path.endswith(NOT_SOURCES) or path == "tools/mentioned":
+            if path.endswith(NOT_SOURCES) or path == "tools/checks/mentioned.py":
                 continue
             text = (TOP / path).read_text(encoding="utf-8", errors="replace")
             if text.startswith("#!") or path.endswith((".rt", ".py", ".bash", ".1")):
@@ -216,7 +212,7 @@ class Names:
 
 def missing_of(names, page):
     """The names of a page that do not exist, each with its line."""
-    whole = (TOP / page).read_text(encoding="utf-8")
+    whole = text_of(page)
     text = re.sub(r"^ *```.*?^ *```", lambda block: re.sub(r"[^\n]", " ", block[0]), whole, flags=re.M | re.S)
     found = [(span, name) for span in SPAN.finditer(text) for name in names.missing(page, " ".join(span[2].split()))]
     for link in LINK.finditer(text):
@@ -232,21 +228,14 @@ def missing_of(names, page):
     return sorted({(whole.count("\n", 0, place) + 1, name) for place, name in places})
 
 
-if sys.argv[1:]:
-    asked = sys.argv[1:] == ["--help"]
-    print("usage: tools/mentioned" + ("\n\n" + __doc__.rstrip() if asked else ""), file=sys.stdout if asked else sys.stderr)
-    sys.exit(0 if asked else 64)
-all_names = Names()
-lines = (TOP / EXCEPTIONS).read_text(encoding="utf-8").split("\n")
-unneeded = excepted = {line for line in lines if line and not line.startswith("#")}
-status = 0
-for each_page in [str(path.relative_to(TOP)) for pattern in PAGES for path in sorted(TOP.glob(pattern))]:
-    for number, missed in missing_of(all_names, each_page):
-        unneeded = unneeded - {missed}
-        if missed not in excepted:
-            print("%s:%d: %s" % (each_page, number, missed))
-            status = 1
-for missed in sorted(unneeded):
-    print("%s: not needed: %s" % (EXCEPTIONS, missed))
-    status = 1
-sys.exit(status)
+def mentioned():
+    """a name that a page uses and that does not exist, or a line of tools/checks/mentioned.txt that is not needed"""
+    all_names = Names()
+    unneeded = excepted = {line for line in text_of(EXCEPTIONS).split("\n") if line and not line.startswith("#")}
+    for page in paths(ALL):
+        for number, missed in missing_of(all_names, page):
+            unneeded = unneeded - {missed}
+            if missed not in excepted:
+                yield "%s:%d: %s" % (page, number, missed)
+    for missed in sorted(unneeded):
+        yield "%s: not needed: %s" % (EXCEPTIONS, missed)

@@ -1,17 +1,11 @@
-#!/usr/bin/env python3
-"""The definitions that a reader must believe: the files of each crate's specs/, but for specs/internal/.
-
-usage: tools/believed [--check]
-  lists these files, with the lines of their definitions, crate by crate
-  --check  lists nothing, and shows each of these files that uses a definition of a specs/internal/, and each function that a
-           crate exports whose clauses do; the status is 1 if there is one
-"""
+"""The definitions that a reader must believe: the files of each crate's specs/, but for specs/internal/."""
 import re
-import sys
 from pathlib import Path
 from typing import Iterator, List, Set
 
-CRATES = Path(__file__).resolve().parent.parent / "crates"
+from checks.pages import TOP
+
+CRATES = TOP / "crates"
 INTERNAL = re.compile(r"^ *(?:ghost |pub )*use Rattle\.\w+\.specs\.internal(?:\.\w+)+?(?:\.\{(.*)\}| as (\w+));?$", re.M)
 EXPORTED = re.compile(r"^ *pub use ([\w:]+)(?:::\{([^}]*)\})?(?: as \w+)?;", re.M)
 FUNCTION = re.compile(r"^( *)pub (?:const |unsafe )*fn (\w+)", re.M)
@@ -70,32 +64,22 @@ def clauses_with_internal_names(crate: Path) -> Iterator[str]:
                 yield f"{file.relative_to(CRATES.parent)}: {found[2]} has {', '.join(sorted(used))} in its clauses"
 
 
-def main(words: List[str]) -> int:
-    if words not in ([], ["--check"]):
-        print((__doc__ or "").split("\n\n")[1], end="", file=sys.stdout if words == ["--help"] else sys.stderr)
-        return 0 if words == ["--help"] else 64
-    faults, total = 0, 0
+def listing() -> Iterator[str]:
+    """These files, with the lines of their definitions, crate by crate."""
+    total = 0
     for crate in sorted(path for path in CRATES.iterdir() if path.is_dir()):
-        files = believed(crate)
-        if not words:
-            for file in files:
-                lines = definition_lines(file)
-                total += lines
-                print(f"{lines:5} {file.relative_to(CRATES.parent)}")
-            continue
-        said = [
-            f"{file.relative_to(CRATES.parent)}: it uses {', '.join(sorted(names))} of specs/internal"
-            for file in files
-            for names in [internal_names(file.read_text(encoding="utf-8"))]
-            if names
-        ] + list(clauses_with_internal_names(crate))
-        for line in said:
-            print(line)
-        faults += len(said)
-    if not words:
-        print(f"{total:5} lines of definitions")
-    return 1 if faults else 0
+        for file in believed(crate):
+            lines = definition_lines(file)
+            total += lines
+            yield f"{lines:5} {file.relative_to(CRATES.parent)}"
+    yield f"{total:5} lines of definitions"
 
 
-if __name__ == "__main__":
-    sys.exit(main(sys.argv[1:]))
+def uses_internal() -> Iterator[str]:
+    """a definition that a reader must believe, or a clause of a function that a crate exports, which uses one of a specs/internal/"""
+    for crate in sorted(path for path in CRATES.iterdir() if path.is_dir()):
+        for file in believed(crate):
+            names = internal_names(file.read_text(encoding="utf-8"))
+            if names:
+                yield f"{file.relative_to(CRATES.parent)}: it uses {', '.join(sorted(names))} of specs/internal"
+        yield from clauses_with_internal_names(crate)

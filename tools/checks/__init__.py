@@ -1,0 +1,1 @@
+"""What tools/pages checks: a module for each kind of thing that a page says."""

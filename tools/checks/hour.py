@@ -1,0 +1,135 @@
+"""The lines of definitions that docs/THEOREMS.md gives a reader to read, and their minutes.
+
+A definition's lines are its type and equations; a struct, an enum, a law or a clause goes up to its last brace. Comments and empty lines
+do not count. A row has its definitions and those "with them"; without that column, all that they use but what other rows name or a row
+above has, and operators."""
+import re
+from functools import lru_cache
+from typing import Dict, Iterator, List, Set, Tuple
+
+from checks import declarations
+from checks.pages import TOP, text_of
+
+PAGE = "docs/THEOREMS.md"
+LINK = re.compile(r"\[`([^`]+)`\]\(\.\./(crates/[^)#]+)\)")
+DEFINED = re.compile(r"\s*(?:(?:abbrev|unfoldable|pub|record|data) )+(?!pub )([^\W\d]\w*)")
+TYPE = re.compile(r"pub (?:struct|enum) (\w+)")
+SPECS = re.compile(r"use Rattle\.((?:bl|c|program)_\w+)\.specs\.([\w.]+?)(?: as (\w+)|\.\{(.*)\})$", re.M)
+MINUTE = 12
+Place = Tuple[str, int]  # a file and a line, from 1 on
+
+
+@lru_cache(maxsize=None)
+def texts() -> Dict[str, str]:
+    files = [file for kind in ("specs/**/*.antt", "src/**/*.rt") for file in TOP.glob(f"crates/*/{kind}")]
+    return {str(file.relative_to(TOP)): file.read_text(encoding="utf-8") for file in files}
+
+
+def block(path: str, number: int) -> List[str]:
+    """The lines of what is declared at a line of a file."""
+    lines = [line for line in texts()[path].splitlines()[number - 1 :] if not re.match(r" *(--|//) (>>>|<<<)", line)]
+    end = depth = 0
+    if path.endswith(".rt"):
+        last = "{}" if " fn " in lines[0] else ("}", ";")
+        while end == 0 or depth or not lines[end - 1].endswith(last):
+            depth += lines[end].count("{") - lines[end].count("}")
+            end += 1
+    else:
+        margin, name = re.match(" *", lines[0])[0], DEFINED.match(lines[0])[1]
+        goes_on = re.compile(rf"{margin}([ }})]|{name}\b)|\s*$")
+        end = next((n for n, line in enumerate(lines) if n and not goes_on.match(line)), len(lines))
+    return [line for line in lines[:end] if not re.match(r"\s*(--|//|#\[|$)", line)]
+
+
+@lru_cache(maxsize=None)
+def defined(path: str) -> Dict[str, int]:
+    """The line of each definition of a file; a constructor's is that of its type."""
+    places, owner, mutual = {}, 0, False
+    for number, line in enumerate(texts()[path].splitlines(), 1):
+        mutual = "mutual" in line if line[:1].strip() else mutual
+        found = (TYPE if path.endswith(".rt") else DEFINED).match(line)
+        if found and (line[0] != " " or mutual):
+            places[found[1]] = number
+            owner = number if "data " in line else 0
+        elif owner and (constructor := re.match(r"  (\w+)(?: :|$)", line)):
+            places[constructor[1]] = owner
+    return places
+
+
+@lru_cache(maxsize=None)
+def meanings(path: str) -> Dict[str, Place]:
+    """What each name means that a file uses or declares."""
+    names = {name: (path, number) for name, number in defined(path).items()}
+    for crate, module, alias, listed in SPECS.findall(texts()[path]):
+        *folders, last = [part for part in module.split(".") if part != "TheVariants"]
+        if folders[:1] == ["declared"]:
+            file = f"crates/{crate}/src/{'/'.join(folders[1:])}.rt"
+            there = dict.fromkeys(listed.split(", "), defined(file)[last])
+        else:
+            file = f"crates/{crate}/specs/{'/'.join([*folders, last])}.antt"
+            there = defined(file)
+        for name in there if alias else set(listed.split(", ")) & set(there):
+            names[f"{alias}.{name}" if alias else name] = (file, there[name])
+    for crate, listed in re.findall(r"^use ((?:bl|c|program)_\w+|crate)::([^;]*);", texts()[path], re.M):
+        folder = f"crates/{path.split('/')[1] if crate == 'crate' else crate}/src/"
+        for file in (file for file in texts() if file.startswith(folder)):
+            for name, number in defined(file).items():
+                if re.search(rf"\b{name}\b", listed):
+                    names[name] = (file, number)
+    return names
+
+
+def all_used(own: Set[Place], others: Set[Place]) -> Set[Place]:
+    """These definitions and what they use, but for others and what only those use."""
+    seen: Set[Place] = set()
+    todo = list(own)
+    while todo:
+        place = todo.pop()
+        if place in seen or place in others:
+            continue
+        seen.add(place)
+        names = meanings(place[0])
+        for word in re.findall(r"(?<![\w.])[^\W\d][\w.]*", " ".join(block(*place))):
+            parts = word.split(".")
+            todo += [names[name] for name in (parts[0], ".".join(parts[:2])) if name in names]
+    return seen
+
+
+def told(page: List[str]) -> List[str]:
+    """The page's lines, with the numbers that hold."""
+    tables: List[int] = []
+    parts, rows, alone = [], [], None
+    for at, line in enumerate(page):
+        if line.startswith("| Lines | "):
+            alone = None if "With them" in line else len(tables)
+            tables.append(0)
+        elif re.match(r"\| [^|]* \| \d+ \| \d+ \|$", line):
+            parts.append(at)
+        elif tables and re.match(r"\| \d+ \| ", line):
+            cells = " ".join(line.split(" | ")[1 : 3 if alone is None else 2])
+            rows.append((at, len(tables) - 1, {(p, declarations.declared(p)[name]) for name, p in LINK.findall(cells)}))
+    named: Set[Place] = set().union(*(own for _, _, own in rows))
+    for at, table, own in rows:
+        if table == alone:
+            own = all_used(own, named - own)
+            named |= own
+        lines = sum(len(block(*place)) for place in own)
+        tables[table] += lines
+        lines = lines or tables[table]
+        page[at] = re.sub(r"^\| \d+", f"| {lines}", page[at])
+        page[at] = re.sub(r"in all, \d+", f"in all, {round(lines / MINUTE)}", page[at])
+    for at, lines in zip(parts, [*tables[: len(parts) - 1], sum(tables[: len(parts) - 1])]):
+        page[at] = re.sub(r"\d+ \| \d+ \|$", f"{lines} | {round(lines / MINUTE)} |", page[at])
+    return page
+
+
+def hour() -> Iterator[str]:
+    """a row of docs/THEOREMS.md that counts other lines of definitions than there are; `--write` writes the numbers"""
+    page = text_of(PAGE).split("\n")
+    for at, (line, new) in enumerate(zip(page, told(list(page))), 1):
+        if line != new:
+            yield f"{PAGE}:{at}: {line[:40]}.. : it is {new[:28]}.."
+
+
+def write_hour() -> None:
+    (TOP / PAGE).write_text("\n".join(told(text_of(PAGE).split("\n"))), encoding="utf-8")
