@@ -1,8 +1,8 @@
 -- Arrays at keys: which are read, and their bad items.
 use Rattle.std.proofs.Common.{◌≡◌, ℕ, ◌≤◌, suc, Bool, true, false, ◌&&◌, not, Option, Some, None}
-use Rattle.std.proofs.Common.{List, [], ◌∷◌, length, map, refl, sym, ap, ◌∙◌, arith, inl, inr}
+use Rattle.std.proofs.Common.{Bor, List, [], ◌∷◌, length, map, refl, sym, ap, ◌∙◌, arith, inl, inr}
 use Rattle.std.specs.Prelude.{codes, nat_le, if◌then◌else◌, is_some}
-use Rattle.std.specs.Option.{IsSomeAnd}
+use Rattle.std.specs.Option.{IsSomeAnd, ok_or}
 use Rattle.std.specs.declared.ops.Range.{Range}
 use Rattle.std.proofs.Math.Bool.{true≢false}
 use Rattle.std.proofs.lemmas.Bool.{cases_Bool}
@@ -11,14 +11,18 @@ use Rattle.toml.specs.Data.{Data, string, integer, float, boolean, datetime, arr
 use Rattle.toml.specs.Data.{no_items, item, Members, get_item, get_member, at, as_array}
 use Rattle.toml.specs.View.{view, items_view}
 use Rattle.toml.specs.declared.value.Value.{Value}
-use Rattle.program_desc.specs.TomlValues.{◌>>=◌, array_of, each_item, in_table, in_tables, optional}
+use Rattle.program_desc.specs.TomlValues.{◌>>=◌, array_of, at_key, each_item, in_table, in_tables, optional}
 use Rattle.program_desc.specs.TomlValues.{range_in, required, some_when, toml_number, toml_range}
 use Rattle.program_desc.specs.Allowed.{allows, count_within, item_count}
-use Rattle.program_desc.specs.KeyRules.{KeyRule, with_items}
+use Rattle.program_desc.specs.KeyRules.{KeyRule, required_key, with_items}
 use Rattle.program_desc.specs.BadKeys.{BreaksRule, IsBadKey, IsItemFault, item_at}
 use Rattle.program_desc.specs.internal.TableReading.{AllowsArrays, BreaksAt, HasBadItem, IsBadItem}
 use Rattle.program_desc.specs.internal.TableReading.{IsBadTable, IsItemFaultAt, allows_count}
-use Rattle.program_desc.specs.internal.TableReading.{array_by, array_items, passes, passes_at}
+use Rattle.program_desc.specs.internal.TableReading.{array_by, array_items, number_item, passes, passes_at}
+use Rattle.program_desc.specs.internal.TableReading.{rule_view}
+use Rattle.program_desc.specs.TableFaults.{IsTableFault, ReadsAs}
+use Rattle.program_desc.specs.declared.key_table.Key.{Key}
+use Rattle.program_desc.specs.declared.table_fault.TableFault.TheVariants as faults
 use Rattle.program_desc.specs.declared.allowed.Allowed.{Allowed}
 use Rattle.program_desc.specs.declared.allowed.Allowed.TheVariants.{Number, Byte, IndexBelow}
 use Rattle.program_desc.specs.declared.allowed.Allowed.TheVariants.{TwoNumbers, Indices, Tables}
@@ -99,6 +103,22 @@ item_count-view (v ∷ vs) = rw (item_count-view vs) refl
 
 -- ---- the array at a key
 
+-- a value that is not allowed
+pub array_refused : (place : TablePlace) (key : Key) (ms : Members) (value : Bor Value)
+    → get_member key.name.now ms ≡ Some (view value.now)
+    → allows key.allowed (view value.now) ≡ false
+    → IsTableFault (BreaksAt place (rule_view key) ms)
+    (faults.BadKey record { table = place; fault = BadValue key.name value key.allowed })
+    (array_by (rule_view key) ms)
+array_refused place key ms value there test =
+    (rw (there, test) refl, (refl, (refl, refl, there, test)))
+
+-- an array that is
+pub array_taken : (key : Key) (ms : Members) (d : Data) (ds : Items)
+    → get_member key.name.now ms ≡ Some d → allows key.allowed d ≡ true → as_array d ≡ Some ds
+    → array_by (rule_view key) ms ≡ Some ds
+array_taken key ms d ds there test is = rw (there, test) (ap Some (items_in d ds is))
+
 given : (test : Bool) (ds es : Items) → (if test then Some ds else None) ≡ Some es
     → (test ≡ true) × (ds ≡ es)
 given true ds es h = (refl, cc h)
@@ -167,6 +187,27 @@ optional_none rule ms read x may fails h =
     of_value None h = absurd (cc h)
     of_value (Some d) h = fails d h
 
+-- there are as many as are allowed
+pub items_allowed : (rule : KeyRule) (ms : Members) (ds : Items) → AllowsArrays rule.allowed
+    → (rule.required ≡ false → allows_count rule.allowed 0 ≡ true) → array_by rule ms ≡ Some ds
+    → allows_count rule.allowed (item_count ds) ≡ true
+items_allowed rule ms ds ok empty h =
+    let is = given (passes rule ms) (array_items (get_member rule.key ms)) ds h in
+    of_value (get_member rule.key ms) is.0 is.1
+  where
+    left_out : (required : Bool) → not required ≡ true → required ≡ false
+    left_out true h = absurd (cc h)
+    left_out false h = refl
+
+    of_value : (o : Option Data) → passes_at rule.required rule.allowed o ≡ true
+        → array_items o ≡ ds → allows_count rule.allowed (item_count ds) ≡ true
+    of_value None h same = rw (← same) (empty (left_out rule.required h))
+    of_value (Some d) h same =
+        let a = is_array rule.allowed d ok h in
+        let items : a.0 ≡ ds = ap (λ e. array_items (Some e)) (sym a.1) ∙ same in
+        let all : allows rule.allowed (array a.0) ≡ true = rw a.1 at h in
+        rw (← items) (sym (counted rule.allowed (array a.0) a.0 ok refl) ∙ all)
+
 -- what is no array is not read
 pub no_list : {A : Type 0} (read : Data → Option A) (d : Data) → is_some (as_array d) ≡ false
     → array_of read d ≡ None
@@ -178,39 +219,36 @@ no_list read (boolean b) h = refl
 no_list read (datetime t) h = refl
 no_list read (table ms) h = refl
 
+counted_more : {A : Type 0} (o : Option A) (rest : Option (List A)) (n : ℕ) (xs : List A)
+    → ((ys : List A) → rest ≡ Some ys → length ys ≡ n)
+    → (o >>= λ x. rest >>= λ ys. Some (x ∷ ys)) ≡ Some xs → length xs ≡ suc n
+counted_more None rest n xs more h = absurd (cc h)
+counted_more (Some x) None n xs more h = absurd (cc h)
+counted_more (Some x) (Some ys) n xs more h =
+    let same : x ∷ ys ≡ xs = cc h in rw (← same) (ap suc (more ys refl))
+
 -- as many are read as there are items
 pub each_counted : {A : Type 0} (read : Data → Option A) (ds : Items) (xs : List A)
     → each_item read ds ≡ Some xs → length xs ≡ item_count ds
 each_counted read no_items xs h = let same : [] ≡ xs = cc h in rw (← same) refl
-each_counted read (item d ds) xs h = first (read d) h
-  where
-    more : (o : Option (List _)) (x : _) → each_item read ds ≡ o
-        → (o >>= λ ys. Some (x ∷ ys)) ≡ Some xs → length xs ≡ suc (item_count ds)
-    more None x is h = absurd (cc h)
-    more (Some ys) x is h =
-        let same : x ∷ ys ≡ xs = cc h in rw (← same) (ap suc (each_counted read ds ys is))
+each_counted read (item d ds) xs h =
+    counted_more (read d) (each_item read ds) (item_count ds) xs
+    (λ ys is. each_counted read ds ys is) h
 
-    first : (o : Option _)
-        → (o >>= λ x. each_item read ds >>= λ ys. Some (x ∷ ys)) ≡ Some xs
-        → length xs ≡ suc (item_count ds)
-    first None h = absurd (cc h)
-    first (Some x) h = more (each_item read ds) x refl h
+tested : {A : Type 0} (test : List A → Bool) (passed : Bool) (o : Option (List A))
+    → ((xs : List A) → o ≡ Some xs → test xs ≡ passed)
+    → (o >>= some_when test) ≡ (if passed then o else None)
+tested test true None h = refl
+tested test false None h = refl
+tested test true (Some xs) h = rw (h xs refl) refl
+tested test false (Some xs) h = rw (h xs refl) refl
 
 -- a test of how many there are, of what is read and of the items
 pub tested_items : {A : Type 0} (read : Data → Option A) (test : List A → Bool) (ds : Items)
     (passed : Bool) → ((xs : List A) → length xs ≡ item_count ds → test xs ≡ passed)
-    → (each_item read ds >>= some_when test)
-    ≡ (if passed then each_item read ds else None)
-tested_items read test ds passed by_count = of_read (each_item read ds) refl
-  where
-    none : (b : Bool) → None ≡ (if b then None else None)
-    none true = refl
-    none false = refl
-
-    of_read : (o : Option (List _)) → each_item read ds ≡ o
-        → (o >>= some_when test) ≡ (if passed then o else None)
-    of_read None is = none passed
-    of_read (Some xs) is = rw (by_count xs (each_counted read ds xs is)) refl
+    → (each_item read ds >>= some_when test) ≡ (if passed then each_item read ds else None)
+tested_items read test ds passed by_count =
+    tested test passed (each_item read ds) (λ xs is. by_count xs (each_counted read ds xs is))
 
 -- ---- bad items
 
@@ -264,6 +302,19 @@ item_breaks rule allowed ms ds bad is h =
     of_item None there f = absurd f
     of_item (Some d) there f = (f.0, of_fault d bad.fault there f.1)
 
+-- a value is read, or it is a bad item
+pub item_reads : {X : Type 0} (o read : Option X) (key : Bor (List ℕ)) (i : ℕ) (value : Bor Value)
+    (allowed : Allowed) (ds : Items) → get_item i ds ≡ Some (view value.now) → o ≡ read
+    → allows allowed (view value.now) ≡ is_some read
+    → ReadsAs (λ x. x) (HasBadItem (IsBadItem key.now allowed) ds)
+    (ok_or o (faults.BadKey record {
+      table = places.Description;
+      fault = BadItem key i value allowed;
+    })) read
+item_reads None read key i value allowed ds here is test =
+    (sym is, (i, rw here (refl, (refl, refl, refl, refl, rw (← is) at test))))
+item_reads (Some x) read key i value allowed ds here is test = sym is
+
 -- a broken rule is so where items of the key's array have a rule too
 pub with_items-broken : (rule : KeyRule) (allowed : Allowed) (ms : Members) → rule.items ≡ None
     → (place : TablePlace) (bad : BadKey) → BreaksAt place rule ms bad
@@ -279,3 +330,59 @@ with_items-broken rule allowed ms none place bad h = (h.0, of_fault bad.fault h.
     of_fault (SameName value) f = f
     of_fault (BadItem key index value told) f =
         let other : None ≡ Some told = sym none ∙ f.1 in absurd (cc other)
+
+-- a bad region
+pub at_region : (rule : KeyRule) (ms : Members) (ds : Items) → rule.key ≡ codes "region"
+    → array_by rule ms ≡ Some ds → (bad : BadKey)
+    → HasBadItem (IsBadTable places.Region keys.Region) ds bad → IsBadKey ms bad
+at_region rule ms ds named is bad h =
+    let t = bad_table places.Region keys.Region h.0 bad (get_item h.0 ds) h.1 in
+    let there = rw (given_item rule ms ds h.0 is, named) at t.1 in
+    rw t.0 there
+
+-- ---- the pool
+
+-- of two items, each is a number
+pub range_of_two : (vs : List Value) → length vs ≡ 2
+    → range_in (items_view vs)
+    ≡ (number_item 0 (items_view vs) >>= λ start. number_item 1 (items_view vs) >>= λ end.
+    Some record { start = start; end = end })
+range_of_two [] two = absurd (omega (arith, two))
+range_of_two (a ∷ []) two = absurd (omega (arith, two))
+range_of_two (a ∷ b ∷ []) two = refl
+range_of_two (a ∷ b ∷ c ∷ vs) two = absurd (omega (arith, two))
+
+no_two : (ds : Items) → (nat_le 2 (item_count ds) && nat_le (item_count ds) 2) ≡ false
+    → range_in ds ≡ None
+no_two no_items h = refl
+no_two (item a no_items) h = refl
+no_two (item a (item b no_items)) h = absurd (cc h)
+no_two (item a (item b (item c ds))) h = refl
+
+pub pool_none : (d : Data) → allows TwoNumbers d ≡ false → toml_range d ≡ None
+unfolding toml_range
+pool_none (array ds) h = no_two ds h
+pool_none (string s) h = refl
+pool_none (integer z) h = refl
+pool_none (float x) h = refl
+pool_none (boolean b) h = refl
+pool_none (datetime t) h = refl
+pool_none (table ms) h = refl
+
+pub pool_counted : (ms : Members) (vs : List Value)
+    → array_by (required_key (codes "pool") TwoNumbers) ms ≡ Some (items_view vs) → length vs ≡ 2
+pool_counted ms vs h =
+    let all =
+    items_allowed (required_key (codes "pool") TwoNumbers) ms (items_view vs) tt
+    (λ none. absurd (cc none)) h in
+    let few : (nat_le 2 (length vs) && nat_le (length vs) 2) ≡ true =
+    rw item_count-view at all in
+    grind (arith, nat_tests)
+
+pub pool_read : (ms : Members) (ds : Items)
+    → array_by (required_key (codes "pool") TwoNumbers) ms ≡ Some ds
+    → range_in ds ≡ at_key toml_range (codes "pool") ms
+unfolding toml_range
+pool_read ms ds h =
+    required_items (required_key (codes "pool") TwoNumbers) ms ds toml_range range_in tt refl
+    (λ es. refl) h

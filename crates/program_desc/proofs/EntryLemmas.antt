@@ -1,43 +1,49 @@
 -- Faults of an entry and of its modules, and what an entry has.
 use Rattle.std.proofs.Common.{◌≡◌, ◌≤◌, ◌<◌, ℕ, zero, suc, Bool, true, false, ◌&&◌, Option, Some, None}
-use Rattle.std.proofs.Common.{List, [], ◌∷◌, ◌++◌, length, refl, sym, ap, ◌∙◌, arith, All, inl, inr}
+use Rattle.std.proofs.Common.{Result, List, [], ◌∷◌, ◌++◌, length, map, refl, sym, ap, ◌∙◌, arith, All, inl, inr}
 use Rattle.std.specs.Prelude.{codes, nat_le, nat_lt, slice_get, if◌then◌else◌, IfSome}
 use Rattle.std.specs.Option.{IsSomeAnd}
 use Rattle.std.proofs.lemmas.Bool.{cases_Bool}
 use Rattle.std.proofs.lemmas.Bool.Decides.{nat_tests}
+use Rattle.std.proofs.lemmas.List.{length-map}
 use Rattle.std.proofs.lemmas.List.Elements.{All-nil, All-cons}
 use Rattle.toml.specs.Data.{Data, string, integer, float, boolean, datetime, array, table, Items}
 use Rattle.toml.specs.Data.{no_items, item, Members, get_item, get_member, get, at, as_array, as_table}
-use Rattle.bl_plan.specs.MenuLimits.{max_entries}
+use Rattle.bl_plan.specs.MenuLimits.{max_entries, max_modules}
 use Rattle.bl_plan.specs.declared.protocol.Protocol.{Protocol}
 use Rattle.bl_plan.specs.declared.protocol.Protocol.TheVariants.{Multiboot2, Linux, Linux64}
 use Rattle.program_desc.specs.TomlValues.{◌>>=◌, at_key, at_key_if, at_key_or, each_item, if_given}
 use Rattle.program_desc.specs.TomlValues.{in_table, in_tables, optional, required, some_when, toml_bytes}
 use Rattle.program_desc.specs.TomlValues.{toml_index, toml_indices, toml_number, toml_text}
 use Rattle.program_desc.specs.Entries.{Entry, Form, Module, form_in, is_menu, is_rsdp_copy}
-use Rattle.program_desc.specs.Entries.{menu_entry_in, toml_entries, toml_modules, toml_protocol}
+use Rattle.program_desc.specs.Entries.{has_few_modules, menu_entry_in, module_in, toml_entries, toml_modules, toml_protocol}
 use Rattle.program_desc.specs.Entries.{toml_rsdp_copy}
 use Rattle.program_desc.specs.EntryFormViews.{HasCopyLength}
-use Rattle.program_desc.specs.Allowed.{item_count}
+use Rattle.program_desc.specs.EntryFormViews.{module_view}
+use Rattle.program_desc.specs.Allowed.{allows, item_count}
 use Rattle.program_desc.specs.KeyRules.{KeyRule, common_entry_rules, key_rules, multiboot2_rules}
-use Rattle.program_desc.specs.KeyRules.{linux_rules, required_key, set_of_protocol}
-use Rattle.program_desc.specs.BadKeys.{IsBadKey, IsFaultAt, IsItemFault, item_at, count_at}
+use Rattle.program_desc.specs.KeyRules.{linux_rules, optional_key, required_key, set_of_protocol}
+use Rattle.program_desc.specs.BadKeys.{IsBadKey, IsFaultAt, IsItemFault, item_at, count_at, entry_set}
 use Rattle.program_desc.specs.BadKeys.{item_count_or_zero}
 use Rattle.program_desc.specs.TableFaults.{IsTableFault, ReadsAs}
 use Rattle.program_desc.specs.internal.EntryReading.{IsEntryBad, IsEntryFaultAt, IsEntryItemBad}
 use Rattle.program_desc.specs.internal.EntryReading.{IsEntryItemFaultAt, entry_set_in}
 use Rattle.program_desc.specs.internal.TableReading.{BreaksAt, HasBadItem, IsBadTable, IsFaultOf}
-use Rattle.program_desc.specs.internal.TableReading.{array_by}
-use Rattle.program_desc.specs.declared.allowed.Allowed.TheVariants.{ProtocolName}
+use Rattle.program_desc.specs.internal.TableReading.{IsNoTable, array_by}
+use Rattle.program_desc.specs.declared.allowed.Allowed.TheVariants.{EntryTables, ModuleTables, ProtocolName}
 use Rattle.program_desc.specs.declared.bad_key.BadKey.{BadKey}
 use Rattle.program_desc.specs.declared.bad_key.KeyFault.{KeyFault}
+use Rattle.program_desc.specs.Views.{entry_view}
+use Rattle.program_desc.specs.declared.entry_row.EntryRow.{EntryRow}
+use Rattle.program_desc.specs.declared.entry_form.ModuleRow.{ModuleRow}
 use Rattle.program_desc.specs.declared.bad_key.TablePlace.{TablePlace}
 use Rattle.program_desc.specs.declared.bad_key.TablePlace.TheVariants as places
 use Rattle.program_desc.specs.declared.key_set.KeySet.{KeySet}
 use Rattle.program_desc.specs.declared.key_set.KeySet.TheVariants as keys
 use Rattle.program_desc.specs.declared.table_fault.TableFault.{TableFault}
 use Rattle.program_desc.specs.declared.table_fault.TableFault.TheVariants as faults
-use Rattle.program_desc.proofs.ArrayLemmas.{bad_table, each_counted, given_item}
+use Rattle.program_desc.proofs.ArrayLemmas.{bad_table, each_counted, given_item, items_allowed}
+use Rattle.program_desc.proofs.ArrayLemmas.{optional_items, required_items, tested_items}
 use Rattle.program_desc.proofs.FaultLemmas.{at_rule, must_stand, read_as}
 use Rattle.program_desc.proofs.ItemLemmas.{is_table, table_fault}
 
@@ -101,6 +107,11 @@ pub by_entry : {X : Type 0} (seen : X → Entry) (i : ℕ) (d : Data) (ms : Memb
 by_entry seen i d ms result is h =
     rw (is_table d ms is) (read_as seen _ _ result (menu_entry_in ms) (menu_entry_in ms) refl
     (λ bad fault. entry_fault i ms bad.table bad.fault fault) h)
+
+-- an entry that is no table
+pub entry_no_table : (i : ℕ) (d : Data) (bad : BadKey) → IsNoTable (places.Entry i) d bad
+    → IsEntryItemBad i d bad
+entry_no_table i d bad h = rw h.0 (refl, h.1 (entry_set d))
 
 -- a bad entry, or a module of one
 menu_at : (ms : Members) (i : ℕ) (place : TablePlace) (fault : KeyFault) (o : Option Data)
@@ -277,3 +288,88 @@ pub fallbacks_below : (count : ℕ) (o : Option Data) (ns : List ℕ)
 fallbacks_below count None ns h =
     of_same (All (λ n. n < count)) [] ns h (All-nil (λ n. n < count))
 fallbacks_below count (Some d) ns h = indices_below count d ns h
+
+-- what is read has a menu
+pub menu_by : {A : Type 0} (entries : List (EntryRow A)) (default : ℕ) (fallbacks : List ℕ)
+    (ms : Members) → at_key toml_entries (codes "entry") ms ≡ Some (map entry_view entries)
+    → at_key_or 0 (toml_index (length (map entry_view entries))) (codes "default") ms ≡ Some default
+    → at_key_or [] (toml_indices (length (map entry_view entries))) (codes "fallback") ms
+    ≡ Some fallbacks
+    → (1 ≤ length entries) × (length entries ≤ max_entries) × (default < length entries)
+    × All (λ index. index < length entries) fallbacks
+menu_by entries default fallbacks ms read first others =
+    let some = rw length-map at (entries_few (get_member (codes "entry") ms) _ read) in
+    let first_read = rw length-map at first in
+    let others_read = rw length-map at others in (
+      some.0,
+      some.1,
+      default_below _ (get_member (codes "default") ms) default some.0 first_read,
+      fallbacks_below _ (get_member (codes "fallback") ms) fallbacks others_read,
+    )
+
+-- ---- arrays of an entry and of a menu
+
+abbrev module_rule : KeyRule
+module_rule = optional_key (codes "module") ModuleTables
+
+abbrev entry_array_rule : KeyRule
+entry_array_rule = required_key (codes "entry") EntryTables
+
+many : (n : ℕ) → (nat_le 0 n && nat_le n max_modules) ≡ false → nat_le n max_modules ≡ false
+many n h = grind (arith, nat_tests)
+
+not_many : (n : ℕ) → (nat_le 0 n && nat_le n max_modules) ≡ true → nat_le n max_modules ≡ true
+not_many n h = grind (arith, nat_tests)
+
+pub modules_none : (d : Data) → allows ModuleTables d ≡ false → toml_modules d ≡ None
+unfolding toml_modules
+modules_none (array ds) h =
+    tested_items (in_table module_in) has_few_modules ds false
+    (λ xs same. rw same (many (item_count ds) h))
+modules_none (string s) h = refl
+modules_none (integer z) h = refl
+modules_none (float x) h = refl
+modules_none (boolean b) h = refl
+modules_none (datetime t) h = refl
+modules_none (table ms) h = refl
+
+pub modules_read : (ms : Members) (ds : Items) → array_by module_rule ms ≡ Some ds
+    → each_item (in_table module_in) ds ≡ at_key_or [] toml_modules (codes "module") ms
+unfolding toml_modules
+modules_read ms ds h =
+    let all = items_allowed module_rule ms ds tt (λ none. refl) h in
+    sym (tested_items (in_table module_in) has_few_modules ds true
+    (λ xs same. rw same (not_many (item_count ds) all)))
+    ∙ optional_items module_rule ms ds toml_modules
+    (λ es. each_item (in_table module_in) es >>= some_when has_few_modules) [] tt refl
+    (λ es. refl) refl h
+
+pub modules_few : {A : Type 0} (ms : Members) (ds : Items) (rows : List (ModuleRow A))
+    → array_by module_rule ms ≡ Some ds
+    → each_item (in_table module_in) ds ≡ Some (map module_view rows) → length rows ≤ 64
+modules_few ms ds rows h read =
+    let all = items_allowed module_rule ms ds tt (λ none. refl) h in
+    let few = not_many (item_count ds) all in
+    let same = rw length-map at (each_counted (in_table module_in) ds (map module_view rows) read) in
+    let within : nat_le (length rows) max_modules ≡ true = rw same few in
+    grind (arith, nat_tests)
+
+pub entries_none : (d : Data) → allows EntryTables d ≡ false → toml_entries d ≡ None
+unfolding toml_entries
+entries_none (array ds) h =
+    tested_items (in_table menu_entry_in) is_menu ds false (λ xs same. rw same h)
+entries_none (string s) h = refl
+entries_none (integer z) h = refl
+entries_none (float x) h = refl
+entries_none (boolean b) h = refl
+entries_none (datetime t) h = refl
+entries_none (table ms) h = refl
+
+pub entries_read : (ms : Members) (ds : Items) → array_by entry_array_rule ms ≡ Some ds
+    → each_item (in_table menu_entry_in) ds ≡ at_key toml_entries (codes "entry") ms
+unfolding toml_entries
+entries_read ms ds h =
+    let all = items_allowed entry_array_rule ms ds tt (λ none. absurd (cc none)) h in
+    sym (tested_items (in_table menu_entry_in) is_menu ds true (λ xs same. rw same all))
+    ∙ required_items entry_array_rule ms ds toml_entries
+    (λ es. each_item (in_table menu_entry_in) es >>= some_when is_menu) tt refl (λ es. refl) h

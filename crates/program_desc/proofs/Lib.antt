@@ -4,5 +4,6 @@ pub mod ArrayLemmas
 pub mod EntryLemmas
 pub mod FileLemmas
 pub mod NameLemmas
+pub mod SameNameLemmas
 pub mod KeyLemmas
 pub mod DescribedLemmas

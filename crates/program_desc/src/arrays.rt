@@ -41,11 +41,12 @@ pub fn items_at<'a>(
 {
     match at_key(table, key.name) {
         Some(value) => match value.as_array() {
-            Some(items) => {
+            Some(array) => {
+                let items = array.as_slice();
                 if !allows_count(key.allowed, items.len()) {
                     return Err(bad_value(place, key, value));
                 }
-                Ok(items.as_slice())
+                Ok(items)
             }
             None => Err(bad_value(place, key, value)),
         },
@@ -79,7 +80,7 @@ pub fn table_of<'a>(value: &'a Value, place: TablePlace) -> Result<&'a Table, Ta
 pub fn bad_item<'a>(key: &Key, i: usize, value: &'a Value, allowed: Allowed) -> TableFault<'a>
     ensures { result ≡ faults.BadKey (record {
       table = Description;
-      fault = BadItem key.now.name i value allowed;
+      fault = BadItem key.now.name i value.entry allowed;
     }) }
 {
     TableFault::BadKey(BadKey {

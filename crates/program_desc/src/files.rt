@@ -3,11 +3,13 @@ ghost use Rattle.std.specs.Prelude.{◌≡◌, ◌<◌, [], true, map, length, c
 ghost use Rattle.toml.specs.Data.{get};
 ghost use Rattle.toml.specs.View.{view, table_view, items_view};
 ghost use Rattle.program_desc.specs.BadKeys.{IsBadKey};
+ghost use Rattle.program_desc.specs.KeyRules.{required_key};
 ghost use Rattle.program_desc.specs.TableFaults.{ReadsAs};
 ghost use Rattle.program_desc.specs.TomlValues as values;
 ghost use Rattle.program_desc.specs.Described as spec;
 ghost use Rattle.program_desc.specs.Views.{file_view};
 ghost use Rattle.program_desc.specs.internal.TableReading as kept;
+ghost use Rattle.program_desc.specs.declared.allowed.Allowed.TheVariants.{HexText};
 ghost use Rattle.program_desc.specs.declared.bad_key.TablePlace.TheVariants as places;
 ghost use Rattle.program_desc.specs.declared.key_set.KeySet.TheVariants as keys;
 
@@ -31,7 +33,7 @@ fn bytes_at<'a, A: Allocator>(
     place: TablePlace,
 ) -> Result<Bytes<A>, TableFault<'a>>
     ensures { ReadsAs (λ bytes. bytes)
-        (kept.BreaksAt place (kept.rule_view HEX) (table_view table.now)) result
+        (kept.BreaksAt place (required_key (codes "hex") HexText) (table_view table.now)) result
         (values.at_key values.toml_bytes (codes "hex") (table_view table.now)) }
 {
     let value = required_at(table, place, &HEX)?;

@@ -48,7 +48,7 @@ pub fn check_keys<'a>(
 pub fn bad_value<'a>(place: TablePlace, key: &Key, value: &'a Value) -> TableFault<'a>
     ensures { result ≡ faults.BadKey (record {
       table = place;
-      fault = BadValue key.now.name value key.now.allowed;
+      fault = BadValue key.now.name value.entry key.now.allowed;
     }) }
 {
     TableFault::BadKey(BadKey {

@@ -1,12 +1,10 @@
 //! The pool of a description.
 ghost use Rattle.std.specs.Prelude.{◌≡◌, ◌<◌, codes, length};
-ghost use Rattle.toml.specs.Data.{get_item};
 ghost use Rattle.toml.specs.View.{table_view, items_view};
 ghost use Rattle.program_desc.specs.BadKeys.{IsBadKey};
 ghost use Rattle.program_desc.specs.TableFaults.{ReadsAs};
-ghost use Rattle.program_desc.specs.TomlValues.{◌>>=◌};
 ghost use Rattle.program_desc.specs.TomlValues as spec;
-ghost use Rattle.program_desc.specs.internal.TableReading.{HasBadItem, IsBadItem};
+ghost use Rattle.program_desc.specs.internal.TableReading as kept;
 ghost use Rattle.program_desc.specs.declared.allowed.Allowed.TheVariants.{Number};
 
 use crate::allowed::Allowed;
@@ -21,8 +19,8 @@ use toml::{Table, Value};
 /// The number that the item of this index is.
 fn number_item<'a>(items: &'a [Value], i: usize) -> Result<u64, TableFault<'a>>
     requires { i < length items.now }
-    ensures { ReadsAs (λ n. n) (HasBadItem (IsBadItem (codes "pool") Number) (items_view items.now))
-        result (get_item i (items_view items.now) >>= spec.toml_number) }
+    ensures { ReadsAs (λ n. n) (kept.HasBadItem (kept.IsBadItem (codes "pool") Number) (items_view items.now))
+        result (kept.number_item i (items_view items.now)) }
 {
     let value = &items[i];
     toml_number(value).ok_or(bad_item(&POOL, i, value, Allowed::Number))
@@ -32,7 +30,7 @@ fn number_item<'a>(items: &'a [Value], i: usize) -> Result<u64, TableFault<'a>>
 fn range_in<'a>(items: &'a [Value]) -> Result<Range<u64>, TableFault<'a>>
     requires { length items.now ≡ 2 }
     ensures { ReadsAs (λ range. range)
-        (HasBadItem (IsBadItem (codes "pool") Number) (items_view items.now)) result
+        (kept.HasBadItem (kept.IsBadItem (codes "pool") Number) (items_view items.now)) result
         (spec.range_in (items_view items.now)) }
 {
     let start = number_item(items, 0)?;

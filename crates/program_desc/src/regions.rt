@@ -1,11 +1,9 @@
 //! The regions of a description.
 ghost use Rattle.std.specs.Prelude.{[], codes};
 ghost use Rattle.toml.specs.View.{view, table_view, items_view};
-ghost use Rattle.bl_map.specs.Kinds.{kind_named};
 ghost use Rattle.program_desc.specs.BadKeys.{IsBadKey};
 ghost use Rattle.program_desc.specs.KeyRules.{required_key};
 ghost use Rattle.program_desc.specs.TableFaults.{ReadsAs};
-ghost use Rattle.program_desc.specs.TomlValues.{◌>>=◌};
 ghost use Rattle.program_desc.specs.TomlValues as values;
 ghost use Rattle.program_desc.specs.Described as spec;
 ghost use Rattle.program_desc.specs.internal.TableReading as kept;
@@ -27,7 +25,7 @@ use toml::{Table, Value};
 fn kind_at<'a>(table: &'a Table, place: TablePlace) -> Result<Kind, TableFault<'a>>
     ensures { ReadsAs (λ kind. kind)
         (kept.BreaksAt place (required_key (codes "kind") KindName) (table_view table.now)) result
-        (values.at_key values.toml_text (codes "kind") (table_view table.now) >>= kind_named) }
+        (values.at_key values.toml_kind (codes "kind") (table_view table.now)) }
 {
     let value = required_at(table, place, &KIND)?;
     match value.as_str() {

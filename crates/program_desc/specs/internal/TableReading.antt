@@ -5,7 +5,7 @@ use Rattle.std.specs.Option.{IsSomeAnd}
 use Rattle.toml.specs.Data.{Data, array, Items, no_items, Members, get_member, get_item}
 use Rattle.toml.specs.View.{view}
 use Rattle.bl_plan.specs.MenuLimits.{max_entries, max_modules}
-use Rattle.program_desc.specs.TomlValues.{has_only}
+use Rattle.program_desc.specs.TomlValues.{◌>>=◌, has_only, toml_number}
 use Rattle.program_desc.specs.Described.{has_file}
 use Rattle.program_desc.specs.Views.{file_view}
 use Rattle.program_desc.specs.Allowed.{allows}
@@ -109,6 +109,10 @@ IsItemFaultAt key allowed i d _ = ⊥
 abbrev pub IsBadItem : List ℕ → Allowed → ℕ → Data → BadKey → Type 0
 IsBadItem key allowed i d bad =
     (bad.table ≡ Description) × IsItemFaultAt key allowed i d bad.fault
+
+-- the number that the item of an index is
+abbrev pub number_item : ℕ → Items → Option ℕ
+number_item i ds = get_item i ds >>= toml_number
 
 -- ---- files
 
