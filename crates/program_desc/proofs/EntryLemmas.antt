@@ -18,8 +18,8 @@ use Rattle.program_desc.specs.TomlValues.{toml_index, toml_indices, toml_number,
 use Rattle.program_desc.specs.Entries.{Entry, Form, Module, form_in, is_menu, is_rsdp_copy}
 use Rattle.program_desc.specs.Entries.{has_few_modules, menu_entry_in, module_in, toml_entries, toml_modules, toml_protocol}
 use Rattle.program_desc.specs.Entries.{toml_rsdp_copy}
-use Rattle.program_desc.specs.EntryFormViews.{HasCopyLength}
-use Rattle.program_desc.specs.EntryFormViews.{module_view}
+use Rattle.program_desc.specs.Entries.{HasCopyLength}
+use Rattle.program_desc.specs.Entries.{module_view}
 use Rattle.program_desc.specs.Allowed.{allows, item_count}
 use Rattle.program_desc.specs.KeyRules.{KeyRule, common_entry_rules, key_rules, multiboot2_rules}
 use Rattle.program_desc.specs.KeyRules.{linux_rules, optional_key, required_key, set_of_protocol}

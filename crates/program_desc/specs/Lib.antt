@@ -3,7 +3,6 @@ pub mod KeyRules
 pub mod Entries
 pub mod EntryNames
 pub mod Described
-pub mod EntryFormViews
 pub mod Views
 pub mod Allowed
 pub mod BadKeys

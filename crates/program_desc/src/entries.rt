@@ -7,7 +7,7 @@ ghost use Rattle.program_desc.specs.TableFaults.{ReadsAs};
 ghost use Rattle.program_desc.specs.TomlValues as values;
 ghost use Rattle.program_desc.specs.Entries as spec;
 ghost use Rattle.bl_plan.specs.MenuLimits.{max_entries};
-ghost use Rattle.program_desc.specs.EntryFormViews.{HasCopyLength};
+ghost use Rattle.program_desc.specs.Entries.{HasCopyLength};
 ghost use Rattle.program_desc.specs.Views.{entry_view, form_view};
 ghost use Rattle.program_desc.specs.internal.EntryReading.{IsEntryBad, IsEntryItemBad, entry_set_in};
 ghost use Rattle.program_desc.specs.internal.TableReading as kept;
