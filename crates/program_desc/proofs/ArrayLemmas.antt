@@ -1,21 +1,19 @@
 -- Arrays at keys: which are read, and their bad items.
-use Rattle.std.proofs.Common.{◌≡◌, ℕ, ◌≤◌, suc, Bool, true, false, ◌&&◌, not, Option, Some, None}
-use Rattle.std.proofs.Common.{Bor, List, [], ◌∷◌, length, map, refl, sym, ap, ◌∙◌, arith, inl, inr}
+use Rattle.std.proofs.Common.{◌≡◌, ℕ, suc, Bool, true, false, ◌&&◌, not, Option, Some, None}
+use Rattle.std.proofs.Common.{Bor, List, [], ◌∷◌, length, refl, sym, ap, ◌∙◌, arith}
 use Rattle.std.specs.Prelude.{codes, nat_le, if◌then◌else◌, is_some}
 use Rattle.std.specs.Option.{IsSomeAnd, ok_or}
-use Rattle.std.specs.declared.ops.Range.{Range}
 use Rattle.std.proofs.Math.Bool.{true≢false}
-use Rattle.std.proofs.lemmas.Bool.{cases_Bool}
 use Rattle.std.proofs.lemmas.Bool.Decides.{nat_tests}
 use Rattle.toml.specs.Data.{Data, string, integer, float, boolean, datetime, array, table, Items}
 use Rattle.toml.specs.Data.{no_items, item, Members, get_item, get_member, at, as_array}
 use Rattle.toml.specs.View.{view, items_view}
 use Rattle.toml.specs.declared.value.Value.{Value}
-use Rattle.program_desc.specs.TomlValues.{◌>>=◌, array_of, at_key, each_item, in_table, in_tables, optional}
-use Rattle.program_desc.specs.TomlValues.{range_in, required, some_when, toml_number, toml_range}
-use Rattle.program_desc.specs.Allowed.{allows, count_within, item_count}
+use Rattle.program_desc.specs.TomlValues.{◌>>=◌, array_of, at_key, each_item, optional}
+use Rattle.program_desc.specs.TomlValues.{range_in, required, some_when, toml_range}
+use Rattle.program_desc.specs.Allowed.{allows, item_count}
 use Rattle.program_desc.specs.KeyRules.{KeyRule, required_key, with_items}
-use Rattle.program_desc.specs.BadKeys.{BreaksRule, IsBadKey, IsItemFault, item_at}
+use Rattle.program_desc.specs.BadKeys.{BreaksRule, IsBadKey, IsItemFault}
 use Rattle.program_desc.specs.internal.TableReading.{AllowsArrays, BreaksAt, HasBadItem, IsBadItem}
 use Rattle.program_desc.specs.internal.TableReading.{IsBadTable, IsItemFaultAt, allows_count}
 use Rattle.program_desc.specs.internal.TableReading.{array_by, array_items, number_item, passes, passes_at}

@@ -1,21 +1,21 @@
 -- Faults of an entry and of its modules, and what an entry has.
 use Rattle.std.proofs.Common.{◌≡◌, ◌≤◌, ◌<◌, ℕ, zero, suc, Bool, true, false, ◌&&◌, Option, Some, None}
-use Rattle.std.proofs.Common.{Result, List, [], ◌∷◌, ◌++◌, length, map, refl, sym, ap, ◌∙◌, arith, All, inl, inr}
-use Rattle.std.specs.Prelude.{codes, nat_le, nat_lt, slice_get, if◌then◌else◌, IfSome}
+use Rattle.std.proofs.Common.{Result, List, [], ◌∷◌, ◌++◌, length, map, refl, sym, ◌∙◌, arith, All, inl, inr}
+use Rattle.std.specs.Prelude.{codes, nat_le, nat_lt, slice_get, IfSome}
 use Rattle.std.specs.Option.{IsSomeAnd}
 use Rattle.std.proofs.lemmas.Bool.{cases_Bool}
 use Rattle.std.proofs.lemmas.Bool.Decides.{nat_tests}
 use Rattle.std.proofs.lemmas.List.{length-map}
 use Rattle.std.proofs.lemmas.List.Elements.{All-nil, All-cons}
 use Rattle.toml.specs.Data.{Data, string, integer, float, boolean, datetime, array, table, Items}
-use Rattle.toml.specs.Data.{no_items, item, Members, get_item, get_member, get, at, as_array, as_table}
+use Rattle.toml.specs.Data.{no_items, item, Members, get_item, get_member, as_array, as_table}
 use Rattle.bl_plan.specs.MenuLimits.{max_entries, max_modules}
 use Rattle.bl_plan.specs.declared.protocol.Protocol.{Protocol}
 use Rattle.bl_plan.specs.declared.protocol.Protocol.TheVariants.{Multiboot2, Linux, Linux64}
 use Rattle.program_desc.specs.TomlValues.{◌>>=◌, at_key, at_key_if, at_key_or, each_item, if_given}
 use Rattle.program_desc.specs.TomlValues.{in_table, in_tables, optional, required, some_when, toml_bytes}
 use Rattle.program_desc.specs.TomlValues.{toml_index, toml_indices, toml_number, toml_text}
-use Rattle.program_desc.specs.Entries.{Entry, Form, Module, form_in, is_menu, is_rsdp_copy}
+use Rattle.program_desc.specs.Entries.{Entry, Form, form_in, is_menu, is_rsdp_copy}
 use Rattle.program_desc.specs.Entries.{has_few_modules, menu_entry_in, module_in, toml_entries, toml_modules, toml_protocol}
 use Rattle.program_desc.specs.Entries.{toml_rsdp_copy}
 use Rattle.program_desc.specs.Entries.{HasCopyLength}
@@ -23,7 +23,7 @@ use Rattle.program_desc.specs.Entries.{module_view}
 use Rattle.program_desc.specs.Allowed.{allows, item_count}
 use Rattle.program_desc.specs.KeyRules.{KeyRule, common_entry_rules, key_rules, multiboot2_rules}
 use Rattle.program_desc.specs.KeyRules.{linux_rules, optional_key, required_key, set_of_protocol}
-use Rattle.program_desc.specs.BadKeys.{IsBadKey, IsFaultAt, IsItemFault, item_at, count_at, entry_set}
+use Rattle.program_desc.specs.BadKeys.{IsBadKey, IsFaultAt, item_at, entry_set}
 use Rattle.program_desc.specs.BadKeys.{item_count_or_zero}
 use Rattle.program_desc.specs.TableFaults.{IsTableFault, ReadsAs}
 use Rattle.program_desc.specs.internal.EntryReading.{IsEntryBad, IsEntryFaultAt, IsEntryItemBad}

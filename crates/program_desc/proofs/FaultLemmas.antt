@@ -1,17 +1,14 @@
 -- What is read of a part of a table, and the bad key of a part as one of the whole.
-use Rattle.std.proofs.Common.{◌≡◌, ℕ, zero, suc, Bool, true, false, Option, Some, None, List, []}
-use Rattle.std.proofs.Common.{◌∷◌, ◌++◌, Result, Ok, Err, Bor, refl, sym, ap, ◌∙◌, inl, inr}
+use Rattle.std.proofs.Common.{◌≡◌, ℕ, zero, suc, Option, Some, None, List, []}
+use Rattle.std.proofs.Common.{◌∷◌, Result, Ok, Err, Bor, refl, sym, ◌∙◌, inl, inr}
 use Rattle.std.specs.Prelude.{if◌then◌else◌, is_some, option_map, slice_get, codes}
 use Rattle.std.specs.Option.{ok_or}
 use Rattle.toml.specs.Data.{Data, Members, get_member}
 use Rattle.toml.specs.View.{view}
 use Rattle.toml.specs.declared.value.Value.{Value}
-use Rattle.bl_plan.specs.declared.protocol.Protocol.{Protocol}
-use Rattle.bl_plan.specs.declared.protocol.Protocol.TheVariants.{Multiboot2, Linux, Linux64}
-use Rattle.program_desc.specs.TomlValues.{◌>>=◌, has_only, required, optional, if_given}
+use Rattle.program_desc.specs.TomlValues.{◌>>=◌, has_only, required}
 use Rattle.program_desc.specs.Allowed.{allows}
-use Rattle.program_desc.specs.KeyRules.{KeyRule, common_entry_rules, key_rules, keys_of_set}
-use Rattle.program_desc.specs.KeyRules.{linux_rules, multiboot2_rules, set_of_protocol}
+use Rattle.program_desc.specs.KeyRules.{KeyRule, key_rules, keys_of_set}
 use Rattle.program_desc.specs.BadKeys.{BreaksAnyOf, BreaksRule, IsBadKey, IsKeyFault, count_at}
 use Rattle.program_desc.specs.TableFaults.{IsTableFault, ReadsAs}
 use Rattle.program_desc.specs.internal.TableReading.{BreaksAt, HasUnknownKey, IsFaultOf}

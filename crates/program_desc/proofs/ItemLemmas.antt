@@ -1,21 +1,18 @@
 -- Reading the items of an array one after the other.
-use Rattle.std.proofs.Common.{◌≡◌, ℕ, ◌+◌, ◌<◌, ◌≤◌, suc, Option, Some, None, List, [], ◌∷◌, ◌++◌}
-use Rattle.std.proofs.Common.{Bool, true, false, ◌&&◌, Result}
-use Rattle.std.proofs.Common.{length, map, drop, get_or, refl, sym, ap, ◌∙◌, arith, append_assoc}
-use Rattle.std.specs.Prelude.{codes, nat_le, if◌then◌else◌}
-use Rattle.std.specs.Option.{IsSomeAnd}
+use Rattle.std.proofs.Common.{◌≡◌, ℕ, ◌+◌, ◌<◌, ◌≤◌, Option, Some, None, List, [], ◌∷◌, ◌++◌}
+use Rattle.std.proofs.Common.{Result}
+use Rattle.std.proofs.Common.{length, map, drop, get_or, refl, sym, ap, ◌∙◌, append_assoc}
 use Rattle.std.proofs.lemmas.List.{map-append, drop_all, append-nil}
-use Rattle.toml.specs.Data.{Data, string, integer, float, boolean, datetime, array, table, Items}
-use Rattle.toml.specs.Data.{no_items, item, Members, get_item, get_member, at, as_array, as_table}
+use Rattle.toml.specs.Data.{Data, string, integer, float, boolean, datetime, array, table}
+use Rattle.toml.specs.Data.{item, Members, get_item, as_table}
 use Rattle.toml.specs.View.{view, items_view}
 use Rattle.toml.specs.declared.value.Value.{Value}
 use Rattle.toml.proofs.Views.{get_item_within, items_view-drop}
-use Rattle.program_desc.specs.TomlValues.{◌>>=◌, each_item, in_table, in_tables}
-use Rattle.program_desc.specs.Allowed.{item_count}
+use Rattle.program_desc.specs.TomlValues.{◌>>=◌, each_item, in_table}
 use Rattle.program_desc.specs.KeyRules.{key_rules}
 use Rattle.program_desc.specs.BadKeys.{IsItemFault, IsKeyFault}
 use Rattle.program_desc.specs.TableFaults.{IsTableFault, ReadsAs}
-use Rattle.program_desc.specs.internal.TableReading.{HasBadItem, IsBadTable, IsFaultOf, array_items}
+use Rattle.program_desc.specs.internal.TableReading.{HasBadItem, IsBadTable, IsFaultOf}
 use Rattle.program_desc.specs.declared.bad_key.BadKey.{BadKey}
 use Rattle.program_desc.specs.declared.bad_key.KeyFault.{KeyFault}
 use Rattle.program_desc.specs.declared.bad_key.KeyFault.TheVariants.{NoTable, Unknown, Missing}

@@ -1,6 +1,6 @@
 -- Bad files, and files of one name.
-use Rattle.std.proofs.Common.{◌≡◌, ◌≢◌, ℕ, suc, zero, ◌+◌, ◌<◌, Bool, true, false, Option}
-use Rattle.std.proofs.Common.{Some, None, List, [], ◌∷◌, ◌++◌, length, map, take, get_or, refl, ap}
+use Rattle.std.proofs.Common.{◌≡◌, ◌≢◌, ℕ, suc, zero, ◌<◌, Bool, true, false, Option}
+use Rattle.std.proofs.Common.{Some, None, List, [], ◌∷◌, length, map, take, refl, ap}
 use Rattle.std.proofs.Common.{sym, ◌∙◌, inl, inr, arith, not, ◌&&◌, ◌||◌}
 use Rattle.std.specs.Prelude.{codes, slice_get, if◌then◌else◌, IfSome, IsSome}
 use Rattle.std.specs.Option.{IsSomeAnd}
@@ -25,7 +25,6 @@ use Rattle.program_desc.specs.declared.bad_key.TablePlace.TheVariants as places
 use Rattle.program_desc.specs.declared.file_row.FileRow.{FileRow}
 use Rattle.program_desc.specs.declared.key_set.KeySet.TheVariants as keys
 use Rattle.program_desc.proofs.ArrayLemmas.{bad_table, given_item}
-use Rattle.program_desc.proofs.FaultLemmas.{must_stand}
 
 -- ---- bad files
 

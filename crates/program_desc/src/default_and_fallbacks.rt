@@ -39,8 +39,9 @@ pub fn default_at<'a>(table: &'a Table, count: u32) -> Result<u32, TableFault<'a
 
 /// The index of one of `count` entries that the item of this index is.
 fn index_of<'a>(value: &'a Value, i: usize, count: u32) -> Result<u32, TableFault<'a>>
-    ensures { ReadsAs (λ n. n) (kept.IsBadItem (codes "fallback") (IndexBelow count) i (view value.now))
-        result (spec.toml_index count (view value.now)) }
+    ensures { ReadsAs (λ n. n)
+        (kept.IsBadItem (codes "fallback") (IndexBelow count) i (view value.now)) result
+        (spec.toml_index count (view value.now)) }
 {
     let allowed = Allowed::IndexBelow(u64::from(count));
     toml_index(value, count).ok_or(bad_item(&FALLBACK, i, value, allowed))

@@ -9,7 +9,8 @@ ghost use Rattle.program_desc.specs.Entries as spec;
 ghost use Rattle.bl_plan.specs.MenuLimits.{max_entries};
 ghost use Rattle.program_desc.specs.Entries.{HasCopyLength};
 ghost use Rattle.program_desc.specs.Views.{entry_view, form_view};
-ghost use Rattle.program_desc.specs.internal.EntryReading.{IsEntryBad, IsEntryItemBad, entry_set_in};
+ghost use Rattle.program_desc.specs.internal.EntryReading.{IsEntryBad, IsEntryItemBad};
+ghost use Rattle.program_desc.specs.internal.EntryReading.{entry_set_in};
 ghost use Rattle.program_desc.specs.internal.TableReading as kept;
 ghost use Rattle.program_desc.specs.declared.allowed.Allowed.TheVariants.{Title};
 

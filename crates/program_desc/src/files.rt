@@ -1,5 +1,5 @@
 //! The files of a description.
-ghost use Rattle.std.specs.Prelude.{◌≡◌, ◌<◌, [], true, map, length, codes, IfOk, IfSome, MatchOption};
+ghost use Rattle.std.specs.Prelude.{◌≡◌, [], true, map, codes, IfOk, IfSome, MatchOption};
 ghost use Rattle.toml.specs.Data.{get};
 ghost use Rattle.toml.specs.View.{view, table_view, items_view};
 ghost use Rattle.program_desc.specs.BadKeys.{IsBadKey};

@@ -78,11 +78,7 @@ pub fn required_at<'a>(
 }
 
 /// The number at a key that must stand.
-pub fn number_at<'a>(
-    table: &'a Table,
-    place: TablePlace,
-    key: &Key,
-) -> Result<u64, TableFault<'a>>
+pub fn number_at<'a>(table: &'a Table, place: TablePlace, key: &Key) -> Result<u64, TableFault<'a>>
     requires required { key.now.required ≡ true }
     requires allowed { key.now.allowed ≡ Number }
     ensures { ReadsAs (λ n. n)

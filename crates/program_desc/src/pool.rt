@@ -19,8 +19,9 @@ use toml::{Table, Value};
 /// The number that the item of this index is.
 fn number_item<'a>(items: &'a [Value], i: usize) -> Result<u64, TableFault<'a>>
     requires { i < length items.now }
-    ensures { ReadsAs (λ n. n) (kept.HasBadItem (kept.IsBadItem (codes "pool") Number) (items_view items.now))
-        result (kept.number_item i (items_view items.now)) }
+    ensures { ReadsAs (λ n. n)
+        (kept.HasBadItem (kept.IsBadItem (codes "pool") Number) (items_view items.now)) result
+        (kept.number_item i (items_view items.now)) }
 {
     let value = &items[i];
     toml_number(value).ok_or(bad_item(&POOL, i, value, Allowed::Number))

@@ -1,8 +1,7 @@
-use Rattle.std.proofs.Common.{◌≡◌, Some, sym, ap, ◌∙◌}
+use Rattle.std.proofs.Common.{Some, sym, ap, ◌∙◌}
 use Rattle.toml.specs.View.{items_view, table_view, view}
 use Rattle.program_desc.specs.internal.TableReading.{allows_count}
 use Rattle.program_desc.proofs.ArrayLemmas.{array_refused, array_taken, counted, item_count-view}
-use Rattle.program_desc.proofs.ArrayLemmas.{no_array}
 use Rattle.program_desc.proofs.arrays.items_at.Goals as goal
 
 pub returns-then-not-allows_count : goal.returns-then-not-allows_count

@@ -1,4 +1,4 @@
-use Rattle.std.proofs.Common.{◌≡◌, sym, refl, ap, Some, ◌∙◌}
+use Rattle.std.proofs.Common.{sym, refl, ap, Some}
 use Rattle.std.proofs.lemmas.Result.{err_from_is_err_and}
 use Rattle.toml.specs.View.{table_view}
 use Rattle.program_desc.specs.Entries.{entry_by}

@@ -1,4 +1,4 @@
-use Rattle.std.proofs.Common.{◌≡◌, map, length, arith, refl, ap, sym, ◌∙◌}
+use Rattle.std.proofs.Common.{arith, refl, sym, ◌∙◌}
 use Rattle.std.specs.Prelude.{codes}
 use Rattle.std.proofs.lemmas.List.{length-map}
 use Rattle.std.proofs.lemmas.Result.{err_from_is_err_and}
@@ -6,7 +6,6 @@ use Rattle.toml.specs.View.{items_view, table_view}
 use Rattle.program_desc.specs.TomlValues.{each_item, in_table, some_when, ◌>>=◌}
 use Rattle.program_desc.specs.Described.{file_in, names_differ, toml_files}
 use Rattle.program_desc.specs.KeyRules.{optional_key}
-use Rattle.program_desc.specs.Views.{file_view}
 use Rattle.program_desc.specs.declared.allowed.Allowed.TheVariants.{Tables}
 use Rattle.program_desc.proofs.ArrayLemmas.{each_counted, item_count-view, no_list, optional_items}
 use Rattle.program_desc.proofs.ArrayLemmas.{optional_none}

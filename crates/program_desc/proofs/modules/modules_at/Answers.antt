@@ -1,4 +1,4 @@
-use Rattle.std.proofs.Common.{◌≡◌, map, length, arith, refl, sym, ◌∙◌}
+use Rattle.std.proofs.Common.{refl}
 use Rattle.std.specs.Prelude.{codes}
 use Rattle.std.proofs.lemmas.Result.{err_from_is_err_and}
 use Rattle.toml.specs.View.{items_view, table_view}
@@ -9,7 +9,7 @@ use Rattle.program_desc.specs.declared.key_set.KeySet.TheVariants as keys
 use Rattle.program_desc.proofs.EntryLemmas.{at_module, entry_rule, modules_few, modules_none}
 use Rattle.program_desc.proofs.EntryLemmas.{modules_read}
 use Rattle.program_desc.proofs.ArrayLemmas.{optional_none}
-use Rattle.program_desc.proofs.FaultLemmas.{fails_as, fault_as}
+use Rattle.program_desc.proofs.FaultLemmas.{fault_as}
 use Rattle.program_desc.proofs.modules.modules_at.Goals as goal
 
 pub returns-in_err-items : goal.returns-in_err-items

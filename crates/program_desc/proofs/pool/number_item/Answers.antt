@@ -1,4 +1,4 @@
-use Rattle.std.proofs.Common.{refl, sym, ap, ◌∙◌}
+use Rattle.std.proofs.Common.{refl}
 use Rattle.toml.specs.View.{items_view, view}
 use Rattle.program_desc.specs.TomlValues.{toml_number}
 use Rattle.program_desc.specs.declared.allowed.Allowed.TheVariants.{Number}
