@@ -3,6 +3,7 @@
 from random import Random
 from typing import Dict, List, NamedTuple, Tuple
 
+from rules.description import BYTE, root_keys
 from rules.machine import KIND_NAMES, Machine
 
 from . import kernels, linux_kernels, machines
@@ -119,8 +120,9 @@ def draw_module(rng: Random, files: Dict[str, bytes]) -> list:
 def spelled(rng: Random, machine: Machine, menu: Menu) -> str:
     """The tables in some order; the keys above all of them come first."""
     pairs: List[Tuple[str, object]] = [("size", machine.size), ("pool", list(machine.pool))]
-    if chance(rng, 70):
-        pairs.append(("fill", rng.randrange(256)))
+    for key in root_keys(len(menu.entries)):
+        if key.allowed is BYTE and chance(rng, 70):
+            pairs.append((key.name, rng.randrange(256)))
     if menu.default or chance(rng, 20):
         pairs.append(("default", menu.default))
     if menu.fallbacks or chance(rng, 20):

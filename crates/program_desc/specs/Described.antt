@@ -1,20 +1,22 @@
 -- What a boot description says: for each of its tables a function from the table's keys to a
 -- record, or to none where the table is a bad one. Own.
-use Rattle.std.specs.Prelude.{ℕ, Bool, true, ◌&&◌, not, if◌then◌else◌, List, [], ◌∷◌, length}
+use Rattle.std.specs.Prelude.{ℕ, Bool, true, ◌&&◌, not, if◌then◌else◌, List, [], ◌∷◌, length, map}
 use Rattle.std.specs.Prelude.{Option, Some, None, codes}
 use Rattle.std.specs.Str.{bytes_eq, is_utf8}
 use Rattle.std.specs.List.{list_any}
 use Rattle.std.specs.declared.ops.Range.{Range}
 use Rattle.toml.specs.Data.{Data, Members}
 use Rattle.toml.specs.Parse.{parse_document}
-use Rattle.bl_map.specs.Kinds.{kind_named}
 use Rattle.bl_map.specs.declared.region.Region.{Region}
 use Rattle.program_desc.specs.TomlValues.{◌>>=◌, some_when, toml_number, toml_byte, toml_text}
-use Rattle.program_desc.specs.TomlValues.{toml_bytes}
+use Rattle.program_desc.specs.TomlValues.{toml_bytes, toml_kind}
 use Rattle.program_desc.specs.TomlValues.{toml_range, toml_index, toml_indices, has_only, at_key}
 use Rattle.program_desc.specs.TomlValues.{at_key_or, in_tables}
 use Rattle.program_desc.specs.KeyRules.{keys_of_set}
-use Rattle.program_desc.specs.Entries.{Entry, toml_entries}
+use Rattle.program_desc.specs.Entries.{Entry, form_view, toml_entries}
+use Rattle.program_desc.specs.declared.desc.Description.{Description}
+use Rattle.program_desc.specs.declared.entry_row.EntryRow.{EntryRow}
+use Rattle.program_desc.specs.declared.file_row.FileRow.{FileRow}
 use Rattle.program_desc.specs.declared.key_set.KeySet.TheVariants as keys
 
 -- a file that stands in the description
@@ -38,6 +40,25 @@ pub record DescriptionFacts : Type 0 where
   pub default : ℕ
   pub fallbacks : List ℕ
 
+-- how files, entries and the whole are seen
+abbrev pub file_view : {A : Type 0} → FileRow A → InlineFile
+file_view f = record { name = f.name; bytes = f.bytes }
+
+abbrev pub entry_view : {A : Type 0} → EntryRow A → Entry
+entry_view e = record { title = e.title; kernel = e.kernel; line = e.line; form = form_view e.form }
+
+abbrev pub view : {A : Type 0} → Description A → DescriptionFacts
+view d = record {
+  size = d.size;
+  pool = d.pool;
+  fill = d.fill;
+  regions = d.regions.items;
+  files = map file_view d.files.items;
+  entries = map entry_view d.entries.items;
+  default = d.default;
+  fallbacks = d.fallbacks.items;
+}
+
 -- ---- region
 
 unfoldable pub region_in : Members → Option Region
@@ -45,8 +66,7 @@ region_in ms =
     if has_only (keys_of_set keys.Region) ms then (do
       base ← at_key toml_number (codes "base") ms
       length ← at_key toml_number (codes "length") ms
-      name ← at_key toml_text (codes "kind") ms
-      kind ← kind_named name
+      kind ← at_key toml_kind (codes "kind") ms
       Some record { base = base; length = length; kind = kind })
     else None
 

@@ -1,6 +1,6 @@
 -- What a boot description says of its menu: for each table of an entry or a module a function from
 -- the table's keys to a record, or to none if the table is a bad one. Own.
-use Rattle.std.specs.Prelude.{ℕ, Bool, ◌&&◌, if◌then◌else◌, nat_le, List, [], length}
+use Rattle.std.specs.Prelude.{ℕ, ◌≤◌, Bool, ◌&&◌, if◌then◌else◌, nat_le, List, [], length, map}
 use Rattle.std.specs.Prelude.{Option, Some, None, codes}
 use Rattle.std.specs.List.{list_all}
 use Rattle.toml.specs.Data.{Data, Members}
@@ -9,6 +9,10 @@ use Rattle.program_desc.specs.TomlValues.{at_key_or}
 use Rattle.program_desc.specs.TomlValues.{at_key_if, in_tables}
 use Rattle.program_desc.specs.KeyRules.{keys_of_set, set_of_protocol}
 use Rattle.program_desc.specs.declared.key_set.KeySet.TheVariants as keys
+use Rattle.program_desc.specs.declared.entry_form.EntryForm.{EntryForm}
+use Rattle.program_desc.specs.declared.entry_form.EntryForm.TheVariants as forms
+use Rattle.program_desc.specs.declared.entry_form.ModuleRow.{ModuleRow}
+use Rattle.bl_plan.specs.Protocols.{of_linux}
 use Rattle.bl_plan.specs.MenuLimits.{max_rsdp_length, max_entries, max_modules}
 use Rattle.bl_plan.specs.Protocols.{protocol_named}
 use Rattle.bl_plan.specs.declared.protocol.Protocol.{Protocol}
@@ -46,6 +50,19 @@ pub record Entry : Type 0 where
   pub line : List ℕ
   pub form : Form
 
+-- how modules, and what an entry has beside its kernel, are seen
+abbrev pub module_view : {A : Type 0} → ModuleRow A → Module
+module_view m = record { file = m.file; line = m.line }
+
+abbrev pub form_view : {A : Type 0} → EntryForm A → Form
+form_view (forms.Multiboot2 modules rsdp_old rsdp_new) =
+    record (bare_form Multiboot2) {
+      modules = map module_view modules.rows.items;
+      rsdp_old = rsdp_old;
+      rsdp_new = rsdp_new;
+    }
+form_view (forms.Linux initrd wide) = record (bare_form (of_linux wide)) { initrd = initrd }
+
 -- ---- module
 
 unfoldable pub module_in : Members → Option Module
@@ -81,6 +98,10 @@ is_rsdp_copy copy = nat_le 1 (length copy) && nat_le (length copy) max_rsdp_leng
 
 abbrev pub toml_rsdp_copy : Data → Option (List ℕ)
 toml_rsdp_copy d = toml_bytes d >>= some_when is_rsdp_copy
+
+-- the same as a fact of a copy that was read
+abbrev pub HasCopyLength : List ℕ → Type 0
+HasCopyLength copy = (1 ≤ length copy) × (length copy ≤ max_rsdp_length)
 
 -- ---- protocol
 

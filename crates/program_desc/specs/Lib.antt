@@ -3,8 +3,8 @@ pub mod KeyRules
 pub mod Entries
 pub mod EntryNames
 pub mod Described
-pub mod EntryFormViews
 pub mod Views
 pub mod Allowed
 pub mod BadKeys
+pub mod TableFaults
 pub mod internal

@@ -1,7 +1,7 @@
 //! An entry of the menu.
 ghost use Rattle.std.specs.Prelude.{IfSome};
 ghost use Rattle.std.proofs.Props.{props};
-ghost use Rattle.program_desc.specs.EntryFormViews.{form_view, HasCopyLength};
+ghost use Rattle.program_desc.specs.Entries.{form_view, HasCopyLength};
 
 use crate::entry_form::EntryForm;
 use crate::owned_text::Text;

@@ -1,14 +1,11 @@
 -- How explanations end.
 use Rattle.std.proofs.Common.{◌≡◌, ◌+◌, ◌≤◌, ◌++◌, ◌==◌, ◌&&◌, ℕ, nat_le, nat_lt, true}
-use Rattle.std.proofs.Common.{false, List, [], ◌∷◌, Some, None, refl}
+use Rattle.std.proofs.Common.{false, List, [], ◌∷◌, refl}
 use Rattle.std.proofs.Common.{arith, inl, inr}
 use Rattle.std.specs.Prelude.{IsUtf8}
 use Rattle.std.specs.Str.{is_utf8}
 use Rattle.std.proofs.lemmas.Bool.{cases_Bool}
 use Rattle.std.proofs.lemmas.Str.{IsUtf8-from_is_utf8}
-use Rattle.toml.specs.Data.{Members}
-use Rattle.toml.specs.Parse.{parse_document}
-use Rattle.program_desc.specs.Described.{described, described_in}
 use Rattle.program_boots.specs.explaining.TextPlaces.{after_byte, after_bytes}
 use Rattle.program_say.specs.declared.subjects.blame.TextPlace.{TextPlace}
 
@@ -32,12 +29,7 @@ after_byte_small place b n line column =
           ]
     ]
 
--- ---- descriptions
-
-pub undescribed : (desc : List ℕ) (ms : Members) → is_utf8 desc ≡ true
-    → parse_document desc ≡ Some ms → described desc ≡ None → described_in ms ≡ None
-unfolding described
-undescribed desc ms text read none = rw (text, read) at none
+-- ---- texts
 
 pub no_text : (desc : List ℕ) → (IsUtf8 desc → ⊥) → is_utf8 desc ≡ false
 no_text desc not =

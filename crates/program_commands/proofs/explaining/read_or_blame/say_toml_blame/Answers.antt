@@ -1,4 +1,5 @@
-use Rattle.std.proofs.Common.{rules}
+use Rattle.std.proofs.Common.{refl, rules}
+use Rattle.program_desc.proofs.DescribedLemmas.{described-no_table}
 use Rattle.program_commands.specs.explaining.BlameConditions.{HasBlame}
 use Rattle.program_say.specs.declared.subjects.blame.Blame.TheVariants.{NotToml}
 use Rattle.program_commands.proofs.ExplainEnds.{blamed_for}
@@ -6,6 +7,8 @@ use Rattle.program_commands.proofs.explaining.read_or_blame.say_toml_blame.Goals
 
 pub returns-in-Some : goal.returns-in-Some
 returns-in-Some g c =
-    let stands : HasBlame c.args.text.now (NotToml c.text_place.result) = search rules in
-    blamed_for c.args.text.now (NotToml c.text_place.result) c.args.say.now.items
-    c.blamed.new.say.items c.blamed.result c.requires.bad stands c.blamed.ensures
+    let text = c.args.text.now in
+    let stands : HasBlame text (NotToml c.text_place.result) = search rules in
+    blamed_for text (NotToml c.text_place.result) c.args.say.now.items
+    c.blamed.new.say.items c.blamed.result (described-no_table text text refl stands.refused) stands
+    c.blamed.ensures
