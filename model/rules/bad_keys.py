@@ -2,22 +2,14 @@
 says": the tables of PATH, HELD and ALLOWED."""
 
 import re
-from typing import Any, Callable, Iterator, List, NamedTuple, Optional, Sequence, Tuple
+from typing import Callable, Iterator, List, NamedTuple, Sequence, Tuple
 
-from .description import (MAX_ENTRIES, MAX_MODULES, NUMBER_LIMIT, BadDescription, bytes_of,
-                          protocol_named)
-from .entry import is_copy
+from .description import (FILE_KEYS, LINUX_KEYS, MODULE_KEYS, MULTIBOOT2_KEYS, PROTOCOL, REGION_KEYS,
+                          TABLE, Allowed, Key, entry_count, is_array, is_text, protocol_of,
+                          root_keys)
 from .handover import MULTIBOOT2
-from .machine import KINDS
 
 MAX_TOLD = 64  # bytes of a text that is told itself
-
-
-class Allowed(NamedTuple):
-    """What a value must be, and whether one is; of an array, but for its items."""
-    told: str
-    holds: Callable[[Any], bool]
-    words: Tuple[str, ...] = ()  # if it must be one of these, in the order of the page
 
 
 class Fault(NamedTuple):
@@ -26,89 +18,7 @@ class Fault(NamedTuple):
     hints: Tuple[str, ...] = ()
 
 
-class Key(NamedTuple):
-    name: str
-    is_required: bool
-    allowed: Allowed
-    items: Optional[Allowed] = None  # what each item of an array must be that is no table
-
-
-# ---- what a value must be
-
-
-def is_number(value) -> bool:
-    return type(value) is int and 0 <= value < NUMBER_LIMIT
-
-
-def is_text(value) -> bool:
-    return isinstance(value, str)
-
-
-def is_array(value) -> bool:
-    return isinstance(value, list)
-
-
-def is_hex(value) -> bool:
-    try:
-        bytes_of(value)
-        return True
-    except BadDescription:
-        return False
-
-
-NUMBER = Allowed("a number of 0 or more", is_number)
-TWO_NUMBERS = Allowed("an array of two numbers", lambda v: is_array(v) and len(v) == 2)
-BYTE = Allowed("a number from 0 to 255", lambda v: is_number(v) and v <= 255)
-NUMBERS = Allowed("an array of numbers", is_array)
-TABLES = Allowed("an array of tables", is_array)
-ENTRIES = Allowed("an array of 1 to 32 tables",
-                  lambda v: is_array(v) and 1 <= len(v) <= MAX_ENTRIES)
-MODULES = Allowed("an array of at most 64 tables",
-                  lambda v: is_array(v) and len(v) <= MAX_MODULES)
-TABLE = Allowed("a table", lambda v: isinstance(v, dict))
-TEXT = Allowed("a text", is_text)
-TITLE = Allowed("a text of 1 to 64 printable characters of ASCII",
-                lambda v: is_text(v) and re.fullmatch("[ -~]{1,64}", v) is not None)
-KIND = Allowed('"usable", "reserved", "acpi", "nvs" or "bad"', lambda v: is_text(v) and v in KINDS,
-               ("usable", "reserved", "acpi", "nvs", "bad"))
-PROTOCOL = Allowed('"multiboot2", "linux" or "linux64"', lambda v: protocol_of(v) is not None,
-                   ("multiboot2", "linux", "linux64"))
-HEX = Allowed("a text of hexadecimal digits, an even number", is_hex)
-COPY = Allowed("a text of hexadecimal digits, for 1 to 256 bytes",
-               lambda v: is_hex(v) and is_copy(bytes_of(v)))
 ANOTHER_NAME = "another name than that of each other file"
-
-
-def index_below(count: int) -> Allowed:
-    return Allowed(f"the index of an entry, below {count}", lambda v: is_number(v) and v < count)
-
-
-# ---- the keys of each table
-
-
-def root_keys(count: int) -> List[Key]:
-    """Of a description that has so many entries."""
-    return [Key("size", True, NUMBER), Key("pool", True, TWO_NUMBERS, NUMBER),
-            Key("fill", False, BYTE), Key("default", False, index_below(count)),
-            Key("fallback", False, NUMBERS, index_below(count)), Key("region", False, TABLES),
-            Key("file", False, TABLES), Key("entry", True, ENTRIES)]
-
-
-REGION_KEYS = [Key("base", True, NUMBER), Key("length", True, NUMBER), Key("kind", True, KIND)]
-FILE_KEYS = [Key("name", True, TEXT), Key("hex", True, HEX)]
-ENTRY_KEYS = [Key("title", True, TITLE), Key("protocol", True, PROTOCOL),
-              Key("kernel", True, TEXT), Key("line", False, TEXT)]
-MULTIBOOT2_KEYS = ENTRY_KEYS + [Key("module", False, MODULES), Key("rsdp_old", False, COPY),
-                                Key("rsdp_new", False, COPY)]
-LINUX_KEYS = ENTRY_KEYS + [Key("initrd", False, TEXT)]
-MODULE_KEYS = [Key("file", True, TEXT), Key("line", False, TEXT)]
-
-
-def protocol_of(value) -> Optional[int]:
-    try:
-        return protocol_named(value)
-    except BadDescription:
-        return None
 
 
 # ---- as they are told
@@ -178,8 +88,7 @@ def is_one_fewer(word: bytes, other: bytes) -> bool:
 
 def faults(tree: dict) -> List[Fault]:
     """Each of a whole description; which of them is told is no rule."""
-    count = len(tree["entry"]) if is_array(tree.get("entry")) else 0
-    found = [*in_table("", tree, root_keys(count)),
+    found = [*in_table("", tree, root_keys(entry_count(tree))),
              *in_items("region", tree, lambda path, table: in_table(path, table, REGION_KEYS)),
              *in_items("file", tree, lambda path, table: in_table(path, table, FILE_KEYS)),
              *twice_named(tree), *in_items("entry", tree, in_entry)]

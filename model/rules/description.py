@@ -1,7 +1,7 @@
 """The description of a boot, in TOML. FORMATS.md "The description"."""
 
 import re
-from typing import Dict, List, NamedTuple, NoReturn, Optional, Tuple
+from typing import Any, Callable, Dict, List, NamedTuple, NoReturn, Optional, Tuple
 
 from .entry import is_copy
 from .handover import MULTIBOOT2, PROTOCOL_NAMES
@@ -41,6 +41,20 @@ class Description(NamedTuple):
     entries: List[MenuEntry]
 
 
+class Allowed(NamedTuple):
+    """What a value must be, and whether one is; of an array, but for its items."""
+    told: str
+    holds: Callable[[Any], bool]
+    words: Tuple[str, ...] = ()  # if it must be one of these, in the order of the page
+
+
+class Key(NamedTuple):
+    name: str
+    is_required: bool
+    allowed: Allowed
+    items: Optional[Allowed] = None  # what each item of an array must be that is no table
+
+
 def bad(why: str) -> NoReturn:
     raise BadDescription(why)
 
@@ -76,140 +90,156 @@ def fits(value) -> bool:
     return not isinstance(value, int) or -NUMBER_LIMIT <= value < NUMBER_LIMIT
 
 
+# ---- what a value must be
+
+
+def is_number(value) -> bool:
+    return type(value) is int and 0 <= value < NUMBER_LIMIT
+
+
+def is_text(value) -> bool:
+    return isinstance(value, str)
+
+
+def is_array(value) -> bool:
+    return isinstance(value, list)
+
+
+def is_hex(value) -> bool:
+    return is_text(value) and re.fullmatch("([0-9a-fA-F]{2})*", value) is not None
+
+
+def protocol_of(value) -> Optional[int]:
+    words = {word: protocol for protocol, word in PROTOCOL_NAMES.items()}
+    return words.get(value) if is_text(value) else None
+
+
+NUMBER = Allowed("a number of 0 or more", is_number)
+TWO_NUMBERS = Allowed("an array of two numbers", lambda v: is_array(v) and len(v) == 2)
+BYTE = Allowed("a number from 0 to 255", lambda v: is_number(v) and v <= 255)
+NUMBERS = Allowed("an array of numbers", is_array)
+TABLES = Allowed("an array of tables", is_array)
+ENTRIES = Allowed("an array of 1 to 32 tables",
+                  lambda v: is_array(v) and 1 <= len(v) <= MAX_ENTRIES)
+MODULES = Allowed("an array of at most 64 tables",
+                  lambda v: is_array(v) and len(v) <= MAX_MODULES)
+TABLE = Allowed("a table", lambda v: isinstance(v, dict))
+TEXT = Allowed("a text", is_text)
+TITLE = Allowed("a text of 1 to 64 printable characters of ASCII",
+                lambda v: is_text(v) and re.fullmatch("[ -~]{1,64}", v) is not None)
+KIND = Allowed('"usable", "reserved", "acpi", "nvs" or "bad"', lambda v: is_text(v) and v in KINDS,
+               ("usable", "reserved", "acpi", "nvs", "bad"))
+PROTOCOL = Allowed('"multiboot2", "linux" or "linux64"', lambda v: protocol_of(v) is not None,
+                   ("multiboot2", "linux", "linux64"))
+HEX = Allowed("a text of hexadecimal digits, an even number", is_hex)
+COPY = Allowed("a text of hexadecimal digits, for 1 to 256 bytes",
+               lambda v: is_hex(v) and is_copy(bytes.fromhex(v)))
+
+
+def index_below(count: int) -> Allowed:
+    return Allowed(f"the index of an entry, below {count}", lambda v: is_number(v) and v < count)
+
+
+# ---- the keys of each table
+
+
+def root_keys(count: int) -> List[Key]:
+    """Of a description that has so many entries."""
+    return [Key("size", True, NUMBER), Key("pool", True, TWO_NUMBERS, NUMBER),
+            Key("fill", False, BYTE), Key("default", False, index_below(count)),
+            Key("fallback", False, NUMBERS, index_below(count)), Key("region", False, TABLES),
+            Key("file", False, TABLES), Key("entry", True, ENTRIES)]
+
+
+REGION_KEYS = [Key("base", True, NUMBER), Key("length", True, NUMBER), Key("kind", True, KIND)]
+FILE_KEYS = [Key("name", True, TEXT), Key("hex", True, HEX)]
+ENTRY_KEYS = [Key("title", True, TITLE), Key("protocol", True, PROTOCOL),
+              Key("kernel", True, TEXT), Key("line", False, TEXT)]
+MULTIBOOT2_KEYS = ENTRY_KEYS + [Key("module", False, MODULES), Key("rsdp_old", False, COPY),
+                                Key("rsdp_new", False, COPY)]
+LINUX_KEYS = ENTRY_KEYS + [Key("initrd", False, TEXT)]
+MODULE_KEYS = [Key("file", True, TEXT), Key("line", False, TEXT)]
+
+
 # ---- tables
 
 
 def describe(tree: dict) -> Description:
-    only(tree, "size", "pool", "fill", "default", "fallback", "region", "file", "entry")
-    size = number(required(tree, "size"))
-    pool = range_of(required(tree, "pool"))
-    fill = number(tree.get("fill", 0))
-    if fill > 255:
-        bad("fill")
-    regions = [region_in(table) for table in tables(tree.get("region", []))]
-    named = [file_in(table) for table in tables(tree.get("file", []))]
+    check_keys(tree, root_keys(entry_count(tree)))
+    regions = [region_in(table) for table in tables(tree, "region")]
+    named = [file_in(table) for table in tables(tree, "file")]
     files = dict(named)
     if len(files) != len(named):
         bad("two files of one name")
-    entries = [entry_in(table) for table in tables(required(tree, "entry"))]
-    if not 1 <= len(entries) <= MAX_ENTRIES:
-        bad("number of entries")
-    default = number(tree.get("default", 0))
-    fallbacks = [number(value) for value in array(tree.get("fallback", []))]
-    if any(index >= len(entries) for index in [default, *fallbacks]):
-        bad("an index names no entry")
-    return Description(Machine(size, regions, pool), fill, default, fallbacks, files, entries)
+    entries = [entry_in(table) for table in tables(tree, "entry")]
+    start, end = tree["pool"]
+    return Description(Machine(tree["size"], regions, (start, end)), tree.get("fill", 0),
+                       tree.get("default", 0), tree.get("fallback", []), files, entries)
+
+
+def entry_count(tree: dict) -> int:
+    return len(tree["entry"]) if is_array(tree.get("entry")) else 0
 
 
 def region_in(table: dict) -> Region:
-    only(table, "base", "length", "kind")
-    kind = text(required(table, "kind"))
-    if kind not in KINDS:
-        bad("kind")
-    return Region(number(required(table, "base")), number(required(table, "length")), KINDS[kind])
+    check_keys(table, REGION_KEYS)
+    return Region(table["base"], table["length"], KINDS[table["kind"]])
 
 
 def file_in(table: dict) -> Tuple[str, bytes]:
-    only(table, "name", "hex")
-    return text(required(table, "name")), bytes_of(required(table, "hex"))
+    check_keys(table, FILE_KEYS)
+    return table["name"], bytes.fromhex(table["hex"])
 
 
 def entry_in(table: dict) -> MenuEntry:
-    protocol = protocol_named(text(required(table, "protocol")))
-    if protocol == MULTIBOOT2:
-        only(table, "title", "protocol", "kernel", "line", "module", "rsdp_old", "rsdp_new")
-    else:
-        only(table, "title", "protocol", "kernel", "line", "initrd")
-    title = text(required(table, "title"))
-    if not re.fullmatch("[ -~]{1,64}", title):
-        bad("title")
-    modules = [module_in(module) for module in tables(table.get("module", []))]
-    if len(modules) > MAX_MODULES:
-        bad("number of modules")
+    protocol = protocol_of(table.get("protocol"))
+    if protocol is None:
+        bad("protocol")
+    check_keys(table, MULTIBOOT2_KEYS if protocol == MULTIBOOT2 else LINUX_KEYS)
     return MenuEntry(
-        title=title,
+        title=table["title"],
         protocol=protocol,
-        kernel=text(required(table, "kernel")),
+        kernel=table["kernel"],
         line=line_in(table),
-        modules=modules,
-        initrd=text(table["initrd"]) if "initrd" in table else None,
+        modules=[module_in(module) for module in tables(table, "module")],
+        initrd=table.get("initrd"),
         rsdp_old=copy_in(table, "rsdp_old"),
         rsdp_new=copy_in(table, "rsdp_new"),
     )
 
 
-def protocol_named(name: str) -> int:
-    for protocol, word in PROTOCOL_NAMES.items():
-        if word == name:
-            return protocol
-    bad("protocol")
-
-
 def copy_in(table: dict, key: str) -> Optional[bytes]:
-    if key not in table:
-        return None
-    copy = bytes_of(table[key])
-    if not is_copy(copy):
-        bad("length of a copy")
-    return copy
+    return bytes.fromhex(table[key]) if key in table else None
 
 
 def module_in(table: dict) -> Tuple[str, bytes]:
-    only(table, "file", "line")
-    return text(required(table, "file")), line_in(table)
+    check_keys(table, MODULE_KEYS)
+    return table["file"], line_in(table)
 
 
 def line_in(table: dict) -> bytes:
-    return text(table.get("line", "")).encode("utf-8")
+    return table.get("line", "").encode("utf-8")
 
 
-# ---- keys and values
+def check_keys(table: dict, keys: List[Key]) -> None:
+    known = [key.name for key in keys]
+    for name in table:
+        if name not in known:
+            bad(f"unknown key {name}")
+    for key in keys:
+        if key.name not in table:
+            if key.is_required:
+                bad(f"missing key {key.name}")
+            continue
+        value = table[key.name]
+        if not key.allowed.holds(value):
+            bad(f"{key.name} is not {key.allowed.told}")
+        if key.items is not None and not all(key.items.holds(item) for item in value):
+            bad(f"{key.name} has an item that is not {key.items.told}")
 
 
-def only(table: dict, *keys: str) -> None:
-    for key in table:
-        if key not in keys:
-            bad(f"unknown key {key}")
-
-
-def required(table: dict, key: str):
-    if key not in table:
-        bad(f"missing key {key}")
-    return table[key]
-
-
-def number(value) -> int:
-    if type(value) is not int or not 0 <= value < NUMBER_LIMIT:  # a boolean is an int to isinstance
-        bad("no number")
-    return value
-
-
-def text(value) -> str:
-    if not isinstance(value, str):
-        bad("no text")
-    return value
-
-
-def bytes_of(value) -> bytes:
-    digits = text(value)
-    if not re.fullmatch("([0-9a-fA-F]{2})*", digits):
-        bad("hex")
-    return bytes.fromhex(digits)
-
-
-def array(value) -> list:
-    if not isinstance(value, list):
-        bad("no array")
-    return value
-
-
-def tables(value) -> List[dict]:
-    if not all(isinstance(table, dict) for table in array(value)):
-        bad("no array of tables")
-    return value
-
-
-def range_of(value) -> Range:
-    if len(array(value)) != 2:
-        bad("no range")
-    return number(value[0]), number(value[1])
+def tables(table: dict, key: str) -> List[dict]:
+    items = table.get(key, [])
+    if not all(TABLE.holds(item) for item in items):
+        bad(f"{key} has an item that is no table")
+    return items

@@ -1,13 +1,9 @@
+pub mod FaultLemmas
 pub mod ItemLemmas
-pub mod TablesLemmas
+pub mod ArrayLemmas
+pub mod EntryLemmas
 pub mod FileLemmas
 pub mod NameLemmas
+pub mod SameNameLemmas
 pub mod KeyLemmas
 pub mod DescribedLemmas
-pub mod MenuLemmas
-pub mod BadValueLemmas
-pub mod BadRuleLemmas
-pub mod BadItemLemmas
-pub mod DescribesLemmas
-pub mod PlaceLemmas
-pub mod SameNameLemmas

@@ -1,134 +1,268 @@
--- Files of one name, among the values that stand for files.
-use Rattle.std.proofs.Common.{◌≡◌, ◌≢◌, ℕ, suc, zero, ◌+◌, ◌<◌, Bool, true, Option}
+-- Bad files, and files of one name.
+use Rattle.std.proofs.Common.{◌≡◌, ◌≢◌, ℕ, suc, zero, ◌+◌, ◌<◌, Bool, true, false, Option}
 use Rattle.std.proofs.Common.{Some, None, List, [], ◌∷◌, ◌++◌, length, map, take, get_or, refl, ap}
-use Rattle.std.proofs.Common.{sym, ◌∙◌, inl, inr, arith}
-use Rattle.std.specs.Prelude.{codes, slice_get}
+use Rattle.std.proofs.Common.{sym, ◌∙◌, inl, inr, arith, not, ◌&&◌, ◌||◌}
+use Rattle.std.specs.Prelude.{codes, slice_get, if◌then◌else◌, IfSome, IsSome}
+use Rattle.std.specs.Option.{IsSomeAnd}
 use Rattle.std.specs.Str.{bytes_eq}
-use Rattle.std.proofs.lemmas.Bool.{and_parts, cases_Bool}
-use Rattle.std.proofs.lemmas.List.{take_more, map-append}
+use Rattle.std.proofs.lemmas.Bool.{cases_Bool}
 use Rattle.std.proofs.lemmas.Slice.Eq.{bytes_eq-Decides}
 use Rattle.toml.specs.Data.{Data, string, integer, float, boolean, datetime, array, table}
-use Rattle.toml.specs.Data.{Members, get_member, get, get_item}
-use Rattle.toml.specs.View.{view, items_view}
-use Rattle.toml.specs.declared.value.Value.{Value}
-use Rattle.program_desc.specs.Described.{has_file}
-use Rattle.program_desc.specs.BadKeys.{file_name_at, item_at}
-use Rattle.program_desc.specs.internal.DescriptionSearch.{file_rule}
-use Rattle.program_desc.specs.internal.BadKeySearch.{all_items, array_items, item_passes, passes}
-use Rattle.program_desc.specs.internal.BadKeySearch.{passes_at}
-use Rattle.program_desc.specs.internal.DescriptionSearch.{IsSameName, files_pass}
-use Rattle.program_desc.specs.internal.DescriptionSearch.{name_value}
-use Rattle.program_desc.specs.internal.DescriptionSearch.{name_only_file}
-use Rattle.program_desc.specs.internal.DescriptionSearch.{value_text_or_empty, value_or}
-use Rattle.program_desc.specs.declared.allowed.Allowed.TheVariants.{AnyText}
+use Rattle.toml.specs.Data.{Items, no_items, item, Members, get_member, get, get_item, as_table}
+use Rattle.program_desc.specs.TomlValues.{◌>>=◌, at_key, each_item, has_only, in_table, required}
+use Rattle.program_desc.specs.TomlValues.{some_when, toml_bytes, toml_text}
+use Rattle.program_desc.specs.Described.{InlineFile, file_in, has_file, names_differ}
+use Rattle.program_desc.specs.Views.{file_view}
+use Rattle.program_desc.specs.KeyRules.{KeyRule, keys_of_set}
+use Rattle.program_desc.specs.BadKeys.{IsBadKey, IsFaultAt, IsItemFault, IsKeyFault, file_name_at}
+use Rattle.program_desc.specs.BadKeys.{item_at}
+use Rattle.program_desc.specs.internal.TableReading.{HasBadItem, HasEarlierName, IsBadTable, array_by}
+use Rattle.program_desc.specs.declared.bad_key.BadKey.{BadKey}
+use Rattle.program_desc.specs.declared.bad_key.KeyFault.{KeyFault}
+use Rattle.program_desc.specs.declared.bad_key.KeyFault.TheVariants.{NoTable, Unknown, Missing}
+use Rattle.program_desc.specs.declared.bad_key.KeyFault.TheVariants.{BadValue, BadItem, SameName}
+use Rattle.program_desc.specs.declared.bad_key.TablePlace.TheVariants as places
+use Rattle.program_desc.specs.declared.file_row.FileRow.{FileRow}
 use Rattle.program_desc.specs.declared.key_set.KeySet.TheVariants as keys
-use Rattle.program_desc.proofs.DescribesLemmas.{rule_passes, table_parts}
-use Rattle.program_desc.proofs.PlaceLemmas.{item_of}
-use Rattle.program_desc.specs.KeyRules.{key_rules, required_key}
-use Rattle.std.proofs.lemmas.Option.{slice_get_read}
+use Rattle.program_desc.proofs.ArrayLemmas.{bad_table, given_item}
+use Rattle.program_desc.proofs.FaultLemmas.{must_stand}
 
--- the first values, and one more
-pub first_values : (vs : List Value) (i : ℕ) (v : Value) → i < length vs → v ≡ get_or vs i v
-    → map name_only_file (take (i + 1) vs) ≡ map name_only_file (take i vs) ++ name_only_file v ∷ []
-first_values vs i v within at_i =
-    ap (map name_only_file) (take_more vs i v within)
-    ∙ map-append name_only_file (take i vs) (get_or vs i v ∷ [])
-    ∙ ap (λ w. map name_only_file (take i vs) ++ name_only_file w ∷ []) (sym at_i)
+-- ---- bad files
 
--- a name among the first values is that of one of them
-pub earlier : (name : List ℕ) (vs : List Value) (i : ℕ)
-    → has_file name (map name_only_file (take i vs)) ≡ true
-    → (j : ℕ) × (j < i) × ((w : Value) × (slice_get vs j ≡ Some w) × ((name_only_file w).name ≡ name))
+-- an item's fault is no name that two files have
+at_file_item : (ms : Members) (i : ℕ) (fault : KeyFault)
+    → IsSomeAnd (item_at (codes "file") i ms) (λ d. IsItemFault keys.File d fault)
+    → IsFaultAt ms (places.File i) fault
+at_file_item ms i (NoTable value) h = h
+at_file_item ms i (Unknown key known) h = h
+at_file_item ms i (Missing key allowed) h = h
+at_file_item ms i (BadValue key value allowed) h = h
+at_file_item ms i (BadItem key index value allowed) h = h
+at_file_item ms i (SameName value) h = absurd (no_item (item_at (codes "file") i ms) h)
+  where
+    no_table : (o : Option Members)
+        → IsSomeAnd o (λ ms. IsKeyFault 0 keys.File ms (SameName value)) → ⊥
+    no_table None h = h
+    no_table (Some ms) (inl h) = h
+    no_table (Some ms) (inr (inl h)) = h
+    no_table (Some ms) (inr (inr h)) = h
+
+    no_item : (o : Option Data)
+        → IsSomeAnd o (λ d. IsItemFault keys.File d (SameName value)) → ⊥
+    no_item None h = h
+    no_item (Some d) h = no_table (as_table d) h
+
+pub at_file : (rule : KeyRule) (ms : Members) (ds : Items) → rule.key ≡ codes "file"
+    → array_by rule ms ≡ Some ds → (bad : BadKey)
+    → HasBadItem (IsBadTable places.File keys.File) ds bad → IsBadKey ms bad
+at_file rule ms ds named is bad h =
+    let t = bad_table places.File keys.File h.0 bad (get_item h.0 ds) h.1 in
+    let there = rw (given_item rule ms ds h.0 is, named) at t.1 in
+    rw t.0 (at_file_item ms h.0 bad.fault there)
+
+-- ---- names
+
+-- a text that is read is the value
+text_is : (d : Data) (s : List ℕ) → toml_text d ≡ Some s → d ≡ string s
+text_is (string t) s is = let same : t ≡ s = cc is in ap string same
+text_is (integer z) s is = absurd (cc is)
+text_is (float x) s is = absurd (cc is)
+text_is (boolean b) s is = absurd (cc is)
+text_is (datetime t) s is = absurd (cc is)
+text_is (array ds) s is = absurd (cc is)
+text_is (table ms) s is = absurd (cc is)
+
+-- the name of a file that is read stands in its table
+name_by : (o : Option Data) (bytes : Option (List ℕ)) (f : InlineFile)
+    → (required toml_text o >>= λ name. bytes >>= λ b. Some record { name = name; bytes = b })
+    ≡ Some f
+    → o ≡ Some (string f.name)
+name_by None bytes f h = absurd (cc h)
+name_by (Some d) bytes f h = of_text (toml_text d) bytes refl h
+  where
+    of_text : (t : Option (List ℕ)) (b : Option (List ℕ)) → toml_text d ≡ t
+        → (t >>= λ name. b >>= λ b. Some record { name = name; bytes = b }) ≡ Some f
+        → Some d ≡ Some (string f.name)
+    of_text None b is h = absurd (cc h)
+    of_text (Some t) None is h = absurd (cc h)
+    of_text (Some t) (Some b) is h =
+        let same : record { name = t; bytes = b } ≡ f = cc h in
+        let named : t ≡ f.name = ap (λ (g : InlineFile). g.name) same in
+        ap Some (text_is d t is ∙ ap string named)
+
+file_named_so : (ms : Members) (f : InlineFile) → file_in ms ≡ Some f
+    → get_member (codes "name") ms ≡ Some (string f.name)
+unfolding file_in
+file_named_so ms f h = of_keys (has_only (keys_of_set keys.File) ms) h
+  where
+    of_keys : (known : Bool)
+        → (if known then (at_key toml_text (codes "name") ms >>= λ name.
+        at_key toml_bytes (codes "hex") ms >>= λ b. Some record { name = name; bytes = b })
+        else None) ≡ Some f
+        → get_member (codes "name") ms ≡ Some (string f.name)
+    of_keys true h = name_by (get_member (codes "name") ms) (at_key toml_bytes (codes "hex") ms) f h
+    of_keys false h = absurd (cc h)
+
+value_name : (d : Data) (f : InlineFile) → in_table file_in d ≡ Some f
+    → get (codes "name") d ≡ Some (string f.name)
+value_name (table ms) f h = file_named_so ms f h
+value_name (string t) f h = absurd (cc h)
+value_name (integer z) f h = absurd (cc h)
+value_name (float x) f h = absurd (cc h)
+value_name (boolean b) f h = absurd (cc h)
+value_name (datetime t) f h = absurd (cc h)
+value_name (array ds) f h = absurd (cc h)
+
+-- what holds of the name of each file, where it holds of the first and of those after it
+named_more : (d : Data) (ds : Items) (o : Option InlineFile) (rest : Option (List InlineFile))
+    (fs : List InlineFile) (i : ℕ) (f : InlineFile) → in_table file_in d ≡ o
+    → ((gs : List InlineFile) (k : ℕ) → rest ≡ Some gs → slice_get gs k ≡ Some f
+    → (get_item k ds >>= get (codes "name")) ≡ Some (string f.name))
+    → (o >>= λ g. rest >>= λ gs. Some (g ∷ gs)) ≡ Some fs → slice_get fs i ≡ Some f
+    → (get_item i (item d ds) >>= get (codes "name")) ≡ Some (string f.name)
+named_more d ds None rest fs i f one more h at_i = absurd (cc h)
+named_more d ds (Some g) None fs i f one more h at_i = absurd (cc h)
+named_more d ds (Some g) (Some gs) fs zero f one more h at_i =
+    let same : g ∷ gs ≡ fs = cc h in
+    let first : Some g ≡ Some f = rw (← same) at at_i in
+    value_name d f (one ∙ first)
+named_more d ds (Some g) (Some gs) fs (suc i) f one more h at_i =
+    let same : g ∷ gs ≡ fs = cc h in
+    more gs i refl (rw (← same) at at_i)
+
+none_there : (fs : List InlineFile) (i : ℕ) (f : InlineFile) → [] ≡ fs → slice_get fs i ≡ Some f → ⊥
+none_there [] i f none h = absurd (cc h)
+none_there (g ∷ fs) i f none h = absurd (cc none)
+
+-- of the files that are read, each has its name at its place
+pub name_there : (ds : Items) (fs : List InlineFile) (i : ℕ) (f : InlineFile)
+    → each_item (in_table file_in) ds ≡ Some fs → slice_get fs i ≡ Some f
+    → (get_item i ds >>= get (codes "name")) ≡ Some (string f.name)
+name_there no_items fs i f read at_i =
+    let none : [] ≡ fs = cc read in absurd (none_there fs i f none at_i)
+name_there (item d ds) fs i f read at_i =
+    named_more d ds (in_table file_in d) (each_item (in_table file_in) ds) fs i f refl
+    (λ gs k is there. name_there ds gs k f is there) read at_i
+
+-- the file of an index, as it is seen
+seen_at : {A : Type 0} (files : List (FileRow A)) (i : ℕ) (f : FileRow A) → slice_get files i ≡ Some f
+    → slice_get (map file_view files) i ≡ Some (file_view f)
+seen_at [] i f is = absurd (cc is)
+seen_at (g ∷ files) zero f is = let same : g ≡ f = cc is in ap (λ h. Some (file_view h)) same
+seen_at (g ∷ files) (suc i) f is = seen_at files i f is
+
+-- a name among the first files is that of one of them
+earlier : {A : Type 0} (name : List ℕ) (files : List (FileRow A)) (i : ℕ)
+    → has_file name (map file_view (take i files)) ≡ true
+    → (j : ℕ) × (j < i) × ((f : FileRow A) × (slice_get files j ≡ Some f) × (f.name ≡ name))
 earlier name [] zero h = absurd (cc h)
 earlier name [] (suc i) h = absurd (cc h)
-earlier name (v ∷ vs) zero h = absurd (cc h)
-earlier name (v ∷ vs) (suc i) h =
-    elim (cases_Bool (bytes_eq (name_only_file v).name name)) [
-      | inl same ↦ (0, omega arith, (v, refl, (bytes_eq-Decides (name_only_file v).name name).0 same))
+earlier name (f ∷ files) zero h = absurd (cc h)
+earlier name (f ∷ files) (suc i) h =
+    elim (cases_Bool (bytes_eq f.name name)) [
+      | inl same ↦ (0, omega arith, (f, refl, (bytes_eq-Decides f.name name).0 same))
       | inr other ↦
-          let rest : has_file name (map name_only_file (take i vs)) ≡ true = rw other at h in
-          let r = earlier name vs i rest in
+          let rest : has_file name (map file_view (take i files)) ≡ true = rw other at h in
+          let r = earlier name files i rest in
           (suc r.0, omega (arith, r.1), (r.2.0, r.2.1, r.2.2))
     ]
 
--- what holds of each item holds of one
-pub one_passes : (test : Data → Bool) (vs : List Value) (i : ℕ) (v : Value)
-    → all_items test (items_view vs) ≡ true → slice_get vs i ≡ Some v → test (view v) ≡ true
-one_passes test [] i v all at_i = absurd (cc at_i)
-one_passes test (w ∷ vs) zero v all at_i =
-    let same : w ≡ v = cc at_i in
-    rw (← same) (and_parts (test (view w)) (all_items test (items_view vs)) all).0
-one_passes test (w ∷ vs) (suc i) v all at_i =
-    one_passes test vs i v (and_parts (test (view w)) (all_items test (items_view vs)) all).1 at_i
+-- a file's name is among those of all
+has_its_name : {A : Type 0} (name : List ℕ) (files : List (FileRow A)) (i : ℕ) (f : FileRow A)
+    → slice_get files i ≡ Some f → f.name ≡ name → has_file name (map file_view files) ≡ true
+has_its_name name [] i f is named = absurd (cc is)
+has_its_name name (g ∷ files) zero f is named =
+    let same : g ≡ f = cc is in
+    let equal : bytes_eq g.name name ≡ true =
+    (bytes_eq-Decides g.name name).1 (ap (λ (h : FileRow _). h.name) same ∙ named) in
+    rw equal refl
+has_its_name name (g ∷ files) (suc i) f is named =
+    rw (has_its_name name files i f is named) (either (bytes_eq g.name name))
+  where
+    either : (b : Bool) → (b || true) ≡ true
+    either true = refl
+    either false = refl
 
-pub item_view : (vs : List Value) (i : ℕ) (v : Value) → slice_get vs i ≡ Some v
-    → get_item i (items_view vs) ≡ Some (view v)
-item_view [] i v at_i = absurd (cc at_i)
-item_view (w ∷ vs) zero v at_i = let same : w ≡ v = cc at_i in ap (λ x. Some (view x)) same
-item_view (w ∷ vs) (suc i) v at_i = item_view vs i v at_i
+-- where a file has the name of an earlier one, the names do not differ
+pub not_differ : {A : Type 0} (files : List (FileRow A)) (i : ℕ) (f : FileRow A)
+    → slice_get files i ≡ Some f → has_file f.name (map file_view (take i files)) ≡ true
+    → names_differ (map file_view files) ≡ false
+not_differ [] i f is has = absurd (cc is)
+not_differ (g ∷ files) zero f is has = absurd (cc has)
+not_differ (g ∷ files) (suc i) f is has =
+    elim (cases_Bool (bytes_eq g.name f.name)) [
+      | inl same ↦
+          let equal : g.name ≡ f.name = (bytes_eq-Decides g.name f.name).0 same in
+          rw (has_its_name g.name files i f is (sym equal)) refl
+      | inr other ↦
+          let rest : has_file f.name (map file_view (take i files)) ≡ true = rw other at has in
+          rw (not_differ files i f is rest) (neither (not (has_file g.name (map file_view files))))
+    ]
+  where
+    neither : (b : Bool) → (b && false) ≡ false
+    neither true = refl
+    neither false = refl
 
--- a file that passes has a name
-text_of : (o : Option Data) (d : Data) → passes_at true AnyText o ≡ true
-    → (o ≡ Some (string (value_text_or_empty (value_or d o))))
-    × (value_or d o ≡ string (value_text_or_empty (value_or d o)))
-text_of None d h = absurd (cc h)
-text_of (Some (string s)) d h = (refl, refl)
-text_of (Some (integer z)) d h = absurd (cc h)
-text_of (Some (float x)) d h = absurd (cc h)
-text_of (Some (boolean b)) d h = absurd (cc h)
-text_of (Some (datetime dt)) d h = absurd (cc h)
-text_of (Some (array ds)) d h = absurd (cc h)
-text_of (Some (table ms)) d h = absurd (cc h)
+-- a name at its place in the description
+named_at : (rule : KeyRule) (ms : Members) (ds : Items) (fs : List InlineFile) (i : ℕ)
+    (f : InlineFile) → rule.key ≡ codes "file" → array_by rule ms ≡ Some ds
+    → each_item (in_table file_in) ds ≡ Some fs → slice_get fs i ≡ Some f
+    → file_name_at i ms ≡ Some f.name
+named_at rule ms ds fs i f named is read at_i =
+    let there = rw (given_item rule ms ds i is, named) at (name_there ds fs i f read at_i) in
+    rw there refl
 
-pub has_name : (d : Data) → item_passes keys.File d ≡ true
-    → (get (codes "name") d ≡ Some (string (value_text_or_empty (name_value d))))
-    × (name_value d ≡ string (value_text_or_empty (name_value d)))
-has_name (table ms) h =
-    let t = table_parts keys.File ms h in
-    let name =
-    rule_passes (key_rules 0 keys.File) ms 0 (required_key (codes "name") AnyText) t.1 refl in
-    text_of (get_member (codes "name") ms) (table ms) name
-has_name (string s) h = absurd (cc h)
-has_name (integer z) h = absurd (cc h)
-has_name (float x) h = absurd (cc h)
-has_name (boolean b) h = absurd (cc h)
-has_name (datetime dt) h = absurd (cc h)
-has_name (array ds) h = absurd (cc h)
+-- what is given is what it is
+given_is : (o : Option Data) (d e : Data) → o ≡ Some d → IfSome o (λ f. e ≡ f) → e ≡ d
+given_is o d e is h = rw is at h
 
--- the name of a file of these, as it stands in the description
-pub name_there : (ms : Members) (vs : List Value) (i : ℕ) (v : Value)
-    → items_view vs ≡ array_items (get_member (codes "file") ms)
-    → all_items (item_passes keys.File) (items_view vs) ≡ true → slice_get vs i ≡ Some v
-    → file_name_at i ms ≡ Some (name_only_file v).name
-name_there ms vs i v same all at_i =
-    let there : item_at (codes "file") i ms ≡ Some (view v) =
-    sym (item_of (get_member (codes "file") ms) i) ∙ ap (get_item i) (sym same)
-    ∙ item_view vs i v at_i in
-    let name = has_name (view v) (one_passes (item_passes keys.File) vs i v all at_i) in
-    rw (there, name.0) refl
+is_there : {T : Type 0} (xs : List T) (i : ℕ) → i < length xs → IsSome (slice_get xs i)
+is_there [] i within = absurd (omega (arith, within))
+is_there (x ∷ xs) zero within = refl
+is_there (x ∷ xs) (suc i) within = is_there xs i (omega (arith, within))
+
+of_given : {T : Type 0} (P : T → Type 0) (o : Option T) → IfSome o P → IsSome o
+    → (x : T) × (o ≡ Some x) × P x
+of_given P None holds some = absurd (cc some)
+of_given P (Some x) holds some = (x, refl, holds)
+
+-- the file that has the name of an earlier one
+pub named_earlier : {A : Type 0} (files : List (FileRow A)) (i : ℕ) → HasEarlierName files i
+    → (f : FileRow A) × (slice_get files i ≡ Some f)
+    × (has_file f.name (map file_view (take i files)) ≡ true)
+named_earlier files i h =
+    of_given (λ f. has_file f.name (map file_view (take i files)) ≡ true) (slice_get files i) h.0
+    (is_there files i h.1)
 
 -- two files of one name are a fault of the later one
-pub same_name_fault : (ms : Members) (vs : List Value) (i : ℕ) (v : Value) (value : Data)
-    → items_view vs ≡ array_items (get_member (codes "file") ms) → files_pass ms ≡ true
-    → IsSameName vs i → v ≡ get_or vs i v → value ≡ name_value (view v)
+pub same_name_fault : {A : Type 0} (rule : KeyRule) (ms : Members) (ds : Items)
+    (files : List (FileRow A)) (i : ℕ) (d value : Data) → rule.key ≡ codes "file"
+    → array_by rule ms ≡ Some ds
+    → each_item (in_table file_in) ds ≡ Some (map file_view files) → HasEarlierName files i
+    → get_item i ds ≡ Some d → IfSome (get (codes "name") d) (λ name. value ≡ name)
     → (name : List ℕ) × (value ≡ string name) × (file_name_at i ms ≡ Some name)
     × ((j : ℕ) × (j ≢ i) × (file_name_at j ms ≡ Some name))
-same_name_fault ms vs i v value same files named at_v is =
-    let at_i : slice_get vs i ≡ Some v = slice_get_read vs (length vs) i v refl named.1 at_v in
-    let items =
-    and_parts (passes file_rule ms)
-    (all_items (item_passes keys.File) (array_items (get_member (codes "file") ms))) files in
-    let all : all_items (item_passes keys.File) (items_view vs) ≡ true = rw same items.1 in
-    let has : has_file (name_only_file v).name (map name_only_file (take i vs)) ≡ true =
-    rw at_i at named.0 in
-    let e = earlier (name_only_file v).name vs i has in
-    let text = has_name (view v) (one_passes (item_passes keys.File) vs i v all at_i) in (
-      (name_only_file v).name,
-      is ∙ text.1,
-      name_there ms vs i v same all at_i,
+same_name_fault rule ms ds files i d value named is read again here told =
+    let r = named_earlier files i again in
+    let f = r.0 in
+    let e = earlier f.name files i r.2 in
+    let seen = seen_at files i f r.1 in
+    let there = rw here at (name_there ds (map file_view files) i (file_view f) read seen) in (
+      f.name,
+      given_is (get (codes "name") d) (string f.name) value there told,
+      named_at rule ms ds (map file_view files) i (file_view f) named is read seen,
       (
         e.0,
         (λ equal. absurd (omega (arith, e.1, equal))),
-        name_there ms vs e.0 e.2.0 same all e.2.1 ∙ ap Some e.2.2,
+        named_at rule ms ds (map file_view files) e.0 (file_view e.2.0) named is read
+            (seen_at files e.0 e.2.0 e.2.1) ∙ ap Some e.2.2,
       ),
     )
+
+-- no such files are read
+pub same_name_fails : {A : Type 0} (ds : Items) (files : List (FileRow A)) (i : ℕ)
+    → each_item (in_table file_in) ds ≡ Some (map file_view files) → HasEarlierName files i
+    → (each_item (in_table file_in) ds >>= some_when names_differ) ≡ None
+same_name_fails ds files i read again =
+    let r = named_earlier files i again in
+    rw (read, not_differ files i r.0 r.1 r.2) refl

@@ -1,10 +1,9 @@
 -- What a key of a description may hold. Own.
 use Rattle.std.specs.Prelude.{ℕ, suc, Bool, false, ◌&&◌, nat_le, Option, Some, None, is_some}
 use Rattle.toml.specs.Data.{Data, Items, no_items, item, as_array}
-use Rattle.bl_map.specs.Kinds.{kind_named}
 use Rattle.bl_plan.specs.MenuLimits.{max_entries, max_modules}
-use Rattle.program_desc.specs.TomlValues.{◌>>=◌, toml_number, toml_byte, toml_text, toml_bytes}
-use Rattle.program_desc.specs.TomlValues.{toml_index}
+use Rattle.program_desc.specs.TomlValues.{toml_number, toml_byte, toml_text, toml_bytes}
+use Rattle.program_desc.specs.TomlValues.{toml_index, toml_kind}
 use Rattle.program_desc.specs.Entries.{toml_title, toml_rsdp_copy, toml_protocol}
 use Rattle.program_desc.specs.declared.allowed.Allowed.{Allowed}
 use Rattle.program_desc.specs.declared.allowed.Allowed.TheVariants.{Number, Byte, IndexBelow}
@@ -38,7 +37,7 @@ allows EntryTables d = has_count 1 max_entries d
 allows ModuleTables d = has_count 0 max_modules d
 allows AnyText d = is_some (toml_text d)
 allows Title d = is_some (toml_title d)
-allows KindName d = is_some (toml_text d >>= kind_named)
+allows KindName d = is_some (toml_kind d)
 allows ProtocolName d = is_some (toml_protocol d)
 allows HexText d = is_some (toml_bytes d)
 allows CopyText d = is_some (toml_rsdp_copy d)

@@ -7,10 +7,9 @@ use Rattle.std.specs.List.{list_any}
 use Rattle.std.specs.declared.ops.Range.{Range}
 use Rattle.toml.specs.Data.{Data, Members}
 use Rattle.toml.specs.Parse.{parse_document}
-use Rattle.bl_map.specs.Kinds.{kind_named}
 use Rattle.bl_map.specs.declared.region.Region.{Region}
 use Rattle.program_desc.specs.TomlValues.{◌>>=◌, some_when, toml_number, toml_byte, toml_text}
-use Rattle.program_desc.specs.TomlValues.{toml_bytes}
+use Rattle.program_desc.specs.TomlValues.{toml_bytes, toml_kind}
 use Rattle.program_desc.specs.TomlValues.{toml_range, toml_index, toml_indices, has_only, at_key}
 use Rattle.program_desc.specs.TomlValues.{at_key_or, in_tables}
 use Rattle.program_desc.specs.KeyRules.{keys_of_set}
@@ -45,8 +44,7 @@ region_in ms =
     if has_only (keys_of_set keys.Region) ms then (do
       base ← at_key toml_number (codes "base") ms
       length ← at_key toml_number (codes "length") ms
-      name ← at_key toml_text (codes "kind") ms
-      kind ← kind_named name
+      kind ← at_key toml_kind (codes "kind") ms
       Some record { base = base; length = length; kind = kind })
     else None
 

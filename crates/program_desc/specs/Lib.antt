@@ -7,4 +7,5 @@ pub mod EntryFormViews
 pub mod Views
 pub mod Allowed
 pub mod BadKeys
+pub mod TableFaults
 pub mod internal

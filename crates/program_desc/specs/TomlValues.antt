@@ -7,6 +7,8 @@ use Rattle.std.specs.declared.ops.Range.{Range}
 use Rattle.toml.specs.Data.{Data, integer, string, array, table, Items, no_items, item, Members}
 use Rattle.toml.specs.Data.{no_members, member, get_member}
 use Rattle.hex.specs.Hex.{decode_of}
+use Rattle.bl_map.specs.Kinds.{kind_named}
+use Rattle.bl_map.specs.declared.kind.Kind.{Kind}
 
 infixl 10 ◌>>=◌
 abbrev pub ◌>>=◌ : {A B : Type 0} → Option A → (A → Option B) → Option B
@@ -30,6 +32,10 @@ toml_byte d = toml_number d >>= some_when (λ n. nat_lt n 256)
 abbrev pub toml_text : Data → Option (List ℕ)
 toml_text (string s) = Some s
 toml_text _ = None
+
+-- a kind of memory, by its name
+abbrev pub toml_kind : Data → Option Kind
+toml_kind d = toml_text d >>= kind_named
 
 abbrev pub bytes_from : {E : Type 0} → Result (List ℕ) E → Option (List ℕ)
 bytes_from (Ok bytes) = Some bytes

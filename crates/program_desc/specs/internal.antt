@@ -1,3 +1,2 @@
-pub mod BadKeySearch
-pub mod EntrySearch
-pub mod DescriptionSearch
+pub mod TableReading
+pub mod EntryReading

@@ -1,19 +1,28 @@
 //! The entries of a description.
-ghost use Rattle.std.specs.Prelude.{◌≡◌, ◌≤◌, length, map, codes, IfOk, IfSome};
+ghost use Rattle.std.specs.Prelude.{◌≡◌, ◌≤◌, length, map, codes, Some, IfOk, IfSome};
 ghost use Rattle.toml.specs.View.{view, table_view, items_view};
+ghost use Rattle.program_desc.specs.BadKeys.{IsBadKey};
+ghost use Rattle.program_desc.specs.KeyRules.{required_key, set_of_protocol};
+ghost use Rattle.program_desc.specs.TableFaults.{ReadsAs};
 ghost use Rattle.program_desc.specs.TomlValues as values;
 ghost use Rattle.program_desc.specs.Entries as spec;
 ghost use Rattle.bl_plan.specs.MenuLimits.{max_entries};
 ghost use Rattle.program_desc.specs.EntryFormViews.{HasCopyLength};
-ghost use Rattle.program_desc.specs.Views.{AnswersAs, entry_view, form_view};
+ghost use Rattle.program_desc.specs.Views.{entry_view, form_view};
+ghost use Rattle.program_desc.specs.internal.EntryReading.{IsEntryBad, IsEntryItemBad, entry_set_in};
+ghost use Rattle.program_desc.specs.internal.TableReading as kept;
+ghost use Rattle.program_desc.specs.declared.allowed.Allowed.TheVariants.{Title};
 
+use crate::arrays::{items_at, table_of};
+use crate::bad_key::TablePlace;
 use crate::entry_form::EntryForm;
 use crate::entry_row::EntryRow;
-use crate::fault::DescFault;
-use crate::keys::{at_key, text_at, text_or_empty};
+use crate::key_table::{ENTRY, KERNEL, LINE, TITLE};
+use crate::keys::{bad_value, check_keys, required_at, text_at, text_or_empty};
 use crate::owned_text::Text;
-use crate::protocol_keys::{form_in, has_only_entry_keys, protocol_in};
-use bl_plan::{MAX_ENTRIES, Protocol};
+use crate::protocol_keys::{form_in, keys_of_protocol, protocol_at};
+use crate::table_fault::TableFault;
+use bl_plan::Protocol;
 use std::alloc::{AllocError, Allocator};
 use toml::{Table, Value};
 
@@ -25,7 +34,7 @@ fn is_printable(text: &str) -> bool
 }
 
 /// Whether a text can be a title: 1 to 64 printable characters of ASCII.
-pub fn is_title(text: &str) -> bool
+fn is_title(text: &str) -> bool
     ensures { result ≡ spec.is_title text.now }
 {
     if text.is_empty() || text.len() > 64 {
@@ -34,15 +43,22 @@ pub fn is_title(text: &str) -> bool
     is_printable(text)
 }
 
-fn title_in(table: &Table) -> Result<&str, DescFault>
-    ensures { AnswersAs (λ s. s.now) result
+/// The title of an entry.
+fn title_at<'a>(table: &'a Table, place: TablePlace) -> Result<&'a str, TableFault<'a>>
+    ensures { ReadsAs (λ s. s.now)
+        (kept.BreaksAt place (required_key (codes "title") Title) (table_view table.now)) result
         (values.at_key spec.toml_title (codes "title") (table_view table.now)) }
 {
-    let title = text_at(table, "title")?;
-    if !is_title(title) {
-        return Err(DescFault::BadDescription);
+    let value = required_at(table, place, &TITLE)?;
+    match value.as_str() {
+        Some(title) => {
+            if !is_title(title) {
+                return Err(bad_value(place, &TITLE, value));
+            }
+            Ok(title)
+        }
+        None => Err(bad_value(place, &TITLE, value)),
     }
-    Ok(title)
 }
 
 /// Texts of one's own: a title, a kernel and a line.
@@ -87,92 +103,77 @@ fn entry_with<A: Allocator + Copy>(
 }
 
 #[tactic(auto, unfolding(crate::specs::Entries::entry_by))]
-fn entry_by<A: Allocator + Copy>(
+fn entry_by<'a, A: Allocator + Copy>(
     alloc: A,
-    table: &Table,
+    table: &'a Table,
+    i: usize,
     protocol: Protocol,
-) -> Result<EntryRow<A>, DescFault>
-    ensures { AnswersAs entry_view result (spec.entry_by (table_view table.now) protocol) }
+) -> Result<EntryRow<A>, TableFault<'a>>
+    ensures { ReadsAs entry_view
+        (IsEntryBad (set_of_protocol (Some protocol)) i (table_view table.now)) result
+        (spec.entry_by (table_view table.now) protocol) }
 {
-    if !has_only_entry_keys(table, protocol) {
-        return Err(DescFault::BadDescription);
-    }
-    let title = title_in(table)?;
-    let kernel = text_at(table, "kernel")?;
-    let line = text_or_empty(table, "line")?;
-    let form = form_in(alloc, table, protocol)?;
+    check_keys(table, TablePlace::Entry(i), keys_of_protocol(protocol))?;
+    let title = title_at(table, TablePlace::Entry(i))?;
+    let kernel = text_at(table, TablePlace::Entry(i), &KERNEL)?;
+    let line = text_or_empty(table, TablePlace::Entry(i), &LINE)?;
+    let form = form_in(alloc, table, i, protocol)?;
     Ok(entry_with(alloc, title, kernel, line, form)?)
 }
 
 #[tactic(auto, unfolding(crate::specs::Entries::menu_entry_in))]
-fn menu_entry_in<A: Allocator + Copy>(alloc: A, table: &Table) -> Result<EntryRow<A>, DescFault>
-    ensures { AnswersAs entry_view result (spec.menu_entry_in (table_view table.now)) }
+fn menu_entry_in<'a, A: Allocator + Copy>(
+    alloc: A,
+    table: &'a Table,
+    i: usize,
+) -> Result<EntryRow<A>, TableFault<'a>>
+    ensures { ReadsAs entry_view
+        (IsEntryBad (entry_set_in (table_view table.now)) i (table_view table.now)) result
+        (spec.menu_entry_in (table_view table.now)) }
 {
-    let protocol = protocol_in(table)?;
-    entry_by(alloc, table, protocol)
+    let protocol = protocol_at(table, TablePlace::Entry(i))?;
+    entry_by(alloc, table, i, protocol)
 }
 
 /// An entry, from an item of an array of tables.
-fn entry_of<A: Allocator + Copy>(alloc: A, value: &Value) -> Result<EntryRow<A>, DescFault>
-    ensures { AnswersAs entry_view result (values.in_table spec.menu_entry_in (view value.now)) }
+fn entry_of<'a, A: Allocator + Copy>(
+    alloc: A,
+    value: &'a Value,
+    i: usize,
+) -> Result<EntryRow<A>, TableFault<'a>>
+    ensures { ReadsAs entry_view (IsEntryItemBad i (view value.now)) result
+        (values.in_table spec.menu_entry_in (view value.now)) }
 {
-    match value.as_table() {
-        Some(table) => menu_entry_in(alloc, table),
-        None => Err(DescFault::BadDescription),
-    }
+    let table = table_of(value, TablePlace::Entry(i))?;
+    menu_entry_in(alloc, table, i)
 }
 
-fn entries_in<A: Allocator + Copy>(
+fn entries_in<'a, A: Allocator + Copy>(
     alloc: A,
-    items: &[Value],
-) -> Result<Vec<EntryRow<A>, A>, DescFault>
-    ensures { AnswersAs (λ v. map entry_view v.items) result
+    items: &'a [Value],
+) -> Result<Vec<EntryRow<A>, A>, TableFault<'a>>
+    ensures { ReadsAs (λ v. map entry_view v.items)
+        (kept.HasBadItem IsEntryItemBad (items_view items.now)) result
         (values.each_item (values.in_table spec.menu_entry_in) (items_view items.now)) }
 {
     let mut entries = Vec::new(alloc);
-    for item in items {
-        let entry = entry_of(alloc, item)?;
+    for (i, item) in items.iter().enumerate() {
+        let entry = entry_of(alloc, item, i)?;
         entries.push(entry)?;
     }
     Ok(entries)
 }
 
-/// Whether these can be the entries of a menu.
-fn is_menu<A: Allocator>(entries: &[EntryRow<A>]) -> bool
-    ensures { result ≡ spec.is_menu (map entry_view entries.now) }
-{
-    entries.len() >= 1 && entries.len() <= MAX_ENTRIES
-}
-
-#[tactic(auto, unfolding(crate::specs::Entries::toml_entries))]
-fn toml_entries<A: Allocator + Copy>(
-    alloc: A,
-    value: &Value,
-) -> Result<Vec<EntryRow<A>, A>, DescFault>
-    ensures { AnswersAs (λ v. map entry_view v.items) result (spec.toml_entries (view value.now)) }
-{
-    let Some(items) = value.as_array() else {
-        return Err(DescFault::BadDescription);
-    };
-    let entries = entries_in(alloc, items)?;
-    if !is_menu(&entries) {
-        return Err(DescFault::BadDescription);
-    }
-    Ok(entries)
-}
-
 /// The entries of a description, which must stand.
-pub fn entries_at<A: Allocator + Copy>(
+pub fn entries_at<'a, A: Allocator + Copy>(
     alloc: A,
-    table: &Table,
-) -> Result<Vec<EntryRow<A>, A>, DescFault>
-    ensures { AnswersAs (λ v. map entry_view v.items) result
+    table: &'a Table,
+) -> Result<Vec<EntryRow<A>, A>, TableFault<'a>>
+    ensures { ReadsAs (λ v. map entry_view v.items) (IsBadKey (table_view table.now)) result
         (values.at_key spec.toml_entries (codes "entry") (table_view table.now)) }
 {
-    match at_key(table, "entry") {
-        Some(value) => toml_entries(alloc, value),
-        None => Err(DescFault::BadDescription),
-    }
+    let items = items_at(table, TablePlace::Description, &ENTRY)?;
+    entries_in(alloc, items)
 }
 
 /// How many entries a menu has.

@@ -2,7 +2,7 @@
 ghost use Rattle.std.specs.Prelude.{◌≡◌};
 ghost use Rattle.program_desc.specs.declared.fault.DescFault.TheVariants.{NoMemory};
 
-use std::alloc::{AllocError, AllocFailed};
+use std::alloc::AllocError;
 use thiserror::Error;
 
 /// Why a description is refused: it breaks a rule of its form, or memory ran out while it was read.
@@ -18,14 +18,6 @@ impl From<AllocError> for DescFault {
     ghost from_gives = { λ _ fault. fault ≡ NoMemory };
 
     fn from(_: AllocError) -> DescFault {
-        DescFault::NoMemory
-    }
-}
-
-impl<T: Drop> From<AllocFailed<T>> for DescFault {
-    ghost from_gives = { λ _ fault. fault ≡ NoMemory };
-
-    fn from(_: AllocFailed<T>) -> DescFault {
         DescFault::NoMemory
     }
 }

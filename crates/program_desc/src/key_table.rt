@@ -1,5 +1,5 @@
-//! The keys of a description's tables, each with its rule. Reading, the search for a bad key and
-//! the words of messages take them from here.
+//! The keys of a description's tables, each with its rule. Reading and the words of messages take
+//! them from here.
 ghost use Rattle.std.specs.Prelude.{◌≡◌, map};
 ghost use Rattle.std.specs.List.{list_any};
 ghost use Rattle.std.specs.Str.{bytes_eq};
@@ -45,7 +45,7 @@ pub const POOL: Key = required!("pool", Allowed::TwoNumbers);
 /// What each byte of memory is before the boot.
 pub const FILL: Key = optional!("fill", Allowed::Byte);
 
-/// The entry that is attempted first. The search puts in how many entries there are.
+/// The entry that is attempted first. Reading puts in how many entries there are.
 pub const DEFAULT: Key = optional!("default", Allowed::IndexBelow(0));
 
 /// The entries to fall back on.
@@ -84,20 +84,29 @@ pub const RSDP_NEW: Key = optional!("rsdp_new", Allowed::CopyText);
 /// The name of the file that is an entry's initial ramdisk.
 pub const INITRD: Key = optional!("initrd", Allowed::AnyText);
 
+/// Where a region of memory begins.
+pub const BASE: Key = required!("base", Allowed::Number);
+
+/// How many bytes a region has.
+pub const LENGTH: Key = required!("length", Allowed::Number);
+
+/// What a region's memory is for.
+pub const KIND: Key = required!("kind", Allowed::KindName);
+
+/// A file's name.
+pub const NAME: Key = required!("name", Allowed::AnyText);
+
+/// A file's bytes.
+pub const HEX: Key = required!("hex", Allowed::HexText);
+
+/// The name of the file that is a module.
+pub const MODULE_FILE: Key = required!("file", Allowed::AnyText);
+
 static IN_DESCRIPTION: [Key; 8] = [SIZE, POOL, FILL, DEFAULT, FALLBACK, REGION, FILE, ENTRY];
 
-/// The keys of a region.
-pub static IN_REGION: [Key; 3] = [
-    required!("base", Allowed::Number),
-    required!("length", Allowed::Number),
-    required!("kind", Allowed::KindName),
-];
+static IN_REGION: [Key; 3] = [BASE, LENGTH, KIND];
 
-/// The keys of a file.
-pub static IN_FILE: [Key; 2] = [
-    required!("name", Allowed::AnyText),
-    required!("hex", Allowed::HexText),
-];
+static IN_FILE: [Key; 2] = [NAME, HEX];
 
 static IN_ENTRY: [Key; 8] = [
     TITLE, PROTOCOL, KERNEL, LINE, MODULE, RSDP_OLD, RSDP_NEW, INITRD,
@@ -107,8 +116,7 @@ static IN_MULTIBOOT2: [Key; 7] = [TITLE, PROTOCOL, KERNEL, LINE, MODULE, RSDP_OL
 
 static IN_LINUX: [Key; 5] = [TITLE, PROTOCOL, KERNEL, LINE, INITRD];
 
-/// The keys of a module.
-pub static IN_MODULE: [Key; 2] = [required!("file", Allowed::AnyText), LINE];
+static IN_MODULE: [Key; 2] = [MODULE_FILE, LINE];
 
 /// The keys that a table may have.
 pub fn keys_of(set: KeySet) -> &'static [Key]

@@ -1,15 +1,22 @@
-//! What stands at the keys of a description's tables.
-ghost use Rattle.std.specs.Prelude.{◌≡◌, [], option_map};
+//! What stands at the keys of a description's tables. Each reader takes a key with its rule, and
+//! answers what stands there or how the rule is broken.
+ghost use Rattle.std.specs.Prelude.{◌≡◌, [], true, false, option_map, IfOk, IfErr};
 ghost use Rattle.toml.specs.View.{view, table_view};
 ghost use Rattle.toml.specs.Data.{get_member};
 ghost use Rattle.program_desc.specs.KeyRules.{keys_of_set};
 ghost use Rattle.program_desc.specs.TomlValues as spec;
-ghost use Rattle.program_desc.specs.Views.{AnswersAs};
+ghost use Rattle.program_desc.specs.TableFaults.{ReadsAs};
+ghost use Rattle.program_desc.specs.internal.TableReading as kept;
+ghost use Rattle.program_desc.specs.declared.allowed.Allowed.TheVariants.{Number, Byte, AnyText};
+ghost use Rattle.program_desc.specs.declared.allowed.Allowed.TheVariants.{IndexBelow};
+ghost use Rattle.program_desc.specs.declared.bad_key.KeyFault.TheVariants.{BadValue};
+ghost use Rattle.program_desc.specs.declared.table_fault.TableFault.TheVariants as faults;
 
-use crate::fault::DescFault;
+use crate::bad_key::{BadKey, KeyFault, TablePlace};
 use crate::key_set::KeySet;
-use crate::key_table::is_key;
-use crate::values::toml_number;
+use crate::key_table::{Key, is_key};
+use crate::table_fault::TableFault;
+use crate::values::{toml_byte, toml_number};
 use toml::{Table, Value};
 
 /// The value at a key of a table, if it has that key.
@@ -19,56 +26,139 @@ pub fn at_key<'a>(table: &'a Table, key: &str) -> Option<&'a Value>
     table.get(key)
 }
 
-/// The number at a key that must stand.
-pub fn number_at(table: &Table, key: &str) -> Result<u64, DescFault>
-    ensures { AnswersAs (λ n. n) result
-        (spec.at_key spec.toml_number key.now (table_view table.now)) }
+/// Whether the table at this place has only keys that it may have.
+pub fn check_keys<'a>(
+    table: &'a Table,
+    place: TablePlace,
+    set: KeySet,
+) -> Result<(), TableFault<'a>>
+    ensures ok { IfOk result (λ _. spec.has_only (keys_of_set set) (table_view table.now) ≡ true) }
+    ensures err { IfErr result (kept.HasUnknownKey place set (table_view table.now)) }
 {
-    match at_key(table, key) {
-        Some(value) => toml_number(value).ok_or(DescFault::BadDescription),
-        None => Err(DescFault::BadDescription),
+    match table.keys().find(|key| !is_key(set, key.as_str())) {
+        Some(key) => Err(TableFault::BadKey(BadKey {
+            table: place,
+            fault: KeyFault::Unknown(key.as_str(), set),
+        })),
+        None => Ok(()),
+    }
+}
+
+/// That this value of a key is not allowed.
+pub fn bad_value<'a>(place: TablePlace, key: &Key, value: &'a Value) -> TableFault<'a>
+    ensures { result ≡ faults.BadKey (record {
+      table = place;
+      fault = BadValue key.now.name value.entry key.now.allowed;
+    }) }
+{
+    TableFault::BadKey(BadKey {
+        table: place,
+        fault: KeyFault::BadValue(key.name, value, key.allowed),
+    })
+}
+
+/// The value at a key that must stand.
+pub fn required_at<'a>(
+    table: &'a Table,
+    place: TablePlace,
+    key: &Key,
+) -> Result<&'a Value, TableFault<'a>>
+    requires { key.now.required ≡ true }
+    ensures { ReadsAs (λ v. view v.now)
+        (kept.BreaksAt place (kept.rule_view key.now) (table_view table.now)) result
+        (get_member key.now.name.now (table_view table.now)) }
+{
+    match at_key(table, key.name) {
+        Some(value) => Ok(value),
+        None => Err(TableFault::BadKey(BadKey {
+            table: place,
+            fault: KeyFault::Missing(key.name, key.allowed),
+        })),
+    }
+}
+
+/// The number at a key that must stand.
+pub fn number_at<'a>(
+    table: &'a Table,
+    place: TablePlace,
+    key: &Key,
+) -> Result<u64, TableFault<'a>>
+    requires required { key.now.required ≡ true }
+    requires allowed { key.now.allowed ≡ Number }
+    ensures { ReadsAs (λ n. n)
+        (kept.BreaksAt place (kept.rule_view key.now) (table_view table.now)) result
+        (spec.at_key spec.toml_number key.now.name.now (table_view table.now)) }
+{
+    let value = required_at(table, place, key)?;
+    toml_number(value).ok_or(bad_value(place, key, value))
+}
+
+/// The byte at a key that may be left out, which is then 0.
+pub fn byte_or_zero<'a>(
+    table: &'a Table,
+    place: TablePlace,
+    key: &Key,
+) -> Result<u8, TableFault<'a>>
+    requires { key.now.allowed ≡ Byte }
+    ensures { ReadsAs (λ n. n)
+        (kept.BreaksAt place (kept.rule_view key.now) (table_view table.now)) result
+        (spec.at_key_or 0 spec.toml_byte key.now.name.now (table_view table.now)) }
+{
+    match at_key(table, key.name) {
+        Some(value) => toml_byte(value).ok_or(bad_value(place, key, value)),
+        None => Ok(0),
     }
 }
 
 /// The text at a key that must stand.
-pub fn text_at<'a>(table: &'a Table, key: &str) -> Result<&'a str, DescFault>
-    ensures { AnswersAs (λ s. s.now) result
-        (spec.at_key spec.toml_text key.now (table_view table.now)) }
+pub fn text_at<'a>(
+    table: &'a Table,
+    place: TablePlace,
+    key: &Key,
+) -> Result<&'a str, TableFault<'a>>
+    requires required { key.now.required ≡ true }
+    requires allowed { key.now.allowed ≡ AnyText }
+    ensures { ReadsAs (λ s. s.now)
+        (kept.BreaksAt place (kept.rule_view key.now) (table_view table.now)) result
+        (spec.at_key spec.toml_text key.now.name.now (table_view table.now)) }
 {
-    match at_key(table, key) {
-        Some(value) => value.as_str().ok_or(DescFault::BadDescription),
-        None => Err(DescFault::BadDescription),
-    }
-}
-
-/// The text at a key that may be left out, which is then empty.
-pub fn text_or_empty<'a>(table: &'a Table, key: &str) -> Result<&'a str, DescFault>
-    ensures { AnswersAs (λ s. s.now) result
-        (spec.at_key_or [] spec.toml_text key.now (table_view table.now)) }
-{
-    match at_key(table, key) {
-        Some(value) => value.as_str().ok_or(DescFault::BadDescription),
-        None => Ok(""),
-    }
+    let value = required_at(table, place, key)?;
+    value.as_str().ok_or(bad_value(place, key, value))
 }
 
 /// The text at a key that may be left out.
-pub fn text_if<'a>(table: &'a Table, key: &str) -> Result<Option<&'a str>, DescFault>
-    ensures { AnswersAs (option_map (λ s. s.now)) result
-        (spec.at_key_if spec.toml_text key.now (table_view table.now)) }
+pub fn text_if<'a>(
+    table: &'a Table,
+    place: TablePlace,
+    key: &Key,
+) -> Result<Option<&'a str>, TableFault<'a>>
+    requires { key.now.allowed ≡ AnyText }
+    ensures { ReadsAs (option_map (λ s. s.now))
+        (kept.BreaksAt place (kept.rule_view key.now) (table_view table.now)) result
+        (spec.at_key_if spec.toml_text key.now.name.now (table_view table.now)) }
 {
-    match at_key(table, key) {
+    match at_key(table, key.name) {
         Some(value) => match value.as_str() {
             Some(text) => Ok(Some(text)),
-            None => Err(DescFault::BadDescription),
+            None => Err(bad_value(place, key, value)),
         },
         None => Ok(None),
     }
 }
 
-/// Whether a table has no key but those that it may have.
-pub fn has_only(table: &Table, set: KeySet) -> bool
-    ensures { result ≡ spec.has_only (keys_of_set set) (table_view table.now) }
+/// The text at a key that may be left out, which is then empty.
+pub fn text_or_empty<'a>(
+    table: &'a Table,
+    place: TablePlace,
+    key: &Key,
+) -> Result<&'a str, TableFault<'a>>
+    requires { key.now.allowed ≡ AnyText }
+    ensures { ReadsAs (λ s. s.now)
+        (kept.BreaksAt place (kept.rule_view key.now) (table_view table.now)) result
+        (spec.at_key_or [] spec.toml_text key.now.name.now (table_view table.now)) }
 {
-    table.keys().all(|key| is_key(set, key.as_str()))
+    match at_key(table, key.name) {
+        Some(value) => value.as_str().ok_or(bad_value(place, key, value)),
+        None => Ok(""),
+    }
 }

@@ -1,41 +1,51 @@
 //! The protocols of entries: what each is called, and what its entries have beside their kernel.
-ghost use Rattle.std.specs.Prelude.{◌≡◌, codes, option_map, None, Some, IfOk, IfSome};
+ghost use Rattle.std.specs.Prelude.{◌≡◌, codes, option_map, Some, IfOk};
 ghost use Rattle.toml.specs.View.{table_view};
 ghost use Rattle.bl_plan.specs.Protocols.{of_linux};
+ghost use Rattle.program_desc.specs.KeyRules.{required_key, set_of_protocol};
+ghost use Rattle.program_desc.specs.TableFaults.{ReadsAs};
 ghost use Rattle.program_desc.specs.TomlValues as values;
 ghost use Rattle.program_desc.specs.Entries as spec;
-ghost use Rattle.program_desc.specs.KeyRules.{keys_of_set, set_of_protocol};
-ghost use Rattle.program_desc.specs.EntryFormViews.{HasCopyLength};
-ghost use Rattle.program_desc.specs.Views.{AnswersAs, form_view};
+ghost use Rattle.program_desc.specs.Views.{form_view};
+ghost use Rattle.program_desc.specs.internal.EntryReading.{IsEntryBad};
+ghost use Rattle.program_desc.specs.internal.TableReading as kept;
+ghost use Rattle.program_desc.specs.declared.allowed.Allowed.TheVariants.{ProtocolName};
+ghost use Rattle.program_desc.specs.declared.key_set.KeySet.TheVariants as keys;
 
+use crate::bad_key::TablePlace;
 use crate::entry_form::EntryForm;
-use crate::fault::DescFault;
 use crate::key_set::KeySet;
-use crate::keys::{has_only, text_at, text_if};
+use crate::key_table::{INITRD, PROTOCOL, RSDP_NEW, RSDP_OLD};
+use crate::keys::{bad_value, required_at, text_if};
 use crate::modules::modules_at;
 use crate::owned_text::Text;
-use crate::rsdp_copies::rsdp_copy_if;
+use crate::rsdp_copies::copy_if;
+use crate::table_fault::TableFault;
 use bl_plan::Protocol;
 use std::alloc::{AllocError, Allocator};
 use toml::Table;
 
 /// The protocol of an entry.
-pub fn protocol_in(table: &Table) -> Result<Protocol, DescFault>
-    ensures { AnswersAs (λ p. p) result
+pub fn protocol_at<'a>(table: &'a Table, place: TablePlace) -> Result<Protocol, TableFault<'a>>
+    ensures { ReadsAs (λ p. p)
+        (kept.BreaksAt place (required_key (codes "protocol") ProtocolName) (table_view table.now))
+        result
         (values.at_key spec.toml_protocol (codes "protocol") (table_view table.now)) }
 {
-    let name = text_at(table, "protocol")?;
-    Protocol::from_name(name).ok_or(DescFault::BadDescription)
+    let value = required_at(table, place, &PROTOCOL)?;
+    match value.as_str() {
+        Some(name) => Protocol::from_name(name).ok_or(bad_value(place, &PROTOCOL, value)),
+        None => Err(bad_value(place, &PROTOCOL, value)),
+    }
 }
 
-/// Whether an entry has no key but those of each entry and of its protocol.
-pub fn has_only_entry_keys(table: &Table, protocol: Protocol) -> bool
-    ensures { result ≡ values.has_only (keys_of_set (set_of_protocol (Some protocol)))
-        (table_view table.now) }
+/// The keys of an entry of this protocol.
+pub fn keys_of_protocol(protocol: Protocol) -> KeySet
+    ensures { result ≡ set_of_protocol (Some protocol) }
 {
     match protocol {
-        Protocol::Multiboot2 => has_only(table, KeySet::Multiboot2Entry),
-        Protocol::Linux | Protocol::Linux64 => has_only(table, KeySet::LinuxEntry),
+        Protocol::Multiboot2 => KeySet::Multiboot2Entry,
+        Protocol::Linux | Protocol::Linux64 => KeySet::LinuxEntry,
     }
 }
 
@@ -49,14 +59,17 @@ fn own_text<A: Allocator>(alloc: A, text: Option<&str>) -> Result<Option<Text<A>
     }
 }
 
-fn multiboot2_form<A: Allocator + Copy>(alloc: A, table: &Table) -> Result<EntryForm<A>, DescFault>
-    ensures given { AnswersAs form_view result (spec.multiboot2_form (table_view table.now)) }
-    ensures old { IfOk result (λ form. IfSome (form_view form).rsdp_old HasCopyLength) }
-    ensures new { IfOk result (λ form. IfSome (form_view form).rsdp_new HasCopyLength) }
+fn multiboot2_form<'a, A: Allocator + Copy>(
+    alloc: A,
+    table: &'a Table,
+    i: usize,
+) -> Result<EntryForm<A>, TableFault<'a>>
+    ensures { ReadsAs form_view (IsEntryBad keys.Multiboot2Entry i (table_view table.now)) result
+        (spec.multiboot2_form (table_view table.now)) }
 {
-    let modules = modules_at(alloc, table)?;
-    let rsdp_old = rsdp_copy_if(alloc, table, "rsdp_old")?;
-    let rsdp_new = rsdp_copy_if(alloc, table, "rsdp_new")?;
+    let modules = modules_at(alloc, table, i)?;
+    let rsdp_old = copy_if(alloc, table, TablePlace::Entry(i), &RSDP_OLD)?;
+    let rsdp_new = copy_if(alloc, table, TablePlace::Entry(i), &RSDP_NEW)?;
     Ok(EntryForm::Multiboot2 {
         modules,
         rsdp_old,
@@ -64,32 +77,36 @@ fn multiboot2_form<A: Allocator + Copy>(alloc: A, table: &Table) -> Result<Entry
     })
 }
 
-fn linux_form<A: Allocator>(alloc: A, table: &Table, wide: bool) -> Result<EntryForm<A>, DescFault>
-    ensures given { AnswersAs form_view result
+fn linux_form<'a, A: Allocator>(
+    alloc: A,
+    table: &'a Table,
+    i: usize,
+    wide: bool,
+) -> Result<EntryForm<A>, TableFault<'a>>
+    ensures { ReadsAs form_view (IsEntryBad keys.LinuxEntry i (table_view table.now)) result
         (spec.linux_form (of_linux wide) (table_view table.now)) }
-    ensures old { IfOk result (λ form. (form_view form).rsdp_old ≡ None) }
-    ensures new { IfOk result (λ form. (form_view form).rsdp_new ≡ None) }
 {
-    let initrd = text_if(table, "initrd")?;
+    let initrd = text_if(table, TablePlace::Entry(i), &INITRD)?;
     Ok(EntryForm::Linux {
         initrd: own_text(alloc, initrd)?,
         wide,
     })
 }
 
-/// What an entry of this protocol has beside its kernel.
-pub fn form_in<A: Allocator + Copy>(
+/// What the entry of this index has beside its kernel, by its protocol.
+pub fn form_in<'a, A: Allocator + Copy>(
     alloc: A,
-    table: &Table,
+    table: &'a Table,
+    i: usize,
     protocol: Protocol,
-) -> Result<EntryForm<A>, DescFault>
-    ensures given { AnswersAs form_view result (spec.form_in protocol (table_view table.now)) }
-    ensures old { IfOk result (λ form. IfSome (form_view form).rsdp_old HasCopyLength) }
-    ensures new { IfOk result (λ form. IfSome (form_view form).rsdp_new HasCopyLength) }
+) -> Result<EntryForm<A>, TableFault<'a>>
+    ensures { ReadsAs form_view
+        (IsEntryBad (set_of_protocol (Some protocol)) i (table_view table.now)) result
+        (spec.form_in protocol (table_view table.now)) }
 {
     match protocol {
-        Protocol::Multiboot2 => multiboot2_form(alloc, table),
-        Protocol::Linux => linux_form(alloc, table, false),
-        Protocol::Linux64 => linux_form(alloc, table, true),
+        Protocol::Multiboot2 => multiboot2_form(alloc, table, i),
+        Protocol::Linux => linux_form(alloc, table, i, false),
+        Protocol::Linux64 => linux_form(alloc, table, i, true),
     }
 }

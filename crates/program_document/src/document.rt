@@ -3,7 +3,7 @@ ghost use Rattle.std.specs.Prelude.{IfOk};
 ghost use Rattle.program_desc.specs.Described as spec;
 ghost use Rattle.program_desc.specs.Views.{AnswersAs, HasMenu, view};
 
-use program_desc::{DescFault, Description, described_in};
+use program_desc::{DescFault, Description, TableFault, described_in};
 use std::alloc::{Allocator, Global};
 
 /// What these bytes describe. They are a bad description where they are not UTF-8, where the text
@@ -24,7 +24,11 @@ pub fn read_description<A: Allocator + Copy>(
         return Err(DescFault::BadDescription);
     };
     match toml::table_from_str(global, text) {
-        Ok(table) => described_in(alloc, global, &table),
+        Ok(table) => match described_in(alloc, global, &table) {
+            Ok(description) => Ok(description),
+            Err(TableFault::BadKey(_)) => Err(DescFault::BadDescription),
+            Err(TableFault::NoMemory) => Err(DescFault::NoMemory),
+        },
         Err(e) => {
             if e.is_memory() {
                 Err(DescFault::NoMemory)

@@ -1,8 +1,6 @@
-//! The document of a description: its reading, and the search for a bad key.
+//! The document of a description: its reading.
 #![tactic(auto)]
 
 mod document;
-mod root_table;
 
 pub use document::read_description;
-pub use root_table::first_bad_key;

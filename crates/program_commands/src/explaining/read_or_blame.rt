@@ -3,12 +3,10 @@ ghost use Rattle.std.specs.Prelude.{◌≡◌, true, None};
 ghost use Rattle.std.specs.Str.{is_utf8};
 ghost use Rattle.toml.specs.Errors.{IsMemory, IsWithin};
 ghost use Rattle.toml.specs.Parse.{parse_document};
-ghost use Rattle.program_desc.specs.Described.{described};
 ghost use Rattle.program_commands.specs.internal.ExplanationEnds.{IsReadBlame, IsReadOrBlamed};
 
 use program_boots::{ExplainFault, blamed, text_place};
-use program_desc::{DescFault, Description};
-use program_document::{first_bad_key, read_description};
+use program_desc::{Description, TableFault, described_in};
 use program_say::Blame;
 use std::alloc::{Allocator, Global};
 
@@ -22,7 +20,6 @@ fn say_toml_blame<A: Allocator + Copy, B: Allocator>(
     requires text { is_utf8 text.now ≡ true }
     requires within { IsWithin text.now error.now }
     requires refused { ¬ IsMemory error.now → parse_document text.now ≡ None }
-    requires bad { described text.now ≡ None }
     ensures { IsReadBlame text.now say.old.items say.new.items result }
 {
     match error.span() {
@@ -34,41 +31,24 @@ fn say_toml_blame<A: Allocator + Copy, B: Allocator>(
     }
 }
 
-/// Says what is wrong with a text that describes nothing.
-fn say_blame_of_text<A: Allocator + Copy, B: Allocator>(
+/// What a text describes, or what is wrong with it, which is said.
+fn read_text_or_blame<A: Allocator + Copy, B: Allocator>(
     alloc: A,
     global: Global,
     text: &str,
     say: &mut Vec<u8, B>,
-) -> ExplainFault
-    requires text { is_utf8 text.now ≡ true }
-    requires bad { described text.now ≡ None }
-    ensures { IsReadBlame text.now say.old.items say.new.items result }
+) -> Result<Description<A>, ExplainFault>
+    requires { is_utf8 text.now ≡ true }
+    ensures { IsReadOrBlamed text.now say.old.items say.new.items result }
 {
     let table = match toml::table_from_str(global, text) {
         Ok(table) => table,
-        Err(error) => return say_toml_blame(alloc, text, &error, say),
+        Err(error) => return Err(say_toml_blame(alloc, text, &error, say)),
     };
-    match first_bad_key(global, &table) {
-        Ok(Some(bad)) => blamed(alloc, &Blame::BadKey(bad), None, say),
-        // A table that describes nothing has a bad key, so memory ran out.
-        Ok(None) | Err(_) => ExplainFault::NoMemory,
-    }
-}
-
-/// Says what is wrong with bytes that describe nothing.
-fn say_blame_of<A: Allocator + Copy, B: Allocator>(
-    alloc: A,
-    global: Global,
-    desc: &[u8],
-    say: &mut Vec<u8, B>,
-) -> ExplainFault
-    requires { described desc.now ≡ None }
-    ensures { IsReadBlame desc.now say.old.items say.new.items result }
-{
-    match std::str::from_utf8(desc) {
-        Ok(text) => say_blame_of_text(alloc, global, text, say),
-        Err(_) => blamed(alloc, &Blame::NotUtf8, None, say),
+    match described_in(alloc, global, &table) {
+        Ok(description) => Ok(description),
+        Err(TableFault::BadKey(bad)) => Err(blamed(alloc, &Blame::BadKey(bad), None, say)),
+        Err(TableFault::NoMemory) => Err(ExplainFault::NoMemory),
     }
 }
 
@@ -81,9 +61,8 @@ pub fn read_or_blame<A: Allocator + Copy, B: Allocator>(
 ) -> Result<Description<A>, ExplainFault>
     ensures { IsReadOrBlamed desc.now say.old.items say.new.items result }
 {
-    match read_description(alloc, global, desc) {
-        Ok(description) => Ok(description),
-        Err(DescFault::BadDescription) => Err(say_blame_of(alloc, global, desc, say)),
-        Err(DescFault::NoMemory) => Err(ExplainFault::NoMemory),
+    match std::str::from_utf8(desc) {
+        Ok(text) => read_text_or_blame(alloc, global, text, say),
+        Err(_) => Err(blamed(alloc, &Blame::NotUtf8, None, say)),
     }
 }

@@ -6,31 +6,29 @@ use Rattle.program_desc.specs.Views.{entry_view}
 use Rattle.program_desc.proofs.ItemLemmas.{front_none, one_more, all_read, one_fails}
 use Rattle.program_desc.proofs.entries.entries_in.Goals as goal
 
-pub loop-item-init : goal.loop-item-init
-loop-item-init g c = rw c.new-entries.ensures.items (front_none _)
+pub loop-i-init : goal.loop-i-init
+loop-i-init g c = rw c.new-entries.ensures.items (front_none _)
 
-pub loop-item-preserved : goal.loop-item-preserved
-loop-item-preserved g c =
+pub loop-i-preserved : goal.loop-i-preserved
+loop-i-preserved g c =
     let one =
-    one_more entry_view (in_table menu_entry_in) c.args.items.now c.loop-item.item-index
-    c.item-item.result
-    c.loop-item.entries.items c.push.new.self.items c.in_ok-entry.entry
-    c.loop-item-test.true c.item-item.is c.in_ok-entry.ensures c.in_ok-push.ensures.items in
-    one ∙ c.loop-item.invariant
+    one_more entry_view (in_table menu_entry_in) c.args.items.now c.loop-i.i c.index-items-i.result
+    c.loop-i.entries.items c.push.new.self.items c.in_ok-entry.entry
+    c.loop-i-test.true c.index-items-i.is c.in_ok-entry.ensures c.in_ok-push.ensures.items in
+    one ∙ c.loop-i.invariant
 
 pub returns : goal.returns
 returns g c =
-    all_read (in_table menu_entry_in) c.args.items.now c.loop-item.item-index
-    (map entry_view c.loop-item.entries.items)
-    c.loop-item-test.false c.loop-item.invariant
+    all_read (in_table menu_entry_in) c.args.items.now c.loop-i.i
+    (map entry_view c.loop-i.entries.items) c.loop-i-test.false c.loop-i.invariant
 
 pub returns-in_err-entry : goal.returns-in_err-entry
 returns-in_err-entry g c =
     let p = err_from_is_err_and c.from_residual.result c.from_residual.ensures.1 in
     rw (p.1, p.2)
-    (one_fails (in_table menu_entry_in) c.args.items.now c.loop-item.item-index c.item-item.result
-    (map entry_view c.loop-item.entries.items) _ c.loop-item-test.true c.item-item.is
-    c.in_err-entry.ensures c.loop-item.invariant)
+    (one_fails _ (in_table menu_entry_in) c.args.items.now c.loop-i.i c.index-items-i.result
+    (map entry_view c.loop-i.entries.items) _ c.loop-i-test.true c.index-items-i.is
+    c.in_err-entry.ensures c.loop-i.invariant)
 
 pub returns-in_err-push : goal.returns-in_err-push
 returns-in_err-push g c =

@@ -6,8 +6,8 @@ use Rattle.program_desc.specs.Views.{file_view}
 use Rattle.program_desc.proofs.ItemLemmas.{with_front}
 use Rattle.program_desc.proofs.files.files_in.Given as goal
 
-abbrev pub invariant-loop-item : goal.invariant-loop-item
-invariant-loop-item g l =
+abbrev pub invariant-loop-i : goal.invariant-loop-i
+invariant-loop-i g l =
     with_front (map file_view l.files.items)
-    (each_item (in_table file_in) (items_view (drop l.item-index l.items)))
+    (each_item (in_table file_in) (items_view (drop l.i l.items)))
     ≡ each_item (in_table file_in) (items_view l.items)

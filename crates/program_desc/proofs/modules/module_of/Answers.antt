@@ -1,12 +1,21 @@
+use Rattle.std.proofs.Common.{sym}
+use Rattle.std.proofs.lemmas.Result.{err_from_is_err_and}
 use Rattle.toml.specs.View.{view}
 use Rattle.program_desc.specs.Entries.{module_in}
-use Rattle.program_desc.proofs.TablesLemmas.{table_read, no_table}
+use Rattle.program_desc.specs.declared.bad_key.TablePlace.TheVariants as places
+use Rattle.program_desc.specs.declared.key_set.KeySet.TheVariants as keys
+use Rattle.program_desc.proofs.FaultLemmas.{fault_as}
+use Rattle.program_desc.proofs.ItemLemmas.{by_table, no_table}
 use Rattle.program_desc.proofs.modules.module_of.Goals as goal
 
-pub returns-in-Some : goal.returns-in-Some
-returns-in-Some g c =
-    rw (table_read module_in (view c.args.value.now) _ c.in-Some.ensures) c.module_in.ensures
+pub returns-in_err-table : goal.returns-in_err-table
+returns-in_err-table g c =
+    let p = err_from_is_err_and c.from_residual.result c.from_residual.ensures.1 in
+    rw (p.1, p.2)
+    (fault_as _ _ _ _ _ (no_table module_in (view c.args.value.now))
+    (λ bad h. (h.0, h.1 keys.Module)) c.in_err-table.ensures)
 
-pub returns-in-None : goal.returns-in-None
-returns-in-None g c =
-    rw (no_table module_in (view c.args.value.now) c.in-None.ensures)
+pub returns : goal.returns
+returns g c =
+    by_table _ module_in (places.Module c.args.entry) keys.Module c.args.i (view c.args.value.now) _
+    c.module_in.result c.in_ok-table.ensures c.module_in.ensures

@@ -1,2 +1,0 @@
-mod ArrayLemmas
-mod WholeLemmas
