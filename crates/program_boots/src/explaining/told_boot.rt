@@ -68,13 +68,7 @@ fn say_outcome<A: Allocator + Copy>(
         entry,
         &outcome.handoff,
     )?;
-    say_hints(
-        out,
-        boot.description,
-        sought,
-        &outcome.refused,
-        Some(entry),
-    )
+    say_hints(out, boot.description, sought, &outcome.refused, Some(entry))
 }
 
 /// Appends the lines of a boot in which an entry is handed over by these steps. An error leaves the
