@@ -5,9 +5,7 @@ import hashlib
 from typing import Iterable, List, Tuple
 
 from . import image
-from .handover import Handover
-
-PARTS = ["kernel", "module", "information", "parameters", "line", "gdt", "initrd", "tables"]
+from .handover import PART_NAMES, Handover
 
 
 def digest(chunks: Iterable[bytes]) -> Tuple[int, str]:
@@ -28,7 +26,7 @@ def line(part: str, index: str, address: str, chunks: Iterable[bytes]) -> str:
 def lines(handover: Handover) -> List[str]:
     """Of the image in the version that is written: all of it, its head with the records, each
     part."""
-    parts = [line(PARTS[part.role - 1], str(part.index), f"{part.address:08x}",
+    parts = [line(PART_NAMES[part.role], str(part.index), f"{part.address:08x}",
                   image.part_chunks(part)) for part in handover.parts]
     return [line("image", "-", "-", image.chunks(handover)),
             line("head", "-", "-", [image.head(handover)]), *parts]

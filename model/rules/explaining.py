@@ -147,7 +147,8 @@ def boot_lines(boot: Boot) -> List[str]:
         files = [boot.file_named(name) for name in booting.file_names(entry)]
         lines += detail_lines(boot.described.machine, entry, refusal, files)
     lines += ["no entry left"] if boot.outcome.entry is None else booted_lines(boot)
-    return lines + hints(boot.described, boot.outcome.refused, boot.file_named)
+    return lines + hints(boot.described, boot.outcome.refused, boot.outcome.entry,
+                         boot.file_named)
 
 
 def explain(text: bytes, path_named: Callable[[str], File]) -> List[Run]:

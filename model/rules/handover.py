@@ -12,8 +12,11 @@ WIDE_REGISTERS = ["RIP", "RAX", "RBX", "RCX", "RDX", "RSI", "RDI", "RBP", "RSP",
                   *[f"R{n}" for n in range(8, 16)], "RFLAGS", "CR0", "CR3", "CR4", "EFER",
                   *REGISTERS[11:]]
 
-# roles
+# roles, and what `explain` and `digest` call a part of each
 KERNEL, MODULE, INFORMATION, BOOT_PARAMETERS, COMMAND_LINE, GDT, INITRD, PAGE_TABLES = range(1, 9)
+PART_NAMES = {KERNEL: "kernel", MODULE: "module", INFORMATION: "information",
+              BOOT_PARAMETERS: "parameters", COMMAND_LINE: "line", GDT: "gdt", INITRD: "initrd",
+              PAGE_TABLES: "tables"}
 
 
 class Origin(NamedTuple):

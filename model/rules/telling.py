@@ -3,19 +3,17 @@ number, and hints. FORMATS.md "What the program says"."""
 
 from typing import Callable, List, Optional, Tuple
 
-from . import booting, entry as entries
+from . import booting, bzimage, entry as entries
 from .booting import File
 from .description import Description, MenuEntry
-from .handover import Handover, Part, names_of
+from .handover import PART_NAMES, Handover, Part, names_of
 from .machine import (FIRST_USABLE, KIND_NAMES, USABLE, Machine, Region, kind_at,
                       usable_ranges)
-from .numbers import FRAME, frames, u16
+from .numbers import FRAME, frames, u16, u32
 from .places import Wanted, undisturbed_frames
 from .plans import FILE, OWN, part_steps
 from .refusals import Refused
 
-ROLES = ["kernel", "module", "information", "boot-params", "command-line", "gdt", "initrd",
-         "page-tables"]
 FileNamed = Callable[[str], File]
 
 
@@ -52,7 +50,7 @@ def source_of(part: Part) -> str:
 
 
 def handover_lines(machine: Machine, handover: Handover, files: List[File]) -> List[str]:
-    lines = [f"part {ROLES[part.role - 1]} {part.index} {part.address:08x} {part.length} from "
+    lines = [f"part {PART_NAMES[part.role]} {part.index} {part.address:08x} {part.length} from "
              + source_of(part) for part in handover.parts]
     for name in names_of(handover.protocol):
         value = handover.registers[name]
@@ -91,7 +89,7 @@ def no_place_line(wanted: Wanted) -> str:
               "lowest": "lowest " + within,
               "highest": "highest " + within,
               "preferred": f"preferred {wanted.at:08x}, lowest " + within}[wanted.choice]
-    return f"no place {ROLES[wanted.role - 1]} {wanted.index} {wanted.length} {choice}"
+    return f"no place {PART_NAMES[wanted.role]} {wanted.index} {wanted.length} {choice}"
 
 
 def unusable_line(machine: Machine, at: int) -> str:
@@ -116,11 +114,15 @@ def unusable_line(machine: Machine, at: int) -> str:
 # ---- hints
 
 
-def hints(described: Description, refused: List[Tuple[int, Refused]], file_named: FileNamed
-          ) -> List[str]:
+def hints(described: Description, refused: List[Tuple[int, Refused]], booted: Optional[int],
+          file_named: FileNamed) -> List[str]:
     found = []
     for index, refusal in refused:
-        found += kernel_hint(index, described.entries[index], refusal, file_named)
+        entry = described.entries[index]
+        found += kernel_hint(index, entry, refusal, file_named)
+        found += cut_hint(index, file_named(entry.kernel))
+    if booted is not None:
+        found += cut_hint(booted, file_named(described.entries[booted].kernel))
     found += region_hints(described.machine.regions)
     attempted = booting.attempts(described.default, described.fallbacks)
     for index in range(len(described.entries)):
@@ -148,3 +150,17 @@ def kernel_hint(index: int, entry: MenuEntry, refusal: Refused, file_named: File
     if refusal.number == 22 and file_named(entry.kernel)[:4] == b"\x7fELF":
         return [told + " an ELF file: protocol multiboot2"]
     return []
+
+
+def cut_hint(index: int, kernel: File) -> List[str]:
+    """On a Linux kernel whose file lacks more than 16 bytes of what its header counts."""
+    if not isinstance(kernel, bytes):
+        return []
+    try:
+        setup = bzimage.read(kernel)
+    except Refused:
+        return []
+    whole = setup.payload_at + 16 * u32(kernel, 0x1F4)  # syssize
+    if len(kernel) + 16 >= whole:
+        return []
+    return [f"the kernel of entry {index} is cut: it has {len(kernel)} of {whole} bytes"]

@@ -14,11 +14,11 @@ ROLES = {
     1: ("kernel", "kernel"),
     2: ("module", "module"),
     3: ("information", "boot information"),
-    4: ("boot-params", "boot parameters"),
-    5: ("command-line", "command line"),
+    4: ("parameters", "boot parameters"),
+    5: ("line", "command line"),
     6: ("gdt", "descriptors"),
     7: ("initrd", "ramdisk"),
-    8: ("page-tables", "the kernel's page tables"),
+    8: ("tables", "the kernel's page tables"),
 }
 SERVING = {1: "boot manager", 2: "its data", 3: "boot services", 4: "boot services", 7: "free"}
 HEADS = ("the files are read", "the firmware has ended", "the kernel begins")

@@ -5,15 +5,15 @@ from __future__ import annotations
 from typing import Dict, NamedTuple, Optional, Tuple
 
 # Role 1 of an image's record is the first.
-ROLES = ("kernel", "module", "information", "boot-params", "command-line", "gdt", "initrd", "page-tables")
+ROLES = ("kernel", "module", "information", "parameters", "line", "gdt", "initrd", "tables")
 FILE_ROLES = ("kernel", "module", "initrd")  # of the parts that are made of a file; the loader makes the others
 
 # Of each protocol the registers that hold the address of a part, with that part's role. Another register may hold the number of
 # a byte in a part by chance, as EAX does on a machine with memory at 0x36d76289.
 POINTERS = {
     "multiboot2": (("eip", "kernel"), ("ebx", "information")),
-    "linux": (("eip", "kernel"), ("esi", "boot-params"), ("gdt_base", "gdt")),
-    "linux64": (("rip", "kernel"), ("rsi", "boot-params"), ("cr3", "page-tables"), ("gdt_base", "gdt")),
+    "linux": (("eip", "kernel"), ("esi", "parameters"), ("gdt_base", "gdt")),
+    "linux64": (("rip", "kernel"), ("rsi", "parameters"), ("cr3", "tables"), ("gdt_base", "gdt")),
 }
 
 

@@ -35,10 +35,10 @@ rect { stroke: #57606a }
 .part { stroke: #1b1f24; stroke-width: 1.5 }
 .kernel { fill: #e69f00 }
 .module, .initrd { fill: #56b4e9 }
-.information, .boot-params { fill: #88d898 }
-.command-line { fill: #f0e442 }
+.information, .parameters { fill: #88d898 }
+.line { fill: #f0e442 }
 .gdt { fill: #c898a8 }
-.page-tables { fill: #98a848 }
+.tables { fill: #98a848 }
 """
 
 DEFINITIONS = """\

@@ -14,10 +14,10 @@ SUBTITLE = 124
 # what the parts are that the loader makes itself
 _MADE = {
     "information": "command line, memory map, list of modules",
-    "boot-params": "memory map, places of line and initrd",
-    "command-line": "the kernel's command line, a zero byte",
+    "parameters": "memory map, places of line and initrd",
+    "line": "the kernel's command line, a zero byte",
     "gdt": "segment descriptors",
-    "page-tables": "map each address below 4 GiB to itself",
+    "tables": "map each address below 4 GiB to itself",
 }
 
 # what the memory of each kind is for

@@ -11,7 +11,7 @@ use Rattle.program_desc.specs.Entries.{Entry}
 use Rattle.program_say.specs.blame.Addresses.{hex8}
 use Rattle.program_say.specs.blame.UnusableAddress.{unusable_line}
 use Rattle.program_say.specs.Frames.{number_between, frames_line, frames_wanted, names_at}
-use Rattle.program_say.specs.HandoffLines.{role_name}
+use Rattle.program_say.specs.PartNames.{part_name}
 use Rattle.program_say.specs.Sought.{SoughtFacts}
 use Rattle.program_say.specs.declared.subjects.refusal_detail.RefusalDetail.{RefusalDetail}
 use Rattle.program_say.specs.declared.subjects.refusal_detail.RefusalDetail.TheVariants as details
@@ -35,7 +35,7 @@ choice_words (Preferred at align low high) =
 -- which one of its role it is, its length, and how its address is chosen
 abbrev pub no_place_line : Row → List ℕ
 no_place_line row =
-    codes "no place " ++ role_name row.role ++ codes " " ++ decimal row.index ++ codes " "
+    codes "no place " ++ part_name row.role ++ codes " " ++ decimal row.index ++ codes " "
     ++ decimal row.length ++ codes " " ++ choice_words row.choice ++ codes "\n"
 
 -- ---- its first byte that is not usable

@@ -5,11 +5,9 @@
 use Rattle.std.specs.Prelude.{ℕ, ◌-◌, List, ◌++◌, length, replicate, codes, decimal}
 use Rattle.std.specs.List.{flat_map}
 use Rattle.hex.specs.Hex.{encode_lower}
-use Rattle.bl_plan.specs.declared.part.Role.{Role}
-use Rattle.bl_plan.specs.declared.part.Role.TheVariants.{Kernel, Module, Information, BootParams}
-use Rattle.bl_plan.specs.declared.part.Role.TheVariants.{CommandLine, Gdt, Initrd, PageTables}
 use Rattle.bl_digest.specs.DigestsFacts.{DigestsFacts}
 use Rattle.bl_digest.specs.declared.part_digest.PartDigest.{PartDigest}
+use Rattle.program_say.specs.PartNames.{part_name}
 use Rattle.program_say.specs.blame.Addresses.{hex8}
 
 -- ---- fields
@@ -33,16 +31,6 @@ digest_line name index address count digest =
     ++ codes " " ++ bytes_words count digest
 
 -- ---- the lines
-
-abbrev pub part_name : Role → List ℕ
-part_name Kernel = codes "kernel"
-part_name Module = codes "module"
-part_name Information = codes "information"
-part_name BootParams = codes "parameters"
-part_name CommandLine = codes "line"
-part_name Gdt = codes "gdt"
-part_name Initrd = codes "initrd"
-part_name PageTables = codes "tables"
 
 -- a part, which one of its role, its address
 unfoldable pub part_digest_line : PartDigest → List ℕ

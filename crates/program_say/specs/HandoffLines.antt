@@ -2,32 +2,21 @@
 use Rattle.std.specs.Prelude.{ℕ, List, ◌++◌, codes, decimal, length}
 use Rattle.std.specs.List.{flat_map}
 use Rattle.bl_plan.specs.declared.part.Place.{Place}
-use Rattle.bl_plan.specs.declared.part.Role.{Role}
-use Rattle.bl_plan.specs.declared.part.Role.TheVariants as roles
 use Rattle.bl_load.specs.HandoffFacts.{HandoffFacts}
 use Rattle.bl_load.specs.Handover.{Part, Handover}
 use Rattle.bl_load.specs.NamedRegisters.{named_in}
 use Rattle.bl_load.specs.declared.registers.Registers.{Registers}
 use Rattle.program_say.specs.blame.UnusableAddress.{address_words}
 use Rattle.program_say.specs.BootAndMapLines.{hex16_between}
+use Rattle.program_say.specs.PartNames.{part_name}
 use Rattle.program_say.specs.WalkLines.{protocol_line}
 
 -- ---- the parts
 
-abbrev pub role_name : Role → List ℕ
-role_name roles.Kernel = codes "kernel"
-role_name roles.Module = codes "module"
-role_name roles.Information = codes "information"
-role_name roles.BootParams = codes "boot-params"
-role_name roles.CommandLine = codes "command-line"
-role_name roles.Gdt = codes "gdt"
-role_name roles.Initrd = codes "initrd"
-role_name roles.PageTables = codes "page-tables"
-
 -- what a part is, which one of its role, its address, its length
 unfoldable pub part_front : Place → List ℕ
 part_front place =
-    codes "part " ++ role_name place.role ++ codes " " ++ decimal place.index
+    codes "part " ++ part_name place.role ++ codes " " ++ decimal place.index
     ++ address_words (codes " ") place.address (codes " ") ++ decimal place.length
     ++ codes " from "
 

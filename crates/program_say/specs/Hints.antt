@@ -8,6 +8,7 @@ use Rattle.bl_load.specs.declared.refusal.Refusal.TheVariants.{NoHeader, NotBzIm
 use Rattle.bl_load.specs.declared.refused_entry.RefusedEntry.{RefusedEntry}
 use Rattle.program_desc.specs.Described.{DescriptionFacts}
 use Rattle.program_desc.specs.Entries.{Entry}
+use Rattle.program_say.specs.CutKernels.{cut_hint}
 use Rattle.program_say.specs.blame.RegionHints.{region_hints}
 use Rattle.program_say.specs.Sought.{SoughtFacts, bytes_found}
 
@@ -47,9 +48,28 @@ kernel_hint_if sought refused None = []
 kernel_hint_if sought refused (Some entry) =
     kernel_hint refused.entry refused.refusal (bytes_found sought entry.kernel)
 
-abbrev pub kernel_hint_of : List Entry → SoughtFacts → RefusedEntry → List ℕ
-kernel_hint_of entries sought refused =
+-- ---- kernels that were cut
+
+-- of an entry of a menu, by its index
+abbrev pub cut_hint_if : SoughtFacts → ℕ → Option Entry → List ℕ
+cut_hint_if sought index None = []
+cut_hint_if sought index (Some entry) = cut_hint index (bytes_found sought entry.kernel)
+
+abbrev pub cut_hint_at : List Entry → SoughtFacts → ℕ → List ℕ
+cut_hint_at entries sought index = cut_hint_if sought index (slice_get entries index)
+
+-- ---- the kernels of a boot
+
+-- of an entry that was refused
+abbrev pub kernel_hints_of : List Entry → SoughtFacts → RefusedEntry → List ℕ
+kernel_hints_of entries sought refused =
     kernel_hint_if sought refused (slice_get entries refused.entry)
+    ++ cut_hint_at entries sought refused.entry
+
+-- of the entry that is handed over, if there is one
+abbrev pub booted_hint : List Entry → SoughtFacts → Option ℕ → List ℕ
+booted_hint entries sought None = []
+booted_hint entries sought (Some index) = cut_hint_at entries sought index
 
 -- ---- entries that are never attempted
 
@@ -73,8 +93,10 @@ unattempted_hints description =
 
 -- ---- all of them
 
--- after a boot with these refusals
-abbrev pub hint_lines : DescriptionFacts → SoughtFacts → List RefusedEntry → List ℕ
-hint_lines description sought refused =
-    flat_map (kernel_hint_of description.entries sought) refused
+-- after a boot with these refusals, and with the entry that is handed over, if there is one
+abbrev pub hint_lines :
+    DescriptionFacts → SoughtFacts → List RefusedEntry → (booted : Option ℕ) → List ℕ
+hint_lines description sought refused booted =
+    flat_map (kernel_hints_of description.entries sought) refused
+    ++ booted_hint description.entries sought booted
     ++ region_hints description.regions ++ unattempted_hints description

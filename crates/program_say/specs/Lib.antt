@@ -3,7 +3,9 @@ pub mod BootAndMapLines
 pub mod WalkLines
 pub mod Sought
 pub mod Frames
+pub mod CutKernels
 pub mod Hints
+pub mod PartNames
 pub mod PartSources
 pub mod RefusalLine
 pub mod RefusalWords

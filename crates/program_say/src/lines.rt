@@ -1,6 +1,7 @@
 //! The lines of boots, maps, walks, digests and explanations, and that of a bad image.
 
 mod attempts;
+mod cut_kernels;
 mod digests;
 mod fields;
 mod frames;
@@ -9,6 +10,7 @@ mod hints;
 mod kernel_handoff;
 mod map;
 mod outcome;
+mod part_names;
 mod part_sources;
 mod refusal;
 mod refusal_detail;

@@ -1,5 +1,5 @@
 -- The lines that tell a boot for a person. Own.
-use Rattle.std.specs.Prelude.{ℕ, List, [], ◌++◌, map}
+use Rattle.std.specs.Prelude.{ℕ, List, [], ◌++◌, map, Some, None}
 use Rattle.std.specs.List.{flat_map}
 use Rattle.std.specs.declared.ops.Range.{Range}
 use Rattle.bl_map.specs.MachineFacts.{MachineFacts}
@@ -51,7 +51,7 @@ abbrev pub none_left_lines :
     DescriptionFacts → MachineFacts → SoughtFacts → List ToldRefusal → List RefusedEntry → List ℕ
 none_left_lines description facts sought told refused =
     flat_map (refused_attempt_lines description.entries facts sought) told
-    ++ no_entry_line ++ hint_lines description sought refused
+    ++ no_entry_line ++ hint_lines description sought refused None
 
 -- an entry is handed over after these refusals, with these lines of what is handed over
 abbrev pub booted_lines :
@@ -61,7 +61,7 @@ booted_lines description facts sought entry told earlier handed =
     flat_map (refused_attempt_lines description.entries facts sought) told
     ++ attempt_lines description.entries sought entry
     ++ booted_line entry (described_entry description entry).title ++ handed
-    ++ hint_lines description sought earlier
+    ++ hint_lines description sought earlier (Some entry)
 
 -- the refusals of what a boot came to
 abbrev pub refused_in : State → List RefusedEntry

@@ -1,5 +1,5 @@
 //! What a boot came to is told.
-ghost use Rattle.std.specs.Prelude.{◌≡◌, ◌≤◌, ◌++◌, OnOk, OnErr, length};
+ghost use Rattle.std.specs.Prelude.{◌≡◌, ◌≤◌, ◌++◌, OnOk, OnErr, Some, length};
 ghost use Rattle.program_boots.specs.described.DescribedMenu.{described_entry};
 ghost use Rattle.program_say.specs.BootAndMapLines.{booted_line};
 ghost use Rattle.program_say.specs.Hints.{hint_lines};
@@ -36,7 +36,7 @@ pub fn tell_none_left<A: Allocator + Copy, B: Allocator>(
     let mut lines = Vec::new(alloc);
     say_refused_attempts(&mut lines, boot.machine, boot.description, sought, told)?;
     say_no_entry_left(&mut lines)?;
-    say_hints(&mut lines, boot.description, sought, refused)?;
+    say_hints(&mut lines, boot.description, sought, refused, None)?;
     say.extend_from_slice(&lines)
 }
 
@@ -54,7 +54,8 @@ fn say_outcome<A: Allocator + Copy>(
         (described_entry (view boot.now.description.now) outcome.now.entry).title
         ++ entry_handoff_lines (view boot.now.description.now).entries sought.now steps.now
         boot.now.machine.now.pool outcome.now.entry outcome.now.handoff
-        ++ hint_lines (view boot.now.description.now) sought.now outcome.now.refused.items) }
+        ++ hint_lines (view boot.now.description.now) sought.now outcome.now.refused.items
+        (Some outcome.now.entry)) }
 {
     let entry = outcome.entry;
     say_booted(out, entry as u64, title_of(boot.description, entry))?;
@@ -67,7 +68,7 @@ fn say_outcome<A: Allocator + Copy>(
         entry,
         &outcome.handoff,
     )?;
-    say_hints(out, boot.description, sought, &outcome.refused)
+    say_hints(out, boot.description, sought, &outcome.refused, Some(entry))
 }
 
 /// Appends the lines of a boot in which an entry is handed over by these steps. An error leaves the

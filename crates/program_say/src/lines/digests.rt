@@ -7,25 +7,9 @@ ghost use Rattle.program_say.specs.DigestLines.{at_right, part_digest_line};
 
 use crate::formatted::say_digits;
 use crate::lines::fields::{say_at_left, say_at_right};
+use crate::lines::part_names::part_name;
 use bl_digest::{Digests, PartDigest};
-use bl_load::Role;
 use std::alloc::{AllocError, Allocator};
-
-/// What a part is called in a table of digests.
-fn part_name(role: Role) -> &'static str
-    ensures { result.now ≡ says.part_name role }
-{
-    match role {
-        Role::Kernel => "kernel",
-        Role::Module => "module",
-        Role::Information => "information",
-        Role::BootParams => "parameters",
-        Role::CommandLine => "line",
-        Role::Gdt => "gdt",
-        Role::Initrd => "initrd",
-        Role::PageTables => "tables",
-    }
-}
 
 /// Appends a number at the right of a field of ten.
 fn say_count<A: Allocator + Copy>(out: &mut Vec<u8, A>, count: u64) -> Result<(), AllocError>

@@ -2,10 +2,11 @@
 ghost use Rattle.std.specs.Prelude.{◌≡◌, ◌≤◌, ◌++◌, ◌==◌, OnOk, length};
 ghost use Rattle.std.specs.List.{flat_map, list_any};
 ghost use Rattle.program_say.specs.Hints as hints;
-ghost use Rattle.program_say.specs.Hints.{kernel_hint_of};
+ghost use Rattle.program_say.specs.Hints.{kernel_hints_of};
 ghost use Rattle.program_desc.specs.Views.{view};
 
 use crate::blame::say_region_hints;
+use crate::lines::cut_kernels::say_cut_hint;
 use crate::say;
 use crate::subjects::{Sought, entry_at};
 use bl_load::{Refusal, RefusedEntry};
@@ -55,17 +56,50 @@ fn say_kernel_hint<A: Allocator + Copy>(
     }
 }
 
-fn say_hint_of<A: Allocator + Copy, B: Allocator>(
+/// Appends the hint on the kernel of an entry, by its index, if it was cut.
+fn say_cut_hint_at<A: Allocator + Copy, B: Allocator>(
+    out: &mut Vec<u8, A>,
+    description: &Description<B>,
+    sought: &Sought<'_, A>,
+    index: u32,
+) -> Result<(), AllocError>
+    ensures { OnOk result (out.new.items ≡ out.old.items
+        ++ hints.cut_hint_at (view description.now).entries sought.now index) }
+{
+    match entry_at(description, index) {
+        Some(entry) => say_cut_hint(out, index, sought.bytes(entry.kernel.as_str())),
+        None => Ok(()),
+    }
+}
+
+/// Appends the hints on the kernel of an entry that was refused.
+fn say_hints_of<A: Allocator + Copy, B: Allocator>(
     out: &mut Vec<u8, A>,
     description: &Description<B>,
     sought: &Sought<'_, A>,
     refused: &RefusedEntry,
 ) -> Result<(), AllocError>
     ensures { OnOk result (out.new.items ≡ out.old.items
-        ++ kernel_hint_of (view description.now).entries sought.now refused.now) }
+        ++ kernel_hints_of (view description.now).entries sought.now refused.now) }
 {
-    match entry_at(description, refused.entry) {
-        Some(entry) => say_kernel_hint(out, refused, sought.bytes(entry.kernel.as_str())),
+    if let Some(entry) = entry_at(description, refused.entry) {
+        say_kernel_hint(out, refused, sought.bytes(entry.kernel.as_str()))?;
+    }
+    say_cut_hint_at(out, description, sought, refused.entry)
+}
+
+/// Appends the hint on the kernel of the entry that is handed over, if there is one.
+fn say_booted_hint<A: Allocator + Copy, B: Allocator>(
+    out: &mut Vec<u8, A>,
+    description: &Description<B>,
+    sought: &Sought<'_, A>,
+    booted: Option<u32>,
+) -> Result<(), AllocError>
+    ensures { OnOk result (out.new.items ≡ out.old.items
+        ++ hints.booted_hint (view description.now).entries sought.now booted) }
+{
+    match booted {
+        Some(entry) => say_cut_hint_at(out, description, sought, entry),
         None => Ok(()),
     }
 }
@@ -78,10 +112,10 @@ fn say_kernel_hints<A: Allocator + Copy, B: Allocator>(
     refused: &[RefusedEntry],
 ) -> Result<(), AllocError>
     ensures { OnOk result (out.new.items ≡ out.old.items
-        ++ flat_map (kernel_hint_of (view description.now).entries sought.now) refused.now) }
+        ++ flat_map (kernel_hints_of (view description.now).entries sought.now) refused.now) }
 {
     for attempt in refused {
-        say_hint_of(out, description, sought, attempt)?;
+        say_hints_of(out, description, sought, attempt)?;
     }
     Ok(())
 }
@@ -133,19 +167,22 @@ fn say_unattempted<A: Allocator + Copy, B: Allocator>(
     Ok(())
 }
 
-/// Appends the hints on a boot with these refusals: on kernels of another protocol, on regions
-/// that are not made of whole frames, and on entries that are never attempted.
+/// Appends the hints on a boot with these refusals, and with the entry that is handed over, if
+/// there is one: on kernels of another protocol and kernels that were cut, on regions that are not
+/// made of whole frames, and on entries that are never attempted.
 pub fn say_hints<A: Allocator + Copy, B: Allocator>(
     out: &mut Vec<u8, A>,
     description: &Description<B>,
     sought: &Sought<'_, A>,
     refused: &[RefusedEntry],
+    booted: Option<u32>,
 ) -> Result<(), AllocError>
     requires { length description.now.entries.items ≤ 32 }
     ensures { OnOk result (out.new.items ≡ out.old.items
-        ++ hints.hint_lines (view description.now) sought.now refused.now) }
+        ++ hints.hint_lines (view description.now) sought.now refused.now booted) }
 {
     say_kernel_hints(out, description, sought, refused)?;
+    say_booted_hint(out, description, sought, booted)?;
     say_region_hints(out, &description.regions)?;
     say_unattempted(out, description)
 }

@@ -8,27 +8,12 @@ ghost use Rattle.program_say.specs.PartSources.{source_words};
 
 use crate::blame::say_address;
 use crate::lines::hex16::say_hex16;
+use crate::lines::part_names::part_name;
 use crate::lines::part_sources::say_steps;
 use crate::lines::walk::say_protocol;
 use crate::say;
-use bl_load::{Handoff, NamedRegister, Place, Registers, Role, Step};
+use bl_load::{Handoff, NamedRegister, Place, Registers, Step};
 use std::alloc::{AllocError, Allocator};
-
-/// The role's name in a line.
-pub fn role_name(role: Role) -> &'static str
-    ensures { result.now ≡ handed.role_name role }
-{
-    match role {
-        Role::Kernel => "kernel",
-        Role::Module => "module",
-        Role::Information => "information",
-        Role::BootParams => "boot-params",
-        Role::CommandLine => "command-line",
-        Role::Gdt => "gdt",
-        Role::Initrd => "initrd",
-        Role::PageTables => "page-tables",
-    }
-}
 
 /// Appends what a part is, which one of its role, its address, its length.
 #[tactic(auto, unfolding(crate::specs::HandoffLines::part_front))]
@@ -38,7 +23,7 @@ fn say_part_front<A: Allocator + Copy>(
 ) -> Result<(), AllocError>
     ensures { OnOk result (out.new.items ≡ out.old.items ++ handed.part_front place.now) }
 {
-    say!(out, "part {} {}", role_name(place.role), place.index)?;
+    say!(out, "part {} {}", part_name(place.role), place.index)?;
     say_address(out, " ", place.address, " ")?;
     say!(out, "{} from ", place.length)
 }

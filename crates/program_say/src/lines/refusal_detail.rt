@@ -7,7 +7,7 @@ ghost use Rattle.program_desc.specs.Views.{view};
 
 use crate::blame::{say_address, say_unusable};
 use crate::lines::frames::{frames_at, say_counted, say_frames};
-use crate::lines::kernel_handoff::role_name;
+use crate::lines::part_names::part_name;
 use crate::say;
 use crate::subjects::{RefusalDetail, Sought};
 use bl_load::{Choice, Row};
@@ -65,7 +65,7 @@ fn say_no_place<A: Allocator + Copy>(out: &mut Vec<u8, A>, row: &Row) -> Result<
     say!(
         out,
         "no place {} {} {} ",
-        role_name(row.role),
+        part_name(row.role),
         row.index,
         row.length
     )?;
