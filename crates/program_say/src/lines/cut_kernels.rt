@@ -29,7 +29,12 @@ fn say_cut_line<A: Allocator + Copy>(
 ) -> Result<(), AllocError>
     ensures { OnOk result (out.new.items ≡ out.old.items ++ cut.cut_line entry count whole) }
 {
-    say_counted(out, "hint: the kernel of entry ", entry as u64, " is cut: it has ")?;
+    say_counted(
+        out,
+        "hint: the kernel of entry ",
+        entry as u64,
+        " is cut: it has ",
+    )?;
     say_counted(out, "", count, " of ")?;
     say_counted(out, "", whole, " bytes\n")
 }
