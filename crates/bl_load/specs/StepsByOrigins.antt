@@ -1,5 +1,5 @@
--- The steps of parts, by their places and by where their bytes come from: nothing else decides which
--- they are. Own.
+-- The steps of parts, by their places and by where their bytes come from: nothing else decides
+-- which they are. Own.
 use Rattle.std.specs.Prelude.{ℕ, ◌+◌, ◌-◌, List, [], ◌∷◌, ◌++◌, length}
 use Rattle.bl_load.specs.declared.step.Step.{Step}
 use Rattle.bl_load.specs.declared.step.StepSource.TheVariants as source

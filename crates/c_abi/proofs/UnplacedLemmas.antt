@@ -39,11 +39,10 @@ pub early_of_prep : (facts : MachineFacts) (r : EntryRecord) (texts : List (List
     (value : EntryValue) (fault : PrepFault) → IsEntrySound r → value ≡ value_with r texts
     → IsFaultBeforePlacing facts value fault
     → IsEarlyFault facts r texts (load_fault_of_prep fault)
-early_of_prep facts r texts value (prep_fault.Refused refused) sound same is =
-    (
-      sound,
-      subst (λ (v : EntryValue). IsFaultBeforePlacing facts v (prep_fault.Refused refused)) same is,
-    )
+early_of_prep facts r texts value (prep_fault.Refused refused) sound same is = (
+  sound,
+  subst (λ (v : EntryValue). IsFaultBeforePlacing facts v (prep_fault.Refused refused)) same is,
+)
 early_of_prep facts r texts value prep_fault.NoMemory sound same is = tt
 
 -- ---- rows that are told of one row are told alike
