@@ -83,9 +83,10 @@ class Installed(ProgramChecks):
         env = {"PKG_CONFIG_PATH": str(self.prefix / "lib/pkgconfig")}
         for name in ("bootcore", "bootcore-freestanding"):
             self.ends(f"pkg-config finds version 1.0.0 of {name}, or a later one", run("pkg-config", "--atleast-version=1.0.0", name, env=env))
-        folder = self.prefix / "lib"
         ran = run("pkg-config", "--libs", "bootcore-freestanding", env=env)
-        self.ends("pkg-config names the library for firmware", ran, 0, f"-L{folder} -lbootcore_freestanding\n")
+        with self.check("pkg-config names the library for firmware"):
+            self.assert_ended(ran, 0, None)
+            self.assertEqual(ran.out.split()[1:], [b"-lbootcore_freestanding"], f"ran: {ran}")
         moved = self.room / "moved"
         shutil.copytree(self.prefix, moved)
         self.ends("a prefix that was moved is found by its bootcore.pc", self.compiled("guest", moved))
