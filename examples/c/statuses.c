@@ -133,7 +133,7 @@ static void expect(const char *name, call c, uint32_t loads, uint32_t prepares, 
     }
     /* a plan that is not made leaves none, and tells its counts for SMALL_ROOM alone */
     if (status != BOOTCORE_STATUS_DONE) {
-        bool is_counted = status == BOOTCORE_STATUS_SMALL_ROOM && layout->place_room == BOOTCORE_MAX_PLACES;
+        bool is_counted = status == BOOTCORE_STATUS_SMALL_ROOM;
         same = same && !layout->planned && !layout->step_count == !is_counted;
         c.layout.planned = 0;
         c.layout.place_count = is_counted ? layout->place_count : 0;
