@@ -4,7 +4,7 @@ use Rattle.std.specs.Prelude.{codes, decimal, length}
 use Rattle.toml.specs.View.{view}
 use Rattle.toml.specs.declared.value.Value.{Value, Array}
 use Rattle.toml.proofs.Views.{view-Array}
-use Rattle.program_desc.proofs.TablesLemmas.{item_count-view}
+use Rattle.program_desc.proofs.ArrayLemmas.{item_count-view}
 use Rattle.program_say.specs.blame.BadKeyWords.{held_words}
 
 pub held_array : (v : Vec Value Global)
