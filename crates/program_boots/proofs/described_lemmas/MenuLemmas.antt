@@ -6,7 +6,7 @@ use Rattle.std.proofs.lemmas.List.{length-append, map-append, take_more}
 use Rattle.bl_load.specs.declared.entry.Entry.{Entry}
 use Rattle.bl_load.specs.declared.entry.Module.{Module}
 use Rattle.bl_load.specs.EntryValue.{IsRsdpCopy}
-use Rattle.program_desc.specs.EntryFormViews.{HasCopyLength}
+use Rattle.program_desc.specs.Entries.{HasCopyLength}
 use Rattle.bl_session.specs.menu.MenuFaults.{AreWithinLimits, AreEntryIndices, HasMenuFault}
 use Rattle.bl_session.specs.menu.Menu.{EntryFacts, facts_of}
 use Rattle.bl_session.specs.declared.menu.fault.MenuFault.{MenuFault}

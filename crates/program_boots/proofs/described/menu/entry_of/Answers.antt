@@ -2,7 +2,7 @@ use Rattle.std.proofs.Common.{arith, subst}
 use Rattle.std.specs.Prelude.{IfSome}
 use Rattle.std.proofs.lemmas.List.{length-map}
 use Rattle.bl_load.specs.EntryValue.{IsWithinLimits}
-use Rattle.program_desc.specs.EntryFormViews.{form_view, HasCopyLength}
+use Rattle.program_desc.specs.Entries.{form_view, HasCopyLength}
 use Rattle.program_boots.proofs.described_lemmas.MenuLemmas.{copied}
 use Rattle.program_boots.proofs.described.menu.entry_of.Goals as goal
 
