@@ -14,4 +14,5 @@ image_fault_number (BadPart i) = 74
 image_fault_number WrongLength = 75
 image_fault_number DeviceFault = 76
 image_fault_number NoMemory = 77
+
 -- <<<
