@@ -37,6 +37,7 @@ refusal_number refusals.LineTooLong = 27
 refusal_number refusals.LineHasNul = 28
 refusal_number refusals.MapTooLong = 29
 refusal_number refusals.No64Entry = 30
+
 -- <<<
 
 -- the number of why an entry is not prepared; want of memory has that of a boot's

@@ -16,6 +16,7 @@ map_fault_number (BadRegion i) = 2
 map_fault_number TooManyRegions = 3
 map_fault_number BadPool = 4
 map_fault_number NoMemory = 5
+
 -- <<<
 
 -- a region ends at most at 2^52

@@ -11,4 +11,5 @@ info_fault_number BadReserved = 62
 info_fault_number (BadTag offset) = 63
 info_fault_number (BadOrder offset) = 64
 info_fault_number NoMemory = 65
+
 -- <<<

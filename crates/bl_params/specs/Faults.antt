@@ -8,4 +8,5 @@ abbrev pub param_fault_number : ParamFault → ℕ
 param_fault_number WrongLength = 66
 param_fault_number (BadParams offset) = 67
 param_fault_number NoMemory = 68
+
 -- <<<

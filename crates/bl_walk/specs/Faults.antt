@@ -32,6 +32,7 @@ walk_fault_number OutsideImage = 81
 walk_fault_number BadInfo = 82
 walk_fault_number BadState = 83
 walk_fault_number NoMemory = 84
+
 -- <<<
 
 -- the ranges that a kernel follows, each an address and a number of bytes

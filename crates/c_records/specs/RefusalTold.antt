@@ -39,6 +39,7 @@ first_carried refusal.LineTooLong = 0
 first_carried refusal.LineHasNul = 0
 first_carried refusal.MapTooLong = 0
 first_carried refusal.No64Entry = 0
+
 -- <<<
 
 -- what it carries beside it: the other segment's index
@@ -74,6 +75,7 @@ second_carried refusal.LineTooLong = 0
 second_carried refusal.LineHasNul = 0
 second_carried refusal.MapTooLong = 0
 second_carried refusal.No64Entry = 0
+
 -- <<<
 
 -- the refusal of the entry with this index

@@ -35,6 +35,7 @@ refusal_name refusals.LineTooLong = codes "LineTooLong"
 refusal_name refusals.LineHasNul = codes "LineHasNul"
 refusal_name refusals.MapTooLong = codes "MapTooLong"
 refusal_name refusals.No64Entry = codes "No64Entry"
+
 -- <<<
 
 abbrev pub refusal_meaning : Refusal → List ℕ
@@ -90,4 +91,5 @@ refusal_meaning refusals.MapTooLong =
     codes "the memory map has too many runs for a Linux kernel: more than 128"
 refusal_meaning refusals.No64Entry =
     codes "no 64-bit entry: the boot protocol is older than 2.12, or xloadflags has bit 0 clear"
+
 -- <<<

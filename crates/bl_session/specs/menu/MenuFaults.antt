@@ -29,4 +29,5 @@ abbrev pub menu_fault_number : MenuFault → ℕ
 menu_fault_number BadIndex = 51
 menu_fault_number TooMany = 52
 menu_fault_number NoMemory = 53
+
 -- <<<

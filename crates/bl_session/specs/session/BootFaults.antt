@@ -7,6 +7,7 @@ abbrev pub boot_fault_number : {A : Type 0} → BootFault A → ℕ
 -- >>> tools/refusals: number cases of BootFault
 boot_fault_number (NoEntryLeft refusals) = 40
 boot_fault_number NoMemory = 41
+
 -- <<<
 
 -- how it prints

@@ -16,6 +16,7 @@ map_fault_name (faults.BadRegion i) = codes "BadRegion"
 map_fault_name faults.TooManyRegions = codes "TooManyRegions"
 map_fault_name faults.BadPool = codes "BadPool"
 map_fault_name faults.NoMemory = codes "NoMemory"
+
 -- <<<
 
 abbrev pub map_fault_meaning : MapFault → List ℕ
@@ -26,6 +27,7 @@ map_fault_meaning faults.TooManyRegions = codes "more than 128 regions"
 map_fault_meaning faults.BadPool =
     codes "a bad pool: not whole frames, or with a byte that is not usable"
 map_fault_meaning faults.NoMemory = codes "out of memory while a machine was made"
+
 -- <<<
 
 -- the index of a region, in brackets
