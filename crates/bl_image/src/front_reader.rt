@@ -42,10 +42,7 @@ impl<A: Allocator> Model for Front<A> {
 /// Reads what an image has before the bytes of its parts, and no further; or answers the first
 /// fault there, each field judged as soon as it came: that of an image that begins so. It takes
 /// memory only for what came.
-pub fn read_front<S: Source, A: Allocator>(
-    alloc: A,
-    source: &mut S,
-) -> Result<Front<A>, ImageFault>
+pub fn read_front<S: Source, A: Allocator>(alloc: A, source: &mut S) -> Result<Front<A>, ImageFault>
     requires { S.faults source.old < 2 ^ 63 }
 
     // Its one spelling came, and nothing more.
