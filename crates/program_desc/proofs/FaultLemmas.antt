@@ -1,18 +1,14 @@
 -- What is read of a part of a table, and the bad key of a part as one of the whole.
 use Rattle.std.proofs.Common.{◌≡◌, ℕ, zero, suc, Option, Some, None, List, []}
 use Rattle.std.proofs.Common.{◌∷◌, Result, Ok, Err, Bor, refl, sym, ◌∙◌, inl, inr}
-use Rattle.std.specs.Prelude.{if◌then◌else◌, is_some, option_map, slice_get, codes}
-use Rattle.std.specs.Option.{ok_or}
-use Rattle.toml.specs.Data.{Data, Members, get_member}
-use Rattle.toml.specs.View.{view}
+use Rattle.std.specs.Prelude.{if◌then◌else◌, slice_get, codes}
+use Rattle.toml.specs.Data.{Data, Members}
 use Rattle.toml.specs.declared.value.Value.{Value}
 use Rattle.program_desc.specs.TomlValues.{◌>>=◌, has_only, required}
-use Rattle.program_desc.specs.Allowed.{allows}
 use Rattle.program_desc.specs.KeyRules.{KeyRule, key_rules, keys_of_set}
 use Rattle.program_desc.specs.BadKeys.{BreaksAnyOf, BreaksRule, IsBadKey, IsKeyFault, count_at}
 use Rattle.program_desc.specs.TableFaults.{IsTableFault, ReadsAs}
 use Rattle.program_desc.specs.internal.TableReading.{BreaksAt, HasUnknownKey, IsFaultOf}
-use Rattle.program_desc.specs.declared.allowed.Allowed.{Allowed}
 use Rattle.program_desc.specs.declared.bad_key.BadKey.{BadKey}
 use Rattle.program_desc.specs.declared.bad_key.KeyFault.{KeyFault}
 use Rattle.program_desc.specs.declared.bad_key.KeyFault.TheVariants.{NoTable, Unknown, Missing}
@@ -60,18 +56,7 @@ unknown_fails place set ms x Q faults.NoMemory among h = absurd h
 
 -- ---- values
 
--- a value of a key is read, or it breaks the key's rule
-pub value_reads : {X Y : Type 0} (seen : X → Y) (place : TablePlace) (rule : KeyRule) (ms : Members)
-    (o : Option X) (read : Option Y) (key : Bor (List ℕ)) (value : Bor Value) (allowed : Allowed)
-    → key.now ≡ rule.key → allowed ≡ rule.allowed
-    → get_member rule.key ms ≡ Some (view value.now) → option_map seen o ≡ read
-    → allows allowed (view value.now) ≡ is_some read
-    → ReadsAs seen (BreaksAt place rule ms)
-    (ok_or o (faults.BadKey record { table = place; fault = BadValue key value allowed })) read
-value_reads seen place rule ms None read key value allowed named same there is test =
-    (sym is, (refl, (named, same, there, rw (← is) at test)))
-value_reads seen place rule ms (Some x) read key value allowed named same there is test = sym is
-
+-- what must stand is read of what stands
 pub must_stand : {A : Type 0} (read : Data → Option A) (o : Option Data)
     → (o >>= read) ≡ required read o
 must_stand read None = refl

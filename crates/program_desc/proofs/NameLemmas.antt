@@ -1,9 +1,9 @@
 -- Whether the names of files differ, by the names of those before.
 use Rattle.std.proofs.Common.{◌≡◌, ◌+◌, ◌<◌, ℕ, Bool, true, false, not, ◌&&◌, ◌||◌, List, [], ◌∷◌}
-use Rattle.std.proofs.Common.{◌++◌, length, map, take, drop, get_or, cond, refl, sym, ap, ◌∙◌}
+use Rattle.std.proofs.Common.{◌++◌, length, map, take, get_or, cond, refl, sym, ap, ◌∙◌}
 use Rattle.std.specs.Str.{bytes_eq}
 use Rattle.std.proofs.lemmas.Cmp.{nat_list_eq_equiv}
-use Rattle.std.proofs.lemmas.List.{take-append-drop, take_more, map-append}
+use Rattle.std.proofs.lemmas.List.{take_more, map-append}
 use Rattle.std.proofs.lemmas.List.Folds.{list_any-append}
 use Rattle.program_desc.specs.Described.{InlineFile, has_file, names_differ}
 use Rattle.program_desc.specs.Views.{file_view}
@@ -30,21 +30,6 @@ names_push (g ∷ files) f =
     sort false d b false false is = refl
     sort false d b true false is = absurd cc
     sort false d b false true is = absurd cc
-
--- where two of the first files have one name, two of all have
-names_part : (files more : List InlineFile) → names_differ files ≡ false
-    → names_differ (files ++ more) ≡ false
-names_part [] more fails = absurd cc
-names_part (f ∷ files) more fails =
-    rw (list_any-append (λ g. bytes_eq g.name f.name) files more)
-    (part (has_file f.name files) (has_file f.name more) (names_differ files)
-    (names_differ (files ++ more)) fails (names_part files more))
-  where
-    part : (a b c d : Bool) → (not a && c) ≡ false → (c ≡ false → d ≡ false)
-        → (not (a || b) && d) ≡ false
-    part true b c d fails rest = refl
-    part false true c d fails rest = refl
-    part false false c d fails rest = rest fails
 
 -- the first files, and one more
 pub first_files : {A : Type 0} (files : List (FileRow A)) (i : ℕ) (f : FileRow A)
@@ -74,12 +59,3 @@ has_more before f name old new same was now is =
     either true false = refl
     either false true = refl
     either false false = refl
-
--- where two of the first files have one name, all names do not differ
-pub differ_not : {A : Type 0} (files : List (FileRow A)) (n : ℕ)
-    → names_differ (map file_view (take n files)) ≡ false
-    → names_differ (map file_view files) ≡ false
-differ_not files n fails =
-    ap (λ fs. names_differ (map file_view fs)) (sym (take-append-drop n files))
-    ∙ ap names_differ (map-append file_view (take n files) (drop n files))
-    ∙ names_part (map file_view (take n files)) (map file_view (drop n files)) fails
