@@ -34,8 +34,8 @@ given_files entries = map stored_given (menu_files entries)
 -- ---- the end
 
 -- memory that held the old bytes holds the new ones, where a boot on a machine of these facts ended
--- so: the files alone decide, no byte outside the pool and the parts has changed, and what is handed
--- over lies in memory
+-- so: the files alone decide, no byte outside the pool and the parts has changed, and what is
+-- handed over lies in memory
 pub record HasBootEnded (facts : MachineFacts) (menu : MenuFacts) (files : List File)
     (old new : List ℕ) (end : PhaseFacts) : Type 0 where
   pub outcome : HasEnded (state_at new end)
