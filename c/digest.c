@@ -27,7 +27,9 @@ bool bootcore_digest_wanted(const bootcore_digest *digest, bootcore_file_range *
     if (!digest || !range) {
         return false;
     }
-    copy = *digest; /* the core gives the pointer back as it is */
+    /* the core gives the pointer back as it is: the clause `place` of each export of bootcore_c
+     * that only looks, and of c_handle's calls below it */
+    copy = *digest;
     return bootcore_digest_wanted_record(&copy, range);
 }
 

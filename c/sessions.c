@@ -145,7 +145,9 @@ bool bootcore_session_missing(const bootcore_session *session, size_t most,
     if (!session || !request) {
         return false;
     }
-    copy = *session; /* the core gives the pointer back as it is */
+    /* the core gives the pointer back as it is: the clause `place` of each export of bootcore_c
+     * that only looks, and of c_handle's calls below it */
+    copy = *session;
     if (!bootcore_session_missing_record(&copy, &first)) {
         return false;
     }

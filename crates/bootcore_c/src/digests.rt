@@ -50,18 +50,18 @@ pub extern "C" fn bootcore_digest_wanted_record(
     range: &mut FileRangeRecord,
 ) -> bool
     ensures kept { digest.new.kept ≡ digest.old.kept }
+    ensures place { digest.new.at ≡ digest.old.at }
     ensures told { MatchOption digest.old.kept
         (TellsWanted None result range.old range.new)
         (λ kept. TellsWanted (wanted_of kept) result range.old range.new) }
 {
-    match digest.take(alloc) {
-        Some(kept) => {
-            let is_told = wanted_told(&*kept, range);
-            digest.keep(kept);
-            is_told
-        }
+    let lent = digest.lend(alloc);
+    let is_told = match lent.look() {
+        Some(kept) => wanted_told(kept, range),
         None => false,
-    }
+    };
+    digest.take_back(lent);
+    is_told
 }
 
 /// The digest that is kept is fed.
@@ -94,20 +94,20 @@ pub extern "C" fn bootcore_digest_told_arrays(
     parts: &mut [PartDigestRecord],
 ) -> u32
     ensures kept { digest.new.kept ≡ digest.old.kept }
+    ensures place { digest.new.at ≡ digest.old.at }
     ensures told { let before : DigestsTelling = record { digests = told.old; parts = parts.old } in
         let after : DigestsTelling = record { digests = told.new; parts = parts.new } in
         MatchOption digest.old.kept
         ((result ≡ progress_status (Err NoSession)) × (after ≡ before))
         (λ kept. TellsFed kept result before after) }
 {
-    match digest.take(alloc) {
-        Some(kept) => {
-            let status = fed_digests_told(&*kept, told, parts);
-            digest.keep(kept);
-            status
-        }
+    let lent = digest.lend(alloc);
+    let status = match lent.look() {
+        Some(kept) => fed_digests_told(kept, told, parts),
         None => status_of(Err(HandleFault::NoSession)),
-    }
+    };
+    digest.take_back(lent);
+    status
 }
 
 /// The digest that is kept is freed.

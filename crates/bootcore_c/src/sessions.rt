@@ -102,6 +102,7 @@ pub extern "C" fn bootcore_session_missing_record(
     request: &mut RequestRecord,
 ) -> bool
     ensures kept { session.new.kept ≡ session.old.kept }
+    ensures place { session.new.at ≡ session.old.at }
     ensures told { (bytes : List ℕ) → MatchOption session.old.kept
         (TellsRequest [] None result request.old request.new)
         (λ session. TellsRequest session.boot.menu.attempts
@@ -120,6 +121,7 @@ pub extern "C" fn bootcore_session_missing_after_record(
     request: &mut RequestRecord,
 ) -> bool
     ensures kept { session.new.kept ≡ session.old.kept }
+    ensures place { session.new.at ≡ session.old.at }
     ensures told { (bytes : List ℕ) → MatchOption session.old.kept
         (TellsRequest [] None result request.old request.new)
         (λ session. TellsRequest session.boot.menu.attempts
@@ -140,6 +142,7 @@ pub extern "C" fn bootcore_session_outcome_arrays(
     count: &mut u64,
 ) -> u32
     ensures kept { session.new.kept ≡ session.old.kept }
+    ensures place { session.new.at ≡ session.old.at }
     ensures told { let before : Telling = record {
       handoff = told.old;
       places = places.old;
@@ -154,14 +157,13 @@ pub extern "C" fn bootcore_session_outcome_arrays(
         ((result ≡ progress_status (Err NoSession)) × (after ≡ before))
         (λ session. TellsOutcome session result before after) }
 {
-    match session.take(alloc) {
-        Some(kept) => {
-            let status = outcome_told(&*kept, told, places, refusals, count);
-            session.keep(kept);
-            status
-        }
+    let lent = session.lend(alloc);
+    let status = match lent.look() {
+        Some(kept) => outcome_told(kept, told, places, refusals, count),
         None => status_of(Err(HandleFault::NoSession)),
-    }
+    };
+    session.take_back(lent);
+    status
 }
 
 /// The session that is kept is freed.

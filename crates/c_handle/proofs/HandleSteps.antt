@@ -44,6 +44,10 @@ handle_good (block_ptr b o) h fits = (and_tt (has_ty (layout Z) h) fits.0, (tt, 
 handle_good null_ptr h fits =
     (and_tt (has_ty (layout Z) h) fits.0, (record { fits = lit< tt }, (fits.1, tt)))
 
+pub pointer_good : (p : Ptr) → T (has_ty mir.Syntax.ty_ptr (ptr_val p)) × WT (ptr_val p)
+pointer_good (block_ptr b o) = (tt, tt)
+pointer_good null_ptr = (tt, record { fits = lit< tt })
+
 module _ {M : Type 1} {𝓤 : Ura M} (𝓛 : Logic 𝓤) (R : RattleType) where
   tested : (a : Global) (p : Ptr) (x : R.Denot)
       → ent 𝓤 (sem 𝓛 (box_owns (token a) R p x))

@@ -1,6 +1,9 @@
 pub mod HandleSteps
+pub mod LookSteps
 pub mod SessionHandleSteps
 pub mod DigestHandleSteps
+pub mod LentSessionHandleSteps
+pub mod LentDigestHandleSteps
 pub mod RawBoxSteps
 pub mod SendSteps
 pub mod SliceSteps

@@ -5,9 +5,10 @@ use Rattle.std.specs.Box.Ownership.{box_owns}
 use Rattle.std.specs.contracts.alloc.Global as heap
 use Rattle.std.specs.contracts.impls.GlobalAllocator.TheImpl.{ghosts}
 use Rattle.std.specs.declared.alloc.Global.{Global}
-use base.Fml.{Fml, feq}
+use base.Fml.{Fml, Lft, feq, fex, fsep, ftrue}
 use denote.RattleType.{RattleType}
-use denote.RawPtr.{Ptr, null_ptr}
+use denote.RawPtr.{Ptr, Testable, null_ptr}
+use denote.Struct.Lending.{lent_at}
 use Rattle.bl_digest.specs.contracts.digesting.Digesting as digesting
 use Rattle.bl_digest.specs.PlanInSteps.{DigestingFacts}
 use Rattle.bl_session.specs.contracts.OwnedSession as owned
@@ -31,6 +32,12 @@ coded_kept_digest = coded_option digest_type.coded
 abbrev pub handle_owns : (R : RattleType) → Global → Ptr → Option R.Denot → Fml
 handle_owns R alloc at None = feq Ptr at null_ptr
 handle_owns R alloc at (Some value) = box_owns (ghosts.dealloc_token alloc) R at value
+
+-- for as long as a handle is lent: behind null there is nothing; behind another pointer the value
+-- that is kept is lent too, and the pointer may be compared with null
+abbrev pub handle_shares : (R : RattleType) → Ptr → Option R.Denot → Lft → Fml
+handle_shares R at None κ = feq Ptr at null_ptr
+handle_shares R at (Some value) κ = fsep (lent_at R at value κ) (fex (Testable at) (λ _. ftrue))
 
 -- a value is kept before and after, and the two stand so to each other; or none before and after,
 -- and the other holds

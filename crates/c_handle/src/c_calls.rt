@@ -74,26 +74,27 @@ impl Handle {
     /// Tells the first piece that the session awaits, and whether there is one.
     pub fn missing_told(&mut self, alloc: Global, told: &mut RequestRecord) -> bool
         ensures kept { self.new.kept ≡ self.old.kept }
+        ensures place { self.new.at ≡ self.old.at }
         ensures told { (bytes : List ℕ) → MatchOption self.old.kept
             (TellsRequest [] None result told.old told.new)
             (λ session. TellsRequest session.boot.menu.attempts
             (first_request session.boot (state_at bytes session.phase))
             result told.old told.new) }
     {
-        match self.take(alloc) {
-            Some(session) => {
-                let is_told = tell_request(session.menu(), session.missing(), told);
-                self.keep(session);
-                is_told
-            }
+        let lent = self.lend(alloc);
+        let is_told = match lent.look() {
+            Some(session) => tell_request(session.menu(), session.missing(), told),
             None => false,
-        }
+        };
+        self.take_back(lent);
+        is_told
     }
 
     /// Tells the first piece that the session awaits after that of a record, which it then is, and
     /// whether there is one.
     pub fn missing_after_told(&mut self, alloc: Global, told: &mut RequestRecord) -> bool
         ensures kept { self.new.kept ≡ self.old.kept }
+        ensures place { self.new.at ≡ self.old.at }
         ensures told { (bytes : List ℕ) → MatchOption self.old.kept
             (TellsRequest [] None result told.old told.new)
             (λ session. TellsRequest session.boot.menu.attempts
@@ -101,13 +102,12 @@ impl Handle {
             result told.old told.new) }
     {
         let ticket = ticket_in(told);
-        match self.take(alloc) {
-            Some(session) => {
-                let is_told = tell_request(session.menu(), session.missing_after(ticket), told);
-                self.keep(session);
-                is_told
-            }
+        let lent = self.lend(alloc);
+        let is_told = match lent.look() {
+            Some(session) => tell_request(session.menu(), session.missing_after(ticket), told),
             None => false,
-        }
+        };
+        self.take_back(lent);
+        is_told
     }
 }

@@ -3,6 +3,7 @@ ghost use Rattle.std.specs.Prelude.{◌≡◌, Option, None, Some, option_map};
 ghost use Rattle.bl_digest.specs.PlanInSteps.{DigestingFacts};
 ghost use Rattle.c_handle.specs.Handles.{handle_owns, coded_kept_digest, digest_type};
 
+use crate::lent_digest_handle::LentDigestHandle;
 use crate::raw_box::RawBox;
 use bl_digest::Digesting;
 use std::alloc::Global;
@@ -61,6 +62,38 @@ impl DigestHandle {
                 alloc,
             })
         }
+    }
+
+    /// The same for the time of a call, to look at what it keeps.
+    fn into_lent(self) -> LentDigestHandle
+        ensures { (result.at ≡ self.at) × (result.kept ≡ self.kept) }
+    {
+        let DigestHandle { at, alloc } = self;
+        LentDigestHandle { at, alloc }
+    }
+
+    /// The handle again.
+    fn from_lent(lent: LentDigestHandle) -> DigestHandle
+        ensures { (result.at ≡ lent.at) × (result.kept ≡ lent.kept) }
+    {
+        let LentDigestHandle { at, alloc } = lent;
+        DigestHandle { at, alloc }
+    }
+
+    /// Lends what is kept for the time of a call; until it is taken back, none is kept.
+    pub fn lend(&mut self, alloc: Global) -> LentDigestHandle
+        ensures place { result.at ≡ self.old.at }
+        ensures kept { result.kept ≡ self.old.kept }
+    {
+        mem::replace(self, DigestHandle::empty(alloc)).into_lent()
+    }
+
+    /// Takes back what was lent.
+    pub fn take_back(&mut self, lent: LentDigestHandle)
+        ensures place { self.new.at ≡ lent.at }
+        ensures kept { self.new.kept ≡ lent.kept }
+    {
+        *self = DigestHandle::from_lent(lent);
     }
 
     /// Takes the digest that is kept, if there is one; none is kept from here on.

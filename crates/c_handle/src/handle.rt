@@ -3,6 +3,7 @@ ghost use Rattle.std.specs.Prelude.{◌≡◌, Option, None, Some, option_map};
 ghost use Rattle.bl_session.specs.session.Phases.{SessionFacts};
 ghost use Rattle.c_handle.specs.Handles.{handle_owns, coded_kept_session, session_type};
 
+use crate::lent_handle::LentHandle;
 use crate::raw_box::RawBox;
 use bl_session::OwnedSession;
 use std::alloc::Global;
@@ -62,6 +63,38 @@ impl Handle {
                 alloc,
             })
         }
+    }
+
+    /// The same for the time of a call, to look at what it keeps.
+    fn into_lent(self) -> LentHandle
+        ensures { (result.at ≡ self.at) × (result.kept ≡ self.kept) }
+    {
+        let Handle { at, alloc } = self;
+        LentHandle { at, alloc }
+    }
+
+    /// The handle again.
+    fn from_lent(lent: LentHandle) -> Handle
+        ensures { (result.at ≡ lent.at) × (result.kept ≡ lent.kept) }
+    {
+        let LentHandle { at, alloc } = lent;
+        Handle { at, alloc }
+    }
+
+    /// Lends what is kept for the time of a call; until it is taken back, none is kept.
+    pub fn lend(&mut self, alloc: Global) -> LentHandle
+        ensures place { result.at ≡ self.old.at }
+        ensures kept { result.kept ≡ self.old.kept }
+    {
+        mem::replace(self, Handle::empty(alloc)).into_lent()
+    }
+
+    /// Takes back what was lent.
+    pub fn take_back(&mut self, lent: LentHandle)
+        ensures place { self.new.at ≡ lent.at }
+        ensures kept { self.new.kept ≡ lent.kept }
+    {
+        *self = Handle::from_lent(lent);
     }
 
     /// Takes the session that is kept, if there is one; none is kept from here on.

@@ -31,34 +31,34 @@ impl Handle {
     /// The first piece that the session awaits, as `OwnedSession::missing`; None if none is kept.
     pub fn missing(&mut self, alloc: Global) -> Option<Request>
         ensures kept { self.new.kept ≡ self.old.kept }
+        ensures place { self.new.at ≡ self.old.at }
         ensures missing { (bytes : List ℕ) → MatchOption self.old.kept (result ≡ None)
             (λ session. result ≡ first_request session.boot (state_at bytes session.phase)) }
     {
-        match self.take(alloc) {
-            Some(session) => {
-                let request = session.missing();
-                self.keep(session);
-                request
-            }
+        let lent = self.lend(alloc);
+        let request = match lent.look() {
+            Some(session) => session.missing(),
             None => None,
-        }
+        };
+        self.take_back(lent);
+        request
     }
 
     /// The first piece that the session awaits after a ticket's, as `OwnedSession::missing_after`;
     /// None if none is kept.
     pub fn missing_after(&mut self, alloc: Global, ticket: Ticket) -> Option<Request>
         ensures kept { self.new.kept ≡ self.old.kept }
+        ensures place { self.new.at ≡ self.old.at }
         ensures missing { (bytes : List ℕ) → MatchOption self.old.kept (result ≡ None)
             (λ session. result
             ≡ request_after session.boot (state_at bytes session.phase) ticket) }
     {
-        match self.take(alloc) {
-            Some(session) => {
-                let request = session.missing_after(ticket);
-                self.keep(session);
-                request
-            }
+        let lent = self.lend(alloc);
+        let request = match lent.look() {
+            Some(session) => session.missing_after(ticket),
             None => None,
-        }
+        };
+        self.take_back(lent);
+        request
     }
 }
