@@ -1,26 +1,24 @@
 -- What a `&` to a handle of either kind lends.
-use Rattle.std.proofs.Common.{◌≡◌, ◌∙◌, List, [], ◌∷◌, ℕ, refl}
+use Rattle.std.proofs.Common.{◌≡◌, List, [], ◌∷◌, ℕ, refl}
 use seplogic.Ra.Ura.{Ura}
 use mir.Raw.{raw as bare}
 use mir.Syntax.{ty_ptr}
 use mir.Val.{Val}
-use base.Fml.{Fml, Incl, Lft, Share, fat, fbor, fex, flft, fsep, ftrue}
+use base.Fml.{Fml, Lft, Share, fat, fbor, fex, flft, fsep, ftrue}
 use base.Fraction.{full_share}
-use base.Logic.{apply∗, ent, fst∗, never, sep, snd∗, via, wand}
+use base.Logic.{apply∗, ent, fst∗, never, sep, via, wand}
 use contract.Monad.{fact_use}
-use ghost.Rules.{Toks, span}
 use types.Logic.{Logic, lfts, sem}
 use types.Kit.{Goal, Item, Seq, Soaks, Step, ‵, ◌⊛◌, raw, later, step, ◌$◌, !, await, done, drop}
-use types.Kit.{feq_i, feq_l, fpack, fpick, fsplit, keep, move, now, qed, rewrite, split, updating, use1, use2}
+use types.Kit.{feq_i, feq_l, fpack, fpick, fsplit, move, now, qed, rewrite, split, updating, use1, use2}
 use denote.Copied.{plain_Copied}
 use denote.Memory.{cell_at, hidden_shr, lone, part_at, shared_of}
 use denote.Opens.{Shut}
-use denote.Param.Laws.{Laws}
 use denote.RattleType.{RattleType, RowLaws}
 use denote.RawPtr.{Ptr, RawPtr, Testable, block_ptr, coded_ptr, in_a_block, lies_at, null_ptr, ptr_own}
 use denote.RawPtr.{ptr_val, rawptr_pure}
 use denote.Shares.{SharesAt}
-use denote.Sharing.{ShrLaws, beside, said}
+use denote.Sharing.{ShrLaws, said}
 use denote.SharingLaws.{beside_shr_laws, said_shr_laws}
 use denote.Steps.{looks, nothing, shuts}
 use denote.Struct.Laws.{RawPtr-laws}

@@ -1,7 +1,8 @@
 //! A handle to a digest for the time of a call. What can be read through a `&` may not cross to C.
 ghost use Rattle.std.specs.Prelude.{◌≡◌, Option, option_map};
 ghost use Rattle.bl_digest.specs.PlanInSteps.{DigestingFacts};
-ghost use Rattle.c_handle.specs.Handles.{handle_owns, handle_shares, coded_kept_digest, digest_type};
+ghost use Rattle.c_handle.specs.Handles.{handle_owns, handle_shares};
+ghost use Rattle.c_handle.specs.Handles.{coded_kept_digest, digest_type};
 
 use bl_digest::Digesting;
 use std::alloc::Global;

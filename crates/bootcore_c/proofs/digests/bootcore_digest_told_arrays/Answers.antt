@@ -19,23 +19,24 @@ returns-clause-told c =
     subst Told c.lend-lent.ensures.kept
     (subst Told c.look.ensures
     (elim c.match-look.branch [
-    | in-Some w ↦
-        subst (λ r. Told (option_map (λ digest. digest.now) r)) (sym w.in-Some.is)
-        (subst (λ status. TellsFed w.in-Some.kept.now status before after) (sym w.status-is)
-        (subst
-        (λ told. TellsFed w.in-Some.kept.now w.fed_digests_told-status.result before
-        (record { digests = told; parts = c.match-look.parts })) (sym w.told-is)
-        (subst
-        (λ parts. TellsFed w.in-Some.kept.now w.fed_digests_told-status.result before
-        (record { digests = w.fed_digests_told-status.new.told; parts = parts })) (sym w.parts-is)
-        w.fed_digests_told-status.ensures)))
-    | in-None w ↦
-        subst (λ r. Told (option_map (λ digest. digest.now) r)) (sym w.in-None.is)
-        (w.status-is ∙ w.status_of-status.ensures,
-        subst
-        (λ told. ◌≡◌ {A = DigestsTelling} after (record { digests = told; parts = c.args.parts.now }))
-        w.told-is
-        (subst
-        (λ parts. ◌≡◌ {A = DigestsTelling} after
-        (record { digests = c.match-look.told; parts = parts })) w.parts-is refl))
+      | in-Some w ↦
+          subst (λ r. Told (option_map (λ digest. digest.now) r)) (sym w.in-Some.is)
+          (subst (λ status. TellsFed w.in-Some.kept.now status before after) (sym w.status-is)
+          (subst
+          (λ told. TellsFed w.in-Some.kept.now w.fed_digests_told-status.result before
+          (record { digests = told; parts = c.match-look.parts })) (sym w.told-is)
+          (subst
+          (λ parts. TellsFed w.in-Some.kept.now w.fed_digests_told-status.result before
+          (record { digests = w.fed_digests_told-status.new.told; parts = parts })) (sym w.parts-is)
+          w.fed_digests_told-status.ensures)))
+      | in-None w ↦
+          subst (λ r. Told (option_map (λ digest. digest.now) r)) (sym w.in-None.is) (
+            w.status-is ∙ w.status_of-status.ensures,
+            subst
+                (λ told. ◌≡◌ {A = DigestsTelling} after (record { digests = told; parts = c.args.parts.now }))
+                w.told-is
+                (subst
+                (λ parts. ◌≡◌ {A = DigestsTelling} after
+                (record { digests = c.match-look.told; parts = parts })) w.parts-is refl),
+          )
     ]))

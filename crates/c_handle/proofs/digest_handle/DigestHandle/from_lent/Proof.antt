@@ -21,7 +21,7 @@ use Rattle.std.proofs.alloc.Calls.{Goes-blank}
 use Rattle.std.proofs.raw_atomic.Walks.{proved_at, leaves}
 use Rattle.c_handle.proofs.RawBoxSteps.{two}
 use Rattle.c_handle.proofs.HandleSteps.{handle_good, pointer_good}
-use Rattle.c_handle.proofs.DigestHandleSteps.{Handle, handle_in}
+use Rattle.c_handle.proofs.DigestHandleSteps.{handle_in}
 use Rattle.c_handle.proofs.LentDigestHandleSteps.{LentHandle, lent_out}
 use Rattle.c_handle.specs.contracts.digest_handle.DigestHandle.from_lent.{ended, clauses}
 use Rattle.c_handle.specs.contracts.digest_handle.DigestHandle.from_lent.Key.{name as #self}

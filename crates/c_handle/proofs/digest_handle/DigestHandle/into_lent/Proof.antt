@@ -22,7 +22,7 @@ use Rattle.std.proofs.raw_atomic.Walks.{proved_at, leaves}
 use Rattle.c_handle.proofs.RawBoxSteps.{two}
 use Rattle.c_handle.proofs.HandleSteps.{handle_good, pointer_good}
 use Rattle.c_handle.proofs.DigestHandleSteps.{Handle, handle_out}
-use Rattle.c_handle.proofs.LentDigestHandleSteps.{LentHandle, lent_in}
+use Rattle.c_handle.proofs.LentDigestHandleSteps.{lent_in}
 use Rattle.c_handle.specs.contracts.digest_handle.DigestHandle.into_lent.{ended, clauses}
 use Rattle.c_handle.specs.contracts.digest_handle.DigestHandle.into_lent.Key.{name as #self}
 use Rattle.c_handle.proofs.digest_handle.DigestHandle.into_lent.Statement.{statement}

@@ -1,6 +1,5 @@
 -- A `&` to a handle is made where one to the digest that it keeps is.
-use base.Fml.{Incl-trans}
-use contract.BorrowLft.{meet_⊑_left, ⊑_static}
+use contract.BorrowLft.{⊑_static}
 use denote.Shares.{Shares-less}
 use denote.Param.Shared.{copy_shared}
 use denote.Struct.Field.{RawPtr-field}

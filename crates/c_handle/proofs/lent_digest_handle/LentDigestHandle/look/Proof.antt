@@ -1,10 +1,9 @@
-use Rattle.std.proofs.Common.{◌≡◌, ◌+◌, List, [], ◌∷◌, refl, sym, ap, lit<}
+use Rattle.std.proofs.Common.{◌+◌, List, [], ◌∷◌, refl, sym, lit<}
 use mir.Syntax.{Fn, named, ty_ptr}
 use mir.Val.{Val, vptr, vcons, vnil}
 use base.Fml.{Fml, fat, fhide, flft, ftrue}
-use base.Logic.{id⊢}
 use contract.Running.{tables}
-use types.Kit.{‵, raw, ◌⊛◌, prop, at_ret, Sq, ◌$◌, ◌∵◌, !, qed, done, move, keep, drop, split, join, fsplit, fjoin}
+use types.Kit.{‵, ◌⊛◌, at_ret, ◌$◌, ◌∵◌, !, qed, done, move, keep, drop, split, join, fsplit, fjoin}
 use types.Kit.{feq_i, frame, rewrite, suffices, use0, use1}
 use types.Run.{stop, fld, lit, of_opd, bin, addr, load, look, no_more, and_then, first, blocks, branches, exec}
 use types.Run.{returns, returns_within, skips, enter}
@@ -15,7 +14,7 @@ use denote.Exit.{yes}
 use denote.Memory.{hidden_shr}
 use denote.Opens.{shr_dup, unhide, hide}
 use denote.RattleType.{RattleType, RowLaws, owns}
-use denote.RawPtr.{Ptr, RawPtr, block_ptr, null_ptr, ptr_val, tests_null, ptr_row_laws}
+use denote.RawPtr.{Ptr, block_ptr, ptr_val, tests_null, ptr_row_laws}
 use denote.Ref.{Bor, ShrRef, shr_vals, shr_Tells}
 use denote.Signature.{plain}
 use denote.Steps.{nothing}
