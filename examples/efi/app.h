@@ -211,9 +211,10 @@ void end_digest(uint8_t *digest);
 void mark_kept(void);
 /* 0 if the choice can't be kept. */
 int keep_choice(void);
-/* How often in a row the machine was restarted, which is forgotten then; and that it is restarted: 0 if
-   that can't be kept. The latter is a call that the firmware answers as it ends, too. */
+/* How often in a row the machine was restarted, which is forgotten then. */
 uint32_t take_restarts(void);
+/* Keeps that it is restarted, by runtime services alone, which serve also as the firmware ends. 0 if
+   that can't be kept. */
 int keep_restart(void);
 
 /* ---- measure.c: the TPM. NULL, or why what is to be measured must not be used */

@@ -21,8 +21,8 @@ static int has_instructions(void) {
     return (c & wanted) == wanted;
 }
 
-/* Who starts a machine and goes away finds it in another system, or as the firmware shows that there is
-   none: so what is wrong is not shown for ever. Nor is the machine restarted for ever. */
+/* A machine that starts alone neither shows what is wrong for ever, nor restarts for ever: the firmware
+   goes on with what it boots next. */
 enum { shown_seconds = 30, most_restarts = 3 };
 static uint32_t restarts;
 
