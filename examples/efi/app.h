@@ -163,8 +163,6 @@ extern struct boot_state {
 /* Room for a plan, and for the core's tables while it makes one. */
 int take_plan_room(void);
 const char *refusal_words(const bootcore_refusal *refusal);
-/* The digests of what plan_entry has planned: a status. */
-uint32_t digest_entry(const menu_entry *entry, bootcore_digests *digests);
 /* Plans an entry, whose kernel was read, on the firmware's map as it is now. NULL, or why it can't be
    booted. The firmware is asked for nothing but the map. */
 const char *plan_entry(const menu_entry *entry);
@@ -186,6 +184,9 @@ typedef struct {
 void *take_file_pages(uint32_t file, uint64_t length);
 /* Moves files and the plan's bytes to where no step goes over them. 0 if there is too little memory. */
 int clear_sources(void);
+/* The SHA-256 of the image that the plan makes: of its head, and of each byte that a step takes, from
+   where its move takes it. The sources were cleared. */
+void digest_image(uint8_t *digest);
 /* The steps as moves, and behind them one of no bytes. The sources were cleared. */
 void list_moves(move *list);
 
@@ -197,12 +198,24 @@ int make_entry(void);
 /* Loads by the plan, and enters the kernel. It never returns. */
 void enter_alone(void);
 
+/* ---- digest.c: a SHA-256, one at a time */
+
+void begin_digest(void);
+void add_to_digest(const void *bytes, uint64_t length);
+/* Its 32 bytes. */
+void end_digest(uint8_t *digest);
+
 /* ---- keep.c: the choice, kept for the next boot */
 
 /* The entry that was kept is chosen, if the menu wants it and still has it. */
 void mark_kept(void);
 /* 0 if the choice can't be kept. */
 int keep_choice(void);
+/* How often in a row the machine was restarted, which is forgotten then. */
+uint32_t take_restarts(void);
+/* Keeps that it is restarted, by runtime services alone, which serve also as the firmware ends. 0 if
+   that can't be kept. */
+int keep_restart(void);
 
 /* ---- measure.c: the TPM. NULL, or why what is to be measured must not be used */
 
@@ -213,17 +226,19 @@ const char *measured_words(void);
 const char *measure_file(const char *path, const void *bytes, uint64_t length);
 /* An entry's title and lines. */
 const char *measure_choice(const menu_entry *entry);
-/* What plan_entry has planned. The firmware's map may change by it. */
+/* What make_ready has planned, and listed to be copied. The firmware's map may change by it. */
 const char *measure_handover(const menu_entry *entry);
 int is_handover_measured(void);
 
 /* ---- log.c: the TPM's event log, for who checks what was booted */
 
-/* Finds room for it, where no part of a kernel comes. 0 if there is none. */
-int take_log_room(void);
+/* Finds room for it, where no part of a kernel comes. */
+void take_log_room(void);
+/* 0 if it is not kept. */
 uint64_t log_address(void);
-/* After the last event that is measured. 0 if the log can't be kept. */
-int find_log(void);
+/* After the last event that is measured. NULL, or what the screen is to say of the log: always one of
+   the same few texts. */
+const char *find_log(void);
 /* Copies the log to its room, if it was found, once the firmware has ended. */
 void keep_log(void);
 
@@ -254,7 +269,8 @@ int open_screen(void);
 void close_screen(void);
 /* The choice, in menu.chosen. */
 enum choice choose_entry(void);
-void wait_key(void);
+/* Whether a key is pressed before so many seconds are over, or no_limit. */
+int wait_key(uint32_t seconds);
 
 /* ---- write.c: for tests: the handover, and where all lies, as files on the disk */
 

@@ -47,12 +47,6 @@ const char *plan_entry(const menu_entry *entry) {
     return status_words(bootcore_plan(&boot.map.machine, &entry->core, &boot.layout));
 }
 
-/* The plan's memory is free again, so the arena is as new. */
-uint32_t digest_entry(const menu_entry *entry, bootcore_digests *digests) {
-    bootcore_refusal refusal;
-    return bootcore_digest_entry(&boot.map.machine, &entry->core, digests, NULL, 0, &refusal);
-}
-
 /* ---- the end of the firmware */
 
 enum { most_tries = 8 };
@@ -98,15 +92,18 @@ static const char *make_measured(menu_entry *entry) {
     return "The firmware's memory map does not stay as it is.";
 }
 
+/* A machine whose restarts can't be counted would restart for ever, so it is turned off. */
 __attribute__((noreturn)) static void restart(void) {
-    ST->RuntimeServices->ResetSystem(EfiResetCold, EFI_SUCCESS, 0, NULL);
+    EFI_RESET_TYPE how = keep_restart() ? EfiResetCold : EfiResetShutdown;
+    ST->RuntimeServices->ResetSystem(how, EFI_SUCCESS, 0, NULL);
     for (;;) __asm__ volatile("hlt");
 }
 
 /* What is carried out is planned on the map with which the firmware ends. If it changes even between
    its last reading and ExitBootServices, that call fails, and the firmware may have ended in part,
    and need serve memory alone: nothing is printed any more, and nothing measured. So the plan is
-   made again only if none was measured; else another map was measured than would be booted. */
+   made again only if none was measured; else another map was measured than would be booted. The
+   next boot says that there was a restart. */
 const char *leave_firmware(EFI_HANDLE image, menu_entry *entry) {
     const char *wrong = make_measured(entry);
     if (wrong != NULL) return wrong;

@@ -1,4 +1,5 @@
-/* The choice, kept for the next boot: an entry's title, in a variable of the firmware's. */
+/* What is kept for the next boot, in variables of the firmware's: the choice, by its title, and how
+   often the machine was restarted since no kernel could be entered. */
 #include "app.h"
 
 static EFI_GUID vendor = {
@@ -23,6 +24,25 @@ static int is_kept(const char *title) {
 void mark_kept(void) {
     for (uint32_t i = menu.entry_count; menu.keeps && i-- > 0;)
         if (is_kept(menu.entries[i].title)) menu.chosen = i;
+}
+
+static CHAR16 restarts_variable[] = {'R', 'e', 's', 't', 'a', 'r', 't', 's', 0};
+enum { kept_always = EFI_VARIABLE_NON_VOLATILE | EFI_VARIABLE_BOOTSERVICE_ACCESS | EFI_VARIABLE_RUNTIME_ACCESS };
+
+static uint8_t restarts;
+
+uint32_t take_restarts(void) {
+    UINTN size = sizeof restarts;
+    if (EFI_ERROR(ST->RuntimeServices->GetVariable(restarts_variable, &vendor, NULL, &size, &restarts)))
+        return restarts = 0;
+    ST->RuntimeServices->SetVariable(restarts_variable, &vendor, kept_always, 0, NULL);
+    return restarts;
+}
+
+int keep_restart(void) {
+    restarts++;
+    return !EFI_ERROR(ST->RuntimeServices->SetVariable(restarts_variable, &vendor, kept_always,
+                                                       sizeof restarts, &restarts));
 }
 
 /* Nothing is written that is there already: the firmware's memory for variables wears out. */

@@ -1,7 +1,7 @@
 /* The TPM's event log, for who checks what was booted. The firmware keeps it where a part of the
    kernel may come, and it goes on in another table until the firmware has ended. So it is copied as
-   one: to where ACPI's table TPM2 wants it, by which an operating system finds it, or else to pages
-   of our own. */
+   one: to where ACPI's table TPM2 wants it, by which an operating system finds it, or else, also if
+   it is too long for that, to pages of our own. */
 #include "app.h"
 #include "tcg2.h"
 
@@ -12,8 +12,11 @@ typedef struct {
     uint8_t events[];
 } final_events;
 
-static uint8_t *room;
-static uint64_t room_length;
+static struct log_room {
+    uint8_t *start;
+    uint64_t length;
+} area, own; /* of length 0: there is none */
+static const struct log_room *room; /* of these, where the log goes; NULL: it is not kept */
 
 static const uint8_t *first, *end; /* of the firmware's log, NULL if it is not known */
 static const final_events *final;  /* NULL if there are none */
@@ -52,23 +55,31 @@ static int is_kept(uint64_t start, uint64_t length) {
 }
 
 /* The area of the table TPM2 (TCG ACPI Specification), if it has no log yet. */
-static int take_area(void) {
+static void take_area(void) {
     const uint8_t *table = find_table("TPM2");
-    if (table == NULL || number32(table + 4) < 76 || read_map(&boot.map) != NULL) return 0;
-    room_length = number32(table + 64);
-    room = (uint8_t *)number64(table + 68);
-    return room != NULL && room_length > more && is_kept((UINTN)room, room_length) &&
-           memcmp(room + 32, "Spec ID Event", 13) != 0;
+    if (table == NULL || number32(table + 4) < 76 || read_map(&boot.map) != NULL) return;
+    uint64_t length = number32(table + 64);
+    uint8_t *start = (uint8_t *)number64(table + 68);
+    if (start != NULL && length > more && is_kept((UINTN)start, length) &&
+        memcmp(start + 32, "Spec ID Event", 13) != 0)
+        area = (struct log_room){start, length};
 }
 
-int take_log_room(void) {
-    if (tpm == NULL || take_area()) return 1;
-    room = take_pages_as(AllocateMaxAddress, EfiReservedMemoryType, own_room / page, UINT32_MAX);
-    room_length = own_room;
-    return room != NULL;
+static void take_own(void) {
+    own.start = take_pages_as(AllocateMaxAddress, EfiReservedMemoryType, own_room / page, UINT32_MAX);
+    own.length = own.start != NULL ? own_room : 0;
 }
 
-uint64_t log_address(void) { return (UINTN)room; }
+/* How long the log gets is known after the last event, and pages that are reserved only then would
+   make another machine, which is to be measured anew: so both are taken. */
+void take_log_room(void) {
+    if (tpm == NULL || !has_agile_log) return;
+    take_area();
+    if (area.length < own_room) take_own();
+    room = area.length ? &area : own.length ? &own : NULL;
+}
+
+uint64_t log_address(void) { return room == NULL ? 0 : (UINTN)room->start; }
 
 /* ---- the log */
 
@@ -87,34 +98,43 @@ static uint64_t event_length(const uint8_t *event) {
     return (uint64_t)(at - event) + 4 + number32(at);
 }
 
-int find_log(void) {
+static int has_room(const struct log_room *in) {
+    return (uint64_t)(end - first) + more <= in->length;
+}
+
+const char *find_log(void) {
     static const EFI_GUID id = TCG2_FINAL_EVENTS;
     UINT64 start = 0, last = 0;
     BOOLEAN is_cut = 0;
     first = NULL;
+    room = NULL;
+    if (!has_agile_log) return "The firmware's log has the form of TPM 1.2; it is not kept.";
     EFI_STATUS status = tpm->GetEventLog(tpm, agile_log, &start, &last, &is_cut);
-    if (EFI_ERROR(status) || start == 0 || is_cut) return 0;
+    if (EFI_ERROR(status) || start == 0 || last == 0) return "The firmware gives no log of the TPM.";
     first = (const uint8_t *)start;
     end = (const uint8_t *)last + event_length((const uint8_t *)last);
+    room = has_room(&area) ? &area : has_room(&own) ? &own : NULL;
+    if (room == NULL) return first = NULL, "There is no room to keep the TPM's log.";
     final = NULL;
     for (UINTN i = 0; i < ST->NumberOfTableEntries; i++)
         if (memcmp(&ST->ConfigurationTable[i].VendorGuid, &id, sizeof id) == 0)
             final = ST->ConfigurationTable[i].VendorTable;
     known_count = final == NULL ? 0 : final->count;
-    if ((uint64_t)(end - first) + more > room_length) first = NULL;
-    return first != NULL;
+    if (is_cut) return "The firmware's log of the TPM is cut: it lacks events.";
+    return room == &own && area.length ? "The TPM's log is too long for ACPI's area." : NULL;
 }
 
 void keep_log(void) {
     if (first == NULL) return;
     const uint8_t *at = final == NULL ? NULL : final->events;
     uint64_t taken = (uint64_t)(end - first), length;
-    memcpy(room, first, taken);
+    memcpy(room->start, first, taken);
     for (uint64_t i = 0; at != NULL && i < final->count; i++, at += length) {
         length = event_length(at);
-        if (i < known_count || length > room_length - taken) continue;
-        memcpy(room + taken, at, length);
+        if (i < known_count) continue;
+        if (length > room->length - taken) break;
+        memcpy(room->start + taken, at, length);
         taken += length;
     }
-    memset(room + taken, 0, room_length - taken);
+    memset(room->start + taken, 0, room->length - taken);
 }

@@ -21,12 +21,21 @@ static int has_instructions(void) {
     return (c & wanted) == wanted;
 }
 
+/* A machine that starts alone neither shows what is wrong for ever, nor restarts for ever: the firmware
+   goes on with what it boots next. */
+enum { shown_seconds = 30, most_restarts = 3 };
+static uint32_t restarts;
+
 /* The menu, and memory that is taken once. */
 static int begin(EFI_HANDLE image) {
     static EFI_GUID loaded = LOADED_IMAGE_PROTOCOL;
     static char no_menu[] = "timeout 5\nentries\n";
     const char *wrong = NULL;
     uint32_t line = 0;
+    if (!open_screen()) return say("There is too little memory.");
+    restarts = take_restarts();
+    if (restarts >= most_restarts)
+        return say("The memory map changed as the firmware ended, at each of the last three boots.");
     if (!has_instructions()) return say("This processor is older than x86-64-v2.");
     if (EFI_ERROR(BS->HandleProtocol(image, &loaded, (void **)&self)) ||
         !open_disk(self->DeviceHandle))
@@ -41,8 +50,9 @@ static int begin(EFI_HANDLE image) {
         return print(": %s\n", wrong), 0;
     }
     mark_kept();
-    return (open_screen() && take_plan_room() && take_log_room()) ||
-           say("There is too little memory.");
+    if (!take_plan_room()) return say("There is too little memory.");
+    take_log_room();
+    return 1;
 }
 
 /* Returns only if the entry can't be booted, with the reason; or NULL after a program. The entry is
@@ -64,6 +74,8 @@ static const char *attempt(EFI_HANDLE image, menu_entry *entry) {
           entry->title, boot.map.usable / 1024, (uint64_t)bootcore_arena_peak());
     print(log_address() == 0 ? "    It is %s.\n" : "    It is %s. The log is at 0x%x.\n",
           measured_words(), log_address());
+    if (restarts)
+        print("    Before, the memory map changed as the firmware ended: restarts: %u.\n", (uint64_t)restarts);
     return leave_firmware(image, entry);
 }
 
@@ -94,14 +106,16 @@ EFI_STATUS efi_main(EFI_HANDLE image, EFI_SYSTEM_TABLE *table) {
     ST = table;
     BS = table->BootServices;
     BS->SetWatchdogTimer(0, 0, 0, NULL);
-    int has_begun = begin(image);
-    if (!has_begun) wait_key();
-    while (has_begun && (how = choose_entry()) != to_firmware) {
-        if (boot_choice(image, how) != NULL) wait_key();
+    int is_good = begin(image);
+    if (!is_good) wait_key(shown_seconds);
+    while (is_good && (how = choose_entry()) != to_firmware) {
+        uint32_t seconds = menu.seconds > shown_seconds ? menu.seconds : shown_seconds;
+        if (boot_choice(image, how) != NULL)
+            is_good = wait_key(how == chosen_by_time ? seconds : no_limit);
         menu.seconds = no_limit; /* from here on a person decides */
     }
     close_screen();
     close_disk();
     give_back(0);
-    return has_begun ? EFI_SUCCESS : EFI_LOAD_ERROR;
+    return is_good ? EFI_SUCCESS : EFI_LOAD_ERROR;
 }

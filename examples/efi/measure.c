@@ -5,23 +5,29 @@
 #include "tcg2.h"
 
 enum { text_pcr = 8, file_pcr = 9, handover_pcr = 12 };
+/* Our own, by which a checker knows these events: "bc" and the PCR. */
+enum { text_tag = 0x62630008, handover_tag = 0x6263000c };
 
 tcg2 *tpm;
+int has_agile_log;
 
 static const char *fault;  /* why something was not measured; NULL so far */
 static int is_in_pcr;      /* whether the last event is in its PCR */
 
 static struct __attribute__((packed)) {
     tcg2_event head;
-    char data[max_text];
+    char data[sizeof(tcg2_tag) + max_text];
 } event;
+#define content (event.data + sizeof(tcg2_tag)) /* of one with a tag */
 
 /* A firmware that has given up a TPM says that there is none, as where there never was one. */
 void find_tpm(void) {
     static EFI_GUID id = TCG2_PROTOCOL;
     tcg2_capability has = {.size = sizeof has};
     if (EFI_ERROR(BS->LocateProtocol(&id, NULL, (void **)&tpm))) tpm = NULL;
-    else if (!EFI_ERROR(tpm->GetCapability(tpm, &has)) && !has.is_present) tpm = NULL;
+    int is_told = tpm != NULL && !EFI_ERROR(tpm->GetCapability(tpm, &has));
+    if (is_told && !has.is_present) tpm = NULL;
+    has_agile_log = !is_told || (has.logs & agile_log) != 0;
 }
 
 const char *measured_words(void) {
@@ -46,9 +52,10 @@ static const char *fail(const char *why) {
 
 /* Measures bytes as an event, whose data stand there already. If the log is full, only the event is
    lost, and a checker can't know what the PCR has. */
-static const char *extend(uint32_t pcr, const void *bytes, uint64_t length, size_t data_length) {
+static const char *extend(uint32_t pcr, uint32_t type, const void *bytes, uint64_t length,
+                          size_t data_length) {
     const uint32_t size = (uint32_t)(sizeof event.head + data_length);
-    event.head = (tcg2_event){size, sizeof event.head - 4, 1, pcr, boot_event};
+    event.head = (tcg2_event){size, sizeof event.head - 4, 1, pcr, type};
     if (tpm == NULL) return NULL;
     if (fault != NULL && !menu.boots_unmeasured) return fault;
     EFI_STATUS status = tpm->HashLogExtendEvent(tpm, 0, (UINTN)bytes, length, &event.head);
@@ -56,27 +63,36 @@ static const char *extend(uint32_t pcr, const void *bytes, uint64_t length, size
     return EFI_ERROR(status) ? fail(fault_words(status)) : NULL;
 }
 
-/* Puts a text into an event's data, with a zero byte: its length, or 0 if there is no room. */
-static size_t take_data(const char *what, const void *text, size_t length) {
+/* The same as an event with a tag, whose content stands there already. An event of the type boot_event
+   would be taken for one of another loader's in these PCRs. */
+static const char *extend_tagged(uint32_t pcr, uint32_t tag, const void *bytes, uint64_t length,
+                                 size_t content_length) {
+    const tcg2_tag head = {tag, (uint32_t)content_length};
+    memcpy(event.data, &head, sizeof head);
+    return extend(pcr, tag_event, bytes, length, sizeof head + content_length);
+}
+
+/* Puts a text into an event, with a zero byte: its length, or 0 if there is no room. */
+static size_t put_text(char *to, const char *what, const void *text, size_t length) {
     size_t start = strlen(what);
-    if (length >= sizeof event.data - start) return 0;
-    memcpy(event.data, what, start);
-    memcpy(event.data + start, text, length);
-    event.data[start + length] = 0;
+    if (start >= max_text || length >= max_text - start) return 0;
+    memcpy(to, what, start);
+    memcpy(to + start, text, length);
+    to[start + length] = 0;
     return start + length + 1;
 }
 
 static const char too_long[] = "not measured: it is too long for an event";
 
-/* All of the data is measured, so that no part of the text is the log's word alone. */
+/* All of the content is measured, so that no part of the text is the log's word alone. */
 static const char *measure_text(const char *what, const void *text, size_t length) {
-    length = take_data(what, text, length);
-    return length ? extend(text_pcr, event.data, length, length) : fail(too_long);
+    length = put_text(content, what, text, length);
+    return length ? extend_tagged(text_pcr, text_tag, content, length, length) : fail(too_long);
 }
 
 const char *measure_file(const char *path, const void *bytes, uint64_t length) {
-    size_t data_length = take_data("", path, strlen(path));
-    return data_length ? extend(file_pcr, bytes, length, data_length) : fail(too_long);
+    size_t data_length = put_text(event.data, "", path, strlen(path));
+    return data_length ? extend(file_pcr, boot_event, bytes, length, data_length) : fail(too_long);
 }
 
 const char *measure_choice(const menu_entry *entry) {
@@ -90,19 +106,27 @@ const char *measure_choice(const menu_entry *entry) {
     return wrong;
 }
 
+/* A log that can't be kept whole is for a checker to complain of: the PCRs have all. */
+static void say_of_log(void) {
+    static const char *said;
+    const char *words = find_log();
+    if (words == said) return;
+    said = words;
+    if (words != NULL)
+        print(log_address() == 0 ? "    %s\n" : "    %s The log is at 0x%x.\n", words, log_address());
+}
+
 /* The image is not one piece of memory, so the firmware can't hash it: its digest is what is
    measured. */
 const char *measure_handover(const menu_entry *entry) {
-    bootcore_digests digests;
+    uint8_t digest[32];
     if (tpm == NULL) return NULL;
     is_in_pcr = 0;
-    if (digest_entry(entry, &digests) != BOOTCORE_STATUS_DONE)
-        return fail("not measured: the core's arena is too small");
-    size_t length = describe(&boot.map.machine, entry, event.data, sizeof event.data);
+    size_t length = describe(&boot.map.machine, entry, content, max_text);
     if (length == 0) return fail("not measured: a line or path is no UTF-8, or all is too long");
-    const char *wrong =
-        extend(handover_pcr, digests.image_sha256, sizeof digests.image_sha256, length);
-    if (wrong == NULL && !find_log()) wrong = fail("not measured: the TPM's log can't be kept");
+    digest_image(digest);
+    const char *wrong = extend_tagged(handover_pcr, handover_tag, digest, sizeof digest, length);
+    if (wrong == NULL) say_of_log();
     return wrong;
 }
 

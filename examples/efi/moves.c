@@ -57,6 +57,20 @@ static uint64_t source_of(const bootcore_step *step) {
     }
 }
 
+void digest_image(uint8_t *digest) {
+    static uint8_t head[BOOTCORE_MAX_IMAGE_HEAD];
+    static const uint8_t zeros[page];
+    begin_digest();
+    add_to_digest(head, bootcore_image_head(&boot.layout.handoff, boot.layout.places, head, sizeof head));
+    for (size_t i = 0; i < boot.layout.step_count; i++) {
+        const uint8_t *from = (const uint8_t *)(UINTN)source_of(&boot.layout.steps[i]);
+        uint64_t left = boot.layout.steps[i].length;
+        for (; from == NULL && left > page; left -= page) add_to_digest(zeros, page);
+        add_to_digest(from == NULL ? zeros : from, left);
+    }
+    end_digest(digest);
+}
+
 void list_moves(move *list) {
     for (size_t i = 0; i < boot.layout.step_count; i++) {
         const bootcore_step *step = &boot.layout.steps[i];

@@ -48,6 +48,10 @@ const char *start_program(EFI_HANDLE image, EFI_HANDLE disk, const menu_entry *e
         if (program != NULL) BS->UnloadImage(program); /* what Secure Boot forbids is loaded */
         return load_words(status);
     }
+    if (loaded->ImageCodeType != EfiLoaderCode) { /* it would stay, and do what it likes */
+        BS->UnloadImage(program);
+        return "It is a driver, and no program.";
+    }
     for (size_t i = 0; i < line->length; i++) options[i] = ((const uint8_t *)line->bytes)[i];
     options[line->length] = 0;
     loaded->LoadOptions = options;

@@ -137,7 +137,10 @@ static int is_pressed_within(uint64_t milliseconds) {
     UINTN index;
     BS->SetTimer(timer, TimerRelative, milliseconds * 10000); /* in steps of 100 ns */
     do {
-        if (EFI_ERROR(BS->WaitForEvent(2, events, &index))) return 0; /* no keyboard, say */
+        if (EFI_ERROR(BS->WaitForEvent(2, events, &index))) { /* no keyboard, say */
+            BS->Stall(milliseconds * 1000);
+            return 0;
+        }
         if (read_key()) return 1;
     } while (index != 0);
     return 0;
@@ -149,9 +152,13 @@ static void await_key(void) {
     while (!read_key());
 }
 
-void wait_key(void) {
-    print("\n    Press a key.\n");
-    await_key();
+int wait_key(uint32_t seconds) {
+    print(seconds == no_limit ? "\n    Press a key.\n"
+                              : "\n    Press a key, or the firmware goes on in %u seconds.\n",
+          (uint64_t)seconds);
+    for (; seconds; seconds -= seconds != no_limit)
+        if (is_pressed_within(1000)) return 1;
+    return 0;
 }
 
 /* ---- an entry's line, for one boot */

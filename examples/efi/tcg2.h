@@ -14,6 +14,7 @@
 
 enum {
     agile_log = 2, /* the log's form with a digest for each bank */
+    tag_event = 0x06, /* EV_EVENT_TAG: its data are a tcg2_tag, and a content */
     boot_event = 0x0d /* EV_IPL: the code and data that a boot loader loads */
 };
 
@@ -33,6 +34,10 @@ typedef struct __attribute__((packed)) {
     UINT32 pcr, type;
 } tcg2_event; /* its data follow */
 
+typedef struct __attribute__((packed)) {
+    UINT32 id, size;
+} tcg2_tag; /* TCG_PCClientTaggedEvent: its content follows, of this size */
+
 typedef struct tcg2 tcg2;
 struct tcg2 {
     EFI_STATUS(EFIAPI *GetCapability)(tcg2 *, tcg2_capability *);
@@ -44,5 +49,6 @@ struct tcg2 {
 };
 
 extern tcg2 *tpm; /* NULL if there is none */
+extern int has_agile_log; /* whether the firmware says so, or says nothing */
 
 #endif

@@ -4,7 +4,7 @@ from typing import List, NamedTuple, Tuple
 
 from event_log import Event, Log, digest
 from reading import fault, shown
-from texts import grub_text
+from texts import TEXT_TAG, grub_text, tagged
 
 TEXTS = 8
 CHOICE, KERNEL_LINE, MODULE_LINE = b"bootcore_choice: ", b"kernel_cmdline: ", b"module_cmdline: "
@@ -38,15 +38,18 @@ def choices(log: Log, bank: str) -> Choices:
 
 
 def take_text(event: Event, bank: str, made: List[Attempt]) -> None:
-    if digest(bank, event.data) != event.digests[bank]:
-        fault(f"{event.name}: its text {shown(event.data)} is not what was measured")
-    word = next((it for it in (CHOICE, KERNEL_LINE, MODULE_LINE) if event.data.startswith(it)), None)
-    if word is None or event.data.find(b"\0") != len(event.data) - 1:
-        fault(f"{event.name}: {shown(event.data)} is no text of the boot manager")
-    told = event.data[len(word) : -1]
+    text = tagged(event, TEXT_TAG)
+    if text is None:
+        fault(f"{event.name}: {shown(event.data)} is no text of the boot manager, by its tag and size")
+    if digest(bank, text) != event.digests[bank]:
+        fault(f"{event.name}: its text {shown(text)} is not what was measured")
+    word = next((it for it in (CHOICE, KERNEL_LINE, MODULE_LINE) if text.startswith(it)), None)
+    if word is None or text.find(b"\0") != len(text) - 1:
+        fault(f"{event.name}: {shown(text)} is no text of the boot manager")
+    told = text[len(word) : -1]
     if word == CHOICE:
         made.append(Attempt(event, told, []))
     elif not made or (word == KERNEL_LINE) != (not made[-1].lines):
-        fault(f"{event.name}: {shown(event.data)} is not the text that follows there")
+        fault(f"{event.name}: {shown(text)} is not the text that follows there")
     else:
         made[-1].lines.append(told)

@@ -10,6 +10,7 @@ from image_digest import image_digest
 from limits import HANDOVERS
 from policy import Policy
 from reading import Fault, fault, shown
+from texts import HANDOVER_TAG, tagged
 
 
 class Handover(NamedTuple):
@@ -33,16 +34,23 @@ def handovers(events: List[Event], policy: Policy, chosen: Attempt, read: List[b
 
 
 def handover(event: Event, policy: Policy, chosen: Attempt, read: List[bytes]) -> Handover:
-    try:
-        described = read_description(event.data)
-    except Fault as wrong:
-        fault(f"{event.name}: its description is refused: {wrong}")
+    described = handed_over(event)
     try:
         entry = chosen_entry(described, policy, chosen, read)
         image = image_digest(described, [policy.contents(name) for name in entry.files])
     except Fault as wrong:
         fault(f"{event.name}: {wrong}")
     return Handover(event, described, entry, image)
+
+
+def handed_over(event: Event) -> Described:
+    text = tagged(event, HANDOVER_TAG)
+    if text is None:
+        fault(f"{event.name}: it is no handover of the boot manager, by its tag and size")
+    try:
+        return read_description(text)
+    except Fault as wrong:
+        fault(f"{event.name}: its description is refused: {wrong}")
 
 
 def check_image(event: Event, image: bytes, policy: Policy) -> None:

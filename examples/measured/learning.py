@@ -5,9 +5,10 @@ from typing import Dict, Iterator, List, NamedTuple, Optional, Tuple
 
 from application import application_digest
 from choices import Attempt, choices
-from description import Described, read_description, text_value
+from description import Described, text_value
 from entry import PROGRAM
 from event_log import Event, Log, digest, read_logs, replayed
+from handovers import handed_over
 from limits import FILE_BYTES, LOG_BYTES
 from reading import BadInput, file_bytes, shown
 from replay import COMPARED, DRIVERS, FILES, HANDOVERS, STARTED
@@ -53,7 +54,7 @@ class Learned:
         over = [event for event in log.of_pcr(HANDOVERS) if options_text(event, bank) is None]
         if not made.attempts or not over:
             raise BadInput(f"{boot.name} has no choice in PCR 8, or no handover in PCR 12")
-        described = read_description(over[-1].data)
+        described = handed_over(over[-1])
         self.images[over[-1].digests[bank]] = None
         read = log.of_pcr(FILES)
         before = [event for event in read if event.number < made.attempts[-1].event.number]

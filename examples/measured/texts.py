@@ -1,12 +1,20 @@
 """Texts in an event log. A text counts only if its digest was measured: then nothing else was, no program and no handover."""
 
+import struct
 from typing import Optional
 
 from event_log import Event, digest
 
 SEPARATORS = [bytes(4), b"\xff" * 4]
+TEXT_TAG, HANDOVER_TAG = 0x62630008, 0x6263000C  # of the boot manager's events in PCR 8 and 12
 LONGEST = 256  # of a firmware's
 GRUB = [b"grub_cmd: ", b"kernel_cmdline: ", b"module_cmdline: "]  # GRUB measures what follows, without the zero byte
+
+
+def tagged(event: Event, tag: int) -> Optional[bytes]:
+    """What a TCG_PCClientTaggedEvent of the boot manager's holds. Its tag and size are in no PCR, so they have one form."""
+    head, held = event.data[:8], event.data[8:]
+    return held if head == struct.pack("<II", tag, len(held)) else None
 
 
 def is_printable(text: bytes) -> bool:

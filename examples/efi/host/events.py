@@ -1,6 +1,6 @@
 """For the test: replays an event log, compares with the PCRs that tpm2_pcrread printed, and prints what the boot manager
-measured. A line is the PCR and the event's data; behind a file's path comes the digest that the event has for it, and of
-the handover the digest alone: its data, the description, is written to a file.
+measured. A line is the PCR and the event's content; behind a file's path comes the digest that the event has for it, and of
+the handover the digest alone: its content, the description, is written to a file.
 
     python3 events.py LOG PCRS DESCRIPTION
 
@@ -14,7 +14,8 @@ from pathlib import Path
 from typing import Dict, Iterator, List, NamedTuple
 
 BANKS = {0x04: "sha1", 0x0B: "sha256", 0x0C: "sha384", 0x0D: "sha512"}
-NO_ACTION, BOOT_EVENT = 0x03, 0x0D
+NO_ACTION, TAG_EVENT, BOOT_EVENT = 0x03, 0x06, 0x0D
+TAGS = {8: 0x62630008, 12: 0x6263000C}  # of texts and handovers
 
 
 class Event(NamedTuple):
@@ -22,6 +23,7 @@ class Event(NamedTuple):
     kind: int
     digests: Dict[str, bytes]
     data: bytes
+    length: int  # in the log
 
 
 def events_of(log: bytes) -> Iterator[Event]:
@@ -29,7 +31,7 @@ def events_of(log: bytes) -> Iterator[Event]:
     (length,) = struct.unpack_from("<I", log, 28)
     at = 32 + length
     while at < len(log) and any(log[at : at + 12]):
-        pcr, kind, count = struct.unpack_from("<III", log, at)
+        start, (pcr, kind, count) = at, struct.unpack_from("<III", log, at)
         at += 12
         digests = {}
         for _ in range(count):
@@ -38,8 +40,17 @@ def events_of(log: bytes) -> Iterator[Event]:
             digests[bank] = log[at + 2 : at + 2 + size]
             at += 2 + size
         (length,) = struct.unpack_from("<I", log, at)
-        yield Event(pcr, kind, digests, log[at + 4 : at + 4 + length])
         at += 4 + length
+        yield Event(pcr, kind, digests, log[at - length : at], at - start)
+
+
+def content_of(event: Event) -> bytes:
+    """Of what the boot manager measured: in PCR 8 and 12 behind its tag and size."""
+    if event.pcr == 9:
+        return event.data
+    if event.data[:8] != struct.pack("<II", TAGS[event.pcr], len(event.data) - 8):
+        raise ValueError(f"an event of PCR {event.pcr} has another tag or size")
+    return event.data[8:]
 
 
 def replayed(events: List[Event], bank: str) -> List[bytes]:
@@ -65,17 +76,20 @@ def main(log: str, pcrs: str, description: str) -> int:
             compared += 1
             if wanted[bank][int(value[1])] != bytes.fromhex(value[2]):
                 faults.append(f"{bank}: PCR {value[1]} is not that of the log")
-    for event in (event for event in events if event.pcr in (8, 9, 12) and event.kind == BOOT_EVENT):
-        text, sha256 = event.data.rstrip(b"\0").decode(errors="backslashreplace"), event.digests["sha256"].hex()
+    for event in (event for event in events if event.kind == {8: TAG_EVENT, 9: BOOT_EVENT, 12: TAG_EVENT}.get(event.pcr)):
+        content = content_of(event)
+        text, sha256 = content.rstrip(b"\0").decode(errors="backslashreplace"), event.digests["sha256"].hex()
         if event.pcr == 8:
             print(8, text)
-            faults += [f"{text}: another {bank}" for bank, it in event.digests.items() if hashlib.new(bank, event.data).digest() != it]
+            faults += [f"{text}: another {bank}" for bank, it in event.digests.items() if hashlib.new(bank, content).digest() != it]
         elif event.pcr == 9:
             print(9, text, sha256)
         else:
             print(12, sha256)
-            Path(description).write_bytes(event.data)
-    print("\n".join(faults or [f"replayed {compared} PCRs of {' '.join(wanted)}" if compared else "no PCRs"]))
+            Path(description).write_bytes(content)
+    length = 32 + struct.unpack_from("<I", Path(log).read_bytes(), 28)[0] + sum(event.length for event in events)
+    good = f"replayed {compared} PCRs of {' '.join(wanted)}, from {length} bytes" if compared else "no PCRs"
+    print("\n".join(faults or [good]))
     return 1 if faults or not compared else 0
 
 

@@ -138,6 +138,25 @@ static int read_to(uint32_t file, void *bytes) {
     return bytes != NULL;
 }
 
+/* ---- the digest of what is copied: of a head that is made up, and of memory afterwards */
+
+size_t bootcore_image_head(const bootcore_handoff *handoff, const bootcore_place *places, uint8_t *head,
+                           size_t length) {
+    memset(head, (int)handoff->place_count + (places != NULL), length);
+    return length;
+}
+
+static void check_digest(const uint8_t *before_copies) {
+    static uint8_t head[BOOTCORE_MAX_IMAGE_HEAD];
+    uint8_t digest[32];
+    begin_digest();
+    add_to_digest(head, bootcore_image_head(&boot.layout.handoff, boot.layout.places, head, sizeof head));
+    for (size_t i = 0; i < boot.layout.step_count; i++)
+        add_to_digest(memory + (steps[i].address - start), steps[i].length);
+    end_digest(digest);
+    if (memcmp(digest, before_copies, sizeof digest) != 0) fail("another digest is measured than is copied");
+}
+
 /* ---- what the machine's memory must hold afterwards */
 
 static void want(void) {
@@ -203,8 +222,11 @@ static int attempt(void) {
     move *list = clear_sources() ? take_low_pages(1) : NULL;
     if (list == NULL) return 0;
     list_moves(list);
+    uint8_t digest[32];
+    digest_image(digest);
     if (!make_tables(list, page)) return 0;
     carry_out(list, tables_address(0));
+    check_digest(digest);
     return 1;
 }
 

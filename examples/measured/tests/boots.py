@@ -11,7 +11,8 @@ from tests import examples
 from tests.support import TOP
 
 ALGORITHMS = {"sha1": 0x04, "sha256": 0x0B, "sha384": 0x0C, "sha512": 0x0D}
-NO_ACTION, SEPARATOR, VERSION, IPL = 0x03, 0x04, 0x08, 0x0D
+NO_ACTION, SEPARATOR, TAG, VERSION, IPL = 0x03, 0x04, 0x06, 0x08, 0x0D
+TAGS = {8: 0x62630008, 12: 0x6263000C}  # of the boot manager's events
 VARIABLE, APPLICATION, DRIVER, RUNTIME_DRIVER, ACTION = 0x80000001, 0x80000003, 0x80000004, 0x80000005, 0x80000007
 
 
@@ -28,6 +29,25 @@ class Event(NamedTuple):
 def told(pcr: int, kind: int, text: bytes) -> Event:
     """An event that measures what it tells."""
     return Event(pcr, kind, text, text)
+
+
+def tagged(pcr: int, measured: bytes, content: bytes) -> Event:
+    """An event of the boot manager's, with TCG_PCClientTaggedEvent."""
+    return Event(pcr, TAG, measured, struct.pack("<II", TAGS[pcr], len(content)) + content)
+
+
+def text_told(text: bytes) -> Event:
+    """A text of the boot manager's: all of it is measured."""
+    return tagged(8, text, text)
+
+
+def content_of(event: Event) -> bytes:
+    return event.data[8:] if event.kind == TAG else event.data
+
+
+def retold(event: Event, content: bytes) -> Event:
+    """With other content, in the same form; what was measured is the same."""
+    return event._replace(data=tagged(event.pcr, b"", content).data if event.kind == TAG else content)
 
 
 # ---- the layouts
@@ -103,9 +123,9 @@ def untold(events: Iterable[Event], banks: Iterable[str], text: str) -> Tuple[Se
             free.update(range(at + 4, at + 8))
             if event.pcr not in (2, 4, 8, 12) or event.kind in (APPLICATION, DRIVER, RUNTIME_DRIVER):
                 free.update(range(data, end))
-        if event.pcr == 12:
+        if event.pcr == 12 and event.kind == TAG:
             for value in re.findall(r'^(?:kernel|initrd|file) = "(.*)"$', text, re.M):
-                place = data + text.index(f'"{value}"') + 1
+                place = data + 8 + text.index(f'"{value}"') + 1
                 paths.update(range(place, place + len(value)))
         at = end
     return free, paths
@@ -366,12 +386,12 @@ def exit_events() -> List[Event]:
 
 def attempt(title: str, lines: List[str], names: List[str], files: Dict[str, bytes]) -> List[Event]:
     texts = [f"bootcore_choice: {title}", f"kernel_cmdline: {lines[0]}", *(f"module_cmdline: {line}" for line in lines[1:])]
-    measured = [told(8, IPL, text.encode() + b"\0") for text in texts]
+    measured = [text_told(text.encode() + b"\0") for text in texts]
     return measured + [Event(9, IPL, files[name], name.encode() + b"\0") for name in names]
 
 
 def handover(text: str, files: Dict[str, bytes]) -> Event:
-    return Event(12, IPL, image_digest(text, files), text.encode())
+    return tagged(12, image_digest(text, files), text.encode())
 
 
 def linux_boot(files: Dict[str, bytes], text: str = LINUX) -> List[Event]:

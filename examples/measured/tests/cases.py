@@ -1,10 +1,11 @@
 """The cases of the checker of measured boots: a boot, what is changed of it, and what the checker must say."""
 
 import hashlib
+import struct
 from typing import Callable, Dict, List, NamedTuple, Optional
 
 from examples.measured.tests import boots
-from examples.measured.tests.boots import FILES, IPL, LINUX, MULTIBOOT2, POLICY, Change, Event, Pcrs, at, attempt, told
+from examples.measured.tests.boots import FILES, IPL, LINUX, MULTIBOOT2, POLICY, Change, Event, Pcrs, at, attempt, tagged, text_told, told
 
 GOOD, WRONG, UNREADABLE, UNSIGNED, BAD_WORDS = 0, 1, 2, 3, 64
 ALL_BANKS = ["sha1", "sha256", "sha384", "sha512"]
@@ -52,13 +53,22 @@ def with_data(data: bytes) -> Callable[[Event], List[Event]]:
     return lambda event: [event._replace(data=data)]
 
 
+def retold(content: bytes) -> Callable[[Event], List[Event]]:
+    return lambda event: [boots.retold(event, content)]
+
+
+def headed(tag: int, more: int) -> Callable[[Event], List[Event]]:
+    """With another tag, and a size that is so many bytes greater."""
+    return lambda event: [event._replace(data=struct.pack("<II", tag, len(event.data) - 8 + more) + event.data[8:])]
+
+
 def measuring(measured: bytes) -> Callable[[Event], List[Event]]:
     return lambda event: [event._replace(measured=measured)]
 
 
 def saying(old: str, new: str) -> Callable[[Event], List[Event]]:
     """Another text; what was measured is the same."""
-    return lambda event: [event._replace(data=event.data.replace(old.encode(), new.encode()))]
+    return lambda event: [boots.retold(event, boots.content_of(event).replace(old.encode(), new.encode()))]
 
 
 def swapped(pcr: int, place: int) -> Change:
@@ -115,7 +125,7 @@ def titled(title: str, text: str) -> Change:
     """Another title, in the choice and in the description."""
 
     def changed(events: List[Event]) -> List[Event]:
-        made = at(8, 0, lambda _: [told(8, IPL, f"bootcore_choice: {title}".encode() + b"\0")])(events)
+        made = at(8, 0, lambda _: [text_told(f"bootcore_choice: {title}".encode() + b"\0")])(events)
         return at(12, 0, saying('title = "Linux"', f'title = "{text}"'))(made)
 
     return changed
@@ -127,12 +137,14 @@ def lined(*lines: str, place: int = 1) -> Change:
     def changed(events: List[Event]) -> List[Event]:
         for i, line in enumerate(lines):
             word = "module_cmdline" if place + i > 1 else "kernel_cmdline"
-            events = at(8, place + i, lambda _: [told(8, IPL, f"{word}: {line}".encode() + b"\0")])(events)
+            events = at(8, place + i, lambda _: [text_told(f"{word}: {line}".encode() + b"\0")])(events)
         return events
 
     return changed
 
 
+UNTAGGED_TEXT = "is no text of the boot manager, by its tag and size"
+UNTAGGED_HANDOVER = "it is no handover of the boot manager, by its tag and size"
 # what a boot says before its last words
 LINUX_SAID = """\
 booted    "Linux" by the protocol linux64
@@ -193,6 +205,8 @@ AS_IT_SHOULD_BE = [
     Case("another bank decides where it is named", "of sha384", banks=ALL_BANKS, words=["--bank", "sha384"]),
     Case("the order between two PCRs does not matter", LINUX_SAID, logged=lambda it: first(12)(first(4)(it))),
     Case("the kind of an event does not matter", LINUX_SAID, logged=at(4, -1, lambda it: [it._replace(kind=IPL)])),
+    Case("the kind of a text does not matter", LINUX_SAID, logged=at(8, 0, lambda it: [it._replace(kind=IPL)])),
+    Case("the kind of a handover does not matter", LINUX_SAID, logged=at(12, 0, lambda it: [it._replace(kind=IPL)])),
     Case("what extends no PCR does not matter", LINUX_SAID, logged=ended(Event(12, boots.NO_ACTION, b"", b"more"))),
     Case("a file's path in the log does not matter", LINUX_SAID, logged=at(9, 1, with_data(b"elsewhere\0"))),
     Case("a path in a description does not matter", LINUX_SAID, logged=at(12, 0, saying('"vmlinuz"', '"elsewhere"'))),
@@ -330,7 +344,7 @@ LOG = [
     Case(
         "an event that is added",
         "PCR 8 of sha256 is not what the log gives",
-        logged=at(8, 0, after(told(8, IPL, b"x\0"))),
+        logged=at(8, 0, after(text_told(b"x\0"))),
     ),
     Case("events of a PCR in another order", "PCR 9 of sha256 is not what the log gives", logged=swapped(9, 1)),
     Case(
@@ -497,17 +511,32 @@ MACHINE = [
     Case(
         "a text of another loader",
         "is no text of the boot manager",
-        happened=at(8, 0, before(told(8, IPL, b"grub_cmd: set\0"))),
+        happened=at(8, 0, before(text_told(b"grub_cmd: set\0"))),
     ),
     Case(
         "a text that ends twice",
         "is no text of the boot manager",
-        happened=at(8, 0, before(told(8, IPL, b"bootcore_choice: a\0b\0"))),
+        happened=at(8, 0, before(text_told(b"bootcore_choice: a\0b\0"))),
     ),
     Case(
         "a text without an end",
         "is no text of the boot manager",
-        happened=at(8, 0, before(told(8, IPL, b"bootcore_choice: a"))),
+        happened=at(8, 0, before(text_told(b"bootcore_choice: a"))),
+    ),
+    Case(
+        "a text in another form than the boot manager's",
+        UNTAGGED_TEXT,
+        happened=at(8, 0, before(told(8, IPL, b"bootcore_choice: Linux\0"))),
+    ),
+    *(
+        Case(f"a text that begins with {what}", UNTAGGED_TEXT, logged=at(8, 1, change))
+        for what, change in (
+            ("another tag", headed(boots.TAGS[12], 0)),
+            ("a size that is too great", headed(boots.TAGS[8], 1)),
+            ("a size that is too small", headed(boots.TAGS[8], -1)),
+            ("half of a tag", with_data(b"\x08\0")),
+            ("nothing", with_data(b"")),
+        )
     ),
     Case("a line without a choice", "is not the text that follows there", happened=at(8, 0, gone)),
     Case("a choice without a line", "has other lines than those measured: none", happened=at(8, 1, gone)),
@@ -606,8 +635,14 @@ MACHINE = [
     ),
     Case(
         "a handover of an unknown image that says that it is options",
-        "its description is refused",
+        UNTAGGED_HANDOVER,
         happened=at(12, 0, before(Event(12, IPL, 16 * b"a\0", 16 * b"a\0"))),
+        policy=with_key("texts", 16 * "a"),
+    ),
+    Case(
+        "a handover of an unknown image that says so in the boot manager's form",
+        "its description is refused",
+        happened=at(12, 0, before(tagged(12, 16 * b"a\0", 16 * b"a\0"))),
         policy=with_key("texts", 16 * "a"),
     ),
     Case(
@@ -623,14 +658,14 @@ MACHINE = [
     ),
     Case(
         "GRUB's commands without their zero byte",
-        "is not what was measured",
+        UNTAGGED_TEXT,
         logged=at(8, 0, with_data(b"grub_cmd: set root=hd0x")),
         happened=at(8, 0, before(GRUB)),
         policy=with_key("texts", "grub_cmd: set root=hd0"),
     ),
     Case(
         "a choice that says that it is a command of GRUB's",
-        "is not what was measured",
+        UNTAGGED_TEXT,
         happened=at(8, 0, before(Event(8, IPL, b"bootcore_choice: a\0", b"grub_cmd: bootcore_choice: a\0\0"))),
         policy=with_key("texts", "grub_cmd: bootcore_choice: a", "grub_cmd: bootcore_choice: a\\u0000"),
     ),
@@ -666,7 +701,7 @@ HANDOVER = [
     Case(
         "a description of another memory map",
         "is not the image of its description",
-        logged=at(12, 0, with_data(OTHER_MAP.encode())),
+        logged=at(12, 0, retold(OTHER_MAP.encode())),
     ),
     Case(
         "an image with another byte",
@@ -713,21 +748,30 @@ HANDOVER = [
         "is not in its one form: line 2 is",
         logged=at(12, 0, saying("[0x100000, 0x800000]", "[0x900000, 0xf00000]")),
     ),
-    Case("a description that is no text", "it is no text of TOML", logged=at(12, 0, with_data(b"\xff"))),
+    *(
+        Case(f"a description behind {what}", UNTAGGED_HANDOVER, logged=at(12, 0, change))
+        for what, change in (
+            ("another tag", headed(boots.TAGS[8], 0)),
+            ("a size that is too great", headed(boots.TAGS[12], 1)),
+            ("a size that is too small", headed(boots.TAGS[12], -1)),
+            ("no tag and size", with_data(LINUX.encode())),
+        )
+    ),
+    Case("a description that is no text", "it is no text of TOML", logged=at(12, 0, retold(b"\xff"))),
     Case(
         "a machine without room for the kernel",
         "bootcore refuses this entry on this machine, by the number",
-        logged=at(12, 0, with_data(NO_ROOM.encode())),
+        logged=at(12, 0, retold(NO_ROOM.encode())),
     ),
     Case(
         "a machine that the rules do not allow",
         "bootcore refuses the machine",
-        logged=at(12, 0, with_data(TOO_LARGE.encode())),
+        logged=at(12, 0, retold(TOO_LARGE.encode())),
     ),
     Case(
         "a wrong handover before the right one",
         "is not the image",
-        happened=at(12, 0, before(Event(12, IPL, b"else", LINUX.encode()))),
+        happened=at(12, 0, before(tagged(12, b"else", LINUX.encode()))),
     ),
     Case(
         "more handovers than a boot can have",
@@ -737,12 +781,12 @@ HANDOVER = [
     Case(
         "a description that is too long",
         "it has more than 65536 bytes",
-        logged=at(12, 0, with_data(b"#" * 65537)),
+        logged=at(12, 0, retold(b"#" * 65537)),
     ),
     Case(
         "a description with a key of many parts, which a reader of TOML takes a minute for",
         'is not in its one form: line 1 is "a.a.a.a',
-        logged=at(12, 0, with_data(b"a" + 32000 * b".a" + b" = 0x1\n")),
+        logged=at(12, 0, retold(b"a" + 32000 * b".a" + b" = 0x1\n")),
     ),
     Case(
         "a description with a number above 64 bits",

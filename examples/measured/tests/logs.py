@@ -7,6 +7,7 @@ from examples.measured.tests import boots, cases
 from examples.measured.tests.boots import FILES, LINUX
 from examples.measured.tests.cases import GOOD, UNREADABLE, WRONG, Case
 from examples.measured.tests.checker import CheckerChecks, Within
+from tests.support import is_at_hand, run
 
 
 class Bytes(Within):
@@ -39,6 +40,20 @@ class Bytes(Within):
 
 
 class Boots(CheckerChecks):
+    def test_other_reader(self) -> None:
+        """tpm2-tools compare what they know the measured bytes of: so they speak of an event in a form that is others'."""
+        sentence = "tpm2_eventlog says nothing against what the boot manager measures"
+        if not is_at_hand("tpm2_eventlog"):
+            self.leave_out(sentence, "tpm2_eventlog is not at hand")
+            return
+        for name, events in (("Linux", boots.linux_boot(FILES)), ("modules", boots.multiboot2_boot(FILES))):
+            path = self.room / f"log of {name}"
+            path.write_bytes(boots.log_of((it for it in events if it.pcr in (8, 9, 12)), cases.ALL_BANKS))
+            ran = run("tpm2_eventlog", path)
+            with self.check(f"{sentence}: {name}"):
+                self.assertEqual((ran.status, ran.err), (0, b""), f"ran: {ran}")
+                self.assertEqual(ran.out.count(b"EventType: EV_EVENT_TAG"), {"Linux": 3, "modules": 5}[name])
+
     def test_cases(self) -> None:
         tables = ((GOOD, cases.AS_IT_SHOULD_BE), (WRONG, cases.LOG), (WRONG, cases.MACHINE), (WRONG, cases.HANDOVER))
         listed = [(status, case) for status, table in tables for case in table]

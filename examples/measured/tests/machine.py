@@ -49,12 +49,20 @@ class Machine(CheckerChecks):
         policy = (CHECKER / "policy.toml").read_text(encoding="utf-8")
         (self.room / "policy").write_text(policy.replace("console=tty0", "console=tty1"), encoding="utf-8")
         self.says("a machine's line that the policy has not", self.checked(policy="policy"), WRONG, "has other lines than those")
+        self.check_other_reader((self.room / "seen/log").read_bytes())
         self.check_logs((self.room / "seen/log").read_bytes())
         self.check_learned("a machine")
         self.check_driver()
         self.check_driver_as_program()
         (self.room / "esp/bootcore/initrd.img").write_bytes(b"hellp")
         self.says("a machine's ramdisk that is not known", self.checked(), WRONG, 'the event\'s text is "bootcore/initrd.img"')
+
+    def check_other_reader(self, log: bytes) -> None:
+        first, events = boots.parted(log)
+        (self.room / "events").write_bytes(first + b"".join(event for _, event in events))
+        ran = run("tpm2_eventlog", self.room / "events")
+        with self.check("tpm2_eventlog says nothing against a machine's log"):
+            self.assertEqual((ran.status, ran.err), (0, b""), f"ran: {ran}")
 
     def check_learned(self, whose: str, seen: str = "seen") -> None:
         learned = run(CHECKER / "learn", "--known", "esp", f"{seen}/log", cwd=self.room)
@@ -82,6 +90,9 @@ class Machine(CheckerChecks):
         (self.room / "other/bootcore/menu.txt").write_text(MENU, encoding="utf-8")
         ran = run(CHECKER / "trial", "other", "started", cwd=self.room, env={"NONCE": NONCE}, timeout=900)
         self.ends("a machine that is given a driver in place of a program boots", ran, 0, None)
+        with self.check("a driver in place of a program is not started"):
+            shown = (self.room / "started/serial").read_bytes()
+            self.assertIn(b"A driver: It is a driver, and no program.", shown)
         policy = (CHECKER / "policy.toml").read_text(encoding="utf-8") + ENTRY
         for sentence, text, status, said in (
             ("a machine with a driver in place of a program", policy, WRONG, "a driver was loaded that the policy does not name"),
