@@ -77,21 +77,21 @@ enum {
 };
 
 /* What a call answers, in comments without BOOTCORE_STATUS_. A misuse, from 101 on, has changed
- * nothing, but that a layout holds no plan then. Of several the first is told; of an array with
- * more elements than there may be only one more is looked at. */
+ * nothing, but that a layout holds no plan then. Of several the first is told; of too many elements
+ * only one more than there may be is looked at, but a line is read whole. */
 enum {
     BOOTCORE_STATUS_DONE = 0,
     BOOTCORE_STATUS_REFUSED = 1,   /* the entry is refused; a boot: all are; a walk: the image */
     BOOTCORE_STATUS_WAITING = 2,   /* a session awaits pieces, or its start; a digest wants bytes */
     BOOTCORE_STATUS_NEXT = 3,      /* a session: an entry was refused, it awaits another's pieces */
     BOOTCORE_STATUS_NO_MEMORY = 4, /* malloc or realloc gave none. NULL, BAD_RESERVED, BAD_FILE and
-                                    * too few places are told before it; it may replace others */
+                                    * an outcome's SMALL_ROOM come first; it may replace others */
     BOOTCORE_STATUS_FAILED = 5,    /* a session: no entry is left, or memory ran out */
     BOOTCORE_STATUS_OUTSIDE = 6,   /* a load: a part begins below memory; a step lies outside it */
 
     BOOTCORE_STATUS_NULL = 101,         /* a pointer is null that may not be */
     BOOTCORE_STATUS_BAD_RESERVED = 102, /* a reserved word is not 0 */
-    BOOTCORE_STATUS_BAD_FILE = 103,     /* a file of no menu has the length BOOTCORE_UNREADABLE */
+    BOOTCORE_STATUS_BAD_FILE = 103,     /* a file of no menu: unreadable, or too short for a plan */
     BOOTCORE_STATUS_SMALL_ROOM = 104,   /* too little room: in an outcome, or else told last */
     BOOTCORE_STATUS_BAD_KIND = 105,     /* a region's kind is no BOOTCORE_KIND_.. */
     BOOTCORE_STATUS_BAD_SIZE = 106,     /* the size is no multiple of 4096 from 1 MiB to 4 GiB */
@@ -144,7 +144,7 @@ typedef struct bootcore_machine {
     uint64_t reserved[4];
 } bootcore_machine;
 
-/* The index of the region that BAD_KIND is about, or else BAD_REGION; region_count if none is. */
+/* The index of the region of BAD_KIND, or else of BAD_REGION; if none region_count, if null 0. */
 BOOTCORE_CALL size_t bootcore_bad_region(const bootcore_machine *machine);
 
 /* How a kernel is entered. Both Linux entries want two usable frames between 0x1000 and 0xA0000:
@@ -165,7 +165,7 @@ typedef struct bootcore_module {
  * the 64-bit entry 2.12 with bit 0 of xloadflags. Linux looks for the RSDP from 0xE0000 to 0xFFFFF:
  * lay it there, in a reserved region; or name it by acpi_rsdp= in the line, where the kernel has
  * that word. Where a call looks at a file's length alone (a session; a plan, but of the kernel),
- * its bytes may be null. An initial ramdisk of length 0, as an empty file, is as none. */
+ * its bytes may be null. An initial ramdisk of length 0 is as none; such a module has a frame. */
 typedef struct bootcore_entry {
     uint32_t protocol, reserved32;
     bootcore_bytes kernel, line;    /* the line without a zero byte */
@@ -317,9 +317,9 @@ BOOTCORE_CHECKED uint32_t bootcore_plan(const bootcore_machine *machine,
  * entry's: the kernel, then the modules or the initial ramdisk, of at least the lengths that were
  * planned for. Either all steps are carried out (DONE), or nothing is written, for the first of
  * these that stands: NULL; BAD_RESERVED; BAD_FILE if a file is unreadable; SMALL_ROOM if the layout
- * holds no whole plan, or one that wants more room than it has; BAD_FILE if a step's source is none
- * or has no such bytes; OUTSIDE if a byte of a step lies in no piece. A step may go over several
- * pieces; a byte that is in two goes to the first. */
+ * holds no whole plan, or has no room for its steps or own bytes; BAD_FILE if a step's source is
+ * none or has no such bytes; OUTSIDE if a byte of a step lies in no piece. A step may go over
+ * several pieces; a byte that is in two goes to the first. */
 BOOTCORE_CHECKED uint32_t bootcore_carry_out(const bootcore_layout *layout,
     const bootcore_bytes *files, size_t file_count, const bootcore_memory *memory,
     size_t memory_count);
@@ -392,8 +392,8 @@ typedef struct bootcore_request {
 } bootcore_request;
 
 /* Makes a session of a menu, which is not yet started; one that was kept before is freed then. Of
- * each file the length is looked at; its bytes come later. After any answer but DONE what was kept
- * before is still kept. */
+ * each file the length is looked at; its bytes come later. After NO_MEMORY or a misuse, the only
+ * other answers than DONE, what was kept before is still kept. */
 BOOTCORE_CHECKED uint32_t bootcore_session_make(bootcore_session *session,
     const bootcore_machine *machine, const bootcore_menu *menu);
 

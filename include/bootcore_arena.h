@@ -13,8 +13,8 @@
 extern "C" {
 #endif
 
-/* How long an arena is enough for each load, preparation, plan and digest, if nothing else is kept
- * in it. A boot, a session and a walk may want more: docs/EMBED.md. */
+/* How long an arena is enough for each load, preparation, plan and digest, and bootcore_unplaced,
+ * if nothing else is kept in it. A boot, a session and a walk may want more: docs/EMBED.md. */
 enum { BOOTCORE_ARENA = 1048576 };
 
 /* The two functions are in libbootcore_freestanding.a alone: with libbootcore.a they don't link. */
@@ -24,7 +24,8 @@ enum { BOOTCORE_ARENA = 1048576 };
  * answers NO_MEMORY. */
 BOOTCORE_CALL void bootcore_arena(void *memory, size_t length);
 
-/* How long an arena at the same address is enough for the same calls as since it was given. */
+/* How long an arena at the same address is enough for the same calls as since it was given. If one
+ * of them answered NO_MEMORY, it says nothing of what that one wants. */
 BOOTCORE_CALL size_t bootcore_arena_peak(void);
 
 #ifdef __cplusplus

@@ -18,14 +18,16 @@ enum {
 /* Writes the head of a handoff image, of version 2: all that stands before the bytes of the parts,
  * which follow in the order of the places. `places` has as many elements as the handoff says. The
  * answer is the head's length; where `head` is null or has fewer bytes nothing is written. It is 0
- * after a null handoff, and after null places where the handoff has some. */
+ * after a null handoff, and after null places where the handoff has some. No value is checked: a
+ * head that breaks the format is written too. */
 BOOTCORE_CALL size_t bootcore_image_head(const bootcore_handoff *handoff,
     const bootcore_place *places, uint8_t *head, size_t length);
 
 /* Reads the head of a handoff image, of version 1 or 2: what stands before the bytes of the parts,
  * which need not follow.
  * - DONE: the handoff is told, with 0 as its entry, and the first places.
- * - SMALL_ROOM: there are more places than place_room. The handoff is told, and says how many.
+ * - SMALL_ROOM: there are more places than place_room. The handoff is told, and says how many:
+ *   BOOTCORE_MAX_PLACES at most.
  * - REFUSED: fault->number is 71 to 75 (with 74 `first` is the index of the place): the first that
  *   is found, as in an image that begins so. A head that is cut is 75.
  * - NO_MEMORY: fault->number is 77.
@@ -109,8 +111,8 @@ BOOTCORE_CHECKED uint32_t bootcore_walk(const void *image, size_t image_length, 
  * - SMALL_ROOM: an array has room for fewer elements than there are. *seen is told, and
  *   says how many there are; all arrays are as before. So a call without any room asks how much is
  *   wanted.
- * - REFUSED, NO_MEMORY, NULL: as bootcore_walk, and the arrays are as
- *   before.
+ * - REFUSED, NO_MEMORY, NULL: as bootcore_walk, and the arrays are as before.
+ * - BAD_RESERVED: a reserved word of the arrays is not 0. All is as before.
  * The bytes of modules and of an initial ramdisk are not told. They lie in the image, in the part
  * that has their address. */
 BOOTCORE_CHECKED uint32_t bootcore_walk_all(const void *image, size_t image_length,
