@@ -1,6 +1,12 @@
 /* Which region a misuse is about. */
 #include "given.h"
 
+/* As the core says it of a region that can't end too high. */
+static bool has_bad_kind(const bootcore_region *region) {
+    const bootcore_region empty = {0, 0, region->kind, 0};
+    return bootcore_bad_region_index(&empty, 1) == 0;
+}
+
 BOOTCORE_CALL
 size_t bootcore_bad_region(const bootcore_machine *machine) {
     size_t count, index;
@@ -10,5 +16,10 @@ size_t bootcore_bad_region(const bootcore_machine *machine) {
     }
     count = bootcore_count_regions(machine);
     index = bootcore_bad_region_index(bootcore_regions_crossing(machine), count);
-    return index < count ? index : machine->region_count;
+    /* that there are too many is told before one that ends too high */
+    if (index == count ||
+        (count > BOOTCORE_MAX_REGIONS && !has_bad_kind(&machine->regions[index]))) {
+        return machine->region_count;
+    }
+    return index;
 }

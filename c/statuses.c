@@ -37,7 +37,8 @@ const char *bootcore_status_text(uint32_t status) {
     case BOOTCORE_STATUS_BAD_POOL:
         return "the pool is not of whole frames, or not all of it is usable";
     case BOOTCORE_STATUS_BAD_MEMORY:
-        return "memory does not end where the machine's does, or begins at 4 GiB or above";
+        return "memory ends below the machine's size (of a boot: not at it), or begins at 4 GiB or "
+               "above";
     case BOOTCORE_STATUS_BAD_PROTOCOL:
         return "an entry has a protocol that there is not";
     case BOOTCORE_STATUS_TOO_MANY_ENTRIES:

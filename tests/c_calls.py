@@ -32,10 +32,24 @@ def setUpModule() -> None:
     need_built(PROGRAM, "tools/build")
 
 
-def instructions(archive: Path) -> List[str]:
-    """The lines of an archive's code; constants may stand behind code, and not all of them are instructions."""
+def functions(archive: Path) -> List[List[str]]:
+    """The lines of each function of an archive; constants may stand behind code, and not all of them are instructions."""
     code = run("objdump", "-d", "--no-show-raw-insn", archive, timeout=600).out.decode(errors="replace")
-    return [line for block in re.split(r"\n\n", code) for line in block.split("(bad)")[0].splitlines()]
+    return [block.split("(bad)")[0].splitlines() for block in re.split(r"\n\n", code)]
+
+
+def instructions(archive: Path) -> List[str]:
+    """The lines of an archive's code."""
+    return [line for function in functions(archive) for line in function]
+
+
+def below_stack(function: List[str]) -> List[str]:
+    """The instructions that read or write below the stack pointer; `lea` computes an address alone. An index that is added may lead above
+    it again, as into an array that is indexed from behind its beginning: it is taken for that in a function that calls another one,
+    since the compilers let only a function without calls use what is below."""
+    has_calls = any("\tcall" in line for line in function)
+    operand = r"-0x[0-9a-f]+\(%rsp\)" if has_calls else r"-0x[0-9a-f]+\(%rsp"
+    return [line for line in function if re.search(operand, line) and "lea " not in line]
 
 
 def constant(name: str, header: str = "bootcore.h") -> int:
@@ -48,6 +62,13 @@ def said_needs() -> Dict[str, Tuple[int, int]]:
     page = (TOP / "docs/EMBED.md").read_text(encoding="utf-8")
     rows = re.findall(r"^\| `bootcore_(\w+)`.*? \| ([\d,]+) \| ([\d,]+) \|$", page, re.M)
     return {call: (int(guest.replace(",", "")), int(most.replace(",", ""))) for call, guest, most in rows}
+
+
+def said_beside_table() -> Dict[str, int]:
+    """What docs/EMBED.md says below its table: what a walk wants besides twice the image's length, and the reader of a head."""
+    page = " ".join((TOP / "docs/EMBED.md").read_text(encoding="utf-8").split())
+    said = re.search(r"twice the image's length, .*? besides up to ([\d,]+) bytes, .*?`bootcore_image_head_read` at most ([\d,]+) bytes", page)
+    return dict(zip(("beside_image", "image_head_read"), (int(number.replace(",", "")) for number in said.groups())))
 
 
 def rounded(needs: Dict[Tuple[str, ...], int], call: str) -> Tuple[int, int]:
@@ -106,6 +127,10 @@ class Needs(CoreChecks):
             with self.check("docs/EMBED.md says of each call what it needs of an arena, rounded up to a thousand bytes"):
                 self.assertEqual(said_needs(), {call: rounded(needs, call) for call in said_needs()})
                 self.assertGreater(len(said_needs()), 6, "rows of the table")
+            with self.check("docs/EMBED.md says what a walk wants besides twice the image's length, and the reader of a head"):
+                for call, said in said_beside_table().items():
+                    most = max(needs[("arena", call, *of)] for of in ([], ["of", "a", "guest"], ["of", "the", "largest", "menu"]))
+                    self.assertTrue(most <= said <= 2 * most, f"{call}: {most} bytes are needed, of {said}")
 
 
 class Freestanding(CoreChecks):
@@ -134,11 +159,9 @@ class Freestanding(CoreChecks):
             self.skipTest("objdump is not at hand")
         if not FREESTANDING.exists():
             self.skipTest("the archive for firmware is not built, as is reported above")
-        code = instructions(FREESTANDING)
-        self.assertGreater("\n".join(code).count("(%rsp)"), 1000, "operands that begin at the stack pointer")
-        # `lea` computes an address alone
-        below = [line for line in code if re.search(r"-0x[0-9a-f]+\(%rsp", line) and "lea " not in line]
-        self.assertEqual(below[:20], [])
+        code = functions(FREESTANDING)
+        self.assertGreater(sum("(%rsp)" in line for function in code for line in function), 1000, "operands that begin at the stack pointer")
+        self.assertEqual([line for function in code for line in below_stack(function)][:20], [])
 
     def test_state(self) -> None:
         """no instruction of an archive looks at MXCSR or at the x87's state, or computes with fractions"""

@@ -21,7 +21,7 @@
 enum { STACK = 1 << 19, PAINT = 0xC3, ARENA_LENGTH = 1 << 26, MOST_STEPS = 2048, MOST_OWN = 1 << 20, CALLS = 64 };
 
 static uint8_t *stack, *arena, *memory, *image;
-static size_t image_length;
+static size_t image_length, last_peak;
 static bootcore_memory whole;
 static bootcore_place places[BOOTCORE_MAX_PLACES];
 static bootcore_refusal refusals[BOOTCORE_MAX_REFUSALS];
@@ -134,6 +134,16 @@ static uint32_t walk_all(void) {
     return bootcore_walk_all(image, image_length, &seen, &arrays, &fault);
 }
 static uint32_t image_head(void) { return (uint32_t)bootcore_image_head(&outcome.handoff, places, image, image_length); }
+static uint32_t image_head_read(void) {
+    static bootcore_handoff handoff;
+    static bootcore_place read[BOOTCORE_MAX_PLACES];
+    bootcore_refusal fault;
+    return bootcore_image_head_read(image, image_length, &handoff, read, BOOTCORE_MAX_PLACES, &fault);
+}
+static uint32_t unplaced(void) {
+    bootcore_unplaced_part part;
+    return bootcore_unplaced(&machine, entry, &part, &refusals[0]);
+}
 static uint32_t segments(void) {
     static bootcore_segment told[6];
     bootcore_segments(&outcome.handoff.registers, told);
@@ -225,6 +235,7 @@ static uint32_t measure(const char *name, uint32_t (*call)(void)) {
     if (need->arena < peak) {
         need->arena = peak;
     }
+    last_peak = peak;
     bootcore_arena(arena, peak);
     if (ask(name, call) != status || bootcore_arena_peak() > peak) {
         printf("%s wants more than its peak of %zu bytes\n", name, peak);
@@ -237,6 +248,14 @@ static uint32_t measure(const char *name, uint32_t (*call)(void)) {
 #endif
     status = ask(name, call);
     return status;
+}
+
+/* What the last walk needed of an arena besides twice the length of the image, whose parts it copies. */
+static void count_beside(void) {
+    struct need *need = need_of("beside_image");
+    if (last_peak > 2 * image_length && need->arena < last_peak - 2 * image_length) {
+        need->arena = last_peak - 2 * image_length;
+    }
 }
 
 /* What is handed over, as an image in memory. */
@@ -273,6 +292,7 @@ static void measure_entry(void) {
     layout.own_room = MOST_OWN;
     set_outcome();
     (void)measure("prepare", prepare);
+    (void)measure("unplaced", unplaced);
     status = measure("plan", plan);
     if (status == BOOTCORE_STATUS_DONE && measure("carry_out", carry_out) != BOOTCORE_STATUS_DONE) {
         puts("a plan is not carried out");
@@ -287,9 +307,17 @@ static void measure_entry(void) {
     if (status == BOOTCORE_STATUS_DONE) {
         make_image();
         (void)measure("segments", segments);
-        if (measure("walk", walk) != BOOTCORE_STATUS_DONE || measure("walk_all", walk_all) != BOOTCORE_STATUS_DONE) {
+        if (measure("image_head_read", image_head_read) != BOOTCORE_STATUS_DONE) {
+            puts("an image's head is not read");
+        }
+        if (measure("walk", walk) != BOOTCORE_STATUS_DONE) {
             puts("an image is not walked");
         }
+        count_beside();
+        if (measure("walk_all", walk_all) != BOOTCORE_STATUS_DONE) {
+            puts("all of an image is not walked");
+        }
+        count_beside();
     } else {
         (void)measure("describe", describe);
     }

@@ -339,7 +339,8 @@ static bool can_be_both(const change *one, const change *two) {
 static bool names_region(uint32_t status) {
     return (status != BOOTCORE_STATUS_BAD_KIND || bootcore_bad_region(&machine) == 0) &&
            (status != BOOTCORE_STATUS_BAD_REGION || bootcore_bad_region(&machine) == 1) &&
-           (status != BOOTCORE_STATUS_DONE || bootcore_bad_region(&machine) == machine.region_count);
+           ((status != BOOTCORE_STATUS_DONE && status != BOOTCORE_STATUS_TOO_MANY_REGIONS) ||
+            bootcore_bad_region(&machine) == machine.region_count);
 }
 
 static void try_two(const char *call_name, uint32_t (*call)(void), const change *one, const change *two) {
