@@ -29,8 +29,7 @@ uint32_t bootcore_boot(const bootcore_memory *memory, const bootcore_machine *ma
     given_memory = bootcore_memory_crossing(memory);
     given_machine = bootcore_machine_crossing(machine);
     status = bootcore_boot_arrays(
-        given_memory.bytes, given_memory.length, given_memory.base, &given_machine,
-        bootcore_regions_crossing(machine), bootcore_count_regions(machine), entries,
+        given_memory.bytes, given_memory.length, given_memory.base, &given_machine, entries,
         bootcore_count_entries(menu), menu->first, bootcore_given_array(menu->fallbacks),
         menu->fallback_count, &outcome->handoff, outcome->places, outcome->place_room,
         outcome->refusal_room ? outcome->refusals : &no_refusal, outcome->refusal_room, &count);

@@ -17,8 +17,7 @@ uint32_t bootcore_digest_make(bootcore_digest *digest, const bootcore_machine *m
     }
     given_machine = bootcore_machine_crossing(machine);
     bootcore_entry_crossing(entry, BOOTCORE_READS_KERNEL, &given);
-    return bootcore_digest_make_arrays(digest, &given_machine, bootcore_regions_crossing(machine),
-                                       bootcore_count_regions(machine), &given.entry, refusal);
+    return bootcore_digest_make_arrays(digest, &given_machine, &given.entry, refusal);
 }
 
 BOOTCORE_CALL
@@ -83,8 +82,7 @@ uint32_t bootcore_digest_entry(const bootcore_machine *machine, const bootcore_e
         return BOOTCORE_STATUS_NO_MEMORY;
     }
     given_machine = bootcore_machine_crossing(machine);
-    status = bootcore_digest_entry_arrays(&given_machine, bootcore_regions_crossing(machine),
-                                          bootcore_count_regions(machine), given, digests,
+    status = bootcore_digest_entry_arrays(&given_machine, given, digests,
                                           room ? parts : &no_part, room, refusal);
     rattle_dealloc(given);
     return status;

@@ -43,8 +43,7 @@ uint32_t bootcore_load(const bootcore_memory *memory, const bootcore_machine *ma
     given_machine = bootcore_machine_crossing(machine);
     bootcore_entry_crossing(entry, BOOTCORE_READS_ALL, &given);
     status = bootcore_load_arrays(given_memory.bytes, given_memory.length, given_memory.base,
-                                  &given_machine, bootcore_regions_crossing(machine),
-                                  bootcore_count_regions(machine), &given.entry, &outcome->handoff,
+                                  &given_machine, &given.entry, &outcome->handoff,
                                   places_of(outcome, &no_place), outcome->place_room, &refusal);
     tell_end(status, &refusal, outcome);
     return status;
@@ -72,10 +71,8 @@ uint32_t bootcore_prepare(const bootcore_machine *machine, const bootcore_entry 
     }
     given_machine = bootcore_machine_crossing(machine);
     bootcore_entry_crossing(entry, BOOTCORE_READS_KERNEL, &given);
-    status = bootcore_prepare_arrays(
-        &given_machine, bootcore_regions_crossing(machine), bootcore_count_regions(machine),
-        &given.entry, &outcome->handoff, places_of(outcome, &no_place), outcome->place_room,
-        &refusal);
+    status = bootcore_prepare_arrays(&given_machine, &given.entry, &outcome->handoff,
+                                     places_of(outcome, &no_place), outcome->place_room, &refusal);
     tell_end(status, &refusal, outcome);
     return status;
 }
@@ -117,9 +114,9 @@ uint32_t bootcore_plan(const bootcore_machine *machine, const bootcore_entry *en
     given_machine = bootcore_machine_crossing(machine);
     bootcore_entry_crossing(entry, BOOTCORE_READS_KERNEL, &given);
     status = bootcore_plan_arrays(
-        &given_machine, bootcore_regions_crossing(machine), bootcore_count_regions(machine),
-        &given.entry, &layout->handoff, &counts, layout->place_room ? layout->places : &no_place,
-        layout->place_room, layout->step_room ? layout->steps : &no_step, layout->step_room,
+        &given_machine, &given.entry, &layout->handoff, &counts,
+        layout->place_room ? layout->places : &no_place, layout->place_room,
+        layout->step_room ? layout->steps : &no_step, layout->step_room,
         layout->own_room ? layout->own : &no_byte, layout->own_room, &layout->refusal);
     if (status == BOOTCORE_STATUS_DONE || status == BOOTCORE_STATUS_SMALL_ROOM) {
         layout->place_count = (size_t)counts.places;
@@ -146,6 +143,5 @@ uint32_t bootcore_unplaced(const bootcore_machine *machine, const bootcore_entry
     }
     given_machine = bootcore_machine_crossing(machine);
     bootcore_entry_crossing(entry, BOOTCORE_READS_KERNEL, &given);
-    return bootcore_unplaced_record(&given_machine, bootcore_regions_crossing(machine),
-                                    bootcore_count_regions(machine), &given.entry, part, refusal);
+    return bootcore_unplaced_record(&given_machine, &given.entry, part, refusal);
 }

@@ -38,7 +38,7 @@ static size_t at_most_one_more(size_t count, size_t most) {
     return count <= most ? count : most + 1;
 }
 
-size_t bootcore_count_regions(const bootcore_machine *machine) {
+static size_t count_regions(const bootcore_machine *machine) {
     return at_most_one_more(machine->region_count, BOOTCORE_MAX_REGIONS);
 }
 
@@ -121,7 +121,7 @@ bool bootcore_memory_has_reserved(const bootcore_memory *memory) {
 
 bool bootcore_machine_has_reserved(const bootcore_machine *machine) {
     size_t i;
-    for (i = 0; i < bootcore_count_regions(machine); i++) {
+    for (i = 0; i < count_regions(machine); i++) {
         if (machine->regions[i].reserved) {
             return true;
         }
@@ -187,23 +187,20 @@ bootcore_given_memory bootcore_memory_crossing(const bootcore_memory *memory) {
     return given;
 }
 
-bootcore_crossing_machine bootcore_machine_crossing(const bootcore_machine *machine) {
-    bootcore_crossing_machine crossing;
-    crossing.size = machine->size;
-    crossing.pool_base = machine->pool_base;
-    crossing.pool_length = machine->pool_length;
-    return crossing;
-}
-
-const bootcore_region *bootcore_regions_crossing(const bootcore_machine *machine) {
-    return bootcore_given_array(machine->regions);
-}
-
 static bootcore_slice slice_of(const void *array, size_t count) {
     bootcore_slice slice;
     slice.at = bootcore_given_array(array);
     slice.count = count;
     return slice;
+}
+
+bootcore_crossing_machine bootcore_machine_crossing(const bootcore_machine *machine) {
+    bootcore_crossing_machine crossing;
+    crossing.size = machine->size;
+    crossing.pool_base = machine->pool_base;
+    crossing.pool_length = machine->pool_length;
+    crossing.regions = slice_of(machine->regions, count_regions(machine));
+    return crossing;
 }
 
 static bootcore_slice slice_of_bytes(bootcore_bytes bytes) {

@@ -53,15 +53,13 @@ bool bootcore_entry_has_unreadable(const bootcore_entry *entry);
  * can't be read; or BOOTCORE_STATUS_DONE. */
 uint32_t bootcore_entry_misuse(const bootcore_machine *machine, const bootcore_entry *entry);
 
-/* How many regions, and entries, cross: one more than there may be, if there are more, so that the core
- * refuses them in its order, and no more of them are read. */
-size_t bootcore_count_regions(const bootcore_machine *machine);
+/* How many entries cross: one more than there may be, if there are more, so that the core refuses them in
+ * its order, and no more of them are read. */
 size_t bootcore_count_entries(const bootcore_menu *menu);
 
 /* What crosses of what was tested. */
 bootcore_given_memory bootcore_memory_crossing(const bootcore_memory *memory);
 bootcore_crossing_machine bootcore_machine_crossing(const bootcore_machine *machine);
-const bootcore_region *bootcore_regions_crossing(const bootcore_machine *machine);
 void bootcore_entry_crossing(const bootcore_entry *entry, bootcore_reading reading,
                              bootcore_given_entry *given);
 

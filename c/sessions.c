@@ -19,10 +19,10 @@ uint32_t bootcore_session_make(bootcore_session *session, const bootcore_machine
         return BOOTCORE_STATUS_NO_MEMORY;
     }
     given_machine = bootcore_machine_crossing(machine);
-    status = bootcore_session_make_arrays(
-        session, &given_machine, bootcore_regions_crossing(machine),
-        bootcore_count_regions(machine), entries, bootcore_count_entries(menu), menu->first,
-        bootcore_given_array(menu->fallbacks), menu->fallback_count);
+    status = bootcore_session_make_arrays(session, &given_machine, entries,
+                                          bootcore_count_entries(menu), menu->first,
+                                          bootcore_given_array(menu->fallbacks),
+                                          menu->fallback_count);
     rattle_dealloc(entries);
     return status;
 }

@@ -15,7 +15,7 @@ use c_abi::{digest_given, digests_told, fed_digests_told, feed_told, wanted_told
 use c_handle::{DigestHandle, HandleFault, status_of};
 use c_records::{
     DigestsRecord, EntryRecord, FileRangeRecord, LoadFault, MachineRecord, PartDigestRecord,
-    RefusalRecord, RegionRecord, tell_load_fault,
+    RefusalRecord, tell_load_fault,
 };
 use std::alloc::Global;
 
@@ -24,16 +24,15 @@ use std::alloc::Global;
 pub extern "C" fn bootcore_digest_make_arrays(
     alloc: Global,
     digest: &mut DigestHandle,
-    machine: &MachineRecord,
-    regions: &[RegionRecord],
+    machine: &MachineRecord<'_>,
     entry: &EntryRecord<'_>,
     refusal: &mut RefusalRecord,
 ) -> u32
     ensures { (made : Result DigestingFacts LoadFault)
-        × IsGivenDigestEnd machine.now regions.now entry.now made
+        × IsGivenDigestEnd machine.now entry.now made
         × TellsDigestMade made result digest.old.kept digest.new.kept refusal.old refusal.new }
 {
-    match digest_given(alloc, machine, regions, entry) {
+    match digest_given(alloc, machine, entry) {
         Ok(made) => match digest.make(alloc, made) {
             Ok(()) => 0,
             Err(_) => tell_load_fault(LoadFault::NoMemory, refusal),
@@ -122,18 +121,17 @@ pub extern "C" fn bootcore_digest_free_kept(alloc: Global, digest: &mut DigestHa
 #[unsafe(no_mangle)]
 pub extern "C" fn bootcore_digest_entry_arrays(
     alloc: Global,
-    machine: &MachineRecord,
-    regions: &[RegionRecord],
+    machine: &MachineRecord<'_>,
     entry: &EntryRecord<'_>,
     told: &mut DigestsRecord,
     parts: &mut [PartDigestRecord],
     refusal: &mut RefusalRecord,
 ) -> u32
     ensures { (end : Result DigestsFacts LoadFault)
-        × IsGivenDigestsEnd machine.now regions.now entry.now end
+        × IsGivenDigestsEnd machine.now entry.now end
         × TellsDigests end result
         (record { digests = told.old; parts = parts.old })
         (record { digests = told.new; parts = parts.new }) refusal.old refusal.new }
 {
-    digests_told(alloc, machine, regions, entry, told, parts, refusal)
+    digests_told(alloc, machine, entry, told, parts, refusal)
 }

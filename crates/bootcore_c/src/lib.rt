@@ -17,9 +17,7 @@ mod sessions;
 mod walks;
 
 use c_abi::boot_told;
-use c_records::{
-    EntryRecord, HandoffRecord, MachineRecord, PlaceRecord, RefusalRecord, RegionRecord,
-};
+use c_records::{EntryRecord, HandoffRecord, MachineRecord, PlaceRecord, RefusalRecord};
 use std::alloc::Global;
 
 /// A menu is booted in memory that begins at a base.
@@ -28,8 +26,7 @@ pub extern "C" fn bootcore_boot_arrays(
     alloc: Global,
     memory: &mut [u8],
     base: u32,
-    machine: &MachineRecord,
-    regions: &[RegionRecord],
+    machine: &MachineRecord<'_>,
     entries: &[EntryRecord],
     default: u32,
     fallbacks: &[u32],
@@ -39,7 +36,7 @@ pub extern "C" fn bootcore_boot_arrays(
     count: &mut u64,
 ) -> u32
     ensures { (end : Result PhaseFacts GivenFault)
-        × IsGivenBootEnd machine.now regions.now entries.now default fallbacks.now
+        × IsGivenBootEnd machine.now entries.now default fallbacks.now
         (length places.old) (memory_from base memory.old) (memory_from base memory.new) end
         × TellsBoot end result
         (record {
@@ -56,7 +53,6 @@ pub extern "C" fn bootcore_boot_arrays(
         }) }
 {
     boot_told(
-        alloc, memory, base, machine, regions, entries, default, fallbacks, told, places, refusals,
-        count,
+        alloc, memory, base, machine, entries, default, fallbacks, told, places, refusals, count,
     )
 }

@@ -16,7 +16,7 @@ ghost use Rattle.c_records.specs.declared.load_fault.LoadFault.{LoadFault};
 use c_abi::{load_told, plan_told, prepare_told, unplaced_told};
 use c_records::{
     EntryRecord, HandoffRecord, MachineRecord, PlaceRecord, PlanCountsRecord, RefusalRecord,
-    RegionRecord, StepRecord, UnplacedRecord,
+    StepRecord, UnplacedRecord,
 };
 use std::alloc::Global;
 
@@ -26,29 +26,25 @@ pub extern "C" fn bootcore_load_arrays(
     alloc: Global,
     memory: &mut [u8],
     base: u32,
-    machine: &MachineRecord,
-    regions: &[RegionRecord],
+    machine: &MachineRecord<'_>,
     entry: &EntryRecord<'_>,
     told: &mut HandoffRecord,
     places: &mut [PlaceRecord],
     refusal: &mut RefusalRecord,
 ) -> u32
     ensures { (end : Result HandoffFacts LoadFault)
-        × IsGivenLoadEnd machine.now regions.now entry.now (length places.old) base
+        × IsGivenLoadEnd machine.now entry.now (length places.old) base
         (memory_from base memory.old) (memory_from base memory.new) end
         × TellsEnd end result told.old told.new places.old places.new refusal.old refusal.new }
 {
-    load_told(
-        alloc, memory, base, machine, regions, entry, told, places, refusal,
-    )
+    load_told(alloc, memory, base, machine, entry, told, places, refusal)
 }
 
 /// What a load of an entry would hand over is told.
 #[unsafe(no_mangle)]
 pub extern "C" fn bootcore_prepare_arrays(
     alloc: Global,
-    machine: &MachineRecord,
-    regions: &[RegionRecord],
+    machine: &MachineRecord<'_>,
     entry: &EntryRecord<'_>,
     told: &mut HandoffRecord,
     places: &mut [PlaceRecord],
@@ -56,18 +52,17 @@ pub extern "C" fn bootcore_prepare_arrays(
 ) -> u32
     ensures { (end : Result HandoffFacts LoadFault)
         × ((texts : List (List ℕ)) → AreFilesOf entry.now texts
-        → IsGivenPrepareEnd machine.now regions.now entry.now texts (length places.old) end)
+        → IsGivenPrepareEnd machine.now entry.now texts (length places.old) end)
         × TellsEnd end result told.old told.new places.old places.new refusal.old refusal.new }
 {
-    prepare_told(alloc, machine, regions, entry, told, places, refusal)
+    prepare_told(alloc, machine, entry, told, places, refusal)
 }
 
 /// The steps that load an entry are told, whose files beside the kernel are known by their lengths.
 #[unsafe(no_mangle)]
 pub extern "C" fn bootcore_plan_arrays(
     alloc: Global,
-    machine: &MachineRecord,
-    regions: &[RegionRecord],
+    machine: &MachineRecord<'_>,
     entry: &EntryRecord<'_>,
     told: &mut HandoffRecord,
     counts: &mut PlanCountsRecord,
@@ -77,7 +72,7 @@ pub extern "C" fn bootcore_plan_arrays(
     refusal: &mut RefusalRecord,
 ) -> u32
     ensures { (end : Result PlanFacts LoadFault)
-        × IsGivenPlanEnd machine.now regions.now entry.now end
+        × IsGivenPlanEnd machine.now entry.now end
         × TellsPlan end result
         (record {
           handoff = told.old;
@@ -95,24 +90,21 @@ pub extern "C" fn bootcore_plan_arrays(
         })
         refusal.old refusal.new }
 {
-    plan_told(
-        alloc, machine, regions, entry, told, counts, places, steps, own, refusal,
-    )
+    plan_told(alloc, machine, entry, told, counts, places, steps, own, refusal)
 }
 
 /// Which part of an entry finds no place is told, or that each has one.
 #[unsafe(no_mangle)]
 pub extern "C" fn bootcore_unplaced_record(
     alloc: Global,
-    machine: &MachineRecord,
-    regions: &[RegionRecord],
+    machine: &MachineRecord<'_>,
     entry: &EntryRecord<'_>,
     told: &mut UnplacedRecord,
     refusal: &mut RefusalRecord,
 ) -> u32
     ensures { (end : Result (Option Row) LoadFault)
-        × IsSoughtEnd machine.now regions.now entry.now end
+        × IsSoughtEnd machine.now entry.now end
         × TellsUnplaced end result told.old told.new refusal.old refusal.new }
 {
-    unplaced_told(alloc, machine, regions, entry, told, refusal)
+    unplaced_told(alloc, machine, entry, told, refusal)
 }

@@ -15,9 +15,7 @@ ghost use Rattle.c_handle.specs.SessionSteps.{IsStarted, IsStepped};
 
 use c_abi::{given_status, outcome_told, session_given};
 use c_handle::{Handle, HandleFault, RequestRecord, status_of};
-use c_records::{
-    EntryRecord, GivenFault, HandoffRecord, MachineRecord, PlaceRecord, RefusalRecord, RegionRecord,
-};
+use c_records::{EntryRecord, GivenFault, HandoffRecord, MachineRecord, PlaceRecord, RefusalRecord};
 use std::alloc::Global;
 
 /// A session is made, and kept; one that was kept before is freed then.
@@ -25,17 +23,16 @@ use std::alloc::Global;
 pub extern "C" fn bootcore_session_make_arrays(
     alloc: Global,
     session: &mut Handle,
-    machine: &MachineRecord,
-    regions: &[RegionRecord],
+    machine: &MachineRecord<'_>,
     entries: &[EntryRecord],
     default: u32,
     fallbacks: &[u32],
 ) -> u32
     ensures { (made : Result SessionFacts GivenFault)
-        × IsSessionMade machine.now regions.now entries.now default fallbacks.now made
+        × IsSessionMade machine.now entries.now default fallbacks.now made
         × TellsSession made result session.old.kept session.new.kept }
 {
-    match session_given(alloc, machine, regions, entries, default, fallbacks) {
+    match session_given(alloc, machine, entries, default, fallbacks) {
         Ok(made) => match session.make(alloc, made) {
             Ok(()) => 0,
             Err(_) => given_status(GivenFault::NoMemory),

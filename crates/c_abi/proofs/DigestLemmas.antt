@@ -22,7 +22,6 @@ use Rattle.bl_digest.specs.Ranges.{ranges_of, source_ranges}
 use Rattle.bl_digest.specs.declared.file_range.FileRange.{FileRange}
 use Rattle.c_records.specs.declared.given_records.EntryRecord.{EntryRecord}
 use Rattle.c_records.specs.declared.given_records.MachineRecord.{MachineRecord}
-use Rattle.c_records.specs.declared.given_records.RegionRecord.{RegionRecord}
 use Rattle.c_records.specs.declared.load_fault.LoadFault.{LoadFault}
 use Rattle.c_abi.specs.Digest.{IsGivenDigestEnd, IsGivenDigestsEnd, IsInFile, ranges_wanted}
 use Rattle.c_records.specs.Given.{entry_without_files, texts_given, value_with}
@@ -88,14 +87,13 @@ module _ {A B : Type 0} (facts : MachineFacts) (r : EntryRecord) (entry : Entry 
 
 -- ---- on the machine that is given
 
-module _ (machine : MachineRecord) (regions : List RegionRecord) (entry : EntryRecord)
-    (facts : MachineFacts) (is : IsMachineGiven machine regions facts)
-    (whole : IsMachineSound machine regions) where
+module _ (machine : MachineRecord) (entry : EntryRecord) (facts : MachineFacts)
+    (is : IsMachineGiven machine facts) (whole : IsMachineSound machine) where
   pub given_digest_end : (end : Result DigestingFacts LoadFault)
       → IfOk end (IsDigestOn facts entry) → OnOk end (IsEntrySound entry)
       → IfErr end (λ fault. (texts : List (List ℕ)) → AreFilesOf entry texts
       → IsEntryFault facts entry texts 0 fault)
-      → IsGivenDigestEnd machine regions entry end
+      → IsGivenDigestEnd machine entry end
   given_digest_end (Ok digest) on sound fault = record {
     facts = facts;
     machine_is = is;
@@ -112,7 +110,7 @@ module _ (machine : MachineRecord) (regions : List RegionRecord) (entry : EntryR
   pub given_digests_end : (end : Result DigestsFacts LoadFault)
       → IfOk end (AreDigestsOn facts entry) → OnOk end (IsEntrySound entry)
       → IfErr end (IsEntryFault facts entry (texts_given entry) 0)
-      → IsGivenDigestsEnd machine regions entry end
+      → IsGivenDigestsEnd machine entry end
   given_digests_end (Ok digests) on sound fault = record {
     facts = facts;
     machine_is = is;

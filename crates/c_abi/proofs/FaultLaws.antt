@@ -14,7 +14,6 @@ use Rattle.c_records.specs.declared.misuse.Misuse.{Misuse}
 use Rattle.c_records.specs.declared.given_fault.GivenFault.TheVariants as given_fault
 use Rattle.c_records.specs.declared.given_records.EntryRecord.{EntryRecord}
 use Rattle.c_records.specs.declared.given_records.MachineRecord.{MachineRecord}
-use Rattle.c_records.specs.declared.given_records.RegionRecord.{RegionRecord}
 use Rattle.c_records.specs.declared.load_fault.LoadFault.TheVariants.{Outside}
 use Rattle.c_records.proofs.EntryLemmas.{few_modules}
 use Rattle.c_records.specs.Given.{value_with}
@@ -58,21 +57,21 @@ one_entry_misuse entry m n (inr (names, inr (is, few, a))) (inr (known, inr (sam
 pub none_below : (facts : MachineFacts) (value : EntryValue) → HandsOverBelow facts value 0 → ⊥
 none_below facts value low = low.below (λ k d within. omega arith)
 
-module _ (machine : MachineRecord) (regions : List RegionRecord) (entry : EntryRecord)
+module _ (machine : MachineRecord) (entry : EntryRecord)
     (texts : List (List ℕ)) where
   -- what is handed over is not refused
   handed_or_refused : (f g : MachineFacts) (h : Handover) (r : Refusal)
-      → IsMachineGiven machine regions f → IsMachineGiven machine regions g
+      → IsMachineGiven machine f → IsMachineGiven machine g
       → IsHandover f (value_with entry texts) h → IsRefusal g (value_with entry texts) r → ⊥
   handed_or_refused f g h r a b handed refused =
       handovers.not_both f (value_with entry texts) h r handed
       (subst (λ (x : MachineFacts). IsRefusal x (value_with entry texts) r)
-      (one_machine machine regions g f b a) refused)
+      (one_machine machine g f b a) refused)
 
   -- a fault that is told for memory from address 0 on, and one from another base on
   one_entry_fault : (base : ℕ) (f g : LoadFault) → f ≢ NoMemory → g ≢ NoMemory
-      → HasEntryFault machine regions entry texts 0 f
-      → HasEntryFault machine regions entry texts base g → g ≡ f
+      → HasEntryFault machine entry texts 0 f
+      → HasEntryFault machine entry texts base g → g ≡ f
   one_entry_fault base NoMemory g told said a b = absurd (told refl)
   one_entry_fault base Outside g told said a b =
       absurd (none_below a.facts (value_with entry texts) a.is.1)
@@ -90,7 +89,7 @@ module _ (machine : MachineRecord) (regions : List RegionRecord) (entry : EntryR
       ap Refused
       (handovers.one_refusal a.facts (value_with entry texts) s r
       (subst (λ (x : MachineFacts). IsRefusal x (value_with entry texts) s)
-      (one_machine machine regions b.facts a.facts b.machine_is a.machine_is) b.is.1)
+      (one_machine machine b.facts a.facts b.machine_is a.machine_is) b.is.1)
       a.is.1)
   one_entry_fault base (Refused r) Outside told said a b =
       absurd
@@ -100,8 +99,8 @@ module _ (machine : MachineRecord) (regions : List RegionRecord) (entry : EntryR
   -- two that are told are one, where memory reaches to the machine's end
   pub one_fault : (room base end last : ℕ) (f g : LoadFault) → machine.size ≤ end → machine.size ≤ last
       → f ≢ NoMemory → g ≢ NoMemory
-      → IsNotLoaded machine regions entry texts room 0 end f
-      → IsNotLoaded machine regions entry texts room base last g → g ≡ f
+      → IsNotLoaded machine entry texts room 0 end f
+      → IsNotLoaded machine entry texts room base last g → g ≡ f
   one_fault room base end last f g large wide told said (few_places few) (few_places less) = refl
   one_fault room base end last f g large wide told said (few_places few) (bad_machine many fault has) =
       absurd (omega (arith, few, many))
@@ -112,11 +111,11 @@ module _ (machine : MachineRecord) (regions : List RegionRecord) (entry : EntryR
   one_fault room base end last f g large wide told said (bad_machine many fault has) (few_places few) =
       absurd (omega (arith, few, many))
   one_fault room base end last f g large wide told said (bad_machine many fault has)
-      (bad_machine roomy other is) = one_machine_fault machine regions fault other told said has is
+      (bad_machine roomy other is) = one_machine_fault machine fault other told said has is
   one_fault room base end last f g large wide told said (bad_machine many fault has)
       (bad_memory roomy sound low) = absurd (omega (arith, low, wide))
   one_fault room base end last f g large wide told said (bad_machine many (given_fault.Misused m) has)
-      (bad_entry roomy sound reaches other is) = absurd (sound_machine machine regions m sound has)
+      (bad_entry roomy sound reaches other is) = absurd (sound_machine machine m sound has)
   one_fault room base end last f g large wide told said (bad_machine many given_fault.NoMemory has)
       (bad_entry roomy sound reaches other is) = absurd (told refl)
   one_fault room base end last f g large wide told said (bad_memory many sound low) b =
@@ -125,7 +124,7 @@ module _ (machine : MachineRecord) (regions : List RegionRecord) (entry : EntryR
       (few_places few) = absurd (omega (arith, few, many))
   one_fault room base end last f g large wide told said (bad_entry many sound reaches fault has)
       (bad_machine roomy (given_fault.Misused m) is) =
-      absurd (sound_machine machine regions m sound is)
+      absurd (sound_machine machine m sound is)
   one_fault room base end last f g large wide told said (bad_entry many sound reaches fault has)
       (bad_machine roomy given_fault.NoMemory is) = absurd (said refl)
   one_fault room base end last f g large wide told said (bad_entry many sound reaches fault has)

@@ -23,7 +23,6 @@ use Rattle.bl_load.specs.declared.plan.Plan.{Plan}
 use Rattle.bl_load.specs.declared.plan.PlannedPart.{PlannedPart}
 use Rattle.c_records.specs.declared.given_records.FileRecord.{FileRecord}
 use Rattle.c_records.specs.declared.given_records.MachineRecord.{MachineRecord}
-use Rattle.c_records.specs.declared.given_records.RegionRecord.{RegionRecord}
 use Rattle.c_records.specs.declared.load_fault.LoadFault.{LoadFault}
 use Rattle.c_records.specs.declared.load_fault.LoadFault.TheVariants.{Misused, Refused, NoMemory}
 use Rattle.c_records.specs.declared.load_fault.LoadFault.TheVariants.{Outside}
@@ -185,16 +184,15 @@ loads_not facts r value base old new (Err fault) sound same loads =
     of_value_is facts r (texts_given r) base value fault sound same loads.fault
 
 -- how a load on the machine that is given ends, by how that of its entry did
-pub given_end : (machine : MachineRecord) (regions : List RegionRecord)
-    (entry : EntryRecord) (room base : ℕ) (old new : List ℕ) (facts : MachineFacts)
-    (result : Result HandoffFacts LoadFault) → max_parts ≤ room
-    → IsMachineGiven machine regions facts → IsMachineSound machine regions
+pub given_end : (machine : MachineRecord) (entry : EntryRecord) (room base : ℕ)
+    (old new : List ℕ) (facts : MachineFacts) (result : Result HandoffFacts LoadFault)
+    → max_parts ≤ room → IsMachineGiven machine facts → IsMachineSound machine
     → machine.size ≤ length old → OnOk result (IsEntrySound entry)
     → IfOk result (IsEntryLoaded facts entry base old new)
     → IfErr result (IsEntryFault facts entry (texts_given entry) base) → OnErr result (new ≡ old)
-    → IsGivenLoadEnd machine regions entry room base old new result
-given_end machine regions entry room base old new facts (Ok handoff) many is sound reaches
-    entry_sound handed fault same = record {
+    → IsGivenLoadEnd machine entry room base old new result
+given_end machine entry room base old new facts (Ok handoff) many is sound reaches entry_sound handed
+    fault same = record {
       has_room = many;
       facts = facts;
       machine_is = is;
@@ -203,8 +201,8 @@ given_end machine regions entry room base old new facts (Ok handoff) many is sou
       entry_sound = entry_sound;
       handed = handed;
     }
-given_end machine regions entry room base old new facts (Err found) many is sound reaches
-    entry_sound handed fault same = (
+given_end machine entry room base old new facts (Err found) many is sound reaches entry_sound handed
+    fault same = (
       bad_entry many sound reaches found record { facts = facts; machine_is = is; is = fault },
       same,
     )

@@ -1,5 +1,5 @@
 -- A machine that C gives is one, and of it one first fault stands; none where it is sound.
-use Rattle.std.proofs.Common.{◌≡◌, ◌≢◌, ◌<◌, ◌∙◌, ℕ, List, length, map, ap, sym, get_or, subst}
+use Rattle.std.proofs.Common.{◌≡◌, ◌≢◌, ◌<◌, ◌∙◌, ℕ, List, length, ap, sym, get_or, subst}
 use Rattle.std.proofs.Common.{refl, arith, inl, inr, true, false, Option}
 use Rattle.std.specs.Prelude.{IfSome, slice_get}
 use Rattle.std.proofs.lemmas.Option.{slice_get-get_or}
@@ -16,12 +16,9 @@ use Rattle.c_records.specs.declared.misuse.Misuse.{Misuse}
 use Rattle.c_records.specs.declared.given_fault.GivenFault.{GivenFault}
 use Rattle.c_records.specs.declared.given_fault.GivenFault.TheVariants as given_fault
 use Rattle.c_records.specs.declared.given_records.MachineRecord.{MachineRecord}
-use Rattle.c_records.specs.declared.given_records.RegionRecord.{RegionRecord}
-use Rattle.c_records.specs.Given.{region_given}
 use Rattle.c_records.specs.EntryFaults.{load_fault_of_given}
 use Rattle.c_records.specs.Machines.{IsMachineGiven, IsMachineSound, HasMachineFault}
-use Rattle.c_records.specs.Machines.{given_fault_of_map}
-use Rattle.c_records.specs.Machines.{pool_given}
+use Rattle.c_records.specs.Machines.{given_fault_of_map, pool_given, regions_given}
 
 -- ---- of a machine's parts
 
@@ -82,12 +79,12 @@ module _ (size : ℕ) (regions : List Region) (pool : Range ℕ) where
 
 -- ---- of a machine
 
-module _ (machine : MachineRecord) (regions : List RegionRecord) where
+module _ (machine : MachineRecord) where
   -- it is one
-  pub one_machine : (f g : MachineFacts) → IsMachineGiven machine regions f
-      → IsMachineGiven machine regions g → f ≡ g
+  pub one_machine : (f g : MachineFacts) → IsMachineGiven machine f → IsMachineGiven machine g
+      → f ≡ g
   one_machine f g a b =
-      let given = map region_given regions in
+      let given = regions_given machine in
       let facts : ℕ → List Region → Range ℕ → MachineFacts =
       λ size runs pool. record { size = size; runs = runs; pool = pool } in
       ap (λ (n : ℕ). facts n f.runs f.pool) (a.size ∙ sym b.size)
@@ -96,14 +93,14 @@ module _ (machine : MachineRecord) (regions : List RegionRecord) where
       ∙ ap (λ (p : Range ℕ). facts g.size g.runs p) (a.pool ∙ sym b.pool)
 
   -- where no fault stands, no misuse is told
-  pub sound_machine : (misuse : Misuse) → IsMachineSound machine regions
-      → HasMachineFault machine regions (given_fault.Misused misuse) → ⊥
+  pub sound_machine : (misuse : Misuse) → IsMachineSound machine
+      → HasMachineFault machine (given_fault.Misused misuse) → ⊥
   sound_machine misuse sound (inl (bad, is)) =
       let e : true ≡ false = sym sound.kinds ∙ bad in absurd cc
   sound_machine misuse sound (inr (inl is)) = absurd cc
   sound_machine misuse sound (inr (inr part)) =
       let none =
-      no_part_fault machine.size (map region_given regions) (pool_given machine) part.found
+      no_part_fault machine.size (regions_given machine) (pool_given machine) part.found
       sound.accepted part.first in
       let e : given_fault.Misused misuse ≡ given_fault.NoMemory =
       part.is ∙ ap given_fault_of_map none in
@@ -111,7 +108,7 @@ module _ (machine : MachineRecord) (regions : List RegionRecord) where
 
   -- two faults that are told are one
   pub one_machine_fault : (f g : GivenFault) → load_fault_of_given f ≢ NoMemory → load_fault_of_given g ≢ NoMemory
-      → HasMachineFault machine regions f → HasMachineFault machine regions g
+      → HasMachineFault machine f → HasMachineFault machine g
       → load_fault_of_given g ≡ load_fault_of_given f
   one_machine_fault f g told said (inl (bad, is)) (inl (worse, same)) =
       ap load_fault_of_given (same ∙ sym is)
@@ -126,7 +123,7 @@ module _ (machine : MachineRecord) (regions : List RegionRecord) where
       absurd (said (ap load_fault_of_given short))
   one_machine_fault f g told said (inr (inr a)) (inr (inr b)) =
       let one =
-      one_part_fault machine.size (map region_given regions) (pool_given machine) a.found b.found
+      one_part_fault machine.size (regions_given machine) (pool_given machine) a.found b.found
       (λ is. told (ap load_fault_of_given (a.is ∙ is))) (λ is. said (ap load_fault_of_given (b.is ∙ is))) a.first
       b.first in
       ap load_fault_of_given (b.is ∙ one ∙ sym a.is)

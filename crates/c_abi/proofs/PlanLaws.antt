@@ -13,7 +13,6 @@ use Rattle.bl_load.proofs.StepOriginLemmas.{one_origins}
 use Rattle.bl_image.specs.ImageHandover.{handoff_of}
 use Rattle.c_records.specs.declared.given_records.EntryRecord.{EntryRecord}
 use Rattle.c_records.specs.declared.given_records.MachineRecord.{MachineRecord}
-use Rattle.c_records.specs.declared.given_records.RegionRecord.{RegionRecord}
 use Rattle.c_records.specs.Given.{lengths_beside, value_with}
 use Rattle.c_records.specs.Machines.{IsMachineGiven}
 use Rattle.c_abi.specs.Plan.{PlanFacts, IsPlanOf, IsPlanned, AreKnownAlike}
@@ -58,20 +57,19 @@ module _ (entry other : EntryRecord) (alike : AreKnownAlike entry other)
       (subst (λ (lengths : List ℕ). HaveKernelAndLengths entry.kernel.bytes.now lengths texts)
       alike.lengths files)
 
-pub one_plan : (machine another : MachineRecord) (regions others : List RegionRecord)
-    (entry other : EntryRecord) (facts : MachineFacts) (plan again : PlanFacts)
-    → IsMachineGiven machine regions facts → IsMachineGiven another others facts
-    → AreKnownAlike entry other → IsPlanned machine regions entry plan
-    → IsPlanned another others other again → plan ≡ again
-one_plan machine another regions others entry other facts plan again m n alike a b =
+pub one_plan : (machine another : MachineRecord) (entry other : EntryRecord)
+    (facts : MachineFacts) (plan again : PlanFacts) → IsMachineGiven machine facts
+    → IsMachineGiven another facts → AreKnownAlike entry other → IsPlanned machine entry plan
+    → IsPlanned another other again → plan ≡ again
+one_plan machine another entry other facts plan again m n alike a b =
     let texts = some_files entry in
     let files = have_some entry in
     let first : IsPlanOf facts (value_with entry texts) plan =
     subst (λ (f : MachineFacts). IsPlanOf f (value_with entry texts) plan)
-    (one_machine machine regions a.facts facts a.machine_is m) (a.is_plan texts files) in
+    (one_machine machine a.facts facts a.machine_is m) (a.is_plan texts files) in
     let second : IsPlanOf facts (value_with other texts) again =
     subst (λ (f : MachineFacts). IsPlanOf f (value_with other texts) again)
-    (one_machine another others b.facts facts b.machine_is n)
+    (one_machine another b.facts facts b.machine_is n)
     (b.is_plan texts (files_of_other entry other alike texts files)) in
     one_plan_of facts (value_with entry texts) plan again first
     (subst (λ (v : EntryValue). IsPlanOf facts v again)

@@ -20,7 +20,6 @@ use Rattle.c_records.specs.declared.load_fault.LoadFault.TheVariants.{Misused, R
 use Rattle.c_records.specs.declared.given_fault.GivenFault.TheVariants as given_fault
 use Rattle.c_records.specs.declared.given_records.EntryRecord.{EntryRecord}
 use Rattle.c_records.specs.declared.given_records.MachineRecord.{MachineRecord}
-use Rattle.c_records.specs.declared.given_records.RegionRecord.{RegionRecord}
 use Rattle.c_records.specs.declared.load_fault.LoadFault.TheVariants.{Outside}
 use Rattle.c_records.specs.Given.{texts_given, value_given}
 use Rattle.c_abi.specs.Load.{IsEntryFault, IsLoaded, IsNotLoaded}
@@ -57,7 +56,7 @@ none_low base parts above = λ k d within.
     (get_or-map part_place parts k d (part_place d) within)
     (above k (part_place d) (omega (arith, within, length-map parts part_place)))
 
-module _ (machine : MachineRecord) (regions : List RegionRecord) (entry : EntryRecord) where
+module _ (machine : MachineRecord) (entry : EntryRecord) where
   abbrev pub texts : List (List ℕ)
   texts = texts_given entry
 
@@ -67,11 +66,11 @@ module _ (machine : MachineRecord) (regions : List RegionRecord) (entry : EntryR
   -- there is such a machine, and the entry is refused on it
   record IsRefusedOn (r : Refusal) : Type 0 where
     facts : MachineFacts
-    machine_is : IsMachineGiven machine regions facts
+    machine_is : IsMachineGiven machine facts
     is : IsRefusal facts value r
 
   refused_on : (room base end : ℕ) (r : Refusal) (fault : LoadFault) → fault ≡ Refused r
-      → IsNotLoaded machine regions entry texts room base end fault → IsRefusedOn r
+      → IsNotLoaded machine entry texts room base end fault → IsRefusedOn r
   refused_on room base end r fault same (few_places few) = absurd cc
   refused_on room base end r fault same (bad_machine many (given_fault.Misused misuse) has) =
       absurd cc
@@ -84,7 +83,7 @@ module _ (machine : MachineRecord) (regions : List RegionRecord) (entry : EntryR
 
   -- a load leaves memory as long as it was
   length_loaded : (room base : ℕ) (old new : List ℕ) (loaded : HandoffFacts)
-      → IsLoaded machine regions entry room base old new loaded → length new ≡ length old
+      → IsLoaded machine entry room base old new loaded → length new ≡ length old
   length_loaded room base old new loaded l =
       let size = l.machine_is.size in
       let reaches = l.has_memory in
@@ -94,13 +93,13 @@ module _ (machine : MachineRecord) (regions : List RegionRecord) (entry : EntryR
       let inside = l.handed.inside k d within in omega (arith, inside, size, reaches)))
 
   pub one_handoff : (room space base : ℕ) (old new : List ℕ) (prepared loaded : HandoffFacts)
-      → IsPrepared machine regions entry texts room prepared
-      → IsLoaded machine regions entry space base old new loaded → loaded ≡ prepared
+      → IsPrepared machine entry texts room prepared
+      → IsLoaded machine entry space base old new loaded → loaded ≡ prepared
   one_handoff room space base old new prepared loaded p l =
       let held = handover_in new loaded.protocol loaded.registers loaded.places in
       let moved : IsHandover p.facts value held =
       subst (λ (f : MachineFacts). IsHandover f value held)
-      (one_machine machine regions l.facts p.facts l.machine_is p.machine_is)
+      (one_machine machine l.facts p.facts l.machine_is p.machine_is)
       l.handed.handover in
       let one : held ≡ p.handed.handover =
       handovers.one_handover p.facts value held p.handed.handover moved p.handed.handover_is in
@@ -120,17 +119,17 @@ module _ (machine : MachineRecord) (regions : List RegionRecord) (entry : EntryR
   -- where no misuse stands and something is handed over, only memory can run out, or a part begins
   -- below the base
   pub only_memory : (facts : MachineFacts) (handover : Handover)
-      → IsMachineGiven machine regions facts → IsMachineSound machine regions
+      → IsMachineGiven machine facts → IsMachineSound machine
       → IsEntrySound entry → IsHandover facts value handover
       → (room base end : ℕ) (fault : LoadFault) → machine.size ≤ end → max_parts ≤ room
-      → IsNotLoaded machine regions entry texts room base end fault
+      → IsNotLoaded machine entry texts room base end fault
       → (fault ≡ NoMemory)
       ⊎ ((fault ≡ Outside) × (¬ All (λ part. base ≤ part.address) handover.parts))
   only_memory facts h is sound names handed room base end fault large many (few_places few) =
       absurd (omega (arith, few, many))
   only_memory facts h is sound names handed room base end fault large many
       (bad_machine roomy (given_fault.Misused m) has) =
-      absurd (sound_machine machine regions m sound has)
+      absurd (sound_machine machine m sound has)
   only_memory facts h is sound names handed room base end fault large many
       (bad_machine roomy given_fault.NoMemory has) = inl refl
   only_memory facts h is sound names handed room base end fault large many
@@ -143,13 +142,13 @@ module _ (machine : MachineRecord) (regions : List RegionRecord) (entry : EntryR
       absurd
       (handovers.not_both facts value h r handed
       (subst (λ (f : MachineFacts). IsRefusal f value r)
-      (one_machine machine regions has.facts facts has.machine_is is) has.is.1))
+      (one_machine machine has.facts facts has.machine_is is) has.is.1))
   only_memory facts h is sound names handed room base end fault large many
       (bad_entry roomy whole reaches Outside has) =
       let low = has.is.1 in
       let moved : IsHandover facts value low.handover =
       subst (λ (f : MachineFacts). IsHandover f value low.handover)
-      (one_machine machine regions has.facts facts has.machine_is is) low.handed in
+      (one_machine machine has.facts facts has.machine_is is) low.handed in
       let one : low.handover ≡ h =
       handovers.one_handover facts value low.handover h moved handed in
       inr (
@@ -177,7 +176,7 @@ module _ (machine : MachineRecord) (regions : List RegionRecord) (entry : EntryR
 
   -- the parts of what was prepared, where its places are at the base or above
   pub prepared_above : (room base : ℕ) (prepared : HandoffFacts)
-      → (p : IsPrepared machine regions entry texts room prepared)
+      → (p : IsPrepared machine entry texts room prepared)
       → All (λ place. base ≤ place.address) prepared.places
       → All (λ part. base ≤ part.address) p.handed.handover.parts
   prepared_above room base prepared p above =
@@ -186,23 +185,23 @@ module _ (machine : MachineRecord) (regions : List RegionRecord) (entry : EntryR
       p.handed.handoff_is above)
 
   pub one_refusal : (room base end space other last : ℕ) (r s : Refusal)
-      → IsNotLoaded machine regions entry texts room base end (Refused r)
-      → IsNotLoaded machine regions entry texts space other last (Refused s) → s ≡ r
+      → IsNotLoaded machine entry texts room base end (Refused r)
+      → IsNotLoaded machine entry texts space other last (Refused s) → s ≡ r
   one_refusal room base end space other last r s a b =
       let on = refused_on room base end r (Refused r) refl a in
       let by = refused_on space other last s (Refused s) refl b in
       handovers.one_refusal on.facts value s r
       (subst (λ (f : MachineFacts). IsRefusal f value s)
-      (one_machine machine regions by.facts on.facts by.machine_is on.machine_is) by.is)
+      (one_machine machine by.facts on.facts by.machine_is on.machine_is) by.is)
       on.is
 
   pub never_loaded : (room low end space base : ℕ) (old new : List ℕ) (r : Refusal)
       (loaded : HandoffFacts)
-      → IsNotLoaded machine regions entry texts room low end (Refused r)
-      → IsLoaded machine regions entry space base old new loaded → ⊥
+      → IsNotLoaded machine entry texts room low end (Refused r)
+      → IsLoaded machine entry space base old new loaded → ⊥
   never_loaded room low end space base old new r loaded not l =
       let on = refused_on room low end r (Refused r) refl not in
       let held = handover_in new loaded.protocol loaded.registers loaded.places in
       handovers.not_both l.facts value held r l.handed.handover
       (subst (λ (f : MachineFacts). IsRefusal f value r)
-      (one_machine machine regions on.facts l.facts on.machine_is l.machine_is) on.is)
+      (one_machine machine on.facts l.facts on.machine_is l.machine_is) on.is)

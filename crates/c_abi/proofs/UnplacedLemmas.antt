@@ -15,7 +15,6 @@ use Rattle.c_records.specs.declared.given_fault.GivenFault.{GivenFault}
 use Rattle.c_records.specs.declared.given_fault.GivenFault.TheVariants as given_fault
 use Rattle.c_records.specs.declared.given_records.EntryRecord.{EntryRecord}
 use Rattle.c_records.specs.declared.given_records.MachineRecord.{MachineRecord}
-use Rattle.c_records.specs.declared.given_records.RegionRecord.{RegionRecord}
 use Rattle.c_records.specs.EntryFaults.{IsEntryGivenFault, IsEntrySound}
 use Rattle.c_records.specs.EntryFaults.{load_fault_of_given, load_fault_of_prep}
 use Rattle.c_records.specs.Given.{value_with}
@@ -71,20 +70,19 @@ same_told None (Some y) alike = absurd alike
 same_told (Some x) None alike = absurd alike
 same_told (Some x) (Some y) alike = same_row x y alike
 
-pub one_part : (machine another : MachineRecord) (regions others : List RegionRecord)
-    (entry other : EntryRecord) (facts : MachineFacts) (which again : Option Row)
-    → IsMachineGiven machine regions facts → IsMachineGiven another others facts
-    → AreKnownAlike entry other → IsSought machine regions entry which
-    → IsSought another others other again → unplaced_told which ≡ unplaced_told again
-one_part machine another regions others entry other facts which again m n alike a b =
+pub one_part : (machine another : MachineRecord) (entry other : EntryRecord)
+    (facts : MachineFacts) (which again : Option Row) → IsMachineGiven machine facts
+    → IsMachineGiven another facts → AreKnownAlike entry other → IsSought machine entry which
+    → IsSought another other again → unplaced_told which ≡ unplaced_told again
+one_part machine another entry other facts which again m n alike a b =
     let texts = some_files entry in
     let files = have_some entry in
     let first : IsUnplaced facts (value_with entry texts) which =
     subst (λ (f : MachineFacts). IsUnplaced f (value_with entry texts) which)
-    (one_machine machine regions a.facts facts a.machine_is m) (a.is texts files) in
+    (one_machine machine a.facts facts a.machine_is m) (a.is texts files) in
     let second : IsUnplaced facts (value_with other texts) again =
     subst (λ (f : MachineFacts). IsUnplaced f (value_with other texts) again)
-    (one_machine another others b.facts facts b.machine_is n)
+    (one_machine another b.facts facts b.machine_is n)
     (b.is texts (files_of_other entry other alike texts files)) in
     same_told which again
     (told_alike facts (value_with entry texts) which again first

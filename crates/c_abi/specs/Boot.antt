@@ -11,7 +11,6 @@ use Rattle.bl_session.specs.session.Phases.{PhaseFacts, boot_facts, state_at, Ha
 use Rattle.bl_session.specs.runs.Run.{final_phase}
 use Rattle.bl_session.specs.declared.session.outcome.BootFault.{BootFault}
 use Rattle.bl_session.specs.declared.session.outcome.Outcome.{Outcome}
-use Rattle.c_records.specs.declared.given_records.RegionRecord.{RegionRecord}
 use Rattle.c_records.specs.declared.given_records.MachineRecord.{MachineRecord}
 use Rattle.c_records.specs.declared.given_records.FileRecord.{FileRecord}
 use Rattle.c_records.specs.declared.given_records.EntryRecord.{EntryRecord}
@@ -45,13 +44,12 @@ pub record HasBootEnded (facts : MachineFacts) (menu : MenuFacts) (files : List 
 
 -- a boot on the machine that is given ended so, where no misuse stands: there is room for the
 -- places, memory ends with the machine's, and the machine and the menu have none
-pub record HasGivenBootEnded (machine : MachineRecord) (regions : List RegionRecord)
-    (entries : List EntryRecord) (default : ℕ) (fallbacks : List ℕ) (room : ℕ) (old new : List ℕ)
-    (end : PhaseFacts) : Type 0 where
+pub record HasGivenBootEnded (machine : MachineRecord) (entries : List EntryRecord) (default : ℕ)
+    (fallbacks : List ℕ) (room : ℕ) (old new : List ℕ) (end : PhaseFacts) : Type 0 where
   pub has_room : max_parts ≤ room
   pub facts : MachineFacts
-  pub machine_is : IsMachineGiven machine regions facts
-  pub machine_sound : IsMachineSound machine regions
+  pub machine_is : IsMachineGiven machine facts
+  pub machine_sound : IsMachineSound machine
   pub has_memory : length old ≡ machine.size
   pub allowed : IsMenuAllowed entries default fallbacks
   pub booted :
@@ -60,27 +58,26 @@ pub record HasGivenBootEnded (machine : MachineRecord) (regions : List RegionRec
 -- the first that stands: too little room for places, the machine's first fault, a memory that does
 -- not end with the machine's, the menu's first fault. Each is told only where none before it
 -- stands; memory may run out at the machine and at the menu
-pub data IsBootGivenFault (machine : MachineRecord) (regions : List RegionRecord)
-    (entries : List EntryRecord) (default : ℕ) (fallbacks : List ℕ) (room end : ℕ) :
-    GivenFault → Type 0 where
+pub data IsBootGivenFault (machine : MachineRecord) (entries : List EntryRecord) (default : ℕ)
+    (fallbacks : List ℕ) (room end : ℕ) : GivenFault → Type 0 where
   few_places : room < max_parts
-      → IsBootGivenFault machine regions entries default fallbacks room end (Misused SmallRoom)
-  bad_machine : max_parts ≤ room → (fault : GivenFault) → HasMachineFault machine regions fault
-      → IsBootGivenFault machine regions entries default fallbacks room end fault
-  bad_memory : max_parts ≤ room → IsMachineSound machine regions → end ≢ machine.size
-      → IsBootGivenFault machine regions entries default fallbacks room end (Misused BadMemory)
-  bad_menu : max_parts ≤ room → IsMachineSound machine regions → end ≡ machine.size
+      → IsBootGivenFault machine entries default fallbacks room end (Misused SmallRoom)
+  bad_machine : max_parts ≤ room → (fault : GivenFault) → HasMachineFault machine fault
+      → IsBootGivenFault machine entries default fallbacks room end fault
+  bad_memory : max_parts ≤ room → IsMachineSound machine → end ≢ machine.size
+      → IsBootGivenFault machine entries default fallbacks room end (Misused BadMemory)
+  bad_menu : max_parts ≤ room → IsMachineSound machine → end ≡ machine.size
       → (fault : GivenFault) → IsMenuFault entries default fallbacks fault
-      → IsBootGivenFault machine regions entries default fallbacks room end fault
+      → IsBootGivenFault machine entries default fallbacks room end fault
 
 -- how a call ends that has room for so many places, with memory that held the old bytes from
 -- address 0 on
-abbrev pub IsGivenBootEnd : MachineRecord → List RegionRecord → List EntryRecord → ℕ → List ℕ → ℕ
-    → (old new : List ℕ) → Result PhaseFacts GivenFault → Type 0
-IsGivenBootEnd machine regions entries default fallbacks room old new (Ok end) =
-    HasGivenBootEnded machine regions entries default fallbacks room old new end
-IsGivenBootEnd machine regions entries default fallbacks room old new (Err fault) =
-    IsBootGivenFault machine regions entries default fallbacks room (length old) fault
+abbrev pub IsGivenBootEnd : MachineRecord → List EntryRecord → ℕ → List ℕ → ℕ → (old new : List ℕ)
+    → Result PhaseFacts GivenFault → Type 0
+IsGivenBootEnd machine entries default fallbacks room old new (Ok end) =
+    HasGivenBootEnded machine entries default fallbacks room old new end
+IsGivenBootEnd machine entries default fallbacks room old new (Err fault) =
+    IsBootGivenFault machine entries default fallbacks room (length old) fault
     × (new ≡ old)
 
 -- an end as contracts see it

@@ -11,7 +11,6 @@ use Rattle.bl_digest.specs.DigestsFacts.{DigestsFacts}
 use Rattle.bl_digest.specs.PlanInSteps.{DigestingFacts, handover_in_steps}
 use Rattle.bl_digest.specs.Ranges.{bytes_of_ranges, ranges_of}
 use Rattle.bl_digest.specs.declared.file_range.FileRange.{FileRange}
-use Rattle.c_records.specs.declared.given_records.RegionRecord.{RegionRecord}
 use Rattle.c_records.specs.declared.given_records.MachineRecord.{MachineRecord}
 use Rattle.c_records.specs.declared.given_records.EntryRecord.{EntryRecord}
 use Rattle.c_records.specs.declared.load_fault.LoadFault.{LoadFault}
@@ -36,11 +35,11 @@ pub record IsInFile (lengths : List ℕ) (range : FileRange) : Type 0 where
 -- on the machine that is given, where no misuse stands: nothing was fed, and the ranges that are
 -- wanted lie in the files. It is the digest for all files of the entry: fed these ranges of them,
 -- it is of what the entry hands over then
-pub record IsDigestMade (machine : MachineRecord) (regions : List RegionRecord)
-    (entry : EntryRecord) (digest : DigestingFacts) : Type 0 where
+pub record IsDigestMade (machine : MachineRecord) (entry : EntryRecord) (digest : DigestingFacts) :
+    Type 0 where
   pub facts : MachineFacts
-  pub machine_is : IsMachineGiven machine regions facts
-  pub machine_sound : IsMachineSound machine regions
+  pub machine_is : IsMachineGiven machine facts
+  pub machine_sound : IsMachineSound machine
   pub entry_sound : IsEntrySound entry
   pub begins : digest.fed ≡ []
   pub inside : All (IsInFile (file_lengths entry)) (ranges_wanted digest)
@@ -50,12 +49,11 @@ pub record IsDigestMade (machine : MachineRecord) (regions : List RegionRecord)
 
 -- how a call ends that makes a digest: a fault is that of a preparation that has room for the
 -- places, for all files of the entry
-abbrev pub IsGivenDigestEnd : MachineRecord → List RegionRecord → EntryRecord
-    → Result DigestingFacts LoadFault → Type 0
-IsGivenDigestEnd machine regions entry (Ok digest) = IsDigestMade machine regions entry digest
-IsGivenDigestEnd machine regions entry (Err fault) =
+abbrev pub IsGivenDigestEnd : MachineRecord → EntryRecord → Result DigestingFacts LoadFault → Type 0
+IsGivenDigestEnd machine entry (Ok digest) = IsDigestMade machine entry digest
+IsGivenDigestEnd machine entry (Err fault) =
     (texts : List (List ℕ)) → AreFilesOf entry texts
-    → IsNotPrepared machine regions entry texts max_parts fault
+    → IsNotPrepared machine entry texts max_parts fault
 
 -- what a digest was fed for: the digests of what is handed over, whatever texts the files hold of
 -- which the ranges were fed
@@ -67,20 +65,18 @@ AreDigestsFed digest digests =
 -- ---- at once
 
 -- on the machine that is given, where no misuse stands: the digests of what the entry hands over
-pub record AreDigestsGiven (machine : MachineRecord) (regions : List RegionRecord)
-    (entry : EntryRecord) (digests : DigestsFacts) : Type 0 where
+pub record AreDigestsGiven (machine : MachineRecord) (entry : EntryRecord)
+    (digests : DigestsFacts) : Type 0 where
   pub facts : MachineFacts
-  pub machine_is : IsMachineGiven machine regions facts
-  pub machine_sound : IsMachineSound machine regions
+  pub machine_is : IsMachineGiven machine facts
+  pub machine_sound : IsMachineSound machine
   pub entry_sound : IsEntrySound entry
   pub handover : Handover
   pub handed : IsHandover facts (value_given entry) handover
   pub digests_are : digests ≡ digests_of handover
 
 -- how a call ends that tells them: a fault is that of a load
-abbrev pub IsGivenDigestsEnd : MachineRecord → List RegionRecord → EntryRecord
-    → Result DigestsFacts LoadFault → Type 0
-IsGivenDigestsEnd machine regions entry (Ok digests) =
-    AreDigestsGiven machine regions entry digests
-IsGivenDigestsEnd machine regions entry (Err fault) =
-    IsNotPrepared machine regions entry (texts_given entry) max_parts fault
+abbrev pub IsGivenDigestsEnd : MachineRecord → EntryRecord → Result DigestsFacts LoadFault → Type 0
+IsGivenDigestsEnd machine entry (Ok digests) = AreDigestsGiven machine entry digests
+IsGivenDigestsEnd machine entry (Err fault) =
+    IsNotPrepared machine entry (texts_given entry) max_parts fault

@@ -7,7 +7,6 @@ use Rattle.bl_load.specs.HandoffFacts.{HandoffFacts, max_parts}
 use Rattle.bl_load.specs.Handover.{Handover, overwrite_parts}
 use Rattle.bl_load.specs.Parts.{IsHandover, IsRefusal}
 use Rattle.bl_load.specs.PlanContents.{handover_in}
-use Rattle.c_records.specs.declared.given_records.RegionRecord.{RegionRecord}
 use Rattle.c_records.specs.declared.given_records.MachineRecord.{MachineRecord}
 use Rattle.c_records.specs.declared.given_records.EntryRecord.{EntryRecord}
 use Rattle.c_records.specs.declared.misuse.Misuse.TheVariants.{BadMemory, SmallRoom}
@@ -53,44 +52,44 @@ pub record IsEntryLoaded (facts : MachineFacts) (entry : EntryRecord) (base : �
 
 -- no fault stands: there is room for the places, the machine and the entry have no misuse, and
 -- memory reaches to the machine's end
-pub record IsLoaded (machine : MachineRecord) (regions : List RegionRecord) (entry : EntryRecord)
-    (room base : ℕ) (old new : List ℕ) (handoff : HandoffFacts) : Type 0 where
+pub record IsLoaded (machine : MachineRecord) (entry : EntryRecord) (room base : ℕ)
+    (old new : List ℕ) (handoff : HandoffFacts) : Type 0 where
   pub has_room : max_parts ≤ room
   pub facts : MachineFacts
-  pub machine_is : IsMachineGiven machine regions facts
-  pub machine_sound : IsMachineSound machine regions
+  pub machine_is : IsMachineGiven machine facts
+  pub machine_sound : IsMachineSound machine
   pub has_memory : machine.size ≤ length old
   pub entry_sound : IsEntrySound entry
   pub handed : IsEntryLoaded facts entry base old new handoff
 
 -- there is such a machine, and its entry has this fault
-pub record HasEntryFault (machine : MachineRecord) (regions : List RegionRecord)
-    (entry : EntryRecord) (texts : List (List ℕ)) (base : ℕ) (fault : LoadFault) : Type 0 where
+pub record HasEntryFault (machine : MachineRecord) (entry : EntryRecord) (texts : List (List ℕ))
+    (base : ℕ) (fault : LoadFault) : Type 0 where
   pub facts : MachineFacts
-  pub machine_is : IsMachineGiven machine regions facts
+  pub machine_is : IsMachineGiven machine facts
   pub is : IsEntryFault facts entry texts base fault
 
 -- the first that stands, for memory from this base to this end: too little room for places, the
 -- machine's first fault, a memory that ends below the machine's, the entry's first fault. Each is
 -- told only where none before it stands; memory may run out at the machine and at the entry
-pub data IsNotLoaded (machine : MachineRecord) (regions : List RegionRecord) (entry : EntryRecord)
-    (texts : List (List ℕ)) (room base end : ℕ) : LoadFault → Type 0 where
+pub data IsNotLoaded (machine : MachineRecord) (entry : EntryRecord) (texts : List (List ℕ))
+    (room base end : ℕ) : LoadFault → Type 0 where
   few_places : room < max_parts
-      → IsNotLoaded machine regions entry texts room base end (Misused SmallRoom)
-  bad_machine : max_parts ≤ room → (fault : GivenFault) → HasMachineFault machine regions fault
-      → IsNotLoaded machine regions entry texts room base end (load_fault_of_given fault)
-  bad_memory : max_parts ≤ room → IsMachineSound machine regions → end < machine.size
-      → IsNotLoaded machine regions entry texts room base end (Misused BadMemory)
-  bad_entry : max_parts ≤ room → IsMachineSound machine regions → machine.size ≤ end
-      → (fault : LoadFault) → HasEntryFault machine regions entry texts base fault
-      → IsNotLoaded machine regions entry texts room base end fault
+      → IsNotLoaded machine entry texts room base end (Misused SmallRoom)
+  bad_machine : max_parts ≤ room → (fault : GivenFault) → HasMachineFault machine fault
+      → IsNotLoaded machine entry texts room base end (load_fault_of_given fault)
+  bad_memory : max_parts ≤ room → IsMachineSound machine → end < machine.size
+      → IsNotLoaded machine entry texts room base end (Misused BadMemory)
+  bad_entry : max_parts ≤ room → IsMachineSound machine → machine.size ≤ end
+      → (fault : LoadFault) → HasEntryFault machine entry texts base fault
+      → IsNotLoaded machine entry texts room base end fault
 
 -- how a call ends that has room for so many places, with memory from this base on; the old and the
 -- new bytes are those from address 0 on. After a fault memory has the old ones still
-abbrev pub IsGivenLoadEnd : MachineRecord → List RegionRecord → EntryRecord → (room base : ℕ)
-    → (old new : List ℕ) → Result HandoffFacts LoadFault → Type 0
-IsGivenLoadEnd machine regions entry room base old new (Ok handoff) =
-    IsLoaded machine regions entry room base old new handoff
-IsGivenLoadEnd machine regions entry room base old new (Err fault) =
-    IsNotLoaded machine regions entry (texts_given entry) room base (length old) fault
+abbrev pub IsGivenLoadEnd : MachineRecord → EntryRecord → (room base : ℕ) → (old new : List ℕ)
+    → Result HandoffFacts LoadFault → Type 0
+IsGivenLoadEnd machine entry room base old new (Ok handoff) =
+    IsLoaded machine entry room base old new handoff
+IsGivenLoadEnd machine entry room base old new (Err fault) =
+    IsNotLoaded machine entry (texts_given entry) room base (length old) fault
     × (new ≡ old)

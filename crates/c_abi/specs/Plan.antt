@@ -12,7 +12,6 @@ use Rattle.bl_load.specs.Steps.{IsStep, StepsAscend}
 use Rattle.bl_load.specs.StepsByOrigins.{steps_by, own_by}
 use Rattle.bl_load.specs.declared.step.Step.{Step}
 use Rattle.bl_image.specs.ImageHandover.{handoff_of}
-use Rattle.c_records.specs.declared.given_records.RegionRecord.{RegionRecord}
 use Rattle.c_records.specs.declared.given_records.MachineRecord.{MachineRecord}
 use Rattle.c_records.specs.declared.given_records.EntryRecord.{EntryRecord}
 use Rattle.c_records.specs.declared.load_fault.LoadFault.{LoadFault}
@@ -51,11 +50,11 @@ pub record IsPlanOf (facts : MachineFacts) (value : EntryValue) (plan : PlanFact
 -- on the machine that is given, where neither machine nor entry has a misuse, it is the plan for
 -- all files of the entry, and no larger than any may be. Each step can be carried out, and none
 -- begins before the one before it has ended
-pub record IsPlanned (machine : MachineRecord) (regions : List RegionRecord)
-    (entry : EntryRecord) (plan : PlanFacts) : Type 0 where
+pub record IsPlanned (machine : MachineRecord) (entry : EntryRecord) (plan : PlanFacts) :
+    Type 0 where
   pub facts : MachineFacts
-  pub machine_is : IsMachineGiven machine regions facts
-  pub machine_sound : IsMachineSound machine regions
+  pub machine_is : IsMachineGiven machine facts
+  pub machine_sound : IsMachineSound machine
   pub entry_sound : IsEntrySound entry
   pub is_plan :
       (texts : List (List ℕ)) → AreFilesOf entry texts
@@ -68,12 +67,11 @@ pub record IsPlanned (machine : MachineRecord) (regions : List RegionRecord)
 
 -- how a call ends, whatever room there is: a fault is that of a preparation with room for the
 -- places, for all files of the entry
-abbrev pub IsGivenPlanEnd : MachineRecord → List RegionRecord → EntryRecord
-    → Result PlanFacts LoadFault → Type 0
-IsGivenPlanEnd machine regions entry (Ok plan) = IsPlanned machine regions entry plan
-IsGivenPlanEnd machine regions entry (Err fault) =
+abbrev pub IsGivenPlanEnd : MachineRecord → EntryRecord → Result PlanFacts LoadFault → Type 0
+IsGivenPlanEnd machine entry (Ok plan) = IsPlanned machine entry plan
+IsGivenPlanEnd machine entry (Err fault) =
     (texts : List (List ℕ)) → AreFilesOf entry texts
-    → IsNotPrepared machine regions entry texts max_parts fault
+    → IsNotPrepared machine entry texts max_parts fault
 
 -- two entries are one but for the bytes of the files beside the kernel
 pub record AreKnownAlike (entry other : EntryRecord) : Type 0 where

@@ -7,7 +7,6 @@ use Rattle.bl_load.specs.HandoffFacts.{HandoffFacts, max_parts}
 use Rattle.bl_load.specs.Handover.{Handover}
 use Rattle.bl_load.specs.Parts.{IsHandover}
 use Rattle.bl_image.specs.ImageHandover.{handoff_of}
-use Rattle.c_records.specs.declared.given_records.RegionRecord.{RegionRecord}
 use Rattle.c_records.specs.declared.given_records.MachineRecord.{MachineRecord}
 use Rattle.c_records.specs.declared.given_records.EntryRecord.{EntryRecord}
 use Rattle.c_records.specs.declared.load_fault.LoadFault.{LoadFault}
@@ -31,27 +30,25 @@ pub record IsHandoffOf (facts : MachineFacts) (entry : EntryRecord) (texts : Lis
 
 -- on the machine that is given, where no misuse stands: there is room for the places, and the
 -- machine and the entry have none
-pub record IsPrepared (machine : MachineRecord) (regions : List RegionRecord)
-    (entry : EntryRecord) (texts : List (List ℕ)) (room : ℕ) (handoff : HandoffFacts)
-    : Type 0 where
+pub record IsPrepared (machine : MachineRecord) (entry : EntryRecord) (texts : List (List ℕ))
+    (room : ℕ) (handoff : HandoffFacts) : Type 0 where
   pub has_room : max_parts ≤ room
   pub facts : MachineFacts
-  pub machine_is : IsMachineGiven machine regions facts
-  pub machine_sound : IsMachineSound machine regions
+  pub machine_is : IsMachineGiven machine facts
+  pub machine_sound : IsMachineSound machine
   pub entry_sound : IsEntrySound entry
   pub handed : IsHandoffOf facts entry texts handoff
 
 -- why an entry is not prepared, where its files hold these texts: as a load of it into memory from
 -- address 0 to the machine's end, below which no part can begin
-abbrev pub IsNotPrepared : MachineRecord → List RegionRecord → EntryRecord → List (List ℕ) → ℕ
-    → LoadFault → Type 0
-IsNotPrepared machine regions entry texts room fault =
-    IsNotLoaded machine regions entry texts room 0 machine.size fault
+abbrev pub IsNotPrepared : MachineRecord → EntryRecord → List (List ℕ) → ℕ → LoadFault → Type 0
+IsNotPrepared machine entry texts room fault =
+    IsNotLoaded machine entry texts room 0 machine.size fault
 
 -- how a call ends that has room for so many places, where the entry's files hold these texts
-abbrev pub IsGivenPrepareEnd : MachineRecord → List RegionRecord → EntryRecord → List (List ℕ) → ℕ
+abbrev pub IsGivenPrepareEnd : MachineRecord → EntryRecord → List (List ℕ) → ℕ
     → Result HandoffFacts LoadFault → Type 0
-IsGivenPrepareEnd machine regions entry texts room (Ok handoff) =
-    IsPrepared machine regions entry texts room handoff
-IsGivenPrepareEnd machine regions entry texts room (Err fault) =
-    IsNotPrepared machine regions entry texts room fault
+IsGivenPrepareEnd machine entry texts room (Ok handoff) =
+    IsPrepared machine entry texts room handoff
+IsGivenPrepareEnd machine entry texts room (Err fault) =
+    IsNotPrepared machine entry texts room fault

@@ -5,7 +5,6 @@ use Rattle.bl_map.specs.MachineFacts.{MachineFacts}
 use Rattle.bl_load.specs.HandoffFacts.{max_parts}
 use Rattle.bl_session.specs.session.Phases.{PhaseFacts, SessionFacts, boot_facts, end_facts}
 use Rattle.bl_session.specs.session.Phases.{not_started, HandsOverWithin}
-use Rattle.c_records.specs.declared.given_records.RegionRecord.{RegionRecord}
 use Rattle.c_records.specs.declared.given_records.MachineRecord.{MachineRecord}
 use Rattle.c_records.specs.declared.given_records.FileRecord.{FileRecord}
 use Rattle.c_records.specs.declared.given_records.EntryRecord.{EntryRecord}
@@ -38,12 +37,11 @@ HaveTheirLengths entries = All HasItsLength (menu_files entries)
 
 -- a boot of the menu that is given, on the machine that is given, which has not begun; neither of
 -- the two has a misuse
-pub record IsSessionGiven (machine : MachineRecord) (regions : List RegionRecord)
-    (entries : List EntryRecord) (default : ℕ) (fallbacks : List ℕ) (session : SessionFacts) :
-    Type 0 where
+pub record IsSessionGiven (machine : MachineRecord) (entries : List EntryRecord) (default : ℕ)
+    (fallbacks : List ℕ) (session : SessionFacts) : Type 0 where
   pub facts : MachineFacts
-  pub machine_is : IsMachineGiven machine regions facts
-  pub machine_sound : IsMachineSound machine regions
+  pub machine_is : IsMachineGiven machine facts
+  pub machine_sound : IsMachineSound machine
   pub allowed : IsMenuAllowed entries default fallbacks
   pub session_is : session ≡ record {
     boot = boot_facts facts (menu_given entries default fallbacks) (sizes_given entries);
@@ -53,22 +51,21 @@ pub record IsSessionGiven (machine : MachineRecord) (regions : List RegionRecord
 -- ---- or why there is none
 
 -- the first that stands: the machine's first fault, or else the menu's; memory may run out
-pub data IsSessionFault (machine : MachineRecord) (regions : List RegionRecord)
-    (entries : List EntryRecord) (default : ℕ) (fallbacks : List ℕ) : GivenFault → Type 0 where
-  of_machine : (fault : GivenFault) → HasMachineFault machine regions fault
-      → IsSessionFault machine regions entries default fallbacks fault
-  of_menu : (facts : MachineFacts) → IsMachineGiven machine regions facts
-      → IsMachineSound machine regions → (fault : GivenFault)
-      → IsMenuFault entries default fallbacks fault
-      → IsSessionFault machine regions entries default fallbacks fault
+pub data IsSessionFault (machine : MachineRecord) (entries : List EntryRecord) (default : ℕ)
+    (fallbacks : List ℕ) : GivenFault → Type 0 where
+  of_machine : (fault : GivenFault) → HasMachineFault machine fault
+      → IsSessionFault machine entries default fallbacks fault
+  of_menu : (facts : MachineFacts) → IsMachineGiven machine facts → IsMachineSound machine
+      → (fault : GivenFault) → IsMenuFault entries default fallbacks fault
+      → IsSessionFault machine entries default fallbacks fault
 
 -- the session that is made of what is given, or why there is none
-abbrev pub IsSessionMade : MachineRecord → List RegionRecord → List EntryRecord → ℕ → List ℕ
+abbrev pub IsSessionMade : MachineRecord → List EntryRecord → ℕ → List ℕ
     → Result SessionFacts GivenFault → Type 0
-IsSessionMade machine regions entries default fallbacks (Ok session) =
-    IsSessionGiven machine regions entries default fallbacks session
-IsSessionMade machine regions entries default fallbacks (Err fault) =
-    IsSessionFault machine regions entries default fallbacks fault
+IsSessionMade machine entries default fallbacks (Ok session) =
+    IsSessionGiven machine entries default fallbacks session
+IsSessionMade machine entries default fallbacks (Err fault) =
+    IsSessionFault machine entries default fallbacks fault
 
 -- a status, and which session is kept: the one that is made, or after a fault the one that was
 abbrev pub TellsSession : Result SessionFacts GivenFault → ℕ → (old new : Option SessionFacts)

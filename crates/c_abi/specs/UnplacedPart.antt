@@ -5,7 +5,6 @@ use Rattle.bl_map.specs.MachineFacts.{MachineFacts}
 use Rattle.bl_plan.specs.declared.part.Row.{Row}
 use Rattle.bl_load.specs.Unplaced.{IsUnplaced, IsFaultBeforePlacing}
 use Rattle.bl_load.specs.declared.refusal.PrepFault.TheVariants as prep_fault
-use Rattle.c_records.specs.declared.given_records.RegionRecord.{RegionRecord}
 use Rattle.c_records.specs.declared.given_records.MachineRecord.{MachineRecord}
 use Rattle.c_records.specs.declared.given_records.EntryRecord.{EntryRecord}
 use Rattle.c_records.specs.declared.given_fault.GivenFault.{GivenFault}
@@ -19,11 +18,11 @@ use Rattle.c_abi.specs.Prepare.{AreFilesOf}
 
 -- on the machine that is given, where neither machine nor entry has a misuse, this is the first
 -- part that finds no place, or none if each has one; for all files of the entry
-pub record IsSought (machine : MachineRecord) (regions : List RegionRecord) (entry : EntryRecord)
-    (which : Option Row) : Type 0 where
+pub record IsSought (machine : MachineRecord) (entry : EntryRecord) (which : Option Row) :
+    Type 0 where
   pub facts : MachineFacts
-  pub machine_is : IsMachineGiven machine regions facts
-  pub machine_sound : IsMachineSound machine regions
+  pub machine_is : IsMachineGiven machine facts
+  pub machine_sound : IsMachineSound machine
   pub entry_sound : IsEntrySound entry
   pub is :
       (texts : List (List ℕ)) → AreFilesOf entry texts
@@ -40,25 +39,24 @@ IsEarlyFault facts entry texts Outside = ⊥
 IsEarlyFault facts entry texts NoMemory = Unit {0}
 
 -- there is such a machine, and its entry has this fault
-pub record HasEarlyFault (machine : MachineRecord) (regions : List RegionRecord)
-    (entry : EntryRecord) (texts : List (List ℕ)) (fault : LoadFault) : Type 0 where
+pub record HasEarlyFault (machine : MachineRecord) (entry : EntryRecord) (texts : List (List ℕ))
+    (fault : LoadFault) : Type 0 where
   pub facts : MachineFacts
-  pub machine_is : IsMachineGiven machine regions facts
+  pub machine_is : IsMachineGiven machine facts
   pub is : IsEarlyFault facts entry texts fault
 
 -- the first that stands: the machine's first fault, the entry's
-pub data IsNotSought (machine : MachineRecord) (regions : List RegionRecord) (entry : EntryRecord)
-    (texts : List (List ℕ)) : LoadFault → Type 0 where
-  machine_refuses : (fault : GivenFault) → HasMachineFault machine regions fault
-      → IsNotSought machine regions entry texts (load_fault_of_given fault)
-  entry_refuses : IsMachineSound machine regions → (fault : LoadFault)
-      → HasEarlyFault machine regions entry texts fault
-      → IsNotSought machine regions entry texts fault
+pub data IsNotSought (machine : MachineRecord) (entry : EntryRecord) (texts : List (List ℕ)) :
+    LoadFault → Type 0 where
+  machine_refuses : (fault : GivenFault) → HasMachineFault machine fault
+      → IsNotSought machine entry texts (load_fault_of_given fault)
+  entry_refuses : IsMachineSound machine → (fault : LoadFault)
+      → HasEarlyFault machine entry texts fault
+      → IsNotSought machine entry texts fault
 
 -- how a call ends
-abbrev pub IsSoughtEnd : MachineRecord → List RegionRecord → EntryRecord
-    → Result (Option Row) LoadFault → Type 0
-IsSoughtEnd machine regions entry (Ok which) = IsSought machine regions entry which
-IsSoughtEnd machine regions entry (Err fault) =
+abbrev pub IsSoughtEnd : MachineRecord → EntryRecord → Result (Option Row) LoadFault → Type 0
+IsSoughtEnd machine entry (Ok which) = IsSought machine entry which
+IsSoughtEnd machine entry (Err fault) =
     (texts : List (List ℕ)) → AreFilesOf entry texts
-    → IsNotSought machine regions entry texts fault
+    → IsNotSought machine entry texts fault

@@ -18,7 +18,7 @@ use bl_plan::MAX_PARTS;
 use bl_session::{BootFault, Menu, Order, Outcome, SliceStore, run};
 use c_records::{
     EntryRecord, GivenFault, HandoffRecord, MachineRecord, Misuse, PlaceRecord, RefusalRecord,
-    RegionRecord, machine_of,
+    machine_of,
 };
 use std::alloc::Allocator;
 
@@ -87,20 +87,19 @@ pub(crate) fn boot<A: Allocator + Copy>(
     memory: &mut [u8],
     base: u32,
     machine: &MachineRecord,
-    regions: &[RegionRecord],
     entries: &[EntryRecord],
     default: u32,
     fallbacks: &[u32],
     room: usize,
 ) -> Result<Result<Outcome<A>, BootFault<A>>, GivenFault>
-    ensures end { IsGivenBootEnd machine.now regions.now entries.now default fallbacks.now
+    ensures end { IsGivenBootEnd machine.now entries.now default fallbacks.now
         room (memory_from base memory.old) (memory_from base memory.new) (typed_end result) }
     ensures room { OnOk result (MAX_PARTS ≤ room) }
 {
     if room < MAX_PARTS {
         return Err(GivenFault::Misused(Misuse::SmallRoom));
     }
-    let made = match machine_of(alloc, machine, regions) {
+    let made = match machine_of(alloc, machine) {
         Ok(made) => made,
         Err(fault) => return Err(fault),
     };
@@ -121,7 +120,6 @@ pub fn boot_told<A: Allocator + Copy>(
     memory: &mut [u8],
     base: u32,
     machine: &MachineRecord,
-    regions: &[RegionRecord],
     entries: &[EntryRecord],
     default: u32,
     fallbacks: &[u32],
@@ -131,7 +129,7 @@ pub fn boot_told<A: Allocator + Copy>(
     count: &mut u64,
 ) -> u32
     ensures { (end : Result PhaseFacts GivenFault)
-        × IsGivenBootEnd machine.now regions.now entries.now default fallbacks.now
+        × IsGivenBootEnd machine.now entries.now default fallbacks.now
         (length places.old) (memory_from base memory.old) (memory_from base memory.new) end
         × TellsBoot end result
         (record {
@@ -148,8 +146,6 @@ pub fn boot_told<A: Allocator + Copy>(
         }) }
 {
     let room = places.len();
-    let end = boot(
-        alloc, memory, base, machine, regions, entries, default, fallbacks, room,
-    );
+    let end = boot(alloc, memory, base, machine, entries, default, fallbacks, room);
     tell_boot(end, told, places, refusals, count)
 }

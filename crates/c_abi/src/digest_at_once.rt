@@ -16,8 +16,7 @@ use bl_load::{Entry, prepare};
 use bl_map::Machine;
 use c_records::{
     DigestsRecord, EntryRecord, LoadFault, MachineRecord, PartDigestRecord, RefusalRecord,
-    RegionRecord, load_fault_of_given, load_fault_of_prep, machine_of, take_entry, tell_load_fault,
-    views_of,
+    load_fault_of_given, load_fault_of_prep, machine_of, take_entry, tell_load_fault, views_of,
 };
 use std::alloc::Allocator;
 
@@ -65,12 +64,11 @@ fn digests_on<A: Allocator + Copy>(
 fn digests_given<A: Allocator + Copy>(
     alloc: A,
     machine: &MachineRecord,
-    regions: &[RegionRecord],
     entry: &EntryRecord,
 ) -> Result<Digests<A>, LoadFault>
-    ensures { IsGivenDigestsEnd machine.now regions.now entry.now result }
+    ensures { IsGivenDigestsEnd machine.now entry.now result }
 {
-    let made = match machine_of(alloc, machine, regions) {
+    let made = match machine_of(alloc, machine) {
         Ok(made) => made,
         Err(fault) => return Err(load_fault_of_given(fault)),
     };
@@ -82,19 +80,18 @@ fn digests_given<A: Allocator + Copy>(
 pub fn digests_told<A: Allocator + Copy>(
     alloc: A,
     machine: &MachineRecord,
-    regions: &[RegionRecord],
     entry: &EntryRecord,
     told: &mut DigestsRecord,
     parts: &mut [PartDigestRecord],
     refusal: &mut RefusalRecord,
 ) -> u32
     ensures { (end : Result DigestsFacts LoadFault)
-        × IsGivenDigestsEnd machine.now regions.now entry.now end
+        × IsGivenDigestsEnd machine.now entry.now end
         × TellsDigests end result
         (record { digests = told.old; parts = parts.old })
         (record { digests = told.new; parts = parts.new }) refusal.old refusal.new }
 {
-    match digests_given(alloc, machine, regions, entry) {
+    match digests_given(alloc, machine, entry) {
         Ok(digests) => {
             tell_digests(digests.image(), digests.parts(), told, parts);
             0

@@ -8,7 +8,6 @@ ghost use Rattle.bl_load.specs.HandoffFacts.{HandoffFacts};
 ghost use Rattle.bl_load.specs.PlanContents.{handover_in};
 ghost use Rattle.c_records.specs.declared.given_records.EntryRecord.{EntryRecord};
 ghost use Rattle.c_records.specs.declared.given_records.MachineRecord.{MachineRecord};
-ghost use Rattle.c_records.specs.declared.given_records.RegionRecord.{RegionRecord};
 ghost use Rattle.c_abi.specs.Digest.{AreDigestsFed, AreDigestsGiven, IsDigestMade, ranges_wanted};
 ghost use Rattle.c_records.specs.Given.{texts_given};
 ghost use Rattle.c_abi.specs.Load.{IsGivenLoadEnd};
@@ -18,15 +17,15 @@ ghost use Rattle.c_abi.specs.Prepare.{AreFilesOf};
 /// entry's digests, the same as at once. And whoever loads the entry has these digests of what lies
 /// in memory then.
 pub fn digests_are_those_of_loads()
-    ensures fed { (machine : MachineRecord) (regions : List RegionRecord) (entry : EntryRecord)
-        (made fed : DigestingFacts) (digests : DigestsFacts)
-        → IsDigestMade machine regions entry made → AreFilesOf entry (texts_given entry)
+    ensures fed { (machine : MachineRecord) (entry : EntryRecord) (made fed : DigestingFacts)
+        (digests : DigestsFacts)
+        → IsDigestMade machine entry made → AreFilesOf entry (texts_given entry)
         → fed ≡ record made { fed = bytes_of_ranges (texts_given entry) (ranges_wanted made) }
-        → AreDigestsFed fed digests → AreDigestsGiven machine regions entry digests }
-    ensures loaded { (machine : MachineRecord) (regions : List RegionRecord)
-        (entry : EntryRecord) (room base : ℕ) (old new : List ℕ) (handoff : HandoffFacts)
-        (digests : DigestsFacts) → AreDigestsGiven machine regions entry digests
-        → IsGivenLoadEnd machine regions entry room base old new (Ok handoff)
+        → AreDigestsFed fed digests → AreDigestsGiven machine entry digests }
+    ensures loaded { (machine : MachineRecord) (entry : EntryRecord) (room base : ℕ)
+        (old new : List ℕ) (handoff : HandoffFacts) (digests : DigestsFacts)
+        → AreDigestsGiven machine entry digests
+        → IsGivenLoadEnd machine entry room base old new (Ok handoff)
         → digests
         ≡ digests_of (handover_in new handoff.protocol handoff.registers handoff.places) }
 {}

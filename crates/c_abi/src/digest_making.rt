@@ -12,8 +12,8 @@ use bl_digest::Digesting;
 use bl_load::Entry;
 use bl_map::Machine;
 use c_records::{
-    EntryRecord, LoadFault, MachineRecord, RegionRecord, load_fault_of_given, load_fault_of_prep,
-    machine_of, take_entry,
+    EntryRecord, LoadFault, MachineRecord, load_fault_of_given, load_fault_of_prep, machine_of,
+    take_entry,
 };
 use std::alloc::Allocator;
 
@@ -61,12 +61,11 @@ fn digest_on<A: Allocator + Copy>(
 pub fn digest_given<A: Allocator + Copy>(
     alloc: A,
     machine: &MachineRecord,
-    regions: &[RegionRecord],
     entry: &EntryRecord,
 ) -> Result<Digesting<A>, LoadFault>
-    ensures { IsGivenDigestEnd machine.now regions.now entry.now result }
+    ensures { IsGivenDigestEnd machine.now entry.now result }
 {
-    let made = match machine_of(alloc, machine, regions) {
+    let made = match machine_of(alloc, machine) {
         Ok(made) => made,
         Err(fault) => return Err(load_fault_of_given(fault)),
     };

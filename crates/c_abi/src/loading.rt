@@ -21,8 +21,7 @@ use bl_mem::{SliceMemory, SliceView, Views};
 use bl_plan::MAX_PARTS;
 use c_records::{
     EntryRecord, HandoffRecord, LoadFault, MachineRecord, Misuse, PlaceRecord, RefusalRecord,
-    RegionRecord, load_fault_of_given, load_fault_of_prep, machine_of, take_entry, tell_end,
-    views_of,
+    load_fault_of_given, load_fault_of_prep, machine_of, take_entry, tell_end, views_of,
 };
 use std::alloc::Allocator;
 
@@ -138,18 +137,17 @@ pub(crate) fn load_entry_at<A: Allocator + Copy>(
     memory: &mut [u8],
     base: u32,
     machine: &MachineRecord,
-    regions: &[RegionRecord],
     entry: &EntryRecord,
     room: usize,
 ) -> Result<Handoff<A>, LoadFault>
-    ensures end { IsGivenLoadEnd machine.now regions.now entry.now room base
+    ensures end { IsGivenLoadEnd machine.now entry.now room base
         (memory_from base memory.old) (memory_from base memory.new) result }
     ensures room { OnOk result (MAX_PARTS ≤ room) }
 {
     if room < MAX_PARTS {
         return Err(LoadFault::Misused(Misuse::SmallRoom));
     }
-    let made = match machine_of(alloc, machine, regions) {
+    let made = match machine_of(alloc, machine) {
         Ok(made) => made,
         Err(fault) => return Err(load_fault_of_given(fault)),
     };
@@ -166,18 +164,17 @@ pub fn load_told<A: Allocator + Copy>(
     memory: &mut [u8],
     base: u32,
     machine: &MachineRecord,
-    regions: &[RegionRecord],
     entry: &EntryRecord,
     told: &mut HandoffRecord,
     places: &mut [PlaceRecord],
     refusal: &mut RefusalRecord,
 ) -> u32
     ensures { (end : Result HandoffFacts LoadFault)
-        × IsGivenLoadEnd machine.now regions.now entry.now (length places.old) base
+        × IsGivenLoadEnd machine.now entry.now (length places.old) base
         (memory_from base memory.old) (memory_from base memory.new) end
         × TellsEnd end result told.old told.new places.old places.new refusal.old refusal.new }
 {
     let room = places.len();
-    let end = load_entry_at(alloc, memory, base, machine, regions, entry, room);
+    let end = load_entry_at(alloc, memory, base, machine, entry, room);
     tell_end(end, told, places, refusal)
 }

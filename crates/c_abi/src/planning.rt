@@ -17,8 +17,8 @@ use bl_load::Entry;
 use bl_map::Machine;
 use c_records::{
     EntryRecord, HandoffRecord, LoadFault, MachineRecord, PlaceRecord, PlanCountsRecord,
-    RefusalRecord, RegionRecord, StepRecord, load_fault_of_given, load_fault_of_prep, machine_of,
-    take_entry, tell_load_fault,
+    RefusalRecord, StepRecord, load_fault_of_given, load_fault_of_prep, machine_of, take_entry,
+    tell_load_fault,
 };
 use std::alloc::Allocator;
 
@@ -69,16 +69,15 @@ fn plan_given<A: Allocator + Copy>(
 fn plan_entry<A: Allocator + Copy>(
     alloc: A,
     machine: &MachineRecord,
-    regions: &[RegionRecord],
     entry: &EntryRecord,
 ) -> Result<SteppedPlan<A>, LoadFault>
     ensures planned { IfOk result
-        (λ made. IsPlanned machine.now regions.now entry.now (plan_facts made)) }
+        (λ made. IsPlanned machine.now entry.now (plan_facts made)) }
     ensures files { IfOk result (λ made. All HasSmallFile made.told.steps.items) }
     ensures fault { IfErr result (λ fault. (texts : List (List ℕ)) → AreFilesOf entry.now texts
-        → IsNotPrepared machine.now regions.now entry.now texts max_parts fault) }
+        → IsNotPrepared machine.now entry.now texts max_parts fault) }
 {
-    let made = match machine_of(alloc, machine, regions) {
+    let made = match machine_of(alloc, machine) {
         Ok(made) => made,
         Err(fault) => return Err(load_fault_of_given(fault)),
     };
@@ -92,7 +91,6 @@ fn plan_entry<A: Allocator + Copy>(
 pub fn plan_told<A: Allocator + Copy>(
     alloc: A,
     machine: &MachineRecord,
-    regions: &[RegionRecord],
     entry: &EntryRecord,
     told: &mut HandoffRecord,
     counts: &mut PlanCountsRecord,
@@ -102,7 +100,7 @@ pub fn plan_told<A: Allocator + Copy>(
     refusal: &mut RefusalRecord,
 ) -> u32
     ensures { (end : Result PlanFacts LoadFault)
-        × IsGivenPlanEnd machine.now regions.now entry.now end
+        × IsGivenPlanEnd machine.now entry.now end
         × TellsPlan end result
         (record {
           handoff = told.old;
@@ -120,7 +118,7 @@ pub fn plan_told<A: Allocator + Copy>(
         })
         refusal.old refusal.new }
 {
-    match plan_entry(alloc, machine, regions, entry) {
+    match plan_entry(alloc, machine, entry) {
         Ok(made) => tell_stepped(&made, told, counts, places, steps, own),
         Err(fault) => tell_load_fault(fault, refusal),
     }

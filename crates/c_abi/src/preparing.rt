@@ -22,7 +22,7 @@ use bl_mem::SliceView;
 use bl_plan::MAX_PARTS;
 use c_records::{
     EntryRecord, HandoffRecord, LoadFault, MachineRecord, Misuse, PlaceRecord, RefusalRecord,
-    RegionRecord, lengths_beside, load_fault_of_given, load_fault_of_prep, machine_of, take_entry,
+    lengths_beside, load_fault_of_given, load_fault_of_prep, machine_of, take_entry,
     tell_load_fault, tell_plan,
 };
 use std::alloc::Allocator;
@@ -79,21 +79,20 @@ fn prepare_given<A: Allocator + Copy>(
 fn prepare_entry<A: Allocator + Copy>(
     alloc: A,
     machine: &MachineRecord,
-    regions: &[RegionRecord],
     entry: &EntryRecord,
     room: usize,
 ) -> Result<Plan<A>, LoadFault>
     ensures prepared { IfOk result (λ plan. (texts : List (List ℕ)) → AreFilesOf entry.now texts
-        → IsPrepared machine.now regions.now entry.now texts room (handoff_by plan)) }
+        → IsPrepared machine.now entry.now texts room (handoff_by plan)) }
     ensures few { IfOk result (λ plan. length plan.parts.items ≤ 256) }
     ensures room { OnOk result (MAX_PARTS ≤ room) }
     ensures fault { IfErr result (λ fault. (texts : List (List ℕ)) → AreFilesOf entry.now texts
-        → IsNotPrepared machine.now regions.now entry.now texts room fault) }
+        → IsNotPrepared machine.now entry.now texts room fault) }
 {
     if room < MAX_PARTS {
         return Err(LoadFault::Misused(Misuse::SmallRoom));
     }
-    let made = match machine_of(alloc, machine, regions) {
+    let made = match machine_of(alloc, machine) {
         Ok(made) => made,
         Err(fault) => return Err(load_fault_of_given(fault)),
     };
@@ -106,7 +105,6 @@ fn prepare_entry<A: Allocator + Copy>(
 pub fn prepare_told<A: Allocator + Copy>(
     alloc: A,
     machine: &MachineRecord,
-    regions: &[RegionRecord],
     entry: &EntryRecord,
     told: &mut HandoffRecord,
     places: &mut [PlaceRecord],
@@ -114,10 +112,10 @@ pub fn prepare_told<A: Allocator + Copy>(
 ) -> u32
     ensures { (end : Result HandoffFacts LoadFault)
         × ((texts : List (List ℕ)) → AreFilesOf entry.now texts
-        → IsGivenPrepareEnd machine.now regions.now entry.now texts (length places.old) end)
+        → IsGivenPrepareEnd machine.now entry.now texts (length places.old) end)
         × TellsEnd end result told.old told.new places.old places.new refusal.old refusal.new }
 {
-    match prepare_entry(alloc, machine, regions, entry, places.len()) {
+    match prepare_entry(alloc, machine, entry, places.len()) {
         Ok(plan) => {
             tell_plan(&plan, told, places);
             0

@@ -10,7 +10,7 @@ use bl_plan::MAX_PARTS;
 use bl_session::OwnedSession;
 use c_records::{
     EntryRecord, FileRecord, GivenFault, HandoffRecord, MachineRecord, Misuse, PlaceRecord,
-    RefusalRecord, RegionRecord, UNREADABLE, machine_of,
+    RefusalRecord, UNREADABLE, machine_of,
 };
 use std::alloc::{AllocError, Allocator};
 
@@ -46,14 +46,13 @@ fn sizes_of<A: Allocator + Copy>(
 pub fn session_given<A: Allocator + Copy>(
     alloc: A,
     machine: &MachineRecord,
-    regions: &[RegionRecord],
     entries: &[EntryRecord],
     default: u32,
     fallbacks: &[u32],
 ) -> Result<OwnedSession<A>, GivenFault>
-    ensures { IsSessionMade machine.now regions.now entries.now default fallbacks.now result }
+    ensures { IsSessionMade machine.now entries.now default fallbacks.now result }
 {
-    let made = match machine_of(alloc, machine, regions) {
+    let made = match machine_of(alloc, machine) {
         Ok(made) => made,
         Err(fault) => return Err(fault),
     };

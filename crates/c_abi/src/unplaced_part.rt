@@ -16,9 +16,8 @@ use bl_map::{MAX_SIZE, Machine};
 use bl_mem::SliceView;
 use bl_plan::{Choice, Row};
 use c_records::{
-    EntryRecord, LoadFault, MachineRecord, RefusalRecord, RegionRecord, UnplacedRecord,
-    lengths_beside, load_fault_of_given, load_fault_of_prep, machine_of, take_entry,
-    tell_load_fault,
+    EntryRecord, LoadFault, MachineRecord, RefusalRecord, UnplacedRecord, lengths_beside,
+    load_fault_of_given, load_fault_of_prep, machine_of, take_entry, tell_load_fault,
 };
 use std::alloc::Allocator;
 
@@ -67,14 +66,13 @@ fn row_given<A: Allocator + Copy>(
 fn row_sought<A: Allocator + Copy>(
     alloc: A,
     machine: &MachineRecord,
-    regions: &[RegionRecord],
     entry: &EntryRecord,
 ) -> Result<Option<Row>, LoadFault>
-    ensures sought { IfOk result (IsSought machine.now regions.now entry.now) }
+    ensures sought { IfOk result (IsSought machine.now entry.now) }
     ensures fault { IfErr result (λ fault. (texts : List (List ℕ)) → AreFilesOf entry.now texts
-        → IsNotSought machine.now regions.now entry.now texts fault) }
+        → IsNotSought machine.now entry.now texts fault) }
 {
-    let made = match machine_of(alloc, machine, regions) {
+    let made = match machine_of(alloc, machine) {
         Ok(made) => made,
         Err(fault) => return Err(load_fault_of_given(fault)),
     };
@@ -162,16 +160,15 @@ fn nothing_told() -> UnplacedRecord
 pub fn unplaced_told<A: Allocator + Copy>(
     alloc: A,
     machine: &MachineRecord,
-    regions: &[RegionRecord],
     entry: &EntryRecord,
     told: &mut UnplacedRecord,
     refusal: &mut RefusalRecord,
 ) -> u32
     ensures { (end : Result (Option Row) LoadFault)
-        × IsSoughtEnd machine.now regions.now entry.now end
+        × IsSoughtEnd machine.now entry.now end
         × spec.TellsUnplaced end result told.old told.new refusal.old refusal.new }
 {
-    match row_sought(alloc, machine, regions, entry) {
+    match row_sought(alloc, machine, entry) {
         Ok(Some(row)) => {
             *told = row_told(row);
             0

@@ -1,12 +1,12 @@
 -- The machine that C gives, or what refuses it. Own.
 use Rattle.std.specs.Prelude.{◌≡◌, ◌⊎◌, ℕ, ◌+◌, ◌-◌, ◌^◌, true, false, List, map, min}
 use Rattle.std.specs.declared.ops.Range.{Range}
+use Rattle.bl_map.specs.declared.region.Region.{Region}
 use Rattle.bl_map.specs.declared.fault.MapFault.{MapFault}
 use Rattle.bl_map.specs.declared.fault.MapFault.TheVariants as map_fault
 use Rattle.bl_map.specs.Faults.{HasFirstMapFault, IsAccepted}
 use Rattle.bl_map.specs.NormalMap.{IsNormalMap}
 use Rattle.bl_map.specs.MachineFacts.{MachineFacts}
-use Rattle.c_records.specs.declared.given_records.RegionRecord.{RegionRecord}
 use Rattle.c_records.specs.declared.given_records.MachineRecord.{MachineRecord}
 use Rattle.c_records.specs.declared.misuse.Misuse.TheVariants.{BadKind, BadSize, TooManyRegions}
 use Rattle.c_records.specs.declared.misuse.Misuse.TheVariants.{BadRegion, BadPool}
@@ -14,6 +14,10 @@ use Rattle.c_records.specs.declared.given_fault.GivenFault.{GivenFault}
 use Rattle.c_records.specs.declared.given_fault.GivenFault.TheVariants.{Misused, NoMemory}
 use Rattle.c_records.specs.Given.{region_given}
 use Rattle.c_records.specs.GivenChecks.{have_kinds}
+
+-- its regions
+abbrev pub regions_given : MachineRecord → List Region
+regions_given machine = map region_given machine.regions.now
 
 -- the addresses of the pool; one that ends at 2^64 or above ends at 2^64 - 1, which is no frame's
 abbrev pub pool_given : MachineRecord → Range ℕ
@@ -23,16 +27,15 @@ pool_given machine = record {
 }
 
 -- these are the facts of the machine that is given
-pub record IsMachineGiven (machine : MachineRecord) (regions : List RegionRecord)
-    (facts : MachineFacts) : Type 0 where
+pub record IsMachineGiven (machine : MachineRecord) (facts : MachineFacts) : Type 0 where
   pub size : facts.size ≡ machine.size
-  pub runs : IsNormalMap (map region_given regions) facts.runs
+  pub runs : IsNormalMap (regions_given machine) facts.runs
   pub pool : facts.pool ≡ pool_given machine
 
 -- no fault of the machine stands
-pub record IsMachineSound (machine : MachineRecord) (regions : List RegionRecord) : Type 0 where
-  pub kinds : have_kinds regions ≡ true
-  pub accepted : IsAccepted machine.size (map region_given regions) (pool_given machine)
+pub record IsMachineSound (machine : MachineRecord) : Type 0 where
+  pub kinds : have_kinds machine.regions.now ≡ true
+  pub accepted : IsAccepted machine.size (regions_given machine) (pool_given machine)
 
 -- a fault of a machine's parts as a misuse
 abbrev pub given_fault_of_map : MapFault → GivenFault
@@ -43,16 +46,15 @@ given_fault_of_map map_fault.BadPool = Misused BadPool
 given_fault_of_map map_fault.NoMemory = NoMemory
 
 -- the machine that is given, whose regions are each of a kind, has this first fault of its parts
-pub record HasGivenMapFault (machine : MachineRecord) (regions : List RegionRecord)
-    (fault : GivenFault) : Type 0 where
-  pub kinds : have_kinds regions ≡ true
+pub record HasGivenMapFault (machine : MachineRecord) (fault : GivenFault) : Type 0 where
+  pub kinds : have_kinds machine.regions.now ≡ true
   pub found : MapFault
-  pub first : HasFirstMapFault machine.size (map region_given regions) (pool_given machine) found
+  pub first : HasFirstMapFault machine.size (regions_given machine) (pool_given machine) found
   pub is : fault ≡ given_fault_of_map found
 
 -- its first fault: a kind of a region that is none, or else the first of its parts; memory may run
 -- out
-abbrev pub HasMachineFault : MachineRecord → List RegionRecord → GivenFault → Type 0
-HasMachineFault machine regions fault =
-    ((have_kinds regions ≡ false) × (fault ≡ Misused BadKind))
-    ⊎ (fault ≡ NoMemory) ⊎ HasGivenMapFault machine regions fault
+abbrev pub HasMachineFault : MachineRecord → GivenFault → Type 0
+HasMachineFault machine fault =
+    ((have_kinds machine.regions.now ≡ false) × (fault ≡ Misused BadKind))
+    ⊎ (fault ≡ NoMemory) ⊎ HasGivenMapFault machine fault

@@ -12,13 +12,15 @@ pub struct RegionRecord {
     pub reserved: u32,
 }
 
-/// A machine beside its regions: the size of its memory, and the pool that files are staged in.
+/// A machine: the size of its memory, the pool that files are staged in, its regions. All that C
+/// tells of a machine crosses in it, and `machine_of` reads it.
 #[repr(C)]
 #[derive(Clone, Copy)]
-pub struct MachineRecord {
+pub struct MachineRecord<'a> {
     pub size: u64,
     pub pool_base: u64,
     pub pool_length: u64,
+    pub regions: &'a [RegionRecord],
 }
 
 /// A file. A call that loads, or digests at once, reads its bytes and does not look at `length`; a

@@ -51,20 +51,19 @@ fn given_fault_of_map(fault: MapFault) -> GivenFault
     }
 }
 
-/// The machine of these parts.
+/// The machine that is given, if it may be; else its first fault.
 pub fn machine_of<A: Allocator + Copy>(
     alloc: A,
     machine: &MachineRecord,
-    regions: &[RegionRecord],
 ) -> Result<Machine<A>, GivenFault>
-    ensures machine { IfOk result (machines.IsMachineGiven machine.now regions.now) }
-    ensures sound { OnOk result (machines.IsMachineSound machine.now regions.now) }
-    ensures fault { IfErr result (machines.HasMachineFault machine.now regions.now) }
+    ensures machine { IfOk result (machines.IsMachineGiven machine.now) }
+    ensures sound { OnOk result (machines.IsMachineSound machine.now) }
+    ensures fault { IfErr result (machines.HasMachineFault machine.now) }
 {
-    if !have_kinds(regions) {
+    if !have_kinds(machine.regions) {
         return Err(GivenFault::Misused(Misuse::BadKind));
     }
-    let typed = regions_of(alloc, regions)?;
+    let typed = regions_of(alloc, machine.regions)?;
     match Machine::new(alloc, machine.size, &typed, pool_of(machine)) {
         Ok(made) => Ok(made),
         Err(fault) => Err(given_fault_of_map(fault)),

@@ -12,12 +12,12 @@ returns-in-Err g c =
     let entry = c.args.entry.now in
     subst
     (λ (f : LoadFault).
-    IsNotPrepared c.args.machine.now c.args.regions.now entry (texts_given entry) max_parts f)
+    IsNotPrepared c.args.machine.now entry (texts_given entry) max_parts f)
     (sym c.load_fault_of_given.ensures)
     (bad_machine (omega arith) c.in-Err.fault c.in-Err.ensures.fault)
 
 pub returns : goal.returns
 returns g c =
-    given_digests_end c.args.machine.now c.args.regions.now c.args.entry.now c.in-Ok.made
+    given_digests_end c.args.machine.now c.args.entry.now c.in-Ok.made
     c.in-Ok.ensures.machine c.in-Ok.ensures.sound c.digests_on.result
     c.digests_on.ensures.digests c.digests_on.ensures.sound c.digests_on.ensures.fault

@@ -11,7 +11,7 @@ use Rattle.c_abi.proofs.MachineLaws.{one_machine}
 use Rattle.c_abi.proofs.digest_laws.digests_are_those_of_loads.Goals as goal
 
 pub returns-clause-fed : goal.returns-clause-fed
-returns-clause-fed c = λ machine regions entry made fed digests m files is told.
+returns-clause-fed c = λ machine entry made fed digests m files is told.
     let told = subst (λ (d : DigestingFacts). AreDigestsFed d digests) is told in record {
       facts = m.facts;
       machine_is = m.machine_is;
@@ -23,11 +23,11 @@ returns-clause-fed c = λ machine regions entry made fed digests m files is told
     }
 
 pub returns-clause-loaded : goal.returns-clause-loaded
-returns-clause-loaded c = λ machine regions entry room base old new handoff digests d l.
+returns-clause-loaded c = λ machine entry room base old new handoff digests d l.
     let held = handover_in new handoff.protocol handoff.registers handoff.places in
     let moved : IsHandover d.facts (value_given entry) held =
     subst (λ (f : MachineFacts). IsHandover f (value_given entry) held)
-    (one_machine machine regions l.facts d.facts l.machine_is d.machine_is)
+    (one_machine machine l.facts d.facts l.machine_is d.machine_is)
     l.handed.handover in
     d.digests_are
     ∙ ap digests_of

@@ -17,8 +17,8 @@ returns-in-Err-clause-end g c =
     let end = length (memory_from c.args.base c.args.memory.now) in (
       subst
           (λ (f : LoadFault).
-          IsNotLoaded c.args.machine.now c.args.regions.now c.args.entry.now
-          (texts_given c.args.entry.now) c.args.room c.args.base end f)
+          IsNotLoaded c.args.machine.now c.args.entry.now (texts_given c.args.entry.now) c.args.room
+          c.args.base end f)
           (sym c.load_fault_of_given.ensures)
           (bad_machine (omega (arith, many)) c.in-Err.fault c.in-Err.ensures.fault),
       refl,
@@ -41,9 +41,8 @@ returns-clause-end g c =
     let told = c.size.ensures.size in
     let many = c.if-room-lt-MAX_PARTS.false in
     let reaches = c.if-end-size.false in
-    given_end c.args.machine.now c.args.regions.now
-    c.args.entry.now c.args.room c.args.base (memory_from c.args.base c.args.memory.now)
-    (memory_from c.args.base c.load_given.new.memory) c.in-Ok.made c.load_given.result
+    given_end c.args.machine.now c.args.entry.now c.args.room c.args.base
+    (memory_from c.args.base c.args.memory.now) (memory_from c.args.base c.load_given.new.memory) c.in-Ok.made c.load_given.result
     (omega (arith, many)) c.in-Ok.ensures.machine c.in-Ok.ensures.sound
     (omega (arith, length-append {A = ℕ}, length-replicate {A = ℕ}, size, told, reaches))
     c.load_given.ensures.sound c.load_given.ensures.handed c.load_given.ensures.fault

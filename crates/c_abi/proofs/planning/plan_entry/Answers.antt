@@ -14,7 +14,7 @@ pub returns-in-Err-clause-fault : goal.returns-in-Err-clause-fault
 returns-in-Err-clause-fault g c = λ texts files.
     subst
     (λ (f : LoadFault).
-    IsNotPrepared c.args.machine.now c.args.regions.now c.args.entry.now texts max_parts f)
+    IsNotPrepared c.args.machine.now c.args.entry.now texts max_parts f)
     (sym c.load_fault_of_given.ensures)
     (bad_machine (omega arith) c.in-Err.fault c.in-Err.ensures.fault)
 
@@ -24,7 +24,7 @@ returns-clause-planned g c =
     ok_by_both c.plan_given.result
     (λ made. IsPlanOn c.in-Ok.made entry (plan_facts made))
     (λ made. IsEntrySound entry)
-    (λ made. IsPlanned c.args.machine.now c.args.regions.now entry (plan_facts made))
+    (λ made. IsPlanned c.args.machine.now entry (plan_facts made))
     (λ made plan sound. record {
       facts = c.in-Ok.made;
       machine_is = c.in-Ok.ensures.machine;
@@ -42,12 +42,11 @@ pub returns-clause-fault : goal.returns-clause-fault
 returns-clause-fault g c =
     let entry = c.args.entry.now in
     let machine = c.args.machine.now in
-    let regions = c.args.regions.now in
     IfErr-weaker c.plan_given.result
     (λ fault. (texts : List (List ℕ)) → AreFilesOf entry texts
     → IsEntryFault c.in-Ok.made entry texts 0 fault)
     (λ fault. (texts : List (List ℕ)) → AreFilesOf entry texts
-    → IsNotPrepared machine regions entry texts max_parts fault)
+    → IsNotPrepared machine entry texts max_parts fault)
     (λ fault is texts files.
     bad_entry (omega arith) c.in-Ok.ensures.sound (omega arith) fault record {
       facts = c.in-Ok.made;

@@ -16,7 +16,7 @@ returns-in-Err-clause-fault g c = λ texts files.
     let many = c.if-room-lt-MAX_PARTS.false in
     subst
     (λ (f : LoadFault).
-    IsNotPrepared c.args.machine.now c.args.regions.now c.args.entry.now texts c.args.room f)
+    IsNotPrepared c.args.machine.now c.args.entry.now texts c.args.room f)
     (sym c.load_fault_of_given.ensures)
     (bad_machine (omega (arith, many)) c.in-Err.fault c.in-Err.ensures.fault)
 
@@ -29,7 +29,7 @@ returns-clause-prepared g c =
     → IsHandoffOf c.in-Ok.made entry texts (handoff_by plan))
     (λ plan. IsEntrySound entry)
     (λ plan. (texts : List (List ℕ)) → AreFilesOf entry texts
-    → IsPrepared c.args.machine.now c.args.regions.now entry texts c.args.room (handoff_by plan))
+    → IsPrepared c.args.machine.now entry texts c.args.room (handoff_by plan))
     (λ plan handed sound texts files. record {
       has_room = omega (arith, many);
       facts = c.in-Ok.made;
@@ -48,12 +48,11 @@ returns-clause-fault g c =
     let many = c.if-room-lt-MAX_PARTS.false in
     let entry = c.args.entry.now in
     let machine = c.args.machine.now in
-    let regions = c.args.regions.now in
     IfErr-weaker c.prepare_given.result
     (λ fault. (texts : List (List ℕ)) → AreFilesOf entry texts
     → IsEntryFault c.in-Ok.made entry texts 0 fault)
     (λ fault. (texts : List (List ℕ)) → AreFilesOf entry texts
-    → IsNotPrepared machine regions entry texts c.args.room fault)
+    → IsNotPrepared machine entry texts c.args.room fault)
     (λ fault is texts files.
     bad_entry (omega (arith, many)) c.in-Ok.ensures.sound (omega arith) fault record {
       facts = c.in-Ok.made;

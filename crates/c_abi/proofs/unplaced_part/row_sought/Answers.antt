@@ -14,7 +14,7 @@ pub returns-in-Err-clause-fault : goal.returns-in-Err-clause-fault
 returns-in-Err-clause-fault g c = λ texts files.
     subst
     (λ (f : LoadFault).
-    IsNotSought c.args.machine.now c.args.regions.now c.args.entry.now texts f)
+    IsNotSought c.args.machine.now c.args.entry.now texts f)
     (sym c.load_fault_of_given.ensures) (machine_refuses c.in-Err.fault c.in-Err.ensures.fault)
 
 pub returns-clause-sought : goal.returns-clause-sought
@@ -24,7 +24,7 @@ returns-clause-sought g c =
     (λ which. (texts : List (List ℕ)) → AreFilesOf entry texts
     → IsUnplaced c.in-Ok.made (value_with entry texts) which)
     (λ which. IsEntrySound entry)
-    (IsSought c.args.machine.now c.args.regions.now entry)
+    (IsSought c.args.machine.now entry)
     (λ which is sound. record {
       facts = c.in-Ok.made;
       machine_is = c.in-Ok.ensures.machine;
@@ -40,7 +40,7 @@ returns-clause-fault g c =
     (λ fault. (texts : List (List ℕ)) → AreFilesOf entry texts
     → IsEarlyFault c.in-Ok.made entry texts fault)
     (λ fault. (texts : List (List ℕ)) → AreFilesOf entry texts
-    → IsNotSought c.args.machine.now c.args.regions.now entry texts fault)
+    → IsNotSought c.args.machine.now entry texts fault)
     (λ fault is texts files.
     entry_refuses c.in-Ok.ensures.sound fault record {
       facts = c.in-Ok.made;

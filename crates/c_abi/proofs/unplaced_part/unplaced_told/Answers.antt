@@ -5,7 +5,7 @@ use Rattle.c_abi.proofs.unplaced_part.unplaced_told.Goals as goal
 pub returns-in-Ok-Some : goal.returns-in-Ok-Some
 returns-in-Ok-Some g c = (
   Ok (Some c.in-Ok-Some.row),
-  subst (IsSought c.args.machine.now c.args.regions.now c.args.entry.now) c.in-Ok-Some.field-0-is
+  subst (IsSought c.args.machine.now c.args.entry.now) c.in-Ok-Some.field-0-is
       c.in-Ok-Some.ensures.sought,
   (refl, c.row_told.ensures, refl),
 )
@@ -13,7 +13,7 @@ returns-in-Ok-Some g c = (
 pub returns-in-Ok-None : goal.returns-in-Ok-None
 returns-in-Ok-None g c = (
   Ok None,
-  subst (IsSought c.args.machine.now c.args.regions.now c.args.entry.now) c.in-Ok-None.field-0-is
+  subst (IsSought c.args.machine.now c.args.entry.now) c.in-Ok-None.field-0-is
       c.in-Ok-None.ensures.sought,
   (refl, c.nothing_told.ensures, refl),
 )
