@@ -5,7 +5,7 @@ BOOTCORE_CALL
 uint32_t bootcore_boot(const bootcore_memory *memory, const bootcore_machine *machine,
                        const bootcore_menu *menu, bootcore_outcome *outcome) {
     bootcore_given_memory given_memory;
-    bootcore_crossing_machine given_machine;
+    bootcore_machine given_machine;
     bootcore_crossing_entry *entries;
     bootcore_refusal no_refusal;
     uint64_t count = 0;

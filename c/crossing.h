@@ -1,7 +1,8 @@
 /*
  * What crosses to the proved core: the exports of crates/bootcore_c, and their records. An array is a
  * pointer and a count of elements, alone or as a slice in a record; no pointer is null. The functions
- * of bootcore.h test what they are given, make these records of it, and call these.
+ * of bootcore.h test what they are given, make these records of it, or copies without null, and call
+ * these.
  */
 #ifndef BOOTCORE_CROSSING_H
 #define BOOTCORE_CROSSING_H
@@ -35,13 +36,6 @@ typedef struct bootcore_crossing_entry {
     bootcore_slice rsdp_new;
 } bootcore_crossing_entry;
 
-typedef struct bootcore_crossing_machine {
-    uint64_t size;
-    uint64_t pool_base;
-    uint64_t pool_length;
-    bootcore_slice regions;
-} bootcore_crossing_machine;
-
 /* How many places and steps a plan has, and how many bytes of its own. */
 typedef struct bootcore_counts {
     uint64_t places;
@@ -71,9 +65,9 @@ BOOTCORE_HAS_SIZE(bootcore_slice, 16);
 BOOTCORE_HAS_SIZE(bootcore_file, 24);
 BOOTCORE_HAS_SIZE(bootcore_crossing_module, 40);
 BOOTCORE_HAS_SIZE(bootcore_crossing_entry, 120);
-BOOTCORE_HAS_SIZE(bootcore_crossing_machine, 40);
 BOOTCORE_HAS_SIZE(bootcore_counts, 24);
 BOOTCORE_HAS_SIZE(bootcore_crossing_request, 20);
+BOOTCORE_HAS_SIZE(bootcore_machine, 72);
 BOOTCORE_HAS_SIZE(bootcore_region, 24);
 BOOTCORE_HAS_SIZE(bootcore_registers, 288);
 BOOTCORE_HAS_SIZE(bootcore_segment, 24);
@@ -93,28 +87,28 @@ BOOTCORE_HAS_SIZE(bootcore_digests, 120);
 
 BOOTCORE_CALL
 uint32_t bootcore_load_arrays(uint8_t *memory, size_t memory_length, uint32_t base,
-                              const bootcore_crossing_machine *machine,
+                              const bootcore_machine *machine,
                               const bootcore_crossing_entry *entry, bootcore_handoff *handoff,
                               bootcore_place *places, size_t place_room,
                               bootcore_refusal *refusal);
 BOOTCORE_CALL
-uint32_t bootcore_prepare_arrays(const bootcore_crossing_machine *machine,
+uint32_t bootcore_prepare_arrays(const bootcore_machine *machine,
                                  const bootcore_crossing_entry *entry, bootcore_handoff *handoff,
                                  bootcore_place *places, size_t place_room,
                                  bootcore_refusal *refusal);
 BOOTCORE_CALL
-uint32_t bootcore_plan_arrays(const bootcore_crossing_machine *machine,
+uint32_t bootcore_plan_arrays(const bootcore_machine *machine,
                               const bootcore_crossing_entry *entry, bootcore_handoff *handoff,
                               bootcore_counts *counts, bootcore_place *places, size_t place_room,
                               bootcore_step *steps, size_t step_room, uint8_t *own,
                               size_t own_room, bootcore_refusal *refusal);
 BOOTCORE_CALL
-uint32_t bootcore_unplaced_record(const bootcore_crossing_machine *machine,
+uint32_t bootcore_unplaced_record(const bootcore_machine *machine,
                                   const bootcore_crossing_entry *entry,
                                   bootcore_unplaced_part *part, bootcore_refusal *refusal);
 BOOTCORE_CALL
 uint32_t bootcore_boot_arrays(uint8_t *memory, size_t memory_length, uint32_t base,
-                              const bootcore_crossing_machine *machine,
+                              const bootcore_machine *machine,
                               const bootcore_crossing_entry *entries, size_t entry_count,
                               uint32_t first, const uint32_t *fallbacks, size_t fallback_count,
                               bootcore_handoff *handoff, bootcore_place *places, size_t place_room,
@@ -122,7 +116,7 @@ uint32_t bootcore_boot_arrays(uint8_t *memory, size_t memory_length, uint32_t ba
 
 BOOTCORE_CALL
 uint32_t bootcore_session_make_arrays(bootcore_session *session,
-                                      const bootcore_crossing_machine *machine,
+                                      const bootcore_machine *machine,
                                       const bootcore_crossing_entry *entries, size_t entry_count,
                                       uint32_t first, const uint32_t *fallbacks,
                                       size_t fallback_count);
@@ -174,7 +168,7 @@ uint32_t bootcore_walk_all_arrays(const uint8_t *image, size_t image_length, boo
 
 BOOTCORE_CALL
 uint32_t bootcore_digest_make_arrays(bootcore_digest *digest,
-                                     const bootcore_crossing_machine *machine,
+                                     const bootcore_machine *machine,
                                      const bootcore_crossing_entry *entry,
                                      bootcore_refusal *refusal);
 BOOTCORE_CALL
@@ -187,7 +181,7 @@ uint32_t bootcore_digest_told_arrays(bootcore_digest *digest, bootcore_digests *
 BOOTCORE_CALL
 void bootcore_digest_free_kept(bootcore_digest *digest);
 BOOTCORE_CALL
-uint32_t bootcore_digest_entry_arrays(const bootcore_crossing_machine *machine,
+uint32_t bootcore_digest_entry_arrays(const bootcore_machine *machine,
                                       const bootcore_crossing_entry *entry,
                                       bootcore_digests *digests, bootcore_part_digest *parts,
                                       size_t room, bootcore_refusal *refusal);

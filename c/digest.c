@@ -4,7 +4,7 @@
 BOOTCORE_CALL
 uint32_t bootcore_digest_make(bootcore_digest *digest, const bootcore_machine *machine,
                               const bootcore_entry *entry, bootcore_refusal *refusal) {
-    bootcore_crossing_machine given_machine;
+    bootcore_machine given_machine;
     bootcore_given_entry given;
     uint32_t status;
     if (!digest || bootcore_machine_has_null(machine) ||
@@ -64,7 +64,7 @@ uint32_t bootcore_digest_entry(const bootcore_machine *machine, const bootcore_e
                                bootcore_digests *digests, bootcore_part_digest *parts,
                                size_t room, bootcore_refusal *refusal) {
     const bootcore_menu menu = {entry, 1, NULL, 0, 0, 0, {0, 0, 0, 0}};
-    bootcore_crossing_machine given_machine;
+    bootcore_machine given_machine;
     bootcore_crossing_entry *given;
     bootcore_part_digest no_part;
     uint32_t status;

@@ -23,7 +23,7 @@ BOOTCORE_CALL
 uint32_t bootcore_load(const bootcore_memory *memory, const bootcore_machine *machine,
                        const bootcore_entry *entry, bootcore_outcome *outcome) {
     bootcore_given_memory given_memory;
-    bootcore_crossing_machine given_machine;
+    bootcore_machine given_machine;
     bootcore_given_entry given;
     bootcore_refusal refusal = {0, 0, 0, 0, 0};
     bootcore_place no_place;
@@ -52,7 +52,7 @@ uint32_t bootcore_load(const bootcore_memory *memory, const bootcore_machine *ma
 BOOTCORE_CALL
 uint32_t bootcore_prepare(const bootcore_machine *machine, const bootcore_entry *entry,
                           bootcore_outcome *outcome) {
-    bootcore_crossing_machine given_machine;
+    bootcore_machine given_machine;
     bootcore_given_entry given;
     bootcore_refusal refusal = {0, 0, 0, 0, 0};
     bootcore_place no_place;
@@ -86,7 +86,7 @@ static bool has_null_layout(const bootcore_layout *layout) {
 BOOTCORE_CALL
 uint32_t bootcore_plan(const bootcore_machine *machine, const bootcore_entry *entry,
                        bootcore_layout *layout) {
-    bootcore_crossing_machine given_machine;
+    bootcore_machine given_machine;
     bootcore_given_entry given;
     bootcore_counts counts = {0, 0, 0};
     bootcore_place no_place;
@@ -130,7 +130,7 @@ uint32_t bootcore_plan(const bootcore_machine *machine, const bootcore_entry *en
 BOOTCORE_CALL
 uint32_t bootcore_unplaced(const bootcore_machine *machine, const bootcore_entry *entry,
                            bootcore_unplaced_part *part, bootcore_refusal *refusal) {
-    bootcore_crossing_machine given_machine;
+    bootcore_machine given_machine;
     bootcore_given_entry given;
     uint32_t status;
     if (bootcore_machine_has_null(machine) ||

@@ -187,20 +187,20 @@ bootcore_given_memory bootcore_memory_crossing(const bootcore_memory *memory) {
     return given;
 }
 
+/* All that is told of a machine crosses as it is, with regions that are not null, nor many more than there
+ * may be. */
+bootcore_machine bootcore_machine_crossing(const bootcore_machine *machine) {
+    bootcore_machine crossing = *machine;
+    crossing.regions = bootcore_given_array(machine->regions);
+    crossing.region_count = count_regions(machine);
+    return crossing;
+}
+
 static bootcore_slice slice_of(const void *array, size_t count) {
     bootcore_slice slice;
     slice.at = bootcore_given_array(array);
     slice.count = count;
     return slice;
-}
-
-bootcore_crossing_machine bootcore_machine_crossing(const bootcore_machine *machine) {
-    bootcore_crossing_machine crossing;
-    crossing.size = machine->size;
-    crossing.pool_base = machine->pool_base;
-    crossing.pool_length = machine->pool_length;
-    crossing.regions = slice_of(machine->regions, count_regions(machine));
-    return crossing;
 }
 
 static bootcore_slice slice_of_bytes(bootcore_bytes bytes) {

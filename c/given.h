@@ -59,7 +59,7 @@ size_t bootcore_count_entries(const bootcore_menu *menu);
 
 /* What crosses of what was tested. */
 bootcore_given_memory bootcore_memory_crossing(const bootcore_memory *memory);
-bootcore_crossing_machine bootcore_machine_crossing(const bootcore_machine *machine);
+bootcore_machine bootcore_machine_crossing(const bootcore_machine *machine);
 void bootcore_entry_crossing(const bootcore_entry *entry, bootcore_reading reading,
                              bootcore_given_entry *given);
 

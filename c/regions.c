@@ -9,17 +9,17 @@ static bool has_bad_kind(const bootcore_region *region) {
 
 BOOTCORE_CALL
 size_t bootcore_bad_region(const bootcore_machine *machine) {
-    bootcore_slice regions;
+    bootcore_machine given;
     size_t index;
     /* of none that can be read is it */
     if (bootcore_machine_has_null(machine)) {
         return machine ? machine->region_count : 0;
     }
-    regions = bootcore_machine_crossing(machine).regions;
-    index = bootcore_bad_region_index(regions.at, regions.count);
+    given = bootcore_machine_crossing(machine);
+    index = bootcore_bad_region_index(given.regions, given.region_count);
     /* that there are too many is told before one that ends too high */
-    if (index == regions.count ||
-        (regions.count > BOOTCORE_MAX_REGIONS && !has_bad_kind(&machine->regions[index]))) {
+    if (index == given.region_count ||
+        (given.region_count > BOOTCORE_MAX_REGIONS && !has_bad_kind(&given.regions[index]))) {
         return machine->region_count;
     }
     return index;

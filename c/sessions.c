@@ -4,7 +4,7 @@
 BOOTCORE_CALL
 uint32_t bootcore_session_make(bootcore_session *session, const bootcore_machine *machine,
                                const bootcore_menu *menu) {
-    bootcore_crossing_machine given_machine;
+    bootcore_machine given_machine;
     bootcore_crossing_entry *entries;
     uint32_t status;
     if (!session || bootcore_machine_has_null(machine) ||

@@ -18,7 +18,8 @@ use Rattle.c_records.specs.declared.given_fault.GivenFault.TheVariants as given_
 use Rattle.c_records.specs.declared.given_records.MachineRecord.{MachineRecord}
 use Rattle.c_records.specs.EntryFaults.{load_fault_of_given}
 use Rattle.c_records.specs.Machines.{IsMachineGiven, IsMachineSound, HasMachineFault}
-use Rattle.c_records.specs.Machines.{given_fault_of_map, pool_given, regions_given}
+use Rattle.c_records.specs.Machines.{given_fault_of_map}
+use Rattle.c_records.specs.Machines.{machine_facts_given, pool_given, regions_given}
 
 -- ---- of a machine's parts
 
@@ -85,12 +86,14 @@ module _ (machine : MachineRecord) where
       → f ≡ g
   one_machine f g a b =
       let given = regions_given machine in
-      let facts : ℕ → List Region → Range ℕ → MachineFacts =
-      λ size runs pool. record { size = size; runs = runs; pool = pool } in
-      ap (λ (n : ℕ). facts n f.runs f.pool) (a.size ∙ sym b.size)
-      ∙ ap (λ (rs : List Region). facts g.size rs f.pool)
+      a.is
+      ∙ ap (λ (runs : List Region). machine_facts_given machine runs)
       (one_normal_map given given f.runs g.runs (λ k. refl) a.runs b.runs)
-      ∙ ap (λ (p : Range ℕ). facts g.size g.runs p) (a.pool ∙ sym b.pool)
+      ∙ sym b.is
+
+  -- of the size that is told
+  pub given_size : (f : MachineFacts) → IsMachineGiven machine f → f.size ≡ machine.size
+  given_size f a = ap (λ (x : MachineFacts). x.size) a.is
 
   -- where no fault stands, no misuse is told
   pub sound_machine : (misuse : Misuse) → IsMachineSound machine

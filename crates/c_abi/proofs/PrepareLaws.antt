@@ -27,7 +27,7 @@ use Rattle.c_records.specs.EntryFaults.{IsEntrySound}
 use Rattle.c_abi.specs.Load.{few_places, bad_machine, bad_memory, bad_entry}
 use Rattle.c_records.specs.Machines.{IsMachineGiven, IsMachineSound}
 use Rattle.c_abi.specs.Prepare.{IsPrepared}
-use Rattle.c_abi.proofs.MachineLaws.{one_machine, sound_machine}
+use Rattle.c_abi.proofs.MachineLaws.{given_size, one_machine, sound_machine}
 use Rattle.c_abi.proofs.FaultLaws.{sound_entry}
 
 places_in : (bytes : List ℕ) (ps : List Place) → All (EndsIn bytes) ps
@@ -85,7 +85,7 @@ module _ (machine : MachineRecord) (entry : EntryRecord) where
   length_loaded : (room base : ℕ) (old new : List ℕ) (loaded : HandoffFacts)
       → IsLoaded machine entry room base old new loaded → length new ≡ length old
   length_loaded room base old new loaded l =
-      let size = l.machine_is.size in
+      let size = given_size machine l.facts l.machine_is in
       let reaches = l.has_memory in
       ap length l.handed.after
       ∙ length-written (length old) (map (part_in new) loaded.places) old refl
@@ -103,7 +103,7 @@ module _ (machine : MachineRecord) (entry : EntryRecord) where
       l.handed.handover in
       let one : held ≡ p.handed.handover =
       handovers.one_handover p.facts value held p.handed.handover moved p.handed.handover_is in
-      let size = l.machine_is.size in
+      let size = given_size machine l.facts l.machine_is in
       let reaches = l.has_memory in
       let kept = length_loaded space base old new loaded l in
       let read : map part_place (map (part_in new) loaded.places) ≡ loaded.places =

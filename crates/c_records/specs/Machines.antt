@@ -26,11 +26,18 @@ pool_given machine = record {
   end = min (machine.pool_base + machine.pool_length) (2 ^ 64 - 1);
 }
 
--- these are the facts of the machine that is given
+-- its facts, with these runs
+abbrev pub machine_facts_given : MachineRecord → List Region → MachineFacts
+machine_facts_given machine runs = record {
+  size = machine.size;
+  runs = runs;
+  pool = pool_given machine;
+}
+
+-- these are the facts of the machine that is given: their runs are the normal map of its regions
 pub record IsMachineGiven (machine : MachineRecord) (facts : MachineFacts) : Type 0 where
-  pub size : facts.size ≡ machine.size
+  pub is : facts ≡ machine_facts_given machine facts.runs
   pub runs : IsNormalMap (regions_given machine) facts.runs
-  pub pool : facts.pool ≡ pool_given machine
 
 -- no fault of the machine stands
 pub record IsMachineSound (machine : MachineRecord) : Type 0 where

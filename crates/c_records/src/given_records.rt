@@ -12,8 +12,8 @@ pub struct RegionRecord {
     pub reserved: u32,
 }
 
-/// A machine: the size of its memory, the pool that files are staged in, its regions. All that C
-/// tells of a machine crosses in it, and `machine_of` reads it.
+/// A machine: the size of its memory, the pool that files are staged in, its regions. All that is
+/// told of a machine crosses in it; `reserved` is not looked at.
 #[repr(C)]
 #[derive(Clone, Copy)]
 pub struct MachineRecord<'a> {
@@ -21,6 +21,7 @@ pub struct MachineRecord<'a> {
     pub pool_base: u64,
     pub pool_length: u64,
     pub regions: &'a [RegionRecord],
+    pub reserved: [u64; 4],
 }
 
 /// A file. A call that loads, or digests at once, reads its bytes and does not look at `length`; a

@@ -13,7 +13,7 @@ const _: () = prove!(size_of::<ByteRange>() == 16);
 
 const _: () = prove!(size_of::<RegionRecord>() == 24);
 
-const _: () = prove!(size_of::<MachineRecord<'_>>() == 40);
+const _: () = prove!(size_of::<MachineRecord<'_>>() == 72);
 
 const _: () = prove!(size_of::<ModuleRecord<'_>>() == 40);
 

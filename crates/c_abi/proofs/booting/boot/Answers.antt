@@ -5,6 +5,7 @@ use Rattle.bl_session.specs.menu.Menu.{MenuFacts}
 use Rattle.bl_session.specs.runs.Run.{final_phase}
 use Rattle.c_abi.specs.Boot.{few_places, bad_machine, bad_memory, bad_menu}
 use Rattle.c_abi.specs.Boot.{HasBootEnded, given_files}
+use Rattle.c_abi.proofs.MachineLaws.{given_size}
 use Rattle.c_abi.proofs.booting.boot.Goals as goal
 
 pub returns-then-room-lt-MAX_PARTS-clause-end : goal.returns-then-room-lt-MAX_PARTS-clause-end
@@ -17,7 +18,7 @@ returns-in-Err-clause-end g c =
 
 pub returns-then-end-size-clause-end : goal.returns-then-end-size-clause-end
 returns-then-end-size-clause-end g c =
-    let size = c.in-Ok.ensures.machine.size in
+    let size = given_size c.args.machine.now c.in-Ok.made c.in-Ok.ensures.machine in
     let told = c.size.ensures.size in
     let many = c.if-room-lt-MAX_PARTS.false in
     let differ = c.if-end-size.true in (
@@ -36,7 +37,7 @@ returns-then-end-size-clause-end g c =
 
 pub returns-in-Err-menu_of-clause-end : goal.returns-in-Err-menu_of-clause-end
 returns-in-Err-menu_of-clause-end g c =
-    let size = c.in-Ok.ensures.machine.size in
+    let size = given_size c.args.machine.now c.in-Ok.made c.in-Ok.ensures.machine in
     let told = c.size.ensures.size in
     let many = c.if-room-lt-MAX_PARTS.false in
     let same = c.if-end-size.false in (
@@ -48,7 +49,7 @@ returns-in-Err-menu_of-clause-end g c =
 
 pub returns-clause-end : goal.returns-clause-end
 returns-clause-end g c =
-    let size = c.in-Ok.ensures.machine.size in
+    let size = given_size c.args.machine.now c.in-Ok.made c.in-Ok.ensures.machine in
     let told = c.size.ensures.size in
     let many = c.if-room-lt-MAX_PARTS.false in
     let same = c.if-end-size.false in

@@ -4,6 +4,7 @@ use Rattle.bl_mem.specs.Memory.{memory_from}
 use Rattle.c_records.specs.declared.load_fault.LoadFault.{LoadFault}
 use Rattle.c_records.specs.Given.{texts_given}
 use Rattle.c_abi.specs.Load.{few_places, bad_machine, bad_memory, IsNotLoaded}
+use Rattle.c_abi.proofs.MachineLaws.{given_size}
 use Rattle.c_abi.proofs.LoadLemmas.{given_end}
 use Rattle.c_abi.proofs.ResultLemmas.{on_ok}
 use Rattle.c_abi.proofs.loading.load_entry_at.Goals as goal
@@ -26,7 +27,7 @@ returns-in-Err-clause-end g c =
 
 pub returns-then-end-size-clause-end : goal.returns-then-end-size-clause-end
 returns-then-end-size-clause-end g c =
-    let size = c.in-Ok.ensures.machine.size in
+    let size = given_size c.args.machine.now c.in-Ok.made c.in-Ok.ensures.machine in
     let told = c.size.ensures.size in
     let many = c.if-room-lt-MAX_PARTS.false in
     let below = c.if-end-size.true in (
@@ -37,7 +38,7 @@ returns-then-end-size-clause-end g c =
 
 pub returns-clause-end : goal.returns-clause-end
 returns-clause-end g c =
-    let size = c.in-Ok.ensures.machine.size in
+    let size = given_size c.args.machine.now c.in-Ok.made c.in-Ok.ensures.machine in
     let told = c.size.ensures.size in
     let many = c.if-room-lt-MAX_PARTS.false in
     let reaches = c.if-end-size.false in

@@ -1,5 +1,7 @@
-use Rattle.std.proofs.Common.{◌∙◌, inl, inr, rules}
+use Rattle.std.proofs.Common.{◌∙◌, ℕ, ap, inl, inr, rules}
+use Rattle.std.specs.declared.ops.Range.{Range}
 use Rattle.std.proofs.lemmas.Result.{err_from_is_err_and}
+use Rattle.bl_map.specs.MachineFacts.{MachineFacts}
 use Rattle.c_records.proofs.machines.machine_of.Goals as goal
 
 pub returns-in_err-typed-clause-machine : goal.returns-in_err-typed-clause-machine
@@ -20,10 +22,14 @@ returns-in_err-typed-clause-fault g c =
 pub returns-in-Ok-clause-machine : goal.returns-in-Ok-clause-machine
 returns-in-Ok-clause-machine g c =
     let same = c.deref.ensures.value ∙ c.in_ok-typed.ensures in
+    let facts : ℕ → Range ℕ → MachineFacts =
+    λ size pool. record { size = size; runs = c.in-Ok.made.runs; pool = pool } in
     record {
-      size = c.in-Ok.ensures.size;
+      is =
+          ap (λ (size : ℕ). facts size c.in-Ok.made.pool) c.in-Ok.ensures.size
+          ∙ ap (λ (pool : Range ℕ). facts c.args.machine.now.size pool)
+          (c.in-Ok.ensures.pool ∙ c.pool_of.ensures);
       runs = rw same at c.in-Ok.ensures.runs;
-      pool = c.in-Ok.ensures.pool ∙ c.pool_of.ensures;
     }
 
 pub returns-in-Ok-clause-sound : goal.returns-in-Ok-clause-sound
