@@ -90,7 +90,9 @@ pub extern "C" fn bootcore_plan_arrays(
         })
         refusal.old refusal.new }
 {
-    plan_told(alloc, machine, entry, told, counts, places, steps, own, refusal)
+    plan_told(
+        alloc, machine, entry, told, counts, places, steps, own, refusal,
+    )
 }
 
 /// Which part of an entry finds no place is told, or that each has one.

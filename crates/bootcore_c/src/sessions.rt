@@ -15,7 +15,9 @@ ghost use Rattle.c_handle.specs.SessionSteps.{IsStarted, IsStepped};
 
 use c_abi::{given_status, outcome_told, session_given};
 use c_handle::{Handle, HandleFault, RequestRecord, status_of};
-use c_records::{EntryRecord, GivenFault, HandoffRecord, MachineRecord, PlaceRecord, RefusalRecord};
+use c_records::{
+    EntryRecord, GivenFault, HandoffRecord, MachineRecord, PlaceRecord, RefusalRecord,
+};
 use std::alloc::Global;
 
 /// A session is made, and kept; one that was kept before is freed then.

@@ -146,6 +146,8 @@ pub fn boot_told<A: Allocator + Copy>(
         }) }
 {
     let room = places.len();
-    let end = boot(alloc, memory, base, machine, entries, default, fallbacks, room);
+    let end = boot(
+        alloc, memory, base, machine, entries, default, fallbacks, room,
+    );
     tell_boot(end, told, places, refusals, count)
 }
