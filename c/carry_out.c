@@ -218,7 +218,7 @@ static bool has_reserved(const bootcore_layout *layout, const bootcore_memory *m
             return true;
         }
     }
-    return bootcore_is_reserved_set(layout->reserved);
+    return BOOTCORE_IS_RESERVED_SET(layout);
 }
 
 /* Each plan has a step. Room is looked at again, since it is the caller's to change. */

@@ -104,7 +104,7 @@ uint32_t bootcore_plan(const bootcore_machine *machine, const bootcore_entry *en
         bootcore_entry_has_null(entry, BOOTCORE_READS_KERNEL) || has_null_layout(layout)) {
         return BOOTCORE_STATUS_NULL;
     }
-    if (bootcore_is_reserved_set(layout->reserved)) {
+    if (BOOTCORE_IS_RESERVED_SET(layout)) {
         return BOOTCORE_STATUS_BAD_RESERVED;
     }
     status = bootcore_entry_misuse(machine, entry);

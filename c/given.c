@@ -111,8 +111,13 @@ bool bootcore_outcome_has_null(const bootcore_outcome *outcome) {
 
 /* ---- reserved words, and files that can't be read */
 
-bool bootcore_is_reserved_set(const uint64_t words[4]) {
-    return (words[0] | words[1] | words[2] | words[3]) != 0;
+bool bootcore_is_set(const uint64_t *words, size_t count) {
+    uint64_t all = 0;
+    size_t i;
+    for (i = 0; i < count; i++) {
+        all |= words[i];
+    }
+    return all != 0;
 }
 
 bool bootcore_memory_has_reserved(const bootcore_memory *memory) {
@@ -126,7 +131,7 @@ bool bootcore_machine_has_reserved(const bootcore_machine *machine) {
             return true;
         }
     }
-    return bootcore_is_reserved_set(machine->reserved);
+    return BOOTCORE_IS_RESERVED_SET(machine);
 }
 
 bool bootcore_entry_has_reserved(const bootcore_entry *entry) {
@@ -136,7 +141,7 @@ bool bootcore_entry_has_reserved(const bootcore_entry *entry) {
             return true;
         }
     }
-    return entry->reserved32 || bootcore_is_reserved_set(entry->reserved);
+    return entry->reserved32 || BOOTCORE_IS_RESERVED_SET(entry);
 }
 
 bool bootcore_menu_has_reserved(const bootcore_menu *menu) {
@@ -146,11 +151,11 @@ bool bootcore_menu_has_reserved(const bootcore_menu *menu) {
             return true;
         }
     }
-    return menu->reserved32 || bootcore_is_reserved_set(menu->reserved);
+    return menu->reserved32 || BOOTCORE_IS_RESERVED_SET(menu);
 }
 
 bool bootcore_outcome_has_reserved(const bootcore_outcome *outcome) {
-    return bootcore_is_reserved_set(outcome->reserved);
+    return BOOTCORE_IS_RESERVED_SET(outcome);
 }
 
 bool bootcore_entry_has_unreadable(const bootcore_entry *entry) {

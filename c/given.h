@@ -38,8 +38,10 @@ bool bootcore_entry_has_null(const bootcore_entry *entry, bootcore_reading readi
 bool bootcore_menu_has_null(const bootcore_menu *menu, bootcore_reading reading);
 bool bootcore_outcome_has_null(const bootcore_outcome *outcome);
 
-/* A reserved word that is not 0. */
-bool bootcore_is_reserved_set(const uint64_t words[4]);
+/* A reserved word that is not 0; of an array in a struct, as many as are left. */
+bool bootcore_is_set(const uint64_t *words, size_t count);
+#define BOOTCORE_IS_RESERVED_SET(of) \
+    bootcore_is_set((of)->reserved, sizeof (of)->reserved / sizeof *(of)->reserved)
 bool bootcore_memory_has_reserved(const bootcore_memory *memory);
 bool bootcore_machine_has_reserved(const bootcore_machine *machine);
 bool bootcore_entry_has_reserved(const bootcore_entry *entry);

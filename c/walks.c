@@ -24,7 +24,7 @@ uint32_t bootcore_walk_all(const void *image, size_t image_length, bootcore_seen
         bootcore_is_null(arrays->text, arrays->text_room)) {
         return BOOTCORE_STATUS_NULL;
     }
-    if (bootcore_is_reserved_set(arrays->reserved)) {
+    if (BOOTCORE_IS_RESERVED_SET(arrays)) {
         return BOOTCORE_STATUS_BAD_RESERVED;
     }
     return bootcore_walk_all_arrays(
