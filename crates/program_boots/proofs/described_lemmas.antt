@@ -2,4 +2,3 @@ pub mod FileLemmas
 pub mod NameLemmas
 pub mod MenuLemmas
 pub mod ValueLemmas
-pub mod AskedLemmas

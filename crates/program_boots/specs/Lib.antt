@@ -1,5 +1,5 @@
 pub mod described
-pub mod FoundBoots
+pub mod BootLines
 pub mod EntryPlans
 pub mod explaining
 pub mod internal

@@ -4,5 +4,3 @@ pub mod DescribedMenu
 pub mod DescribedMachine
 pub mod BootCases
 pub mod DistinctNames
-pub mod ReadMachines
-pub mod SoughtFiles

@@ -3,4 +3,3 @@ pub mod EntrySteps
 pub mod ExplanationLines
 pub mod TextPlaces
 pub mod AttemptedEntries
-pub mod MachineBlames

@@ -20,7 +20,7 @@ use Rattle.program_boots.specs.described.BootCases.{entry_value_at}
 use Rattle.program_boots.specs.described.BootCases.{boot_of}
 use Rattle.program_boots.specs.described.DescribedMenu.{described_entry}
 use Rattle.program_say.specs.DigestLines.{digest_lines}
-use Rattle.program_boots.specs.FoundBoots.{boot_lines}
+use Rattle.program_boots.specs.BootLines.{boot_lines}
 use Rattle.program_commands.specs.digesting.Digested.{IsDigested}
 use Rattle.program_commands.specs.digesting.ImageDigested.{IsImageDigested, HasDigestLines}
 

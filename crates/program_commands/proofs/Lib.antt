@@ -1,7 +1,6 @@
+pub mod AskedLemmas
 pub mod EndLemmas
 pub mod EndLaws
 pub mod ShownLaws
 pub mod ConvertLaws
-pub mod DigestEndLemmas
 pub mod DigestLaws
-pub mod ExplainEnds

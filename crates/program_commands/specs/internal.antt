@@ -1,4 +1,6 @@
 pub mod CallEnds
+pub mod SoughtFiles
+pub mod Readings
 pub mod WalkEnds
 pub mod DigestEnds
 pub mod ExplanationEnds

@@ -3,19 +3,19 @@ ghost use Rattle.std.specs.Prelude.{◌≡◌, ◌≢◌, ◌⊎◌, ℕ, List, 
 ghost use Rattle.bl_stage.specs.Files.{File};
 ghost use Rattle.program_desc.specs.Described.{described};
 ghost use Rattle.program_commands.specs.digesting.Digested.{IsDigested, TellsRefusals};
-ghost use Rattle.program_commands.specs.internal.DigestEnds.{DigestAsks, DigestEnds};
+ghost use Rattle.program_commands.specs.internal.DigestEnds.{DigestEnds};
 ghost use Rattle.program_boots.specs.described.BootCases.{HasInlineFiles, names_sought};
 ghost use Rattle.program_boots.specs.described.BootCases.{names_fetched};
 ghost use Rattle.program_boots.specs.described.DescribedMachine.{IsBadDescription};
 ghost use Rattle.program_boots.specs.described.DescribedMenu.{max_names};
 ghost use Rattle.program_boots.specs.described.FoundFiles.{AsksPrefix};
-ghost use Rattle.program_boots.specs.described.SoughtFiles.{SeeksNamesOf};
+ghost use Rattle.program_commands.specs.internal.SoughtFiles.{SeeksNamesOf};
 
-use crate::described::{ReadyBoot, ready_boot};
+use crate::boot_end::{End, EndFault};
+use crate::described::{ReadyBoot, read_machine, ready_boot};
 use crate::digesting::found_digests::digest_found;
 use bl_session::Order;
-use program_boots::{DescribedBoot, End, Files, read_machine};
-use program_desc::DescFault;
+use program_boots::{DescribedBoot, Files};
 use std::alloc::{Allocator, Global};
 
 mod found_digests;
@@ -32,13 +32,11 @@ fn run_digest<A: Allocator + Copy, F: Files, B: Allocator>(
     desc: &[u8],
     files: &mut F,
     say: &mut Vec<u8, B>,
-) -> Result<End, DescFault>
+) -> Result<End, EndFault>
     requires { F.faults files.old < 2 ^ 63 }
     ensures ends { DigestEnds F.answers F.faults desc.now files.old files.new
         say.old.items say.new.items result }
-    ensures asked { DigestAsks (names_fetched (described desc.now))
-        (F.asked files.old) (F.asked files.new) result }
-    ensures sought { SeeksNamesOf F.answers F.faults desc.now files.old files.new }
+    ensures sought { SeeksNamesOf F.answers F.faults F.asked desc.now files.old files.new result }
 {
     let read = read_machine(alloc, global, desc)?;
     let size = read.machine.size();
@@ -58,10 +56,7 @@ fn run_digest<A: Allocator + Copy, F: Files, B: Allocator>(
         machine: &read.machine,
         menu: &menu,
     };
-    match digest_found(alloc, store.fetched(), &boot, say) {
-        Ok(end) => Ok(end),
-        Err(_) => Err(DescFault::NoMemory),
-    }
+    digest_found(alloc, store.fetched(), &boot, say)
 }
 
 /// Says what `boot` would say of a description, line by line, and after an entry that would be
@@ -106,7 +101,8 @@ pub fn digest_to<A: Allocator + Copy, F: Files, B: Allocator>(
     match run_digest(alloc, global, desc, files, say) {
         Ok(End::Booted) => 0,
         Ok(End::NoEntryLeft) => 1,
-        Err(DescFault::BadDescription) => 2,
-        Err(DescFault::NoMemory) => 4,
+        Err(EndFault::BadDescription) => 2,
+        Err(EndFault::Device) => 4,
+        Err(EndFault::NoMemory) => 4,
     }
 }

@@ -2,6 +2,7 @@
 
 mod explained_boot;
 mod explanation;
+mod machine_blame;
 mod read_or_blame;
 
 pub use explanation::explain_to;

@@ -24,7 +24,7 @@ ghost use Rattle.program_boots.specs.described.BootCases.{file_sizes_at};
 ghost use Rattle.program_boots.specs.described.BootCases.{HasResultAt};
 ghost use Rattle.program_boots.specs.described.DescribedMenu.{described_entry};
 ghost use Rattle.program_commands.specs.Ends.{IsBooted, Surroundings};
-ghost use Rattle.program_boots.specs.FoundBoots.{boot_lines};
+ghost use Rattle.program_boots.specs.BootLines.{boot_lines};
 ghost use Rattle.program_commands.specs.digesting.Digested.{IsDigested};
 ghost use Rattle.program_commands.specs.digesting.ImageDigested.{IsImageDigested, HasDigestLines};
 

@@ -2,6 +2,7 @@
 //! maps, walks, conversions, digests, and a boot told for a person.
 #![tactic(auto)]
 
+mod boot_end;
 mod booting;
 mod described;
 mod digesting;

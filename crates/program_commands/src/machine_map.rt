@@ -4,7 +4,8 @@ ghost use Rattle.program_boots.specs.described.DescribedMachine.{IsBadDescriptio
 ghost use Rattle.program_commands.specs.MachineMap.{SaysMachineMap};
 ghost use Rattle.program_commands.specs.internal.CallEnds.{MapEnds};
 
-use program_boots::{EndFault, read_machine};
+use crate::boot_end::EndFault;
+use crate::described::read_machine;
 use program_say::say_map;
 use std::alloc::{Allocator, Global};
 

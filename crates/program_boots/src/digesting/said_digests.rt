@@ -1,7 +1,7 @@
 //! What is said of a boot, and of its digests.
 ghost use Rattle.std.specs.Prelude.{◌≡◌, ◌++◌, OnOk, OnErr};
 ghost use Rattle.bl_digest.specs.Digests.{digests_of};
-ghost use Rattle.program_boots.specs.FoundBoots.{boot_lines};
+ghost use Rattle.program_boots.specs.BootLines.{boot_lines};
 ghost use Rattle.program_say.specs.DigestLines.{digest_lines};
 
 use bl_digest::{Digests, digest_image};

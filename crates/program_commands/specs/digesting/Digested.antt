@@ -9,7 +9,7 @@ use Rattle.bl_session.specs.session.BootSteps.{handed_over, none_left}
 use Rattle.program_boots.specs.described.BootCases.{BootCase, HasOutcome, entry_value_at}
 use Rattle.program_boots.specs.described.DescribedMenu.{described_entry}
 use Rattle.program_say.specs.BootAndMapLines.{refused_lines, no_entry_line}
-use Rattle.program_boots.specs.FoundBoots.{boot_lines}
+use Rattle.program_boots.specs.BootLines.{boot_lines}
 use Rattle.program_say.specs.DigestLines.{digest_lines}
 
 -- with files of a type F: what they may answer for a name, and how many faults they had

@@ -6,15 +6,16 @@ ghost use Rattle.program_boots.specs.described.BootCases.{names_fetched};
 ghost use Rattle.program_commands.specs.Ends.{IsBooted, IsCutShort, IsRefused};
 ghost use Rattle.program_boots.specs.described.DescribedMachine.{IsBadDescription};
 ghost use Rattle.program_boots.specs.described.FoundFiles.{AsksPrefix};
-ghost use Rattle.program_boots.specs.described.SoughtFiles.{SeeksNamesOf};
-ghost use Rattle.program_commands.specs.internal.CallEnds.{BootEnds, HasAsked};
-ghost use Rattle.program_boots.specs.FoundBoots.{CountsSinkFault};
+ghost use Rattle.program_commands.specs.internal.CallEnds.{BootEnds, CountsSinkFault};
+ghost use Rattle.program_commands.specs.internal.SoughtFiles.{SeeksNamesOf};
 ghost use Rattle.program_boots.specs.described.DescribedMenu.{max_names};
 ghost use Rattle.program_desc.specs.Described.{described};
 
-use crate::described::{ReadyBoot, ready_boot};
+use crate::boot_end::{End, EndFault};
+use crate::booting::found_boot::boot_found;
+use crate::described::{ReadyBoot, order_of, read_machine, ready_boot};
 use bl_image::Sink;
-use program_boots::{DescribedBoot, End, EndFault, Files, boot_found, order_of, read_machine};
+use program_boots::{DescribedBoot, Files};
 use program_line::Order;
 use std::alloc::{Allocator, Global};
 
@@ -34,9 +35,7 @@ fn run_boot<A: Allocator + Copy, F: Files, S: Sink, B: Allocator>(
         (record { files = files.old; sink = S.contents out.old; said = say.old.items })
         (record { files = files.new; sink = S.contents out.new; said = say.new.items }) result }
     ensures faults { CountsSinkFault (S.faults out.old) (S.faults out.new) result }
-    ensures asked { HasAsked (names_fetched (described desc.now))
-        (F.asked files.old) (F.asked files.new) result }
-    ensures sought { SeeksNamesOf F.answers F.faults desc.now files.old files.new }
+    ensures sought { SeeksNamesOf F.answers F.faults F.asked desc.now files.old files.new result }
 {
     let read = read_machine(alloc, global, desc)?;
     let size = read.machine.size();

@@ -6,7 +6,7 @@ ghost use Rattle.program_boots.specs.described.FoundFiles.{AreFound, AsksPrefix,
 ghost use Rattle.program_boots.specs.described.FoundFiles.{names_to_ask};
 ghost use Rattle.program_desc.specs.Described.{file_named};
 ghost use Rattle.program_desc.specs.Views.{view};
-ghost use Rattle.program_boots.specs.described.SoughtFiles.{SeeksName};
+ghost use Rattle.program_commands.specs.internal.SoughtFiles.{SeeksName};
 
 use bl_session::Fetched;
 use program_boots::{Files, copy_of};

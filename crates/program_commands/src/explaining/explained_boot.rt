@@ -6,11 +6,10 @@ ghost use Rattle.program_boots.specs.described.DescribedMenu.{menu_of, attempted
 ghost use Rattle.program_commands.specs.internal.ExplanationEnds.{ExplainFoundEnds};
 ghost use Rattle.program_desc.specs.Views.{view};
 
+use crate::boot_end::{End, EndFault};
 use bl_mem::PhysMem;
 use bl_session::{BootFault, FileStore, run};
-use program_boots::{
-    DescribedBoot, End, ExplainFault, find_details, find_steps, tell_booted, tell_none_left,
-};
+use program_boots::{DescribedBoot, find_details, find_steps, tell_booted, tell_none_left};
 use program_say::Sought;
 use std::alloc::Allocator;
 
@@ -23,7 +22,7 @@ pub fn explain_found<A: Allocator + Copy, M: PhysMem, B: Allocator>(
     boot: &DescribedBoot<'_, A>,
     names: &[&str],
     say: &mut Vec<u8, B>,
-) -> Result<End, ExplainFault>
+) -> Result<End, EndFault>
     requires size { length (M.bytes memory.old) ≡ boot.now.machine.now.size }
     requires store { store.old.given ≡ [] }
     requires few { length boot.now.description.now.entries.items ≤ 32 }
@@ -52,6 +51,6 @@ pub fn explain_found<A: Allocator + Copy, M: PhysMem, B: Allocator>(
             tell_none_left(alloc, boot, &sought, &told, &refused, say)?;
             Ok(End::NoEntryLeft)
         }
-        Err(BootFault::NoMemory) => Err(ExplainFault::NoMemory),
+        Err(BootFault::NoMemory) => Err(EndFault::NoMemory),
     }
 }

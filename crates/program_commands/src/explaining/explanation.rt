@@ -4,17 +4,19 @@ ghost use Rattle.bl_stage.specs.Files.{File};
 ghost use Rattle.program_boots.specs.described.DescribedMenu.{max_names};
 ghost use Rattle.program_boots.specs.described.BootCases.{HasInlineFiles, names_sought};
 ghost use Rattle.program_boots.specs.described.BootCases.{names_fetched};
-ghost use Rattle.program_commands.specs.internal.ExplanationEnds.{ExplainAsks, ExplainEnds};
+ghost use Rattle.program_commands.specs.internal.ExplanationEnds.{ExplainEnds};
 ghost use Rattle.program_commands.specs.explaining.Explained.{ExplainsBlame, ExplainsBoot};
 ghost use Rattle.program_commands.specs.explaining.Explained.{ExplainsRefusals};
 ghost use Rattle.program_boots.specs.described.FoundFiles.{AsksPrefix};
-ghost use Rattle.program_boots.specs.described.SoughtFiles.{SeeksNamesOf};
+ghost use Rattle.program_commands.specs.internal.SoughtFiles.{SeeksNamesOf};
 ghost use Rattle.program_desc.specs.Described.{described};
 
-use crate::described::{ReadyBoot, ready_boot};
+use crate::boot_end::{End, EndFault};
+use crate::described::{ReadyBoot, order_of, ready_boot};
 use crate::explaining::explained_boot::explain_found;
+use crate::explaining::machine_blame::machine_or_blame;
 use crate::explaining::read_or_blame::read_or_blame;
-use program_boots::{DescribedBoot, End, ExplainFault, Files, machine_or_blame, order_of};
+use program_boots::{DescribedBoot, Files};
 use program_line::Order;
 use std::alloc::{Allocator, Global};
 
@@ -26,13 +28,11 @@ fn run_explain<A: Allocator + Copy, F: Files, B: Allocator>(
     files: &mut F,
     order: Order,
     say: &mut Vec<u8, B>,
-) -> Result<End, ExplainFault>
+) -> Result<End, EndFault>
     requires { F.faults files.old < 2 ^ 63 }
     ensures ends { ExplainEnds A F.answers F.faults desc.now files.old files.new
         say.old.items say.new.items result }
-    ensures asked { ExplainAsks (names_fetched (described desc.now))
-        (F.asked files.old) (F.asked files.new) result }
-    ensures sought { SeeksNamesOf F.answers F.faults desc.now files.old files.new }
+    ensures sought { SeeksNamesOf F.answers F.faults F.asked desc.now files.old files.new result }
 {
     let description = read_or_blame(alloc, global, desc, say)?;
     let machine = machine_or_blame(alloc, &description, say)?;
@@ -94,7 +94,8 @@ pub fn explain_to<A: Allocator + Copy, F: Files, B: Allocator>(
     match run_explain(alloc, global, desc, files, order, say) {
         Ok(End::Booted) => 0,
         Ok(End::NoEntryLeft) => 1,
-        Err(ExplainFault::Blamed) => 2,
-        Err(ExplainFault::NoMemory) => 4,
+        Err(EndFault::BadDescription) => 2,
+        Err(EndFault::Device) => 4,
+        Err(EndFault::NoMemory) => 4,
     }
 }

@@ -3,10 +3,11 @@ ghost use Rattle.std.specs.Prelude.{◌≡◌, true, None};
 ghost use Rattle.std.specs.Str.{is_utf8};
 ghost use Rattle.toml.specs.Errors.{IsMemory, IsWithin};
 ghost use Rattle.toml.specs.Parse.{parse_document};
-ghost use Rattle.program_commands.specs.internal.ExplanationEnds.{IsReadBlame, IsReadOrBlamed};
+ghost use Rattle.program_commands.specs.internal.Readings.{IsReadBlame, IsReadOrBlamed};
 
-use program_boots::{ExplainFault, blamed, text_place};
-use program_desc::{Description, TableFault, described_in};
+use crate::explaining::machine_blame::blamed;
+use program_boots::text_place;
+use program_desc::{DescFault, Description, TableFault, described_in};
 use program_say::Blame;
 use std::alloc::{Allocator, Global};
 
@@ -16,7 +17,7 @@ fn say_toml_blame<A: Allocator + Copy, B: Allocator>(
     text: &str,
     error: &toml::de::Error,
     say: &mut Vec<u8, B>,
-) -> ExplainFault
+) -> DescFault
     requires text { is_utf8 text.now ≡ true }
     requires within { IsWithin text.now error.now }
     requires refused { ¬ IsMemory error.now → parse_document text.now ≡ None }
@@ -27,7 +28,7 @@ fn say_toml_blame<A: Allocator + Copy, B: Allocator>(
             let before = &text.as_bytes()[..range.start];
             blamed(alloc, &Blame::NotToml(text_place(before)), None, say)
         }
-        None => ExplainFault::NoMemory,
+        None => DescFault::NoMemory,
     }
 }
 
@@ -37,7 +38,7 @@ fn read_text_or_blame<A: Allocator + Copy, B: Allocator>(
     global: Global,
     text: &str,
     say: &mut Vec<u8, B>,
-) -> Result<Description<A>, ExplainFault>
+) -> Result<Description<A>, DescFault>
     requires { is_utf8 text.now ≡ true }
     ensures { IsReadOrBlamed text.now say.old.items say.new.items result }
 {
@@ -48,7 +49,7 @@ fn read_text_or_blame<A: Allocator + Copy, B: Allocator>(
     match described_in(alloc, global, &table) {
         Ok(description) => Ok(description),
         Err(TableFault::BadKey(bad)) => Err(blamed(alloc, &Blame::BadKey(bad), None, say)),
-        Err(TableFault::NoMemory) => Err(ExplainFault::NoMemory),
+        Err(TableFault::NoMemory) => Err(DescFault::NoMemory),
     }
 }
 
@@ -58,7 +59,7 @@ pub fn read_or_blame<A: Allocator + Copy, B: Allocator>(
     global: Global,
     desc: &[u8],
     say: &mut Vec<u8, B>,
-) -> Result<Description<A>, ExplainFault>
+) -> Result<Description<A>, DescFault>
     ensures { IsReadOrBlamed desc.now say.old.items say.new.items result }
 {
     match std::str::from_utf8(desc) {

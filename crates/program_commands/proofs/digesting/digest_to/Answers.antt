@@ -1,7 +1,7 @@
 use Rattle.std.proofs.Common.{arith, inl, inr, refl}
 use Rattle.program_desc.specs.Described.{described}
 use Rattle.program_boots.specs.described.BootCases.{names_fetched}
-use Rattle.program_boots.proofs.described_lemmas.AskedLemmas.{all_asked}
+use Rattle.program_commands.proofs.AskedLemmas.{all_asked}
 use Rattle.program_commands.proofs.digesting.digest_to.Goals as goal
 
 pub returns-in-Ok-Booted : goal.returns-in-Ok-Booted
@@ -13,8 +13,8 @@ returns-in-Ok-Booted g c =
       refused = λ other. absurd (omega (arith, other));
       described = λ other. absurd (omega (arith, other));
       memory = λ other. absurd (omega (arith, other));
-      asked = λ _ _. run.asked;
-      asked_first = all_asked (names_fetched (described c.args.desc.now)) _ _ run.asked;
+      asked = λ _ _. run.sought.asked;
+      asked_first = all_asked (names_fetched (described c.args.desc.now)) _ _ run.sought.asked;
       inline = run.sought.inline;
       same_files = run.sought.same_files;
       missing = run.sought.missing;
@@ -30,8 +30,8 @@ returns-in-Ok-NoEntryLeft g c =
       refused = λ _. run.ends;
       described = λ other. absurd (omega (arith, other));
       memory = λ other. absurd (omega (arith, other));
-      asked = λ _ _. run.asked;
-      asked_first = all_asked (names_fetched (described c.args.desc.now)) _ _ run.asked;
+      asked = λ _ _. run.sought.asked;
+      asked_first = all_asked (names_fetched (described c.args.desc.now)) _ _ run.sought.asked;
       inline = run.sought.inline;
       same_files = run.sought.same_files;
       missing = run.sought.missing;
@@ -48,12 +48,17 @@ returns-in-Err-BadDescription g c =
       described = λ _. run.ends;
       memory = λ other. absurd (omega (arith, other));
       asked = λ other. absurd (other refl);
-      asked_first = run.asked;
+      asked_first = run.sought.asked;
       inline = run.sought.inline;
       same_files = run.sought.same_files;
       missing = run.sought.missing;
       few = run.sought.few;
     }
+
+pub returns-in-Err-Device : goal.returns-in-Err-Device
+returns-in-Err-Device g c =
+    let run = rw c.in-Err-Device.field-0-is at c.in-Err-Device.ensures in
+    absurd run.ends
 
 pub returns-in-Err-NoMemory : goal.returns-in-Err-NoMemory
 returns-in-Err-NoMemory g c =
@@ -65,7 +70,7 @@ returns-in-Err-NoMemory g c =
       described = λ other. absurd (omega (arith, other));
       memory = λ _. run.ends;
       asked = λ _ other. absurd (other refl);
-      asked_first = run.asked;
+      asked_first = run.sought.asked;
       inline = run.sought.inline;
       same_files = run.sought.same_files;
       missing = run.sought.missing;

@@ -2,9 +2,8 @@ use Rattle.std.proofs.Common.{ℕ, List, Err, refl, arith}
 use Rattle.std.proofs.lemmas.Result.{err_from_is_err_and}
 use Rattle.program_desc.specs.declared.fault.DescFault.{DescFault}
 use Rattle.program_desc.specs.declared.fault.DescFault.TheVariants as desc_fault
-use Rattle.program_boots.specs.described.ReadMachines.{IsReadingFault}
-use Rattle.program_commands.specs.internal.CallEnds.{MapEnds}
-use Rattle.program_boots.specs.FoundBoots.{end_fault_of_desc_fault}
+use Rattle.program_commands.specs.internal.Readings.{IsReadingFault}
+use Rattle.program_commands.specs.internal.CallEnds.{MapEnds, end_fault_of_desc_fault}
 use Rattle.program_commands.proofs.machine_map.run_map.Goals as goal
 
 -- no machine is described, or memory ran out

@@ -1,7 +1,7 @@
 use Rattle.std.proofs.Common.{ap, arith, refl}
 use Rattle.program_desc.specs.Described.{described}
 use Rattle.program_boots.specs.described.BootCases.{names_fetched}
-use Rattle.program_boots.proofs.described_lemmas.AskedLemmas.{all_asked}
+use Rattle.program_commands.proofs.AskedLemmas.{all_asked}
 use Rattle.program_commands.proofs.booting.whole_boot.boot.Goals as goal
 
 pub returns-in-Ok-Booted : goal.returns-in-Ok-Booted
@@ -16,8 +16,8 @@ returns-in-Ok-Booted g c =
       memory = λ other. absurd (omega (arith, other));
       fault = λ other. absurd (omega (arith, other));
       sound = λ _. run.faults;
-      asked = λ _ _. run.asked;
-      asked_first = all_asked (names_fetched (described c.args.desc.now)) _ _ run.asked;
+      asked = λ _ _. run.sought.asked;
+      asked_first = all_asked (names_fetched (described c.args.desc.now)) _ _ run.sought.asked;
       inline = run.sought.inline;
       same_files = run.sought.same_files;
       missing = run.sought.missing;
@@ -36,8 +36,8 @@ returns-in-Ok-NoEntryLeft g c =
       memory = λ other. absurd (omega (arith, other));
       fault = λ other. absurd (omega (arith, other));
       sound = λ _. run.faults;
-      asked = λ _ _. run.asked;
-      asked_first = all_asked (names_fetched (described c.args.desc.now)) _ _ run.asked;
+      asked = λ _ _. run.sought.asked;
+      asked_first = all_asked (names_fetched (described c.args.desc.now)) _ _ run.sought.asked;
       inline = run.sought.inline;
       same_files = run.sought.same_files;
       missing = run.sought.missing;
@@ -62,7 +62,7 @@ returns-in-Err-BadDescription g c =
       fault = λ other. absurd (omega (arith, other));
       sound = λ _. run.faults;
       asked = λ other. absurd (other refl);
-      asked_first = run.asked;
+      asked_first = run.sought.asked;
       inline = run.sought.inline;
       same_files = run.sought.same_files;
       missing = run.sought.missing;
@@ -81,8 +81,8 @@ returns-in-Err-Device g c =
       memory = λ other. absurd (omega (arith, other));
       fault = λ _. run.faults;
       sound = λ other. absurd (other refl);
-      asked = λ _ _. run.asked;
-      asked_first = all_asked (names_fetched (described c.args.desc.now)) _ _ run.asked;
+      asked = λ _ _. run.sought.asked;
+      asked_first = all_asked (names_fetched (described c.args.desc.now)) _ _ run.sought.asked;
       inline = run.sought.inline;
       same_files = run.sought.same_files;
       missing = run.sought.missing;
@@ -102,7 +102,7 @@ returns-in-Err-NoMemory g c =
       fault = λ other. absurd (omega (arith, other));
       sound = λ _. run.faults;
       asked = λ _ other. absurd (other refl);
-      asked_first = run.asked;
+      asked_first = run.sought.asked;
       inline = run.sought.inline;
       same_files = run.sought.same_files;
       missing = run.sought.missing;

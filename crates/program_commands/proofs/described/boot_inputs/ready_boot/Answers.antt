@@ -2,7 +2,7 @@ use Rattle.std.proofs.Common.{◌≡◌, ◌∙◌, length, refl, ap, arith}
 use Rattle.std.proofs.lemmas.Result.{err_from_is_err_and}
 use Rattle.program_desc.specs.Views.{view}
 use Rattle.program_boots.specs.described.DescribedMenu.{attempted_file_names, max_names}
-use Rattle.program_boots.proofs.described_lemmas.AskedLemmas.{none_asked, none_missing}
+use Rattle.program_commands.proofs.AskedLemmas.{none_asked, none_missing}
 use Rattle.program_boots.proofs.described_lemmas.NameLemmas.{as_many, few_missing, few_seen}
 use Rattle.program_commands.proofs.described.boot_inputs.ready_boot.Goals as goal
 

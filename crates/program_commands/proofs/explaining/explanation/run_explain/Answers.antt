@@ -1,12 +1,8 @@
 use Rattle.std.proofs.Common.{◌∙◌, length, ap}
 use Rattle.std.proofs.lemmas.List.{length-replicate}
 use Rattle.std.proofs.lemmas.Result.{err_from_is_err_and}
-use Rattle.program_desc.specs.Described.{described}
-use Rattle.program_boots.specs.described.BootCases.{names_fetched}
-use Rattle.program_boots.proofs.described_lemmas.AskedLemmas.{fetched, inline_in, none_asked}
-use Rattle.program_boots.proofs.described_lemmas.AskedLemmas.{none_sought, sought}
-use Rattle.program_commands.proofs.ExplainEnds.{explain_asked, explained_by}
-use Rattle.program_commands.proofs.ExplainEnds.{unmade, unread}
+use Rattle.program_commands.proofs.AskedLemmas.{all_sought, first_sought, none_sought}
+use Rattle.program_commands.proofs.EndLemmas.{case_of, explained_by, unexplained, unmade}
 use Rattle.program_commands.proofs.explaining.explanation.run_explain.Goals as goal
 
 pub ready_boot-requires-clause-menu : goal.ready_boot-requires-clause-menu
@@ -39,11 +35,10 @@ returns-in_err-description g c =
     c.from_residual.ensures.1 in
     rw (p.1, p.2)
     (record {
-      ends = unread g.row.A.Denot g.F.Files.answers g.F.Files.faults c.args.desc.now c.args.files.now
-          c.args.say.now.items _ _ c.in_err-description.ensures;
-      asked = none_asked (names_fetched (described c.args.desc.now))
-          (g.F.Files.asked c.args.files.now);
-      sought = none_sought g.F.Files.answers g.F.Files.faults c.args.desc.now c.args.files.now;
+      ends = unexplained g.F.Files.answers g.F.Files.faults c.args.desc.now g.row.A.Denot
+          c.args.files.now c.args.say.now.items _ _ c.in_err-description.ensures;
+      sought = none_sought g.F.Files.answers g.F.Files.faults g.F.Files.asked c.args.desc.now
+          c.args.files.now _;
     })
 
 pub returns-in_err-machine : goal.returns-in_err-machine
@@ -53,13 +48,12 @@ returns-in_err-machine g c =
     c.from_residual-in_err-machine.ensures.1 in
     rw (p.1, p.2)
     (record {
-      ends = unmade g.row.A.Denot g.F.Files.answers g.F.Files.faults c.args.desc.now
-          c.in_ok-description.description c.in_ok-description.ensures.given c.args.files.now
-          c.args.say.now.items _ _ (rw c.in_ok-description.ensures.kept
+      ends = unmade g.F.Files.answers g.F.Files.faults c.args.desc.now
+          c.in_ok-description.description c.in_ok-description.ensures.given g.row.A.Denot
+          c.args.files.now c.args.say.now.items _ _ (rw c.in_ok-description.ensures.kept
           at c.in_err-machine.ensures);
-      asked = none_asked (names_fetched (described c.args.desc.now))
-          (g.F.Files.asked c.args.files.now);
-      sought = none_sought g.F.Files.answers g.F.Files.faults c.args.desc.now c.args.files.now;
+      sought = none_sought g.F.Files.answers g.F.Files.faults g.F.Files.asked c.args.desc.now
+          c.args.files.now _;
     })
 
 pub returns-in_err-ready : goal.returns-in_err-ready
@@ -67,49 +61,34 @@ returns-in_err-ready g c =
     let p =
     err_from_is_err_and c.from_residual-in_err-ready.result c.from_residual-in_err-ready.ensures.1
     in
-    let d = c.in_ok-description.description in
-    let is = c.in_ok-description.ensures.given in
+    let ready = c.in_err-ready.ensures in
     rw (p.1, p.2)
     (record {
       ends = c.in_ok-machine.ensures.kept ∙ c.in_ok-description.ensures.kept;
-      asked = rw (fetched c.args.desc.now d is) c.in_err-ready.ensures.asked_first;
-      sought = record {
-        inline = λ has. c.in_err-ready.ensures.inline (inline_in c.args.desc.now d is has);
-        same_files = c.in_err-ready.ensures.same;
-        missing = rw (sought c.args.desc.now d is) c.in_err-ready.ensures.missing;
-        few = c.in_err-ready.ensures.few;
-      };
+      sought = first_sought g.F.Files.answers g.F.Files.faults g.F.Files.asked c.args.desc.now
+          c.in_ok-description.description c.in_ok-description.ensures.given _ _ ready.inline
+          ready.same ready.missing ready.few ready.asked_first;
     })
-
-pub returns-clause-asked : goal.returns-clause-asked
-returns-clause-asked g c =
-    explain_asked c.explain_found.result (names_fetched (described c.args.desc.now))
-    (g.F.Files.asked c.args.files.now) _
-    (rw (fetched c.args.desc.now c.in_ok-description.description
-    c.in_ok-description.ensures.given) c.in_ok-ready.ensures.asked)
 
 pub returns-clause-sought : goal.returns-clause-sought
 returns-clause-sought g c =
-    let d = c.in_ok-description.description in
-    let is = c.in_ok-description.ensures.given in
-    record {
-      inline = λ has. c.in_ok-ready.ensures.inline (inline_in c.args.desc.now d is has);
-      same_files = c.in_ok-ready.ensures.same;
-      missing = rw (sought c.args.desc.now d is) c.in_ok-ready.ensures.missing;
-      few = c.in_ok-ready.ensures.few;
-    }
+    let ready = c.in_ok-ready.ensures in
+    all_sought g.F.Files.answers g.F.Files.faults g.F.Files.asked c.args.desc.now
+    c.in_ok-description.description c.in_ok-description.ensures.given _ _ ready.inline ready.same
+    ready.missing ready.few c.explain_found.result ready.asked
 
 pub returns-clause-ends : goal.returns-clause-ends
 returns-clause-ends g c =
-    explained_by g.row.A.Denot g.F.Files.answers g.F.Files.faults c.args.desc.now
-    c.in_ok-description.description c.in_ok-description.ensures.given
-    c.in_ok-machine.machine c.in_ok-machine.ensures.machine _ _ c.in_ok-ready.ready.store.files
-    c.in_ok-ready.ensures.found
-    _ _ c.explain_found.result
+    let ready = c.in_ok-ready.ensures in
+    let case =
+    case_of g.F.Files.answers g.F.Files.faults c.args.desc.now c.in_ok-description.description
+    c.in_ok-description.ensures.given c.in_ok-machine.machine c.in_ok-machine.ensures.machine _ _
+    c.in_ok-ready.ready.store.files ready.found in
+    explained_by case g.row.A.Denot _ _ c.explain_found.result
     (rw (
-      c.in_ok-ready.ensures.menu,
+      ready.menu,
       c.deref.ensures.value,
-      c.in_ok-ready.ensures.names,
+      ready.names,
       c.in_ok-machine.ensures.kept,
       c.in_ok-description.ensures.kept,
     ) at c.explain_found.ensures)

@@ -1,7 +1,7 @@
 use Rattle.std.proofs.lemmas.Str.{is_utf8-from_IsUtf8}
 use Rattle.program_desc.proofs.DescribedLemmas.{described-no_text}
 use Rattle.program_say.specs.declared.subjects.blame.Blame.TheVariants as blames
-use Rattle.program_commands.proofs.ExplainEnds.{blamed_for}
+use Rattle.program_commands.proofs.EndLemmas.{blamed_for}
 use Rattle.program_boots.proofs.explaining_lemmas.ExplainLemmas.{no_text}
 use Rattle.program_commands.proofs.explaining.read_or_blame.read_or_blame.Goals as goal
 

@@ -2,7 +2,7 @@ use Rattle.std.proofs.Common.{refl, ◌∙◌}
 use Rattle.std.proofs.lemmas.Str.{IsUtf8-from_is_utf8}
 use Rattle.program_desc.proofs.DescribedLemmas.{described-table}
 use Rattle.program_say.specs.declared.subjects.blame.Blame.TheVariants.{BadKey}
-use Rattle.program_commands.proofs.ExplainEnds.{blamed_for}
+use Rattle.program_commands.proofs.EndLemmas.{blamed_for}
 use Rattle.program_commands.proofs.explaining.read_or_blame.read_text_or_blame.Goals as goal
 
 pub returns-in-Ok-described_in : goal.returns-in-Ok-described_in

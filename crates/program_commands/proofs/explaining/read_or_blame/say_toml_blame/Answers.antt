@@ -2,7 +2,7 @@ use Rattle.std.proofs.Common.{refl, rules}
 use Rattle.program_desc.proofs.DescribedLemmas.{described-no_table}
 use Rattle.program_commands.specs.explaining.BlameConditions.{HasBlame}
 use Rattle.program_say.specs.declared.subjects.blame.Blame.TheVariants.{NotToml}
-use Rattle.program_commands.proofs.ExplainEnds.{blamed_for}
+use Rattle.program_commands.proofs.EndLemmas.{blamed_for}
 use Rattle.program_commands.proofs.explaining.read_or_blame.say_toml_blame.Goals as goal
 
 pub returns-in-Some : goal.returns-in-Some

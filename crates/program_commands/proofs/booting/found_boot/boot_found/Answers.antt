@@ -1,6 +1,6 @@
 use Rattle.std.proofs.Common.{◌≡◌, ◌∙◌, length}
 use Rattle.bl_session.specs.session.Phases.{handover_held}
-use Rattle.program_boots.proofs.booting.found_boot.boot_found.Goals as goal
+use Rattle.program_commands.proofs.booting.found_boot.boot_found.Goals as goal
 
 pub write_handover-requires-clause-inside : goal.write_handover-requires-clause-inside
 write_handover-requires-clause-inside g c =

@@ -1,6 +1,6 @@
 use Rattle.std.proofs.Common.{refl}
 use Rattle.std.proofs.lemmas.Result.{err_from_is_err_and}
-use Rattle.program_boots.proofs.booting.handover.write_handover.Goals as goal
+use Rattle.program_commands.proofs.booting.handover.write_handover.Goals as goal
 
 pub returns-in_err-say_refusals : goal.returns-in_err-say_refusals
 returns-in_err-say_refusals g c =

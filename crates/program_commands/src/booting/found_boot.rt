@@ -2,15 +2,15 @@
 ghost use Rattle.std.specs.Prelude.{◌≡◌, [], ◌<◌, ◌^◌, length, map};
 ghost use Rattle.bl_stage.specs.Files.{size_of};
 ghost use Rattle.bl_session.specs.session.Phases.{boot_facts};
-ghost use Rattle.program_boots.specs.FoundBoots.{FoundBootEnds, CountsSinkFault};
+ghost use Rattle.program_commands.specs.internal.CallEnds.{FoundBootEnds, CountsSinkFault};
 ghost use Rattle.program_desc.specs.Views.{view};
 
-use crate::booting::end_fault::EndFault;
+use crate::boot_end::{End, EndFault};
 use crate::booting::handover::{say_none_left, write_handover};
-use crate::described::{DescribedBoot, End, title_of};
 use bl_image::Sink;
 use bl_mem::PhysMem;
 use bl_session::{BootFault, FileStore, run};
+use program_boots::{DescribedBoot, title_of};
 use std::alloc::Allocator;
 
 /// Boots what is described by a store, writes the image of what is handed over, and says what

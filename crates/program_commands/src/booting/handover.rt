@@ -3,10 +3,10 @@ ghost use Rattle.std.specs.Prelude.{◌≡◌, ◌+◌, ◌<◌, ◌≤◌, ◌^
 ghost use Rattle.bl_image.specs.Image.{spelling};
 ghost use Rattle.bl_image.specs.Versions.{written_version};
 ghost use Rattle.bl_session.specs.session.Phases.{handover_held};
-ghost use Rattle.program_boots.specs.FoundBoots.{IsImageWriteFault, TookImage};
+ghost use Rattle.program_commands.specs.internal.CallEnds.{IsImageWriteFault, TookImage};
 ghost use Rattle.program_say.specs.BootAndMapLines.{booted_line, refused_lines, no_entry_line};
 
-use crate::booting::end_fault::EndFault;
+use crate::boot_end::EndFault;
 use bl_image::{Sink, write_image};
 use bl_mem::PhysMem;
 use bl_session::{Outcome, RefusedEntry};

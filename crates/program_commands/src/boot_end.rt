@@ -1,13 +1,23 @@
-//! Why a boot or a map is not told to its end.
+//! How a boot ends, or a part of one.
 ghost use Rattle.std.specs.Prelude.{◌≡◌};
-ghost use Rattle.program_boots.specs.declared.booting.end_fault.EndFault.TheVariants as ends;
-ghost use Rattle.program_boots.specs.FoundBoots.{end_fault_of_desc_fault};
+ghost use Rattle.program_commands.specs.declared.boot_end.EndFault.TheVariants as ends;
+ghost use Rattle.program_commands.specs.internal.CallEnds.{end_fault_of_desc_fault};
 
 use program_desc::DescFault;
 use std::alloc::{AllocError, AllocFailed};
 
-/// Why a boot, or a map, is not told to its end: the description breaks a rule of its form or one
-/// of machines, the sink had a fault, or memory ran out.
+/// How a boot ends that nothing stopped.
+#[derive(Clone, Copy)]
+pub enum End {
+    /// An entry was handed over.
+    Booted,
+
+    /// Each entry was refused.
+    NoEntryLeft,
+}
+
+/// Why a boot, its explanation, its digest or a map is not told to its end: the description breaks
+/// a rule of its form or one of machines, the sink had a fault, or memory ran out.
 #[derive(Clone, Copy)]
 pub enum EndFault {
     BadDescription,

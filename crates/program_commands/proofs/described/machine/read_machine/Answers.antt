@@ -6,8 +6,8 @@ use Rattle.program_desc.specs.Views.{IsReaderFault, view}
 use Rattle.program_desc.specs.declared.fault.DescFault.{DescFault}
 use Rattle.program_desc.specs.declared.fault.DescFault.TheVariants.{BadDescription, NoMemory}
 use Rattle.program_boots.specs.described.DescribedMachine.{IsMachineFault}
-use Rattle.program_boots.specs.described.ReadMachines.{IsReadingFault}
-use Rattle.program_boots.proofs.described.machine.read_machine.Goals as goal
+use Rattle.program_commands.specs.internal.Readings.{IsReadingFault}
+use Rattle.program_commands.proofs.described.machine.read_machine.Goals as goal
 
 undescribed : (desc : List ℕ) (fault : DescFault) → IsReaderFault fault (described desc)
     → IsReadingFault desc fault

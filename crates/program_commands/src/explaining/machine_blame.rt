@@ -2,11 +2,10 @@
 ghost use Rattle.std.specs.Prelude.{option_map};
 ghost use Rattle.program_desc.specs.Views.{view};
 ghost use Rattle.program_say.specs.blame.BlameLines.{blame_lines};
-ghost use Rattle.program_boots.specs.explaining.MachineBlames.{IsMachineOrBlamed, SaysLines};
+ghost use Rattle.program_commands.specs.internal.Readings.{IsMachineOrBlamed, SaysLines};
 
-use crate::explaining::fault::ExplainFault;
 use bl_map::{Machine, MapFault};
-use program_desc::Description;
+use program_desc::{DescFault, Description};
 use program_say::{Blame, say_blame};
 use std::alloc::Allocator;
 
@@ -17,13 +16,13 @@ pub fn blamed<'a, A: Allocator + Copy, B: Allocator>(
     blame: &'a Blame<'a>,
     description: Option<&'a Description<A>>,
     say: &mut Vec<u8, B>,
-) -> ExplainFault
+) -> DescFault
     ensures { SaysLines (blame_lines blame.now (option_map (λ d. view d.now) description.entry))
         say.old.items say.new.items result }
 {
     match say_blame(alloc, blame, description, say) {
-        Ok(()) => ExplainFault::Blamed,
-        Err(_) => ExplainFault::NoMemory,
+        Ok(()) => DescFault::BadDescription,
+        Err(_) => DescFault::NoMemory,
     }
 }
 
@@ -32,14 +31,14 @@ pub fn machine_or_blame<A: Allocator + Copy, B: Allocator>(
     alloc: A,
     description: &Description<A>,
     say: &mut Vec<u8, B>,
-) -> Result<Machine<A>, ExplainFault>
+) -> Result<Machine<A>, DescFault>
     ensures { IsMachineOrBlamed (view description.now) say.old.items say.new.items result }
 {
     let pool = description.pool.start..description.pool.end;
     let regions = description.regions.as_slice();
     match Machine::new(alloc, description.size, regions, pool) {
         Ok(machine) => Ok(machine),
-        Err(MapFault::NoMemory) => Err(ExplainFault::NoMemory),
+        Err(MapFault::NoMemory) => Err(DescFault::NoMemory),
         Err(fault) => Err(blamed(alloc, &Blame::BadMachine(fault), Some(description), say)),
     }
 }

@@ -2,8 +2,7 @@
 ghost use Rattle.std.specs.Prelude.{IfOk, IfErr};
 ghost use Rattle.program_desc.specs.Views.{view};
 ghost use Rattle.program_boots.specs.described.DescribedMachine.{IsMachineFault, IsMachineOf};
-ghost use Rattle.program_boots.specs.described.ReadMachines.{IsReadMachine};
-ghost use Rattle.program_boots.specs.described.ReadMachines.{IsReadingFault};
+ghost use Rattle.program_commands.specs.internal.Readings.{IsReadMachine, IsReadingFault};
 
 use bl_map::{Machine, MapFault};
 use program_desc::{DescFault, Description};
