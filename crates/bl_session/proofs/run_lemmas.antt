@@ -3,8 +3,6 @@ pub mod SteadyLemmas
 pub mod AwaitedAnswers
 pub mod HeardLemmas
 pub mod FaithfulLaws
-pub mod AskLemmas
-pub mod AskFileLemmas
 pub mod TurnLemmas
 pub mod HearLemmas
 pub mod AnswerLemmas

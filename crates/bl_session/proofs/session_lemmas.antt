@@ -6,7 +6,9 @@ pub mod KeptMemoryLemmas
 pub mod StepLemmas
 pub mod StepFaultLemmas
 pub mod EndedLemmas
-pub mod LaterLemmas
 pub mod NextLemmas
 pub mod BootCallLemmas
 pub mod TakenLemmas
+pub mod AskLemmas
+pub mod AskFileLemmas
+pub mod AwaitingLemmas

@@ -25,4 +25,7 @@ pub use runs::{
     faithful_stores_boot_by_their_files, marked_histories_are_genuine, run,
     runs_end_with_the_first_entry_not_refused,
 };
-pub use session::{BootFault, Outcome, OwnedSession, Progress, Session};
+pub use session::{
+    BootFault, BootHolder, LentBoot, Outcome, OwnedBoot, OwnedSession, Progress, Session,
+    SessionOver,
+};

@@ -10,7 +10,8 @@ ghost use Rattle.bl_store.specs.Faithful.{IsFaithful};
 ghost use Rattle.bl_session.specs.session.Schedules.{Faults};
 ghost use Rattle.bl_session.specs.session.Outcome.{IsOutcome, HasEnded};
 ghost use Rattle.bl_session.specs.session.Phases.{boot_facts, state_at};
-ghost use Rattle.bl_session.specs.runs.Run.{IsRun, IsGenuineRun, final_phase};
+ghost use Rattle.bl_session.specs.runs.Run.{IsRun, IsGenuineRun};
+ghost use Rattle.bl_session.specs.session.Phases.{final_phase};
 ghost use Rattle.bl_session.specs.internal.runs.RunParts.{asked_sizes};
 ghost use Rattle.bl_session.specs.internal.runs.AnswerSteps.{RunsOrStops};
 
@@ -24,7 +25,6 @@ use bl_store::Store;
 use std::alloc::{AllocError, Allocator};
 
 mod answer_loop;
-pub(crate) mod attempt_submissions;
 mod run_laws;
 
 pub use run_laws::{

@@ -6,82 +6,77 @@ ghost use Rattle.bl_session.specs.session.BootSteps.{StepsToOrFails, StartsOrFai
 ghost use Rattle.bl_session.specs.session.BootSteps.{attempt_number};
 ghost use Rattle.bl_session.specs.session.BootSteps as boot;
 ghost use Rattle.bl_session.specs.session.BootMemory.{IsMemoryAt};
-ghost use Rattle.bl_session.specs.session.Phases.{boot_facts, state_at, is_waiting};
+ghost use Rattle.bl_session.specs.session.Phases.{state_at, is_waiting};
 ghost use Rattle.bl_store.specs.Events.{event_facts};
-ghost use Rattle.bl_session.specs.session.Phases.{phase_facts, end_facts, told_end, not_started};
+ghost use Rattle.bl_session.specs.session.Phases.{end_facts, told_end, final_phase, not_started};
 ghost use Rattle.bl_session.specs.session.Phases.{LiesWithin, KeepsFramesIn};
-ghost use Rattle.bl_session.specs.runs.Run.{final_phase};
 
 use crate::menu::Menu;
-use crate::session::boot_end::{boot_end, into_boot_end};
-use crate::session::event_taking::take_event;
-use crate::session::phase::{BootContext, Phase};
-use crate::session::starting::begin_first;
+use crate::session::event_taking::{go_on, take_in_attempt};
+use crate::session::phase::{BootContext, Phase, number_of, progress_of};
+use crate::session::starting::reserve_and_begin;
 use bl_map::Machine;
 use bl_mem::PhysMem;
 use bl_store::Event;
-use std::alloc::{AllocError, Allocator};
+use std::alloc::Allocator;
 use std::marker::Model;
 
 mod awaiting;
-mod awaiting_by_phase;
-mod boot_end;
+mod boot_holder;
 mod event_taking;
 mod falling_back;
 pub(crate) mod outcome;
-mod owned_session;
 mod phase;
 mod starting;
+mod submissions;
 
+pub use boot_holder::{BootHolder, LentBoot, OwnedBoot};
 pub use outcome::{BootFault, Outcome, Progress};
-pub use owned_session::OwnedSession;
 
-/// A boot on its way. It keeps no bytes of files: these lie in the pool of the memory that each of
-/// its calls is handed.
+/// A boot on its way, over what holds its machine and its menu. It keeps no bytes of files: these
+/// lie in the pool of the memory that each of its calls is handed.
 #[derive(Drop)]
-pub struct Session<'a, A: Allocator + Copy> {
-    pub(crate) alloc: A,
-    pub(crate) machine: &'a Machine<A>,
-    pub(crate) menu: &'a Menu<A>,
-    pub(crate) sizes: Vec<Option<u64>, A>,
-    pub(crate) phase: Phase<A>,
+pub struct SessionOver<A: Allocator + Copy, H: BootHolder<A>> {
+    alloc: A,
+    holder: H,
+    sizes: Vec<Option<u64>, A>,
+    phase: Phase<A>,
 }
 
-impl<'a, A: Allocator + Copy> Model for Session<'a, A> {
+/// A boot on its way whose machine and menu are lent.
+pub type Session<'a, A> = SessionOver<A, LentBoot<'a, A>>;
+
+/// A boot on its way that owns its machine and its menu: it may be kept where no borrow can, as
+/// by C.
+pub type OwnedSession<A> = SessionOver<A, OwnedBoot<A>>;
+
+impl<A: Allocator + Copy, H: BootHolder<A>> Model for SessionOver<A, H> {
     ghost use Rattle.bl_session.specs.session.Phases.{SessionFacts, boot_facts, phase_facts};
     ghost use Rattle.bl_session.specs.internal.session.KeptPhases.{IsPhaseKept};
 
     ghost Value = { SessionFacts };
 
     ghost view = { λ s. record {
-      boot = boot_facts s.machine.now s.menu.now s.sizes.items;
-      phase = phase_facts s.menu.now.attempts s.phase;
+      boot = boot_facts (H.machine s.holder) (H.menu s.holder) s.sizes.items;
+      phase = phase_facts (H.menu s.holder).attempts s.phase;
     } };
 
-    ghost invariant = { λ s. IsPhaseKept s.machine.now s.menu.now s.phase };
+    ghost invariant = { λ s. IsPhaseKept (H.machine s.holder) (H.menu s.holder) s.phase };
 }
 
-impl<'a, A: Allocator + Copy> Session<'a, A> {
-    /// A boot of this menu on this machine, not started. `sizes` has the length of each file of the
-    /// menu, by its index; `None` is a missing file, and so is one after the end.
-    pub fn new(
-        alloc: A,
-        machine: &'a Machine<A>,
-        menu: &'a Menu<A>,
-        sizes: &[Option<u64>],
-    ) -> Result<Session<'a, A>, AllocError>
-        ensures { IfOk result (λ session. session ≡ record {
-          boot = boot_facts machine.now menu.now sizes.now;
-          phase = not_started;
-        }) }
+impl<A: Allocator + Copy, H: BootHolder<A>> SessionOver<A, H> {
+    /// The machine that it boots.
+    pub fn machine(&self) -> &Machine<A>
+        ensures { result.now ≡ self.now.boot.machine }
     {
-        Ok(Session {
-            alloc,
-            machine,
-            menu,
-            sizes: Vec::from_slice(alloc, sizes)?,
-            phase: Phase::Unstarted,
-        })
+        self.holder.machine()
+    }
+
+    /// Its menu.
+    pub fn menu(&self) -> &Menu<A>
+        ensures { result.now ≡ self.now.boot.menu }
+    {
+        self.holder.menu()
     }
 
     /// Gives room to the pool, and begins the first attempt. It acts once: later it changes
@@ -109,13 +104,15 @@ impl<'a, A: Allocator + Copy> Session<'a, A> {
         ensures staged { KeepsFramesIn self.old.boot.machine.pool self.new.phase }
         ensures kept { KeepsSizeAndRoom M.lender M.bytes M.room memory.old memory.new }
     {
-        let boot = BootContext {
-            alloc: self.alloc,
-            machine: self.machine,
-            menu: self.menu,
-            sizes: &self.sizes,
-        };
-        begin_first(&boot, memory, &mut self.phase)
+        let boot = BootContext::over(self.alloc, &self.holder, &self.sizes);
+        let attempt = number_of(&self.phase);
+        if let Phase::Unstarted = self.phase {
+            self.phase = match reserve_and_begin(&boot, memory) {
+                Ok(first) => first,
+                Err(_) => Phase::Failed(BootFault::NoMemory),
+            };
+        }
+        progress_of(boot.machine, boot.menu, attempt, &self.phase)
     }
 
     /// Takes one event. One that is not wanted changes nothing: before the start, after the end, of
@@ -145,13 +142,13 @@ impl<'a, A: Allocator + Copy> Session<'a, A> {
         ensures staged { KeepsFramesIn self.old.boot.machine.pool self.new.phase }
         ensures kept { KeepsSizeAndRoom M.lender M.bytes M.room memory.old memory.new }
     {
-        let boot = BootContext {
-            alloc: self.alloc,
-            machine: self.machine,
-            menu: self.menu,
-            sizes: &self.sizes,
-        };
-        take_event(&boot, memory, &mut self.phase, event)
+        let boot = BootContext::over(self.alloc, &self.holder, &self.sizes);
+        let attempt = number_of(&self.phase);
+        if let Phase::Waits(running) = &mut self.phase {
+            let ended = take_in_attempt(&boot, memory, running, event);
+            go_on(&mut self.phase, ended);
+        }
+        progress_of(boot.machine, boot.menu, attempt, &self.phase)
     }
 
     /// The end, once there is one.
@@ -160,16 +157,26 @@ impl<'a, A: Allocator + Copy> Session<'a, A> {
         ensures inside { IfSome result (λ end. IfOk end (λ outcome.
             LiesWithin self.now.boot.machine.size outcome.now.handoff)) }
     {
-        boot_end(&self.phase)
+        match &self.phase {
+            Phase::HandedOver(outcome) => Some(Ok(outcome)),
+            Phase::Failed(fault) => Some(Err(fault)),
+            Phase::Unstarted => None,
+            Phase::Waits(_) => None,
+        }
     }
 
     /// The end, once there is one, for good.
     pub fn into_outcome(self) -> Option<Result<Outcome<A>, BootFault<A>>>
-        ensures end { option_map final_phase result ≡ end_facts self.entry.phase }
+        ensures end { option_map final_phase result ≡ end_facts self.phase }
         ensures inside { IfSome result (λ end. IfOk end (λ outcome.
-            LiesWithin self.entry.boot.machine.size outcome.handoff)) }
+            LiesWithin self.boot.machine.size outcome.handoff)) }
     {
-        let Session { phase, .. } = self;
-        into_boot_end(phase)
+        let SessionOver { phase, .. } = self;
+        match phase {
+            Phase::HandedOver(outcome) => Some(Ok(outcome)),
+            Phase::Failed(fault) => Some(Err(fault)),
+            Phase::Unstarted => None,
+            Phase::Waits(_) => None,
+        }
     }
 }

@@ -5,7 +5,7 @@ use Rattle.std.specs.Borrow.{Bor}
 use Rattle.bl_session.specs.declared.session.outcome.BootFault.{BootFault}
 use Rattle.bl_session.specs.declared.session.outcome.BootFault.TheVariants.{NoEntryLeft, NoMemory}
 use Rattle.bl_session.specs.declared.session.outcome.Outcome.{Outcome}
-use Rattle.bl_session.specs.runs.Run.{final_phase}
+use Rattle.bl_session.specs.session.Phases.{final_phase}
 use Rattle.bl_session.specs.session.Phases.{HandsOverWithin, LiesWithin, PhaseFacts, end_facts}
 use Rattle.bl_session.specs.session.Phases.{fault_facts, has_none, hands_over, lacks_memory}
 use Rattle.bl_session.specs.session.Phases.{not_started, outcome_facts, told_end, waits}

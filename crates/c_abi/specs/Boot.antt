@@ -8,7 +8,7 @@ use Rattle.bl_session.specs.session.BootMemory.{IsMemoryAt}
 use Rattle.bl_session.specs.menu.Menu.{MenuFacts}
 use Rattle.bl_session.specs.session.Outcome.{IsOutcome, HasEnded}
 use Rattle.bl_session.specs.session.Phases.{PhaseFacts, boot_facts, state_at, HandsOverWithin}
-use Rattle.bl_session.specs.runs.Run.{final_phase}
+use Rattle.bl_session.specs.session.Phases.{final_phase}
 use Rattle.bl_session.specs.declared.session.outcome.BootFault.{BootFault}
 use Rattle.bl_session.specs.declared.session.outcome.Outcome.{Outcome}
 use Rattle.c_records.specs.declared.given_records.MachineRecord.{MachineRecord}

@@ -3,7 +3,7 @@ ghost use Rattle.std.specs.Prelude.{◌≡◌, ◌+◌, ◌≤◌, OnOk, Result,
 ghost use Rattle.std.specs.Prelude.{option_copied};
 ghost use Rattle.bl_mem.specs.Memory.{KeepsSizeAndRoom, memory_from};
 ghost use Rattle.bl_store.specs.Ledger.{sliced_file};
-ghost use Rattle.bl_session.specs.runs.Run.{final_phase};
+ghost use Rattle.bl_session.specs.session.Phases.{final_phase};
 ghost use Rattle.bl_session.specs.session.Phases.{PhaseFacts};
 ghost use Rattle.c_abi.specs.Boot.{HasBootEnded, IsGivenBootEnd, given_files, typed_end};
 ghost use Rattle.c_abi.specs.BootTold.{TellsBoot};

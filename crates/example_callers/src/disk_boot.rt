@@ -5,7 +5,7 @@ ghost use Rattle.bl_stage.specs.Files as menu_files;
 ghost use Rattle.bl_store.specs.Ledger.{sliced_file};
 ghost use Rattle.bl_session.specs.session.Outcome.{IsOutcome, HasEnded};
 ghost use Rattle.bl_session.specs.session.Phases.{boot_facts, state_at};
-ghost use Rattle.bl_session.specs.runs.Run.{final_phase};
+ghost use Rattle.bl_session.specs.session.Phases.{final_phase};
 
 use crate::disk::Disk;
 use bl_map::Machine;

@@ -24,7 +24,7 @@ use Rattle.bl_session.specs.session.Phases.{PhaseFacts, not_started, waits, hand
 use Rattle.bl_session.specs.session.Phases.{lacks_memory, state_at, is_waiting}
 use Rattle.bl_session.specs.runs.Run.{RunState, run_state_of, IsAnswer, IsEventOf}
 use Rattle.bl_session.specs.internal.runs.RunParts.{HistoryLeadsOn, all_asked, run_state_after}
-use Rattle.bl_session.specs.internal.runs.RunParts.{first_awaited_ticket}
+use Rattle.bl_session.specs.internal.session.Submitted.{first_awaited_ticket}
 use Rattle.bl_session.proofs.session_lemmas.NextLemmas.{lost_ends}
 use Rattle.bl_session.proofs.run_lemmas.TurnLemmas.{heard_on, owed_same, owed_next}
 

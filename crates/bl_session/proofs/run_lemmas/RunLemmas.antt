@@ -17,7 +17,8 @@ use Rattle.bl_session.specs.session.Submissions.{attempt_submissions}
 use Rattle.bl_session.specs.session.Phases.{PhaseFacts, not_started, state_at, is_waiting}
 use Rattle.bl_session.specs.session.Phases.{boot_facts}
 use Rattle.bl_session.specs.runs.Run.{RunState, run_state_of, IsRun}
-use Rattle.bl_session.specs.internal.runs.RunParts.{AreAskedButRest, HistoryLeadsOn, all_asked}
+use Rattle.bl_session.specs.internal.session.Submitted.{AreAskedButRest}
+use Rattle.bl_session.specs.internal.runs.RunParts.{HistoryLeadsOn, all_asked}
 use Rattle.bl_session.specs.internal.runs.AnswerSteps.{StopsInAttempt}
 use Rattle.bl_session.proofs.run_lemmas.AlikeRuns.{run_alike, alike_listed}
 use Rattle.bl_session.proofs.session_lemmas.KeptMemoryLemmas.{memory_on}

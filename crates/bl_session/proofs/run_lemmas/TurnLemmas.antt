@@ -13,7 +13,8 @@ use Rattle.bl_session.specs.session.BootSteps.{StepsToOrFails}
 use Rattle.bl_store.specs.History.{HistoryItem}
 use Rattle.bl_session.specs.session.Submissions.{attempt_submissions, new_submissions}
 use Rattle.bl_session.specs.runs.Run.{RunState, run_state_of, ItemsLeadTo, IsEventOf}
-use Rattle.bl_session.specs.internal.runs.RunParts.{AreAskedButRest, LeadsOn, HistoryLeadsOn}
+use Rattle.bl_session.specs.internal.session.Submitted.{AreAskedButRest}
+use Rattle.bl_session.specs.internal.runs.RunParts.{LeadsOn, HistoryLeadsOn}
 
 pub leads_on : (facts : BootFacts) (files : List File) (given : List HistoryItem) (a b c : RunState)
     (xs ys : List HistoryItem)

@@ -1,5 +1,5 @@
 -- What an attempt that waits makes of an event, by whether it waits for it.
-use Rattle.std.proofs.Common.{◌≡◌, ◌≢◌, ℕ, true, false, List, Option, None, Some, Result, Ok, Err}
+use Rattle.std.proofs.Common.{◌≡◌, ◌≢◌, ℕ, true, false, MatchBool, List, Option, None, Some, Result, Ok, Err}
 use Rattle.std.proofs.Common.{ap, drop, inl, inr, refl}
 use Rattle.bl_load.specs.declared.refusal.Refusal.TheVariants.{FileFault}
 use Rattle.bl_stage.specs.PieceStates.{piece_states}
@@ -11,12 +11,13 @@ use Rattle.bl_session.specs.declared.session.phase.Phase.TheVariants.{Failed, Ha
 use Rattle.bl_session.specs.declared.session.phase.Phase.TheVariants.{Waits}
 use Rattle.bl_session.specs.declared.session.outcome.BootFault.TheVariants.{NoEntryLeft, NoMemory}
 use Rattle.bl_session.specs.declared.session.outcome.Progress.{Progress}
-use Rattle.bl_session.specs.session.BootSteps.{attempt_number, is_taken}
+use Rattle.bl_session.specs.session.BootMemory.{IsMemoryAt}
+use Rattle.bl_session.specs.session.BootSteps.{BootFacts, StepsToOrFails, attempt_number, is_taken}
 use Rattle.bl_store.specs.Events.{EventFacts, fault}
 use Rattle.bl_session.specs.session.BootSteps.{is_wanted, progress}
 use Rattle.bl_session.specs.internal.session.KeptPhases.{IsPhaseKept, facts_of_boot, phase_by}
-use Rattle.bl_session.specs.internal.session.KeptPhases.{running_in, state_in}
-use Rattle.bl_session.specs.internal.session.BootCalls.{FallsBack, HasTakenEvent, LeadsToPhase}
+use Rattle.bl_session.specs.internal.session.KeptPhases.{running_in, state_in, state_of}
+use Rattle.bl_session.specs.internal.session.BootCalls.{FallsBack, LeadsToPhase}
 use Rattle.bl_session.specs.internal.session.BootCalls.{TakesEventOn}
 use Rattle.bl_session.specs.internal.session.PhaseMoves.{phase_after}
 use Rattle.bl_session.proofs.session_lemmas.StepLemmas.{by_test, memory_taken}
@@ -60,13 +61,31 @@ fault_taken boot ticket r next old new result wanted leads =
 
 -- ---- a session
 
+-- a boot that stood at a phase took an event, and told how far it came. One that it does not wait
+-- for changes nothing
+pub record HasTakenEvent {A : Type 0} (facts : BootFacts) (event : EventFacts) (p q : Phase A)
+    (old new : List ℕ) (told : Progress) : Type 0 where
+  pub step :
+      StepsToOrFails facts (state_of facts.menu.attempts old p) event
+      (state_of facts.menu.attempts new q)
+  pub progress :
+      told
+      ≡ progress (attempt_number (state_of facts.menu.attempts old p))
+      (state_of facts.menu.attempts new q)
+  pub memory :
+      MatchBool (is_taken (state_of facts.menu.attempts old p) event)
+      (IsMemoryAt facts.machine.pool (state_of facts.menu.attempts new q) old new) (new ≡ old)
+  pub unchanged : is_taken (state_of facts.menu.attempts old p) event ≡ false → q ≡ p
+  pub stands : IsPhaseKept facts.machine facts.menu q
+
 ended_on : {A E : Type 0} (boot : BootContext A) (event : EventFacts) (r next : Running A)
     (old new : List ℕ) (result : Result (Option (Phase A)) E) (told : Progress)
     → TakesEventOn boot event r next old new result
     → told
     ≡ progress (attempt_number (running_in boot old r))
     (state_in boot new (phase_after (Waits next) result))
-    → HasTakenEvent boot event (Waits r) (phase_after (Waits next) result) old new told
+    → HasTakenEvent (facts_of_boot boot) event (Waits r) (phase_after (Waits next) result) old new
+    told
 ended_on boot event r next old new (Ok None) told taken is = record {
   step = inl taken.step;
   progress = is;
@@ -100,19 +119,21 @@ goes_to_kept boot event r next old new (Ok None) taken = taken.stands
 goes_to_kept boot event r next old new (Ok (Some phase)) taken = taken.stands
 goes_to_kept boot event r next old new (Err e) taken = tt
 
-kept_as_is : {A : Type 0} (boot : BootContext A) (event : EventFacts) (phase : Phase A)
+kept_as_is : {A : Type 0} (facts : BootFacts) (event : EventFacts) (phase : Phase A)
     (bytes : List ℕ) (told : Progress) → ((r : Running A) → phase ≢ Waits r)
-    → IsPhaseKept boot.machine.now boot.menu.now phase
-    → told ≡ progress (attempt_number (state_in boot bytes phase)) (state_in boot bytes phase)
-    → HasTakenEvent boot event phase phase bytes bytes told
-kept_as_is boot event Unstarted bytes told other kept is =
+    → IsPhaseKept facts.machine facts.menu phase
+    → told
+    ≡ progress (attempt_number (state_of facts.menu.attempts bytes phase))
+    (state_of facts.menu.attempts bytes phase)
+    → HasTakenEvent facts event phase phase bytes bytes told
+kept_as_is facts event Unstarted bytes told other kept is =
     record { step = inl refl; progress = is; memory = refl; unchanged = λ same. refl; stands = kept }
-kept_as_is boot event (Waits r) bytes told other kept is = absurd (other r refl)
-kept_as_is boot event (HandedOver outcome) bytes told other kept is =
+kept_as_is facts event (Waits r) bytes told other kept is = absurd (other r refl)
+kept_as_is facts event (HandedOver outcome) bytes told other kept is =
     record { step = inl refl; progress = is; memory = refl; unchanged = λ same. refl; stands = kept }
-kept_as_is boot event (Failed (NoEntryLeft refused)) bytes told other kept is =
+kept_as_is facts event (Failed (NoEntryLeft refused)) bytes told other kept is =
     record { step = inl refl; progress = is; memory = refl; unchanged = λ same. refl; stands = kept }
-kept_as_is boot event (Failed NoMemory) bytes told other kept is =
+kept_as_is facts event (Failed NoMemory) bytes told other kept is =
     record { step = inl refl; progress = is; memory = refl; unchanged = λ same. refl; stands = kept }
 
 -- one whose attempt waits goes on to the phase after the event
@@ -122,7 +143,7 @@ pub goes_on : {A E : Type 0} (boot : BootContext A) (event : EventFacts) (p q : 
     → p ≡ Waits r → q ≡ phase_after (Waits next) result → new ≡ mid
     → number ≡ attempt_number (state_in boot old p) → told ≡ progress number (state_in boot new q)
     → TakesEventOn boot event r next old mid result
-    → HasTakenEvent boot event p q old new told
+    → HasTakenEvent (facts_of_boot boot) event p q old new told
 goes_on boot event p q r next old mid new result number told waits goes same counts is taken =
     rw (waits, goes, same)
     (ended_on boot event r next old mid result told taken
@@ -134,7 +155,7 @@ pub stays : {A : Type 0} (boot : BootContext A) (event : EventFacts) (p q : Phas
     → ((r : Running A) → p ≢ Waits r) → q ≡ p → new ≡ old
     → number ≡ attempt_number (state_in boot old p) → told ≡ progress number (state_in boot new q)
     → IsPhaseKept boot.machine.now boot.menu.now p
-    → HasTakenEvent boot event p q old new told
+    → HasTakenEvent (facts_of_boot boot) event p q old new told
 stays boot event p q old new number told other goes same counts is kept =
     rw (goes, same)
-    (kept_as_is boot event p old told other kept (rw (counts, goes, same) at is))
+    (kept_as_is (facts_of_boot boot) event p old told other kept (rw (counts, goes, same) at is))

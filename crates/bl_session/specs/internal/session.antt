@@ -1,3 +1,4 @@
 pub mod KeptPhases
 pub mod BootCalls
 pub mod PhaseMoves
+pub mod Submitted

@@ -1,12 +1,9 @@
 -- A boot over a store: what the store was asked and answered, read from left to right. Own.
-use Rattle.std.specs.Prelude.{◌≡◌, ◌⊎◌, ◌↔◌, ℕ, true, List, [], ◌∷◌, ◌++◌, length, Some, Result, Ok}
-use Rattle.std.specs.Prelude.{Err}
+use Rattle.std.specs.Prelude.{◌≡◌, ◌⊎◌, ◌↔◌, ℕ, true, List, [], ◌∷◌, ◌++◌, length, Some}
 use Rattle.bl_load.specs.declared.refused_entry.RefusedEntry.{RefusedEntry}
 use Rattle.bl_stage.specs.PieceStates.{PieceState}
 use Rattle.bl_stage.specs.Files.{File}
 use Rattle.bl_store.specs.declared.ticket.Ticket.{Ticket}
-use Rattle.bl_session.specs.declared.session.outcome.BootFault.{BootFault}
-use Rattle.bl_session.specs.declared.session.outcome.Outcome.{Outcome}
 use Rattle.bl_session.specs.session.BootSteps.{BootFacts, State}
 use Rattle.bl_store.specs.Events.{EventFacts, piece, fault}
 use Rattle.bl_session.specs.session.BootSteps.{unstarted}
@@ -19,7 +16,6 @@ use Rattle.bl_store.specs.History.{file_under}
 use Rattle.bl_store.specs.History.{IsPieceOf}
 use Rattle.bl_session.specs.session.Submissions.{attempt_submissions, new_submissions}
 use Rattle.bl_session.specs.attempt.AwaitedTickets.{first_ticket}
-use Rattle.bl_session.specs.session.Phases.{PhaseFacts, outcome_facts, fault_facts}
 
 -- ---- answers as events
 
@@ -135,9 +131,3 @@ IsMarkedRun facts files old new = EachGainedAnswerIs facts files IsMarkedItem ol
 abbrev pub IsGenuineRun : BootFacts → List File → Faults → (old new : List HistoryItem) → Type 0
 IsGenuineRun facts files faults old new =
     EachGainedAnswerIs facts files (IsGenuineItem faults) old new
-
--- ---- the end of a boot
-
-abbrev pub final_phase : {A : Type 0} → Result (Outcome A) (BootFault A) → PhaseFacts
-final_phase (Ok outcome) = outcome_facts outcome
-final_phase (Err why) = fault_facts why

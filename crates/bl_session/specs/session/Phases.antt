@@ -53,6 +53,11 @@ abbrev pub fault_facts : {A : Type 0} → BootFault A → PhaseFacts
 fault_facts (NoEntryLeft refused) = has_none refused.items
 fault_facts NoMemory = lacks_memory
 
+-- a boot that ended so
+abbrev pub final_phase : {A : Type 0} → Result (Outcome A) (BootFault A) → PhaseFacts
+final_phase (Ok outcome) = outcome_facts outcome
+final_phase (Err why) = fault_facts why
+
 abbrev pub running_facts : {A : Type 0} → (attempts : List ℕ) → Running A → PhaseFacts
 running_facts attempts r = waits r.entry (drop r.next attempts) r.earlier.items r.stage
 

@@ -1,4 +1,4 @@
-//! A session takes an event.
+//! An attempt that waits takes an event.
 ghost use Rattle.std.specs.Prelude.{◌≡◌, ◌≢◌, ◌==◌, ℕ, List, MatchBool, length};
 ghost use Rattle.bl_mem.specs.Memory.{KeepsSizeAndRoom};
 ghost use Rattle.bl_stage.specs.PieceStates.{piece_states};
@@ -6,16 +6,14 @@ ghost use Rattle.bl_session.specs.session.BootSteps.{is_wanted};
 ghost use Rattle.bl_store.specs.Events.{fault};
 ghost use Rattle.bl_store.specs.Events.{event_facts};
 ghost use Rattle.bl_session.specs.declared.session.phase.Phase.TheVariants.{Waits};
-ghost use Rattle.bl_session.specs.session.Phases.{phase_facts, KeepsFramesIn};
 ghost use Rattle.bl_session.specs.internal.session.KeptPhases.{IsPhaseKept};
 ghost use Rattle.bl_session.specs.internal.session.PhaseMoves.{phase_after};
 ghost use Rattle.bl_session.specs.internal.attempt.AttemptStates.{HasPoolRoom};
 ghost use Rattle.bl_session.specs.internal.session.BootCalls.{TakesEventOn};
-ghost use Rattle.bl_session.specs.internal.session.BootCalls.{HasRoomWhileWaiting, HasTakenEvent};
 
 use crate::session::falling_back::{continue_attempt, refuse};
-use crate::session::outcome::{BootFault, Progress};
-use crate::session::phase::{BootContext, Phase, Running, number_of, progress_of};
+use crate::session::outcome::BootFault;
+use crate::session::phase::{BootContext, Phase, Running};
 use bl_load::Refusal;
 use bl_mem::PhysMem;
 use bl_stage::Put;
@@ -50,7 +48,7 @@ fn is_stored(answer: Put) -> bool
 /// Takes an event: the attempt runs on, or it ended, and the phase after it is answered. A piece is
 /// stored if the attempt awaits it, and the last one ends the attempt. A fault of a piece that it
 /// awaits refuses the entry.
-fn take_in_attempt<M: PhysMem, A: Allocator + Copy>(
+pub fn take_in_attempt<M: PhysMem, A: Allocator + Copy>(
     boot: &BootContext<A>,
     memory: &mut M,
     running: &mut Running<A>,
@@ -85,7 +83,7 @@ fn take_in_attempt<M: PhysMem, A: Allocator + Copy>(
 }
 
 /// Goes on to the phase after an attempt that ended. If memory ran out, the boot has failed.
-fn go_on<A: Allocator>(phase: &mut Phase<A>, ended: Result<Option<Phase<A>>, AllocError>)
+pub fn go_on<A: Allocator>(phase: &mut Phase<A>, ended: Result<Option<Phase<A>>, AllocError>)
     ensures { phase.new ≡ phase_after phase.old ended }
 {
     let next = match ended {
@@ -94,28 +92,4 @@ fn go_on<A: Allocator>(phase: &mut Phase<A>, ended: Result<Option<Phase<A>>, All
         Err(_) => Phase::Failed(BootFault::NoMemory),
     };
     *phase = next;
-}
-
-/// Takes an event. One that no attempt waits for changes nothing.
-pub fn take_event<M: PhysMem, A: Allocator + Copy>(
-    boot: &BootContext<A>,
-    memory: &mut M,
-    phase: &mut Phase<A>,
-    event: Event,
-) -> Progress
-    requires standing { IsPhaseKept boot.now.machine.now boot.now.menu.now phase.old }
-    requires memory { HasRoomWhileWaiting boot.now phase.old
-        (M.bytes memory.old) (M.room memory.old) }
-    ensures taken { HasTakenEvent boot.now (event_facts event.entry) phase.old phase.new
-        (M.bytes memory.old) (M.bytes memory.new) result }
-    ensures staged { KeepsFramesIn boot.now.machine.now.pool
-        (phase_facts boot.now.menu.now.attempts phase.new) }
-    ensures kept { KeepsSizeAndRoom M.lender M.bytes M.room memory.old memory.new }
-{
-    let attempt = number_of(phase);
-    if let Phase::Waits(running) = phase {
-        let ended = take_in_attempt(boot, memory, running, event);
-        go_on(phase, ended);
-    }
-    progress_of(boot.machine, boot.menu, attempt, phase)
 }

@@ -1,15 +1,11 @@
 //! A session starts: its first attempt begins.
 ghost use Rattle.std.specs.Prelude.{◌≡◌, [], OnOk, length};
 ghost use Rattle.bl_mem.specs.Memory.{KeepsSizeAndRoom};
-ghost use Rattle.bl_session.specs.session.Phases.{phase_facts, KeepsFramesIn};
-ghost use Rattle.bl_session.specs.internal.session.KeptPhases.{IsPhaseKept};
 ghost use Rattle.bl_session.specs.internal.attempt.AttemptStates.{HasPoolRoom};
 ghost use Rattle.bl_session.specs.internal.session.BootCalls.{GoesFrom, LeadsToPhase};
-ghost use Rattle.bl_session.specs.internal.session.BootCalls.{HasStarted};
 
 use crate::session::falling_back::begin;
-use crate::session::outcome::{BootFault, Progress};
-use crate::session::phase::{BootContext, Phase, number_of, progress_of};
+use crate::session::phase::{BootContext, Phase};
 use bl_map::Machine;
 use bl_mem::PhysMem;
 use std::alloc::{AllocError, Allocator};
@@ -33,7 +29,7 @@ fn reserve_pool<M: PhysMem, A: Allocator>(
 }
 
 /// Gives room to the pool, and begins the first attempt.
-fn reserve_and_begin<M: PhysMem, A: Allocator + Copy>(
+pub fn reserve_and_begin<M: PhysMem, A: Allocator + Copy>(
     boot: &BootContext<A>,
     memory: &mut M,
 ) -> Result<Phase<A>, AllocError>
@@ -46,28 +42,4 @@ fn reserve_and_begin<M: PhysMem, A: Allocator + Copy>(
 {
     reserve_pool(boot.machine, memory)?;
     begin(boot, memory, 0, Vec::new(boot.alloc))
-}
-
-/// The start. It acts once.
-pub fn begin_first<M: PhysMem, A: Allocator + Copy>(
-    boot: &BootContext<A>,
-    memory: &mut M,
-    phase: &mut Phase<A>,
-) -> Progress
-    requires standing { IsPhaseKept boot.now.machine.now boot.now.menu.now phase.old }
-    requires size { length (M.bytes memory.old) ≡ boot.now.machine.now.size }
-    ensures started { HasStarted boot.now phase.old phase.new
-        (M.bytes memory.old) (M.bytes memory.new) (M.room memory.new) result }
-    ensures staged { KeepsFramesIn boot.now.machine.now.pool
-        (phase_facts boot.now.menu.now.attempts phase.new) }
-    ensures kept { KeepsSizeAndRoom M.lender M.bytes M.room memory.old memory.new }
-{
-    let attempt = number_of(phase);
-    if let Phase::Unstarted = phase {
-        *phase = match reserve_and_begin(boot, memory) {
-            Ok(first) => first,
-            Err(_) => Phase::Failed(BootFault::NoMemory),
-        };
-    }
-    progress_of(boot.machine, boot.menu, attempt, phase)
 }

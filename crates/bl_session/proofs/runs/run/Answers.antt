@@ -2,7 +2,8 @@ use Rattle.std.proofs.Common.{List, [], None, map, refl, sym, subst, ap, option_
 use Rattle.bl_stage.specs.Files.{size_of}
 use Rattle.bl_store.specs.History.{HistoryItem}
 use Rattle.bl_session.specs.session.Phases.{PhaseFacts, boot_facts, state_at}
-use Rattle.bl_session.specs.runs.Run.{IsRun, final_phase}
+use Rattle.bl_session.specs.runs.Run.{IsRun}
+use Rattle.bl_session.specs.session.Phases.{final_phase}
 use Rattle.bl_session.specs.session.BootMemory.{IsMemoryAt}
 use Rattle.bl_session.proofs.session_lemmas.EndedLemmas.{ended_with, has_end}
 use Rattle.bl_session.proofs.run_lemmas.ScheduleLaws.{run_ended}

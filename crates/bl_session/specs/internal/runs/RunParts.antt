@@ -1,13 +1,10 @@
 -- Parts of a run: what a history gained leads from one state of a run to another. Own.
-use Rattle.std.specs.Prelude.{◌≡◌, ℕ, ◌+◌, List, [], ◌∷◌, ◌++◌, length, Option, None}
-use Rattle.std.specs.Prelude.{Result, Ok, Err}
-use Rattle.std.specs.Prelude.{map, slice_index_or}
+use Rattle.std.specs.Prelude.{◌≡◌, ℕ, ◌+◌, List, [], ◌∷◌, ◌++◌, length, map, slice_index_or}
+use Rattle.std.specs.Prelude.{Option}
 use Rattle.std.specs.List.{range_with_len}
 use Rattle.bl_stage.specs.Files.{File, missing, size_of}
-use Rattle.bl_store.specs.declared.ticket.Ticket.{Ticket}
 use Rattle.bl_session.specs.session.BootSteps.{BootFacts, State, on_running}
 use Rattle.bl_store.specs.History.{HistoryItem}
-use Rattle.bl_session.specs.attempt.AwaitedTickets.{first_ticket}
 use Rattle.bl_session.specs.session.Submissions.{new_submissions}
 use Rattle.bl_session.specs.runs.Run.{RunState, Delivers}
 
@@ -15,19 +12,6 @@ use Rattle.bl_session.specs.runs.Run.{RunState, Delivers}
 abbrev pub asked_sizes : List File → ℕ → List (Option ℕ)
 asked_sizes files count =
     map (λ file. size_of (slice_index_or files file missing)) (range_with_len 0 count)
-
--- of these submissions, in order, all but the rest were asked for
-pub record AreAskedButRest (attempt_submissions rest old new : List HistoryItem) : Type 0 where
-  pub asked : List HistoryItem
-  pub all : attempt_submissions ≡ asked ++ rest
-  pub given : new ≡ old ++ asked
-
--- these submissions were asked for, in order; if that ended in an error, all but the rest
-abbrev pub AreSubmitted :
-    {T E : Type 0} → Result T E → (attempt_submissions old new : List HistoryItem) → Type 0
-AreSubmitted (Ok done) attempt_submissions old new = new ≡ old ++ attempt_submissions
-AreSubmitted (Err why) attempt_submissions old new =
-    (rest : List HistoryItem) × AreAskedButRest attempt_submissions rest old new
 
 -- these items, after this history, lead from one state of a run to another
 abbrev pub LeadsOn :
@@ -58,8 +42,3 @@ run_state_after facts old new = record {
 -- how many attempts are left, with the one that runs
 abbrev pub attempts_left : State → ℕ
 attempts_left state = on_running state 0 (λ entry rest earlier files. length rest + 1)
-
--- the ticket of the first piece that the attempt awaits
-abbrev pub first_awaited_ticket : State → Option Ticket
-first_awaited_ticket state =
-    on_running state None (λ entry rest earlier files. first_ticket (length earlier) 0 files)

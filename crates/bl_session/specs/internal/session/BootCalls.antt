@@ -1,8 +1,7 @@
 -- What the calls of a boot share: where they lead.
-use Rattle.std.specs.Prelude.{◌≡◌, ◌≢◌, ℕ, List, [], ◌∷◌, ◌++◌, length, drop, true, false}
+use Rattle.std.specs.Prelude.{◌≡◌, ℕ, List, [], ◌∷◌, ◌++◌, length, drop, true, false}
 use Rattle.std.specs.Prelude.{MatchBool}
 use Rattle.std.specs.Prelude.{Option, None, Result, Ok, IfOk, OnErr}
-use Rattle.bl_mem.specs.Memory.{HasRoom}
 use Rattle.bl_load.specs.declared.refusal.Refusal.{Refusal}
 use Rattle.bl_load.specs.declared.refused_entry.RefusedEntry.{RefusedEntry}
 use Rattle.bl_stage.specs.Ranges.{IsSameOutside}
@@ -10,13 +9,9 @@ use Rattle.bl_stage.specs.PieceStates.{piece_states}
 use Rattle.bl_session.specs.declared.session.phase.BootContext.{BootContext}
 use Rattle.bl_session.specs.declared.session.phase.Running.{Running}
 use Rattle.bl_session.specs.declared.session.phase.Phase.{Phase}
-use Rattle.bl_session.specs.declared.session.outcome.Progress.{Progress}
 use Rattle.bl_session.specs.session.BootSteps.{State, StepsTo, is_taken, ends_attempt}
 use Rattle.bl_store.specs.Events.{EventFacts}
-use Rattle.bl_session.specs.session.BootSteps.{Begins, Continues, StepsToOrFails, StartsOrFails}
-use Rattle.bl_session.specs.session.BootSteps.{attempt_number}
-use Rattle.bl_session.specs.session.BootSteps as steps
-use Rattle.bl_session.specs.session.Phases.{phase_facts, is_waiting, not_started}
+use Rattle.bl_session.specs.session.BootSteps.{Begins, Continues}
 use Rattle.bl_session.specs.session.BootMemory.{IsMemoryAt}
 use Rattle.bl_session.specs.internal.session.KeptPhases.{facts_of_boot, running_in, state_in}
 use Rattle.bl_session.specs.internal.session.KeptPhases.{phase_by}
@@ -68,35 +63,3 @@ GoesOnOrEnds boot r bytes =
     Continues (facts_of_boot boot)
     (Begins (facts_of_boot boot) (drop r.next boot.menu.now.attempts)) r.entry
     (drop r.next boot.menu.now.attempts) r.earlier.items (piece_states bytes r.stage)
-
--- memory has the machine's size, and while an attempt waits, the pool has its room
-pub record HasRoomWhileWaiting {A : Type 0} (boot : BootContext A) (phase : Phase A)
-    (bytes : List ℕ) (has_room : ℕ → Type 0) : Type 0 where
-  pub size : length bytes ≡ boot.machine.now.size
-  pub room : is_waiting (phase_facts boot.menu.now.attempts phase) ≡ true
-      → HasRoom has_room boot.machine.now.pool.start boot.machine.now.pool.end
-
--- a boot that stood at a phase was started, and told how far it came. It acts once
-pub record HasStarted {A : Type 0} (boot : BootContext A) (p q : Phase A) (old new : List ℕ)
-    (has_room : ℕ → Type 0) (told : Progress) : Type 0 where
-  pub step : StartsOrFails (facts_of_boot boot) (state_in boot old p) (state_in boot new q)
-  pub progress : told ≡ steps.progress (attempt_number (state_in boot old p)) (state_in boot new q)
-  pub memory : phase_facts boot.menu.now.attempts p ≡ not_started
-      → IsMemoryAt boot.machine.now.pool (state_in boot new q) old new
-  pub same : phase_facts boot.menu.now.attempts p ≢ not_started → (q ≡ p) × (new ≡ old)
-  pub room : phase_facts boot.menu.now.attempts p ≡ not_started
-      → is_waiting (phase_facts boot.menu.now.attempts q) ≡ true
-      → HasRoom has_room boot.machine.now.pool.start boot.machine.now.pool.end
-  pub stands : IsPhaseKept boot.machine.now boot.menu.now q
-
--- a boot that stood at a phase took an event, and told how far it came. One that it does not wait
--- for changes nothing
-pub record HasTakenEvent {A : Type 0} (boot : BootContext A) (event : EventFacts) (p q : Phase A)
-    (old new : List ℕ) (told : Progress) : Type 0 where
-  pub step : StepsToOrFails (facts_of_boot boot) (state_in boot old p) event (state_in boot new q)
-  pub progress : told ≡ steps.progress (attempt_number (state_in boot old p)) (state_in boot new q)
-  pub memory :
-      MatchBool (is_taken (state_in boot old p) event)
-      (IsMemoryAt boot.machine.now.pool (state_in boot new q) old new) (new ≡ old)
-  pub unchanged : is_taken (state_in boot old p) event ≡ false → q ≡ p
-  pub stands : IsPhaseKept boot.machine.now boot.menu.now q

@@ -1,15 +1,11 @@
 -- What a session keeps of its phase, and of the stage of an attempt that waits. Own.
-use Rattle.std.specs.Prelude.{◌≡◌, ℕ, ◌<◌, ◌≤◌, List, length, All, Option, None, Some, Result}
+use Rattle.std.specs.Prelude.{◌≡◌, ℕ, ◌<◌, ◌≤◌, List, length, All, Option, None, Some}
 use Rattle.std.specs.Prelude.{map, slice_index_or}
-use Rattle.std.specs.Prelude.{Ok, Err}
-use Rattle.std.specs.Borrow.{Bor}
 use Rattle.bl_map.specs.MachineFacts.{MachineFacts}
 use Rattle.bl_load.specs.declared.refusal.PrepFault.{PrepFault}
 use Rattle.bl_load.specs.declared.refusal.PrepFault.TheVariants as prep_fault
 use Rattle.bl_stage.specs.Staged.{Staging, AllCame, AreStaged, empty_stage}
 use Rattle.bl_stage.specs.Files.{file_limit}
-use Rattle.bl_session.specs.declared.session.outcome.Outcome.{Outcome}
-use Rattle.bl_session.specs.declared.session.outcome.BootFault.{BootFault}
 use Rattle.bl_session.specs.declared.session.phase.BootContext.{BootContext}
 use Rattle.bl_session.specs.declared.session.phase.Running.{Running}
 use Rattle.bl_session.specs.declared.session.phase.Phase.{Phase}
@@ -105,17 +101,3 @@ IsPhaseKept machine menu Unstarted = Unit {0}
 IsPhaseKept machine menu (Waits r) = IsWaiting machine menu r × LacksPiece r.stage
 IsPhaseKept machine menu (HandedOver outcome) = LiesWithin machine.size outcome.handoff
 IsPhaseKept machine menu (Failed why) = Unit {0}
-
--- the end, if a phase is one
-abbrev pub end_in : {A : Type 0} → Phase A → Option (Result (Outcome A) (BootFault A))
-end_in Unstarted = None
-end_in (Waits r) = None
-end_in (HandedOver outcome) = Some (Ok outcome)
-end_in (Failed why) = Some (Err why)
-
--- an end that is lent
-abbrev pub lent_end : {A : Type 0} → Option (Result (Bor (Outcome A)) (Bor (BootFault A)))
-    → Option (Result (Outcome A) (BootFault A))
-lent_end None = None
-lent_end (Some (Ok outcome)) = Some (Ok outcome.now)
-lent_end (Some (Err why)) = Some (Err why.now)

@@ -2,7 +2,7 @@ use Rattle.std.proofs.Common.{ℕ, arith, refl, subst}
 use Rattle.std.proofs.lemmas.List.{length-append, length-replicate}
 use Rattle.bl_mem.specs.Memory.{memory_from}
 use Rattle.bl_session.specs.menu.Menu.{MenuFacts}
-use Rattle.bl_session.specs.runs.Run.{final_phase}
+use Rattle.bl_session.specs.session.Phases.{final_phase}
 use Rattle.c_abi.specs.Boot.{few_places, bad_machine, bad_memory, bad_menu}
 use Rattle.c_abi.specs.Boot.{HasBootEnded, given_files}
 use Rattle.c_abi.proofs.MachineLaws.{given_size}

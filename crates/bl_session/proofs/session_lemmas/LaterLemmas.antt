@@ -1,1 +1,0 @@
--- Each event leaves the attempt as it runs, or ends it for good.
