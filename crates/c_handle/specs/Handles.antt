@@ -11,12 +11,20 @@ use denote.RawPtr.{Ptr, Testable, null_ptr}
 use denote.Struct.Lending.{lent_at}
 use Rattle.bl_digest.specs.contracts.digesting.Digesting as digesting
 use Rattle.bl_digest.specs.PlanInSteps.{DigestingFacts}
-use Rattle.bl_session.specs.contracts.OwnedSession as owned
+use Rattle.bl_session.specs.contracts.OwnedBoot as owned
+use Rattle.bl_session.specs.contracts.SessionOver as session
+use Rattle.bl_session.specs.contracts.session.boot_holder.OwnedBootBootHolder.TheImpl as holder
 use Rattle.bl_session.specs.session.Phases.{SessionFacts}
 
--- a session on the heap, and a digest, as the logic sees their types
+-- a session on the heap, with what holds its machine and its menu, and a digest, as the logic sees
+-- their types
+abbrev pub boot_type : RattleType
+boot_type = owned.the_row heap.the_row ghosts
+
 abbrev pub session_type : RattleType
-session_type = owned.the_row heap.the_row ghosts
+session_type =
+    session.the_row heap.the_row boot_type ghosts
+    (holder.ghosts heap.the_row ghosts holder.no_dict holder.no_dict)
 
 abbrev pub digest_type : RattleType
 digest_type = digesting.the_row heap.the_row ghosts

@@ -5,13 +5,18 @@ use Rattle.std.proofs.Crossing as crossing
 use Rattle.std.proofs.alloc.Global.TheSendSync as heap_send
 use Rattle.std.specs.contracts.alloc.Global as heap
 use Rattle.std.specs.contracts.impls.GlobalAllocator.TheImpl.{ghosts}
-use Rattle.bl_session.proofs.OwnedSession.TheSendSync.{the_send as owned_send}
-use Rattle.c_handle.specs.Handles.{session_type}
+use Rattle.bl_session.specs.contracts.session.boot_holder.OwnedBootBootHolder.TheImpl as holder
+use Rattle.bl_session.proofs.OwnedBoot.TheSendSync.{the_send as boot_send}
+use Rattle.bl_session.proofs.SessionOver.TheSendSync.{the_send as session_send}
+use Rattle.c_handle.specs.Handles.{boot_type, session_type}
 use Rattle.c_handle.specs.contracts.handle.Handle.{the_row, the_type}
 use Rattle.c_handle.proofs.SendSteps.{keyless, quiet}
 
 session : IsSend session_type
-session = owned_send heap.the_row ghosts crossing.send crossing.frees
+session =
+    session_send heap.the_row boot_type ghosts
+    (holder.ghosts heap.the_row ghosts holder.no_dict holder.no_dict) crossing.send
+    (boot_send heap.the_row ghosts crossing.send crossing.frees) crossing.frees
 
 pub send : IsSend the_row
 send =

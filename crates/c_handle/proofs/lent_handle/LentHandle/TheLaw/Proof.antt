@@ -9,14 +9,19 @@ use denote.Param.Laws.{Laws}
 use Rattle.std.specs.contracts.alloc.Global as heap
 use Rattle.std.proofs.alloc.Global.TheLaws as heap_laws
 use Rattle.std.specs.contracts.impls.GlobalAllocator.TheImpl.{ghosts}
-use Rattle.bl_session.proofs.OwnedSession.TheLaws as kept_laws
-use Rattle.c_handle.specs.Handles.{session_type}
+use Rattle.bl_session.specs.contracts.session.boot_holder.OwnedBootBootHolder.TheImpl as holder
+use Rattle.bl_session.proofs.OwnedBoot.TheLaws as boot_laws
+use Rattle.bl_session.proofs.SessionOver.TheLaws as kept_laws
+use Rattle.c_handle.specs.Handles.{boot_type, session_type}
 use Rattle.c_handle.specs.contracts.lent_handle.LentHandle as handle
 use Rattle.c_handle.proofs.LookSteps.{handle_lends, shares_laws}
 use Rattle.c_handle.proofs.lent_handle.LentHandle.TheLaw.Statement.{statement}
 
 laws : Laws session_type
-laws = kept_laws.the_row_laws heap.the_row ghosts heap_laws.the_row_laws
+laws =
+    kept_laws.the_row_laws heap.the_row boot_type ghosts
+    (holder.ghosts heap.the_row ghosts holder.no_dict holder.no_dict) heap_laws.the_row_laws
+    (boot_laws.the_row_laws heap.the_row ghosts heap_laws.the_row_laws)
 
 pub shares : statement
 shares =
