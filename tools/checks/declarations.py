@@ -1,11 +1,11 @@
 """What a source declares, and at which line: one parser for the tools that check pages.
 
 In .antt: a definition, a field, a constructor. In .rt: `fn`, `struct`, `enum`, `trait`; with `Type::call` a call within a trait or an `impl`
-of that type; with `call.clause` a clause of the call's contract."""
+of that type, or of the type that `type Type = ..` of the same file names; with `call.clause` a clause of the call's contract."""
 import re
 from functools import lru_cache
 from pathlib import Path
-from typing import Dict, Tuple
+from typing import Dict, List, Tuple
 
 TOP = Path(__file__).resolve().parent.parent.parent
 MARK = re.compile(r"(pub|abbrev|unfoldable|data|record) ")
@@ -13,6 +13,7 @@ OWNER = re.compile(r"(?:impl|(?:pub )?trait)[ <]")
 ITEM = re.compile(
     r' *(?:pub(?:\([a-z]+\))? )?(?:(?:const|unsafe|ghost|extern "C") )*(fn|struct|enum|trait) ([A-Za-z0-9_]+)'
 )
+ALIAS = re.compile(r"(?:pub(?:\([a-z]+\))? )?type ([A-Za-z0-9_]+)[^=]*= ([A-Za-z0-9_]+)")
 CLAUSE = re.compile(r" *(ensures|requires) ([A-Za-z0-9_]+) \{")
 
 
@@ -49,6 +50,7 @@ def from_antt(places: Places, line: str, number: int) -> None:
 def declared(path: str) -> Dict[str, int]:
     """The line of each name that a source declares; its path is from the top of the repository."""
     places, owner, call = Places(), "", ""
+    aliases: List[Tuple[str, str]] = []
     for number, line in enumerate((TOP / path).read_text(encoding="utf-8").splitlines(), 1):
         if path.endswith(".antt"):
             from_antt(places, line, number)
@@ -57,6 +59,9 @@ def declared(path: str) -> Dict[str, int]:
             owner = owner_of(line)
         elif line.startswith("}"):
             owner = ""
+        elif alias := ALIAS.match(line):
+            places.declare(alias[1], number)
+            aliases.append((alias[1], f"{alias[2]}::"))
         if item := ITEM.match(line):
             places.declare(item[2], number)
             if item[1] == "fn":
@@ -69,4 +74,7 @@ def declared(path: str) -> Dict[str, int]:
             places.declare(f"{call}.{clause[2]}", number, rank)
             if owner:
                 places.declare(f"{owner}::{call}.{clause[2]}", number, rank)
+    for alias, owner in aliases:
+        for name, (rank, line) in [each for each in places.items() if each[0].startswith(owner)]:
+            places.declare(f"{alias}::{name[len(owner) :]}", line, rank)
     return {name: line for name, (_, line) in places.items()}

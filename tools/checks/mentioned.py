@@ -81,6 +81,7 @@ class Names:
         self.options = set(TOOLCHAIN)
         self.clauses = collections.defaultdict(set)  # by call, by Type::call, and by either with a crate's folder before it
         self.members = collections.defaultdict(set)
+        self.aliases = set()  # each with its crate's folder and the type that it names
         texts = []
         for path in self.files:
             if path.endswith(NOT_SOURCES) or path == "tools/checks/mentioned.py":
@@ -95,6 +96,11 @@ class Names:
                 self.read_calls(re.match(r"crates/\w+/|", path)[0], texts[-1])
             elif path.endswith(".antt"):
                 self.read_records(texts[-1])
+        for crate, alias, owner in self.aliases:
+            self.members[alias] |= self.members[owner]
+            for before in ("", crate):
+                for call in self.members[owner]:
+                    self.clauses[f"{before}{alias}::{call}"] |= self.clauses[f"{before}{owner}::{call}"]
         self.text = "\n".join(texts)
         self.subcommands = collections.defaultdict(set)  # each with its options
         for name, rest in USAGE.findall((TOP / "crates/bootcore/src/program.rt").read_text()):
@@ -114,6 +120,8 @@ class Names:
                 owner = re.match(r"(?:impl (?:.* for )?|(?:pub )?(?:trait|enum) )\s*(\w+)", line)[1]
             elif line.startswith("}"):
                 owner = ""
+            elif alias := re.match(r"(?:pub )?type (\w+)[^=]*= (\w+)", line):
+                self.aliases.add((crate, *alias.groups()))
             function = re.match(r'\s*(?:pub(?:\(\w+\))? )?(?:(?:const|unsafe|ghost|extern "C") )*fn (\w+)', line)
             variant = re.match(r"    ([A-Z]\w*)\b", line)
             clause = re.match(r"\s*(?:ensures|requires) (\w+) \{", line)
