@@ -17,9 +17,11 @@ pub trait BootHolder<A: Allocator>: Drop {
 
     ghost menu: { Self → MenuFacts };
 
+    /// The machine that is booted.
     fn machine(&self) -> &Machine<A>
         ensures { result.now ≡ machine self.now };
 
+    /// The menu that is booted on it.
     fn menu(&self) -> &Menu<A>
         ensures { result.now ≡ menu self.now };
 }

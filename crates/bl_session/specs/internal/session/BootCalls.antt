@@ -1,5 +1,5 @@
 -- What the calls of a boot share: where they lead.
-use Rattle.std.specs.Prelude.{◌≡◌, ℕ, List, [], ◌∷◌, ◌++◌, length, drop, true, false}
+use Rattle.std.specs.Prelude.{◌≡◌, ℕ, List, [], ◌∷◌, ◌++◌, drop, true, false}
 use Rattle.std.specs.Prelude.{MatchBool}
 use Rattle.std.specs.Prelude.{Option, None, Result, Ok, IfOk, OnErr}
 use Rattle.bl_load.specs.declared.refusal.Refusal.{Refusal}
