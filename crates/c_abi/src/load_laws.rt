@@ -35,7 +35,8 @@ pub fn loads_end_as_prepared()
         → IsGivenLoadEnd machine entry space base old new (Err fault)
         → (fault ≡ NoMemory) ⊎ (fault ≡ Outside) }
     ensures prepared_too { (machine : MachineRecord) (entry : EntryRecord)
-        (room space base : ℕ) (old new : List ℕ) (fault : LoadFault) (loaded : HandoffFacts) → max_parts ≤ room
+        (room space base : ℕ) (old new : List ℕ) (fault : LoadFault) (loaded : HandoffFacts)
+        → max_parts ≤ room
         → IsGivenPrepareEnd machine entry (texts_given entry) room (Err fault)
         → IsGivenLoadEnd machine entry space base old new (Ok loaded) → fault ≡ NoMemory }
     ensures one_refusal { (machine : MachineRecord) (entry : EntryRecord)
