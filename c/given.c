@@ -192,8 +192,8 @@ bootcore_given_memory bootcore_memory_crossing(const bootcore_memory *memory) {
     return given;
 }
 
-/* All that is told of a machine crosses as it is, with regions that are not null, nor many more than there
- * may be. */
+/* All that is told of a machine crosses as it is, but regions that are null cross as an array of none, and
+ * of too many regions one more than there may be. */
 bootcore_machine bootcore_machine_crossing(const bootcore_machine *machine) {
     bootcore_machine crossing = *machine;
     crossing.regions = bootcore_given_array(machine->regions);
