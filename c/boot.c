@@ -5,7 +5,7 @@ BOOTCORE_CALL
 uint32_t bootcore_boot(const bootcore_memory *memory, const bootcore_machine *machine,
                        const bootcore_menu *menu, bootcore_outcome *outcome) {
     bootcore_given_memory given_memory;
-    bootcore_machine given_machine;
+    bootcore_given_machine given_machine;
     bootcore_crossing_entry *entries;
     bootcore_refusal no_refusal;
     uint64_t count = 0;
@@ -27,9 +27,9 @@ uint32_t bootcore_boot(const bootcore_memory *memory, const bootcore_machine *ma
         return BOOTCORE_STATUS_NO_MEMORY;
     }
     given_memory = bootcore_memory_crossing(memory);
-    given_machine = bootcore_machine_crossing(machine);
+    bootcore_machine_crossing(machine, &given_machine);
     status = bootcore_boot_arrays(
-        given_memory.bytes, given_memory.length, given_memory.base, &given_machine, entries,
+        given_memory.bytes, given_memory.length, given_memory.base, &given_machine.machine, entries,
         bootcore_count_entries(menu), menu->first, bootcore_given_array(menu->fallbacks),
         menu->fallback_count, &outcome->handoff, outcome->places, outcome->place_room,
         outcome->refusal_room ? outcome->refusals : &no_refusal, outcome->refusal_room, &count);

@@ -68,6 +68,12 @@ BOOTCORE_HAS_SIZE(bootcore_crossing_entry, 120);
 BOOTCORE_HAS_SIZE(bootcore_counts, 24);
 BOOTCORE_HAS_SIZE(bootcore_crossing_request, 20);
 BOOTCORE_HAS_SIZE(bootcore_machine, 72);
+BOOTCORE_HAS_SIZE(bootcore_color, 2);
+BOOTCORE_HAS_SIZE(bootcore_screen, 32);
+BOOTCORE_HAS_SIZE(bootcore_efi, 48);
+BOOTCORE_HAS_SIZE(bootcore_smbios, 24);
+BOOTCORE_HAS_SIZE(bootcore_avoided, 16);
+BOOTCORE_HAS_SIZE(bootcore_firmware, 176);
 BOOTCORE_HAS_SIZE(bootcore_region, 24);
 BOOTCORE_HAS_SIZE(bootcore_registers, 288);
 BOOTCORE_HAS_SIZE(bootcore_segment, 24);
@@ -80,6 +86,9 @@ BOOTCORE_HAS_SIZE(bootcore_session, 8);
 BOOTCORE_HAS_SIZE(bootcore_seen, 136);
 BOOTCORE_HAS_SIZE(bootcore_seen_part, 24);
 BOOTCORE_HAS_SIZE(bootcore_seen_module, 40);
+BOOTCORE_HAS_SIZE(bootcore_seen_efi, 56);
+BOOTCORE_HAS_SIZE(bootcore_seen_smbios, 24);
+BOOTCORE_HAS_SIZE(bootcore_seen_firmware, 152);
 BOOTCORE_HAS_SIZE(bootcore_digest, 8);
 BOOTCORE_HAS_SIZE(bootcore_file_range, 32);
 BOOTCORE_HAS_SIZE(bootcore_part_digest, 72);
@@ -164,7 +173,8 @@ uint32_t bootcore_walk_all_arrays(const uint8_t *image, size_t image_length, boo
                                   bootcore_seen_part *kernel_parts, size_t kernel_part_room,
                                   bootcore_seen_module *modules, size_t module_room,
                                   bootcore_region *runs, size_t run_room, uint8_t *text,
-                                  size_t text_room, bootcore_refusal *fault);
+                                  size_t text_room, bootcore_seen_firmware *firmware,
+                                  bootcore_refusal *fault);
 
 BOOTCORE_CALL
 uint32_t bootcore_digest_make_arrays(bootcore_digest *digest,

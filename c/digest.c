@@ -4,7 +4,7 @@
 BOOTCORE_CALL
 uint32_t bootcore_digest_make(bootcore_digest *digest, const bootcore_machine *machine,
                               const bootcore_entry *entry, bootcore_refusal *refusal) {
-    bootcore_machine given_machine;
+    bootcore_given_machine given_machine;
     bootcore_given_entry given;
     uint32_t status;
     if (!digest || bootcore_machine_has_null(machine) ||
@@ -15,9 +15,9 @@ uint32_t bootcore_digest_make(bootcore_digest *digest, const bootcore_machine *m
     if (status != BOOTCORE_STATUS_DONE) {
         return status;
     }
-    given_machine = bootcore_machine_crossing(machine);
+    bootcore_machine_crossing(machine, &given_machine);
     bootcore_entry_crossing(entry, BOOTCORE_READS_KERNEL, &given);
-    return bootcore_digest_make_arrays(digest, &given_machine, &given.entry, refusal);
+    return bootcore_digest_make_arrays(digest, &given_machine.machine, &given.entry, refusal);
 }
 
 BOOTCORE_CALL
@@ -64,7 +64,7 @@ uint32_t bootcore_digest_entry(const bootcore_machine *machine, const bootcore_e
                                bootcore_digests *digests, bootcore_part_digest *parts,
                                size_t room, bootcore_refusal *refusal) {
     const bootcore_menu menu = {entry, 1, NULL, 0, 0, 0, {0, 0, 0, 0}};
-    bootcore_machine given_machine;
+    bootcore_given_machine given_machine;
     bootcore_crossing_entry *given;
     bootcore_part_digest no_part;
     uint32_t status;
@@ -81,8 +81,8 @@ uint32_t bootcore_digest_entry(const bootcore_machine *machine, const bootcore_e
     if (!given) {
         return BOOTCORE_STATUS_NO_MEMORY;
     }
-    given_machine = bootcore_machine_crossing(machine);
-    status = bootcore_digest_entry_arrays(&given_machine, given, digests,
+    bootcore_machine_crossing(machine, &given_machine);
+    status = bootcore_digest_entry_arrays(&given_machine.machine, given, digests,
                                           room ? parts : &no_part, room, refusal);
     rattle_dealloc(given);
     return status;

@@ -23,7 +23,7 @@ BOOTCORE_CALL
 uint32_t bootcore_load(const bootcore_memory *memory, const bootcore_machine *machine,
                        const bootcore_entry *entry, bootcore_outcome *outcome) {
     bootcore_given_memory given_memory;
-    bootcore_machine given_machine;
+    bootcore_given_machine given_machine;
     bootcore_given_entry given;
     bootcore_refusal refusal = {0, 0, 0, 0, 0};
     bootcore_place no_place;
@@ -40,10 +40,10 @@ uint32_t bootcore_load(const bootcore_memory *memory, const bootcore_machine *ma
         return status;
     }
     given_memory = bootcore_memory_crossing(memory);
-    given_machine = bootcore_machine_crossing(machine);
+    bootcore_machine_crossing(machine, &given_machine);
     bootcore_entry_crossing(entry, BOOTCORE_READS_ALL, &given);
     status = bootcore_load_arrays(given_memory.bytes, given_memory.length, given_memory.base,
-                                  &given_machine, &given.entry, &outcome->handoff,
+                                  &given_machine.machine, &given.entry, &outcome->handoff,
                                   places_of(outcome, &no_place), outcome->place_room, &refusal);
     tell_end(status, &refusal, outcome);
     return status;
@@ -52,7 +52,7 @@ uint32_t bootcore_load(const bootcore_memory *memory, const bootcore_machine *ma
 BOOTCORE_CALL
 uint32_t bootcore_prepare(const bootcore_machine *machine, const bootcore_entry *entry,
                           bootcore_outcome *outcome) {
-    bootcore_machine given_machine;
+    bootcore_given_machine given_machine;
     bootcore_given_entry given;
     bootcore_refusal refusal = {0, 0, 0, 0, 0};
     bootcore_place no_place;
@@ -69,9 +69,9 @@ uint32_t bootcore_prepare(const bootcore_machine *machine, const bootcore_entry 
     if (status != BOOTCORE_STATUS_DONE) {
         return status;
     }
-    given_machine = bootcore_machine_crossing(machine);
+    bootcore_machine_crossing(machine, &given_machine);
     bootcore_entry_crossing(entry, BOOTCORE_READS_KERNEL, &given);
-    status = bootcore_prepare_arrays(&given_machine, &given.entry, &outcome->handoff,
+    status = bootcore_prepare_arrays(&given_machine.machine, &given.entry, &outcome->handoff,
                                      places_of(outcome, &no_place), outcome->place_room, &refusal);
     tell_end(status, &refusal, outcome);
     return status;
@@ -86,7 +86,7 @@ static bool has_null_layout(const bootcore_layout *layout) {
 BOOTCORE_CALL
 uint32_t bootcore_plan(const bootcore_machine *machine, const bootcore_entry *entry,
                        bootcore_layout *layout) {
-    bootcore_machine given_machine;
+    bootcore_given_machine given_machine;
     bootcore_given_entry given;
     bootcore_counts counts = {0, 0, 0};
     bootcore_place no_place;
@@ -111,10 +111,10 @@ uint32_t bootcore_plan(const bootcore_machine *machine, const bootcore_entry *en
     if (status != BOOTCORE_STATUS_DONE) {
         return status;
     }
-    given_machine = bootcore_machine_crossing(machine);
+    bootcore_machine_crossing(machine, &given_machine);
     bootcore_entry_crossing(entry, BOOTCORE_READS_KERNEL, &given);
     status = bootcore_plan_arrays(
-        &given_machine, &given.entry, &layout->handoff, &counts,
+        &given_machine.machine, &given.entry, &layout->handoff, &counts,
         layout->place_room ? layout->places : &no_place, layout->place_room,
         layout->step_room ? layout->steps : &no_step, layout->step_room,
         layout->own_room ? layout->own : &no_byte, layout->own_room, &layout->refusal);
@@ -130,7 +130,7 @@ uint32_t bootcore_plan(const bootcore_machine *machine, const bootcore_entry *en
 BOOTCORE_CALL
 uint32_t bootcore_unplaced(const bootcore_machine *machine, const bootcore_entry *entry,
                            bootcore_unplaced_part *part, bootcore_refusal *refusal) {
-    bootcore_machine given_machine;
+    bootcore_given_machine given_machine;
     bootcore_given_entry given;
     uint32_t status;
     if (bootcore_machine_has_null(machine) ||
@@ -141,7 +141,7 @@ uint32_t bootcore_unplaced(const bootcore_machine *machine, const bootcore_entry
     if (status != BOOTCORE_STATUS_DONE) {
         return status;
     }
-    given_machine = bootcore_machine_crossing(machine);
+    bootcore_machine_crossing(machine, &given_machine);
     bootcore_entry_crossing(entry, BOOTCORE_READS_KERNEL, &given);
-    return bootcore_unplaced_record(&given_machine, &given.entry, part, refusal);
+    return bootcore_unplaced_record(&given_machine.machine, &given.entry, part, refusal);
 }

@@ -59,8 +59,14 @@ bool bootcore_memory_has_null(const bootcore_memory *memory) {
     return !memory || bootcore_is_null(memory->bytes, memory->length);
 }
 
+static bool firmware_has_null(const bootcore_firmware *firmware) {
+    return is_null_bytes(firmware->efi.map) || is_null_bytes(firmware->smbios.tables) ||
+           bootcore_is_null(firmware->avoided, firmware->avoided_count);
+}
+
 bool bootcore_machine_has_null(const bootcore_machine *machine) {
-    return !machine || bootcore_is_null(machine->regions, machine->region_count);
+    return !machine || bootcore_is_null(machine->regions, machine->region_count) ||
+           (machine->firmware && firmware_has_null(machine->firmware));
 }
 
 static bool has_null_modules(const bootcore_entry *entry, bool is_read) {
@@ -124,6 +130,11 @@ bool bootcore_memory_has_reserved(const bootcore_memory *memory) {
     return memory->reserved != 0;
 }
 
+static bool firmware_has_reserved(const bootcore_firmware *firmware) {
+    return firmware->screen.reserved8 || firmware->screen.reserved32 || firmware->smbios.reserved16 ||
+           firmware->smbios.reserved32 || BOOTCORE_IS_RESERVED_SET(firmware);
+}
+
 bool bootcore_machine_has_reserved(const bootcore_machine *machine) {
     size_t i;
     for (i = 0; i < count_regions(machine); i++) {
@@ -131,7 +142,8 @@ bool bootcore_machine_has_reserved(const bootcore_machine *machine) {
             return true;
         }
     }
-    return BOOTCORE_IS_RESERVED_SET(machine);
+    return BOOTCORE_IS_RESERVED_SET(machine) ||
+           (machine->firmware && firmware_has_reserved(machine->firmware));
 }
 
 bool bootcore_entry_has_reserved(const bootcore_entry *entry) {
@@ -192,13 +204,20 @@ bootcore_given_memory bootcore_memory_crossing(const bootcore_memory *memory) {
     return given;
 }
 
-/* All that is told of a machine crosses as it is, but regions that are null cross as an array of none, and
- * of too many regions one more than there may be. */
-bootcore_machine bootcore_machine_crossing(const bootcore_machine *machine) {
-    bootcore_machine crossing = *machine;
-    crossing.regions = bootcore_given_array(machine->regions);
-    crossing.region_count = count_regions(machine);
-    return crossing;
+/* All that is told of a machine crosses as it is, but an array that is null crosses as one of none, too many
+ * elements cross as one more than there may be, and a null pointer crosses as one to what tells nothing. */
+void bootcore_machine_crossing(const bootcore_machine *machine, bootcore_given_machine *given) {
+    static const bootcore_firmware nothing;
+    given->machine = *machine;
+    given->machine.regions = bootcore_given_array(machine->regions);
+    given->machine.region_count = count_regions(machine);
+    given->machine.firmware = &given->firmware;
+    given->firmware = machine->firmware ? *machine->firmware : nothing;
+    given->firmware.efi.map.bytes = bootcore_given_array(given->firmware.efi.map.bytes);
+    given->firmware.smbios.tables.bytes = bootcore_given_array(given->firmware.smbios.tables.bytes);
+    given->firmware.avoided = bootcore_given_array(given->firmware.avoided);
+    given->firmware.avoided_count =
+        at_most_one_more(given->firmware.avoided_count, BOOTCORE_MAX_AVOIDED);
 }
 
 static bootcore_slice slice_of(const void *array, size_t count) {

@@ -18,6 +18,12 @@ typedef struct bootcore_given_entry {
     bootcore_crossing_module modules[BOOTCORE_MAX_MODULES + 1];
 } bootcore_given_entry;
 
+/* A machine that crosses, with what firmware tells, which is never null there. */
+typedef struct bootcore_given_machine {
+    bootcore_machine machine;
+    bootcore_firmware firmware;
+} bootcore_given_machine;
+
 /* Memory that crosses. */
 typedef struct bootcore_given_memory {
     uint8_t *bytes;
@@ -61,7 +67,7 @@ size_t bootcore_count_entries(const bootcore_menu *menu);
 
 /* What crosses of what was tested. */
 bootcore_given_memory bootcore_memory_crossing(const bootcore_memory *memory);
-bootcore_machine bootcore_machine_crossing(const bootcore_machine *machine);
+void bootcore_machine_crossing(const bootcore_machine *machine, bootcore_given_machine *given);
 void bootcore_entry_crossing(const bootcore_entry *entry, bootcore_reading reading,
                              bootcore_given_entry *given);
 

@@ -9,17 +9,20 @@ static bool has_bad_kind(const bootcore_region *region) {
 
 BOOTCORE_CALL
 size_t bootcore_bad_region(const bootcore_machine *machine) {
-    bootcore_machine given;
+    bootcore_given_machine given;
+    const bootcore_region *regions;
+    size_t count;
     size_t index;
     /* of none that can be read is it */
-    if (bootcore_machine_has_null(machine)) {
+    if (!machine || bootcore_is_null(machine->regions, machine->region_count)) {
         return machine ? machine->region_count : 0;
     }
-    given = bootcore_machine_crossing(machine);
-    index = bootcore_bad_region_index(given.regions, given.region_count);
+    bootcore_machine_crossing(machine, &given);
+    regions = given.machine.regions;
+    count = given.machine.region_count;
+    index = bootcore_bad_region_index(regions, count);
     /* that there are too many is told before one that ends too high */
-    if (index == given.region_count ||
-        (given.region_count > BOOTCORE_MAX_REGIONS && !has_bad_kind(&given.regions[index]))) {
+    if (index == count || (count > BOOTCORE_MAX_REGIONS && !has_bad_kind(&regions[index]))) {
         return machine->region_count;
     }
     return index;

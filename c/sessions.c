@@ -4,7 +4,7 @@
 BOOTCORE_CALL
 uint32_t bootcore_session_make(bootcore_session *session, const bootcore_machine *machine,
                                const bootcore_menu *menu) {
-    bootcore_machine given_machine;
+    bootcore_given_machine given_machine;
     bootcore_crossing_entry *entries;
     uint32_t status;
     if (!session || bootcore_machine_has_null(machine) ||
@@ -18,8 +18,8 @@ uint32_t bootcore_session_make(bootcore_session *session, const bootcore_machine
     if (!entries) {
         return BOOTCORE_STATUS_NO_MEMORY;
     }
-    given_machine = bootcore_machine_crossing(machine);
-    status = bootcore_session_make_arrays(session, &given_machine, entries,
+    bootcore_machine_crossing(machine, &given_machine);
+    status = bootcore_session_make_arrays(session, &given_machine.machine, entries,
                                           bootcore_count_entries(menu), menu->first,
                                           bootcore_given_array(menu->fallbacks),
                                           menu->fallback_count);

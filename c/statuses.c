@@ -55,6 +55,43 @@ const char *bootcore_status_text(uint32_t status) {
         return "the pool begins below the memory that is given";
     case BOOTCORE_STATUS_UNWANTED:
         return "a digest is fed more bytes than it wants";
+    case BOOTCORE_STATUS_BAD_EFI_BITS:
+        return "UEFI has neither 32 nor 64 bits";
+    case BOOTCORE_STATUS_BAD_SECURE_BOOT:
+        return "the state of secure boot is not 0 to 3";
+    /* >>> tools/refusals: status texts of MapFault */
+    case BOOTCORE_STATUS_BAD_SCREEN_SIZE:
+        return "a bad size of the screen: its width, its height or its pitch is not 1 to 65535";
+    case BOOTCORE_STATUS_BAD_SCREEN_DEPTH:
+        return "a bad depth of the screen: not 15, 16, 24 or 32 bits";
+    case BOOTCORE_STATUS_BAD_SCREEN_COLOR:
+        return "a bad colour of the screen: its bits do not lie in the pixel";
+    case BOOTCORE_STATUS_BAD_SCREEN_PITCH:
+        return "a bad pitch of the screen: a line's pixels do not fit into its bytes";
+    case BOOTCORE_STATUS_BAD_SCREEN_PLACE:
+        return "a bad place of the screen: at 0, with an end above 2^52, or over a usable byte";
+    case BOOTCORE_STATUS_BAD_RSDP:
+        return "a bad address of the RSDP: 0, or its 36 bytes are over a usable one";
+    case BOOTCORE_STATUS_BAD_SYSTEM_TABLE:
+        return "a bad address of the UEFI system table: 0, or with 32 bits at 4 GiB or above";
+    case BOOTCORE_STATUS_BAD_DESCRIPTORS:
+        return "bad descriptors of the UEFI memory map: another version than 1, or a size below "
+               "40 or no multiple of 8";
+    case BOOTCORE_STATUS_BAD_EFI_MAP_SIZE:
+        return "a bad size of the UEFI memory map: no descriptor, a part of one, or more than 64 "
+               "KiB";
+    case BOOTCORE_STATUS_BAD_EFI_MAP_PLACE:
+        return "a bad place of the UEFI memory map: at 0, at no multiple of 8, with an end above "
+               "4 GiB, or over a usable byte";
+    case BOOTCORE_STATUS_BAD_SMBIOS_SIZE:
+        return "bad tables of SMBIOS: no byte, or more than 64 KiB";
+    case BOOTCORE_STATUS_TOO_MANY_AVOIDED:
+        return "more than 128 ranges to avoid";
+    case BOOTCORE_STATUS_BAD_AVOIDED:
+        return "a range to avoid ends above 2^52, or before it begins";
+    case BOOTCORE_STATUS_POOL_AVOIDED:
+        return "a range to avoid meets the pool";
+    /* <<< */
     default:
         return "no status has this number";
     }

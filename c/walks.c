@@ -17,6 +17,7 @@ uint32_t bootcore_walk_all(const void *image, size_t image_length, bootcore_seen
     bootcore_seen_module no_module;
     bootcore_region no_run;
     uint8_t no_text;
+    bootcore_seen_firmware no_firmware;
     if (!seen || !arrays || !fault || bootcore_is_null(image, image_length) ||
         bootcore_is_null(arrays->kernel_parts, arrays->kernel_part_room) ||
         bootcore_is_null(arrays->modules, arrays->module_room) ||
@@ -32,5 +33,6 @@ uint32_t bootcore_walk_all(const void *image, size_t image_length, bootcore_seen
         arrays->kernel_parts ? arrays->kernel_parts : &no_part, arrays->kernel_part_room,
         arrays->modules ? arrays->modules : &no_module, arrays->module_room,
         arrays->runs ? arrays->runs : &no_run, arrays->run_room,
-        arrays->text ? arrays->text : &no_text, arrays->text_room, fault);
+        arrays->text ? arrays->text : &no_text, arrays->text_room,
+        arrays->firmware ? arrays->firmware : &no_firmware, fault);
 }

@@ -70,15 +70,17 @@ enum {
     BOOTCORE_MAX_RSDP = 256,    /* bytes of a copy of an RSDP */
     BOOTCORE_MAX_PLACES = 256,  /* an entry has no more parts, */
     BOOTCORE_MAX_STEPS = 520,   /* a plan no more steps, */
-    BOOTCORE_MAX_OWN = 278528,  /* and no more bytes of its own */
+    BOOTCORE_MAX_OWN = 409600,  /* and no more bytes of its own */
     BOOTCORE_MAX_REFUSALS = 32, /* a boot refuses no more entries */
+    BOOTCORE_MAX_AVOIDED = 128, /* ranges in which nothing is placed */
     BOOTCORE_PIECE = 4096,      /* bytes of each piece of a file, but for the last one */
     BOOTCORE_STACK = 24576      /* with libbootcore.a 16384 is enough */
 };
 
 /* What a call answers, in comments without BOOTCORE_STATUS_. A misuse, from 101 on, has changed
- * nothing, but that a layout holds no plan then. Of several the first is told; of too many elements
- * only one more than there may be is looked at, but a line is read whole. */
+ * nothing, but that a layout holds no plan then. Of several the first is told, where 119 and 120
+ * come behind 105, and 121 to 134 behind 109; of too many elements only one more than there may be
+ * is looked at, but a line is read whole. */
 enum {
     BOOTCORE_STATUS_DONE = 0,
     BOOTCORE_STATUS_REFUSED = 1,   /* the entry is refused; a boot: all are; a walk: the image */
@@ -107,7 +109,16 @@ enum {
     BOOTCORE_STATUS_BAD_INDEX = 115,    /* a menu's first entry or a fallback is no entry */
     BOOTCORE_STATUS_NO_SESSION = 116,   /* no session, no digest is kept: not made, or freed */
     BOOTCORE_STATUS_LOW_POOL = 117,     /* a pool begins below memory; a boot: also for NO_MEMORY */
-    BOOTCORE_STATUS_UNWANTED = 118      /* a digest: more bytes than are wanted */
+    BOOTCORE_STATUS_UNWANTED = 118,     /* a digest: more bytes than are wanted */
+    /* of what firmware tells: docs/REFUSALS.md says more of 121 to 134 */
+    BOOTCORE_STATUS_BAD_EFI_BITS = 119,     BOOTCORE_STATUS_BAD_SECURE_BOOT = 120,
+    BOOTCORE_STATUS_BAD_SCREEN_SIZE = 121,  BOOTCORE_STATUS_BAD_SCREEN_DEPTH = 122,
+    BOOTCORE_STATUS_BAD_SCREEN_COLOR = 123, BOOTCORE_STATUS_BAD_SCREEN_PITCH = 124,
+    BOOTCORE_STATUS_BAD_SCREEN_PLACE = 125, BOOTCORE_STATUS_BAD_RSDP = 126,
+    BOOTCORE_STATUS_BAD_SYSTEM_TABLE = 127, BOOTCORE_STATUS_BAD_DESCRIPTORS = 128,
+    BOOTCORE_STATUS_BAD_EFI_MAP_SIZE = 129, BOOTCORE_STATUS_BAD_EFI_MAP_PLACE = 130,
+    BOOTCORE_STATUS_BAD_SMBIOS_SIZE = 131,  BOOTCORE_STATUS_TOO_MANY_AVOIDED = 132,
+    BOOTCORE_STATUS_BAD_AVOIDED = 133,      BOOTCORE_STATUS_POOL_AVOIDED = 134
 };
 
 /* What a status means, in a sentence; of any other number that there is none. Constant text. */
@@ -131,6 +142,53 @@ enum {
 
 typedef struct bootcore_region { uint64_t base, length; uint32_t kind, reserved; } bootcore_region;
 
+/* A screen with pixels of direct colour. Its memory begins at `base`, and ends at 2^52 at most. The
+ * pitch, in bytes, the width and the height are 1 to 65535, and a line's pixels fit into the pitch.
+ * A pixel has 15, 16, 24 or 32 bits; a colour in it so many, from that position on. */
+typedef struct bootcore_color { uint8_t position, size; } bootcore_color;
+typedef struct bootcore_screen {
+    uint64_t base; /* 0: no screen is told */
+    uint32_t pitch, width, height;
+    uint8_t depth, reserved8;
+    bootcore_color red, green, blue;
+    uint32_t reserved32;
+} bootcore_screen;
+
+/* UEFI: its system table, with 32 bits below 4 GiB, and the memory map of GetMemoryMap, 64 KiB at
+ * most: whole descriptors of 40 bytes or more, a multiple of 8, of version 1. Linux reads the map
+ * where it lies, at a multiple of 8, with an end at 4 GiB at most; Multiboot2 has a copy. */
+typedef struct bootcore_efi {
+    uint64_t system_table; /* its address; 0: no UEFI is told */
+    bootcore_bytes map;
+    uint64_t map_address;
+    uint32_t bits; /* 32 or 64 */
+    uint32_t descriptor_size, descriptor_version;
+    uint32_t secure_boot; /* 0 not told, 1 not known, 2 disabled, 3 enabled */
+} bootcore_efi;
+
+/* The tables of SMBIOS, 64 KiB at most, and their version. */
+typedef struct bootcore_smbios {
+    bootcore_bytes tables; /* of length 0: none are told */
+    uint8_t major, minor; uint16_t reserved16; uint32_t reserved32;
+} bootcore_smbios;
+
+/* A range of addresses in which nothing is placed. It ends at 2^52 at most. */
+typedef struct bootcore_avoided { uint64_t base, length; } bootcore_avoided;
+
+/* What firmware tells beside memory, and the kernel is told in its protocol's form: the screen and
+ * UEFI by each, the RSDP's address and secure boot by Linux's, SMBIOS by Multiboot2's. No byte of
+ * the screen, of the RSDP's 36 or of the map where it lies may be usable: else a part could lie
+ * there. What is avoided is told as what it is, and misses the pool. All 0: it tells nothing. */
+typedef struct bootcore_firmware {
+    bootcore_screen screen;
+    uint64_t rsdp; /* 0: it is not told */
+    bootcore_efi efi;
+    bootcore_smbios smbios;
+    const bootcore_avoided *avoided; /* in any order, may overlap */
+    size_t avoided_count;
+    uint64_t reserved[6];
+} bootcore_firmware;
+
 /* A machine. Its size is where its memory below 4 GiB ends: no part lies above. Regions come in any
  * order, may overlap, and may lie above the size, as a guest's memory above 4 GiB does; the kernel
  * is told the runs of memory that they make, all of them. The pool is where a boot or a session
@@ -141,7 +199,8 @@ typedef struct bootcore_machine {
     uint64_t size, pool_base, pool_length;
     const bootcore_region *regions;
     size_t region_count;
-    uint64_t reserved[4];
+    const bootcore_firmware *firmware; /* null: it tells nothing */
+    uint64_t reserved[3];
 } bootcore_machine;
 
 /* The index of the region of BAD_KIND, or else of BAD_REGION; if none region_count, if null 0. */
@@ -163,9 +222,9 @@ typedef struct bootcore_module {
 /* An entry. What its protocol has no use for is not looked at. A Multiboot2 kernel is an ELF file,
  * or a file with an address tag. A Linux kernel is a bzImage of boot protocol 2.10 or later, for
  * the 64-bit entry 2.12 with bit 0 of xloadflags. Linux looks for the RSDP from 0xE0000 to 0xFFFFF:
- * lay it there, in a reserved region; or name it by acpi_rsdp= in the line, where the kernel has
- * that word. Where a call looks at a file's length alone (a session; a plan, but of the kernel),
- * its bytes may be null. An initial ramdisk of length 0 is as none; such a module has a frame. */
+ * lay it there, in a reserved region; or tell its address as what firmware tells. Where a call
+ * looks at a file's length alone (a session; a plan, but of the kernel), its bytes may be null. An
+ * initial ramdisk of length 0 is as none; such a module has a frame. */
 typedef struct bootcore_entry {
     uint32_t protocol, reserved32;
     bootcore_bytes kernel, line;    /* the line without a zero byte */

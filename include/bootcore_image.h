@@ -46,7 +46,8 @@ typedef struct bootcore_range {
 } bootcore_range;
 
 /* What a kernel sees in an image. Its text is its line, the modules' lines in order, the old copy
- * of the RSDP and the new one, one after the other. */
+ * of the RSDP and the new one, the copy of UEFI's memory map and SMBIOS's tables, one after the
+ * other. */
 typedef struct bootcore_seen {
     uint32_t protocol;
     uint32_t reserved32;
@@ -78,6 +79,31 @@ typedef struct bootcore_seen_module {
     uint64_t reserved;
 } bootcore_seen_module;
 
+/* UEFI as it is told to a kernel that is seen: to Linux where its memory map lies; to Multiboot2 the
+ * map's bytes, of the text, and nothing of secure boot. */
+typedef struct bootcore_seen_efi {
+    uint64_t system_table; /* 0: no UEFI is told */
+    uint64_t map_address;  /* Multiboot2: 0 */
+    uint64_t map_length;
+    uint32_t bits, descriptor_size, descriptor_version, secure_boot;
+    bootcore_range map; /* Linux: its offset is BOOTCORE_ABSENT */
+} bootcore_seen_efi;
+
+/* The tables of SMBIOS as they are told: of the text; without any the offset is BOOTCORE_ABSENT. */
+typedef struct bootcore_seen_smbios {
+    bootcore_range tables;
+    uint8_t major, minor; uint16_t reserved16; uint32_t reserved32;
+} bootcore_seen_smbios;
+
+/* What firmware tells a kernel that is seen, as its protocol tells it. */
+typedef struct bootcore_seen_firmware {
+    bootcore_screen screen; /* base 0: none is told */
+    uint64_t rsdp;          /* Linux; 0: it is not told */
+    bootcore_seen_efi efi;
+    bootcore_seen_smbios smbios; /* Multiboot2 */
+    uint64_t reserved[4];
+} bootcore_seen_firmware;
+
 /* Where a walk tells all that is seen: the caller's arrays, each with the number of elements that
  * it has room for. A run of memory is told as a region. */
 typedef struct bootcore_seen_arrays {
@@ -89,7 +115,8 @@ typedef struct bootcore_seen_arrays {
     size_t run_room;
     uint8_t *text;
     size_t text_room;
-    uint64_t reserved[4]; /* 0 */
+    bootcore_seen_firmware *firmware; /* null: it is not told */
+    uint64_t reserved[3]; /* 0 */
 } bootcore_seen_arrays;
 
 /* Walks an image in memory, as a measured boot does before it trusts what an image hands over:
@@ -107,9 +134,9 @@ BOOTCORE_CHECKED uint32_t bootcore_walk(const void *image, size_t image_length, 
 
 /* Walks an image in memory as bootcore_walk does, and tells all that its kernel sees.
  * - DONE: as bootcore_walk; besides, the first elements of the arrays are told, as many as
- *   *seen says. The others are as before.
+ *   *seen says, and what firmware tells. The others are as before.
  * - SMALL_ROOM: an array has room for fewer elements than there are. *seen is told, and
- *   says how many there are; all arrays are as before. So a call without any room asks how much is
+ *   says how many there are; all else is as before. So a call without any room asks how much is
  *   wanted.
  * - REFUSED, NO_MEMORY, NULL: as bootcore_walk, and the arrays are as before.
  * - BAD_RESERVED: a reserved word of the arrays is not 0. All is as before.

@@ -7,7 +7,10 @@ from typing import Dict, Iterator, List, Tuple
 from program import TOP
 from rules import booting, image
 
-IMAGES = os.path.join(TOP, "cases", "images")
+IMAGES = [os.path.join(TOP, "cases", table) for table in ("images", "told_images")]
+# The descriptions whose images are changed, by the name that the tables have for them.
+BASES = {"first": ("examples", "first"), "second": ("examples", "second"),
+         "told": ("cases", "base", "firmware"), "told_linux": ("cases", "base", "firmware_linux")}
 
 
 def read_lines(path: str) -> List[str]:
@@ -25,19 +28,19 @@ def descriptions(folder: str) -> Iterator[Tuple[str, str, bytes]]:
 
 
 def changed_images() -> Iterator[Tuple[str, bytes]]:
-    """Each row of cases/images with its image."""
+    """Each row of the tables of images with its image."""
     bases = base_images()
-    for row in read_lines(IMAGES):
+    for row in (row for table in IMAGES for row in read_lines(table)):
         if not row.startswith("#"):
             _, base, changes, _ = row.split("|", 3)
             yield row, changed(bases[base], changes)
 
 
 def base_images() -> Dict[str, bytes]:
-    """The images of two examples, in both versions."""
+    """The images of these descriptions, in both versions."""
     bases = {}
-    for name in ("first", "second"):
-        with open(os.path.join(TOP, "examples", name + ".toml"), "rb") as file:
+    for name, path in BASES.items():
+        with open(os.path.join(TOP, *path) + ".toml", "rb") as file:
             run = booting.boot(file.read(), booting.paths_from(TOP))
         for version in (image.OLD, image.WRITTEN):
             bases[f"{name}.{version}"] = image.spell(run.handover, version)

@@ -209,7 +209,7 @@ class Texts(CoreChecks):
 class Statuses(CoreChecks):
     def test_statuses(self) -> None:
         for sentence, ran, tried in [
-            ("each answer of a load, a preparation and a plan from C has its status, and each status its words", self.example("statuses"), 411),
+            ("each answer of a load, a preparation and a plan from C has its status, and each status its words", self.example("statuses"), 535),
             ("each end of a boot from C has its status", self.example("menu", self.kernel), 33),
             ("each answer of a session's calls from C has its status", self.example("sessions"), 138),
             ("each end of a walk from C has its status", self.example("walks", self.images["first.2"]), 22),

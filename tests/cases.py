@@ -96,8 +96,8 @@ class Cases(WrittenCases):
     def test_cases(self) -> None:
         self.write_cases()
         names = sorted(file.stem for file in self.folder.glob("*.toml"))
-        with self.check("there are 477 cases"):
-            self.assertEqual(len(names), 477, f"the files *.toml that {EXPAND} writes")
+        with self.check("there are 659 cases"):
+            self.assertEqual(len(names), 659, f"the files *.toml that {EXPAND} writes")
         cases = read_cases(self.folder)
         with self.check("the file wanted has each case once, and nothing else"):
             self.assertEqual(sorted(case.name for case in cases), names, "the names in the file wanted, and of *.toml")

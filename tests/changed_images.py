@@ -1,4 +1,4 @@
-"""The images of two examples in both versions, and cases/images: what a walk and a conversion say of them, changed."""
+"""The images of two examples in both versions and of two cases, and the tables of cases/: what a walk and a conversion say of them, changed."""
 
 from pathlib import Path
 from typing import Dict, Iterable, Iterator, NamedTuple, Optional, Tuple
@@ -6,7 +6,13 @@ from typing import Dict, Iterable, Iterator, NamedTuple, Optional, Tuple
 from tests.examples import EXAMPLES
 from tests.support import TOP, run
 
-TABLE = TOP / "cases/images"
+TABLES = (TOP / "cases/images", TOP / "cases/told_images")
+DESCRIPTIONS = {
+    "first": EXAMPLES / "first.toml",
+    "second": EXAMPLES / "second.toml",
+    "told": TOP / "cases/base/firmware.toml",
+    "told_linux": TOP / "cases/base/firmware_linux.toml",
+}
 LENGTH_OF_HEAD = {1: 104, 2: 272}  # without the records of the parts
 
 # The head of the second example's image in version 1; what follows the head is the same in both versions.
@@ -54,16 +60,17 @@ class ChangedImage(NamedTuple):
         return f"{self.base} with '{self.name}'"
 
 
-def changed_images(table: Path = TABLE) -> Iterator[ChangedImage]:
-    """The rows of cases/images, in their order."""
-    for number, line in enumerate(table.read_text(encoding="utf-8").splitlines(), 1):
-        if line.startswith("#"):
-            continue
-        try:
-            name, base, changes, status, lines, new = line.split("|")
-        except ValueError:
-            raise ValueError(f"{table}:{number}: not six fields: {line}") from None
-        yield ChangedImage(name, base, tuple(changes.split()), int(status), lines.replace("; ", "\n") + "\n", new)
+def changed_images(tables: Iterable[Path] = TABLES) -> Iterator[ChangedImage]:
+    """The rows of cases/images and cases/told_images, in their order."""
+    for table in tables:
+        for number, line in enumerate(table.read_text(encoding="utf-8").splitlines(), 1):
+            if line.startswith("#"):
+                continue
+            try:
+                name, base, changes, status, lines, new = line.split("|")
+            except ValueError:
+                raise ValueError(f"{table}:{number}: not six fields: {line}") from None
+            yield ChangedImage(name, base, tuple(changes.split()), int(status), lines.replace("; ", "\n") + "\n", new)
 
 
 def change(data: bytes, words: Iterable[str]) -> bytes:
@@ -94,10 +101,10 @@ def image_by_hand() -> bytes:
 
 
 def base_images(folder: Path, program: Path) -> Dict[str, Path]:
-    """The images that cases/images starts from, as `folder`/NAME.image; the program writes those of version 2."""
-    images = {name: folder / f"{name}.image" for name in ("first.1", "first.2", "second.1", "second.2")}
-    for name in ("first", "second"):
-        ran = run(program, "boot", EXAMPLES / f"{name}.toml", "--out", images[f"{name}.2"])
+    """The images that the tables start from, as `folder`/NAME.image; the program writes those of version 2."""
+    images = {name: folder / f"{name}.image" for name in ("first.1", "first.2", "second.1", "second.2", "told.2", "told_linux.2")}
+    for name, description in DESCRIPTIONS.items():
+        ran = run(program, "boot", description, "--out", images[f"{name}.2"])
         if ran.status != 0:
             raise AssertionError(f"ran: {ran}\nstatus {ran.status}, wanted 0\n{ran.err.decode(errors='replace')}")
     images["first.1"].write_bytes(image_by_hand())

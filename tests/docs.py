@@ -222,7 +222,7 @@ class Pages(Checks):
         edits = len([name for name in repository.files() if name.endswith(".edit")])
         rows = sum(map(tables.rows_of, tables.all_tables()))
         cases = sum(lines_of_table(table) for table in sorted(TOP.glob("cases/*.cases")))
-        images = lines_of_table(TOP / "cases/images")
+        images = sum(lines_of_table(TOP / table) for table in ("cases/images", "cases/told_images"))
         told = " ".join((TOP / "README.md").read_text(encoding="utf-8").split())
         wanted = (f" {edits} mistakes", f" {rows:,} calls", f" {cases} boot descriptions", f" {images} corrupted images")
         self.assertEqual([it for it in wanted if it not in told], [], "what README.md should tell, and does not")

@@ -9,7 +9,7 @@ import unittest
 from typing import Callable, Iterable, List, Tuple
 
 PARTS = (
-    "gate rows cases model program images digest docs scripts look c c_calls rust qemu efi measured kvm install".split()
+    "gate rows cases model program images told digest docs scripts look c c_calls rust qemu efi measured kvm install".split()
 )
 
 

@@ -91,7 +91,7 @@ static void try_make(void) {
     CHANGED(BOOTCORE_STATUS_NULL, entries[0].line.bytes = NULL);
     CHANGED(BOOTCORE_STATUS_NULL, menu.entries = NULL);
     CHANGED(BOOTCORE_STATUS_NULL, menu.fallback_count = 1);
-    CHANGED(BOOTCORE_STATUS_BAD_RESERVED, machine.reserved[3] = 1);
+    CHANGED(BOOTCORE_STATUS_BAD_RESERVED, machine.reserved[2] = 1);
     CHANGED(BOOTCORE_STATUS_BAD_RESERVED, entries[0].reserved32 = 1);
     CHANGED(BOOTCORE_STATUS_BAD_RESERVED, entries[0].reserved[0] = 1);
     CHANGED(BOOTCORE_STATUS_BAD_RESERVED, menu.reserved32 = 1);

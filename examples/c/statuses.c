@@ -182,7 +182,7 @@ static void try_changes(void) {
     PLAN(BOOTCORE_STATUS_NULL, c.layout.steps = NULL);
     PLAN(BOOTCORE_STATUS_NULL, c.layout.own = NULL);
     ALL(BOOTCORE_STATUS_BAD_RESERVED, c.machine.reserved[0] = 1);
-    ALL(BOOTCORE_STATUS_BAD_RESERVED, c.machine.reserved[3] = (uint64_t)1 << 63);
+    ALL(BOOTCORE_STATUS_BAD_RESERVED, c.machine.reserved[2] = (uint64_t)1 << 63);
     ALL(BOOTCORE_STATUS_BAD_RESERVED, c.machine.regions = reserved);
     ALL(BOOTCORE_STATUS_BAD_RESERVED, c.entry.reserved32 = 1);
     ALL(BOOTCORE_STATUS_BAD_RESERVED, c.entry.reserved[1] = 1);
@@ -224,6 +224,64 @@ static void try_changes(void) {
     ALL(BOOTCORE_STATUS_TOO_MANY_MODULES, c.entry.modules = none; c.entry.module_count = SIZE_MAX);
     ALL(BOOTCORE_STATUS_LONG_RSDP, c.entry.rsdp_new = ((bootcore_bytes){many, BOOTCORE_MAX_RSDP + 1}));
     ALL(BOOTCORE_STATUS_LONG_RSDP, c.entry.rsdp_old = ((bootcore_bytes){many, SIZE_MAX}));
+}
+
+/* What firmware tells, and what of it is a misuse: the first that stands. */
+static void try_firmware(void) {
+    static const bootcore_avoided apart[BOOTCORE_MAX_AVOIDED + 1] = {{0x180000, 4096}};
+    static const bootcore_avoided high_range[] = {{0, 0}, {(uint64_t)1 << 52, 1}};
+    static const bootcore_avoided highest[] = {{UINT64_MAX, UINT64_MAX}};
+    const bootcore_firmware sound = {
+        .screen = {0xE0000000, 4096, 1024, 768, 32, 0, {16, 8}, {8, 8}, {0, 8}, 0},
+        .rsdp = SIZE,
+        .efi = {0x500000, {many, 96}, 0x400000, 64, 48, 1, 2},
+        .smbios = {{many, 31}, 3, 0, 0, 0},
+        .avoided = apart,
+        .avoided_count = 1,
+    };
+    bootcore_firmware firmware;
+#define TELLS(wanted, change)                              \
+    do {                                                   \
+        firmware = sound;                                  \
+        ALL(wanted, c.machine.firmware = &firmware; change); \
+    } while (0)
+    TELLS(BOOTCORE_STATUS_DONE, (void)c);
+    TELLS(BOOTCORE_STATUS_DONE, memset(&firmware, 0, sizeof firmware));
+    TELLS(BOOTCORE_STATUS_DONE, firmware.screen.base = 0; firmware.screen.depth = 8);
+    TELLS(BOOTCORE_STATUS_DONE, firmware.efi.system_table = 0; firmware.efi.bits = 16; firmware.efi.secure_boot = 4);
+    TELLS(BOOTCORE_STATUS_DONE, firmware.smbios.tables.length = 0; firmware.rsdp = 0; firmware.avoided_count = 0);
+    TELLS(BOOTCORE_STATUS_NULL, firmware.efi.map.bytes = NULL);
+    TELLS(BOOTCORE_STATUS_NULL, firmware.smbios.tables.bytes = NULL);
+    TELLS(BOOTCORE_STATUS_NULL, firmware.avoided = NULL);
+    TELLS(BOOTCORE_STATUS_BAD_RESERVED, firmware.screen.reserved8 = 1);
+    TELLS(BOOTCORE_STATUS_BAD_RESERVED, firmware.screen.reserved32 = 1);
+    TELLS(BOOTCORE_STATUS_BAD_RESERVED, firmware.smbios.reserved16 = 1);
+    TELLS(BOOTCORE_STATUS_BAD_RESERVED, firmware.smbios.reserved32 = 1);
+    TELLS(BOOTCORE_STATUS_BAD_RESERVED, firmware.reserved[5] = 1);
+    TELLS(BOOTCORE_STATUS_BAD_EFI_BITS, firmware.efi.bits = 16; firmware.efi.secure_boot = 4; c.machine.size = 1);
+    TELLS(BOOTCORE_STATUS_BAD_SECURE_BOOT, firmware.efi.secure_boot = 4; c.machine.size = 1);
+    TELLS(BOOTCORE_STATUS_BAD_SIZE, firmware.screen.width = 0; c.machine.size = 1);
+    TELLS(BOOTCORE_STATUS_BAD_SCREEN_SIZE, firmware.screen.width = 0; firmware.rsdp = 4096; c.entry.protocol = 0);
+    TELLS(BOOTCORE_STATUS_BAD_SCREEN_SIZE, firmware.screen.pitch = 0x10000);
+    TELLS(BOOTCORE_STATUS_BAD_SCREEN_DEPTH, firmware.screen.depth = 8);
+    TELLS(BOOTCORE_STATUS_BAD_SCREEN_COLOR, firmware.screen.red.size = 17);
+    TELLS(BOOTCORE_STATUS_BAD_SCREEN_PITCH, firmware.screen.pitch = 4095);
+    TELLS(BOOTCORE_STATUS_BAD_SCREEN_PLACE, firmware.screen.base = SIZE - 1);
+    TELLS(BOOTCORE_STATUS_BAD_SCREEN_PLACE, firmware.screen.base = UINT64_MAX);
+    TELLS(BOOTCORE_STATUS_BAD_RSDP, firmware.rsdp = SIZE - 1);
+    TELLS(BOOTCORE_STATUS_BAD_SYSTEM_TABLE, firmware.efi.system_table = (uint64_t)1 << 32; firmware.efi.bits = 32);
+    TELLS(BOOTCORE_STATUS_BAD_DESCRIPTORS, firmware.efi.descriptor_size = 44);
+    TELLS(BOOTCORE_STATUS_BAD_DESCRIPTORS, firmware.efi.descriptor_version = 2);
+    TELLS(BOOTCORE_STATUS_BAD_EFI_MAP_SIZE, firmware.efi.map.length = 95);
+    TELLS(BOOTCORE_STATUS_BAD_EFI_MAP_PLACE, firmware.efi.map_address = 0x400004);
+    TELLS(BOOTCORE_STATUS_BAD_EFI_MAP_PLACE, firmware.efi.map_address = SIZE - 8);
+    TELLS(BOOTCORE_STATUS_BAD_SMBIOS_SIZE, firmware.smbios.tables = ((bootcore_bytes){loaded, 0x10001}));
+    TELLS(BOOTCORE_STATUS_TOO_MANY_AVOIDED, firmware.avoided_count = BOOTCORE_MAX_AVOIDED + 1);
+    TELLS(BOOTCORE_STATUS_TOO_MANY_AVOIDED, firmware.avoided_count = SIZE_MAX); /* those behind are not looked at */
+    TELLS(BOOTCORE_STATUS_BAD_AVOIDED, firmware.avoided = high_range; firmware.avoided_count = 2);
+    TELLS(BOOTCORE_STATUS_BAD_AVOIDED, firmware.avoided = highest);
+    TELLS(BOOTCORE_STATUS_POOL_AVOIDED, c.machine.pool_base = 0x180000; c.machine.pool_length = 4096);
+#undef TELLS
 }
 
 /* A line is refused for a zero byte, wherever it stands, or else for its length. */
@@ -389,10 +447,10 @@ static void try_carrying(void) {
 /* Each status has a sentence of its own, and no other number has one. */
 static void try_texts(void) {
     const char *none = bootcore_status_text(UINT32_MAX);
-    for (uint32_t status = 0; status <= BOOTCORE_STATUS_UNWANTED + 1; status++) {
+    for (uint32_t status = 0; status <= BOOTCORE_STATUS_POOL_AVOIDED + 1; status++) {
         const char *text = bootcore_status_text(status);
         bool is_one = status <= BOOTCORE_STATUS_OUTSIDE ||
-                      (status >= BOOTCORE_STATUS_NULL && status <= BOOTCORE_STATUS_UNWANTED);
+                      (status >= BOOTCORE_STATUS_NULL && status <= BOOTCORE_STATUS_POOL_AVOIDED);
         bool holds = text[0] && !strcmp(text, none) != is_one;
         for (uint32_t other = 0; is_one && other < status; other++) {
             holds = holds && strcmp(text, bootcore_status_text(other));
@@ -407,6 +465,7 @@ int main(void) {
         many[i] = usable[0];
     }
     try_changes();
+    try_firmware();
     try_lines();
     try_no_pointers();
     try_unplaced();

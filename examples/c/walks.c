@@ -20,6 +20,7 @@ typedef struct telling {
     bootcore_seen_module modules[ROOM];
     bootcore_region runs[ROOM];
     uint8_t text[ROOM];
+    bootcore_seen_firmware firmware;
     bootcore_refusal fault;
 } telling;
 
@@ -43,7 +44,7 @@ static call right(void) {
               length,
               &told.seen,
               1,
-              {told.parts, ROOM, told.modules, ROOM, told.runs, ROOM, told.text, ROOM, {0, 0, 0, 0}},
+              {told.parts, ROOM, told.modules, ROOM, told.runs, ROOM, told.text, ROOM, &told.firmware, {0, 0, 0}},
               &told.fault};
     return c;
 }
@@ -93,6 +94,7 @@ static int is_right(void) {
     memcpy(told.runs, before.runs, seen.run_count * sizeof *told.runs);
     memcpy(told.text, before.text, seen.text_length);
     told.seen = before.seen;
+    told.firmware = before.firmware;
     return !memcmp(&all.seen, &seen, sizeof seen) && !memcmp(&told, &before, sizeof told);
 }
 
@@ -118,7 +120,7 @@ int main(int argc, char **argv) {
     CHANGED(BOOTCORE_STATUS_NULL, c.arrays.runs = NULL);
     CHANGED(BOOTCORE_STATUS_NULL, c.arrays.text = NULL);
     CHANGED(BOOTCORE_STATUS_NULL, c.fault = NULL);
-    CHANGED(BOOTCORE_STATUS_BAD_RESERVED, c.arrays.reserved[3] = 1);
+    CHANGED(BOOTCORE_STATUS_BAD_RESERVED, c.arrays.reserved[2] = 1);
     CHANGED(BOOTCORE_STATUS_SMALL_ROOM, c.arrays.kernel_part_room = seen.kernel_part_count - 1);
     CHANGED(BOOTCORE_STATUS_SMALL_ROOM, c.arrays.module_room = seen.module_count - 1);
     CHANGED(BOOTCORE_STATUS_SMALL_ROOM, c.arrays.run_room = seen.run_count - 1);

@@ -5,6 +5,7 @@ from rules import information
 from rules.refusals import Refused
 
 from . import ALL_BYTES, Call
+from .firmware import told_words
 from .kernels import fault_text
 from .machines import run_word
 
@@ -23,8 +24,8 @@ def read_info(table, line):
     words += ["lower=%x" % read.low_kib, "upper=%x" % read.high_kib]
     words += ["run=" + run_word(run) for run in read.runs]
     words += ["old=" + bytes_or_none(read.old_rsdp), "new=" + bytes_or_none(read.new_rsdp)]
-    return " ".join(words + ["base=" + ("none" if read.load_base is None
-                                        else "%x" % read.load_base)])
+    words.append("base=" + ("none" if read.load_base is None else "%x" % read.load_base))
+    return " ".join(words + told_words(read))
 
 
 CALLS = {"read_info": Call(read_info, ALL_BYTES)}

@@ -9,6 +9,7 @@ from rules.numbers import u16, u32, u64
 from rules.refusals import Refused
 
 from . import ALL_BYTES, BYTES_OF, Call
+from .firmware import told_words
 from .machines import run_word
 
 
@@ -35,8 +36,10 @@ def elf(table, line):
 
 
 def header(table, line):
+    """`screen` before ` of `: on a machine that has one."""
+    demand(line.words in ([], ["screen"]))
     try:
-        read = multiboot2.read(line.data)
+        read = multiboot2.read(line.data, bool(line.words))
     except Refused as refused:
         return fault_text(refused)
     words = ["at %x" % read.place]
@@ -95,7 +98,8 @@ def read_params(table, line):
              "ramdisk=%x+%x" % (read.ramdisk_image, read.ramdisk_size),
              "cmd_line_ptr=%x" % read.cmd_line_ptr]
     words += field_words(line.data, FIELDS)
-    return " ".join(words + ["run=" + run_word(run) for run in read.runs])
+    words += ["run=" + run_word(run) for run in read.runs]
+    return " ".join(words + told_words(read))
 
 
 def gdt64(table, line):

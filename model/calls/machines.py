@@ -7,8 +7,14 @@ from rules import machine as rules
 from rules.refusals import Refused
 
 from . import Call
+from .firmware import WORDS, read_firmware
 
-FAULTS = {1: "bad size", 2: "bad region %d", 3: "too many regions", 4: "bad pool"}
+FAULTS = {1: "bad size", 2: "bad region %d", 3: "too many regions", 4: "bad pool",
+          6: "bad screen size", 7: "bad screen depth", 8: "bad screen color",
+          9: "bad screen pitch", 10: "bad screen place", 11: "bad rsdp", 12: "bad system table",
+          13: "bad descriptors", 14: "bad efi map size", 15: "bad efi map place",
+          16: "bad smbios size", 17: "too many avoided ranges", 18: "bad avoided range %d",
+          19: "pool is avoided"}
 
 
 def last_machine(table) -> rules.Machine:
@@ -35,10 +41,11 @@ def read_region(word: str) -> List[rules.Region]:
 
 def machine(table, line):
     named, bare = fields(line.words)
-    only(named, "size", "pool", "region")
+    only(named, "size", "pool", "region", *WORDS)
     demand(not bare)
     regions = [region for word in named.get("region", []) for region in read_region(word)]
-    made = rules.Machine(number(single(named, "size")), regions, pair(single(named, "pool"), ".."))
+    made = rules.Machine(number(single(named, "size")), regions, pair(single(named, "pool"), ".."),
+                         read_firmware(table, named))
     try:
         table.machine = rules.check(made)
     except Refused as refused:

@@ -8,6 +8,7 @@ from rules.refusals import Refused
 
 from . import ALL_BYTES, BYTES_OF, Call
 from .answers import one_of
+from .firmware import told_words
 from .images import Source, either, needed_of
 from .kernels import fault_text
 from .machines import run_word
@@ -25,7 +26,7 @@ def seen_text(seen: walking.Seen) -> str:
         words.append("rsdp_old=" + spell(seen.rsdp_old))
     if seen.rsdp_new is not None:
         words.append("rsdp_new=" + spell(seen.rsdp_new))
-    return " ".join(words)
+    return " ".join(words + told_words(seen))
 
 
 def walk(table, line):

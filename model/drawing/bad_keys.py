@@ -3,7 +3,8 @@ twice, or has another value."""
 
 from typing import Any, Iterator, NamedTuple, Tuple
 
-TABLES = ("region", "file", "entry", "module")
+TABLES = ("region", "avoid", "file", "entry", "module")
+INNER = ("firmware", "screen", "efi", "smbios")  # a table each
 
 # A value of each kind. A number with a point is a float, a text behind ! stands as it is.
 KINDS = ["a text", "~" * 65, -1, 7, True, False, 1.5, "!2026-01-31", "!07:32:00", [], [0, "a"],
@@ -50,6 +51,9 @@ def tables(root: Table) -> Iterator[Tuple[str, Table]]:
         if key in TABLES and are_tables(value):
             yield f"{key}: ", value[-1]
             yield from ((f"{key} {path}", table) for path, table in tables(value[-1]) if path)
+        elif key in INNER and isinstance(value, Table):
+            yield f"{key}: ", value
+            yield from ((f"{key} {path}", table) for path, table in tables(value) if path)
 
 
 def changes(table: Table) -> Iterator[Tuple[str, Table]]:

@@ -3,7 +3,8 @@
 from random import Random
 from typing import Dict, List, NamedTuple, Tuple
 
-from rules.description import BYTE, root_keys
+from rules.firmware import Color, Firmware
+from rules.keys import BYTE, root_keys
 from rules.machine import KIND_NAMES, Machine
 
 from . import kernels, linux_kernels, machines
@@ -24,8 +25,9 @@ class Menu(NamedTuple):
     entries: List[list]  # pairs of key and value, in order
 
 
-def draw(rng: Random) -> Drawn:
-    machine = machines.draw(rng)
+def draw(rng: Random, tells: bool = True) -> Drawn:
+    """Firmware tells something of the machine only if it may."""
+    machine = machines.draw(rng, tells)
     menu = draw_menu(rng)
     paths = {}
     for name in list(menu.files):
@@ -131,15 +133,62 @@ def spelled(rng: Random, machine: Machine, menu: Menu) -> str:
     tables = [[("base", r.base), ("length", r.length), ("kind", KIND_NAMES[r.kind])]
               for r in machine.regions]
     blocks = [("region", tables)]
+    told = firmware_pairs(rng, machine.firmware)
+    if told and chance(rng, 15):
+        pairs.append(("firmware", told))
+    elif told or chance(rng, 5):
+        blocks.append(("firmware", told))
+    blocks.append(("avoid", [[("base", start), ("length", end - start)]
+                             for start, end in machine.firmware.avoided]))
     blocks.append(("file", [[("name", name), ("hex", hexed(rng, data))]
                             for name, data in menu.files.items()]))
     blocks.append(("entry", menu.entries))
     rng.shuffle(blocks)
     text = keys(rng, pairs)
     for name, content in blocks:
+        if name == "firmware":
+            text += spelled_tables(rng, name, content)
+            continue
         for table in content:
             text += spelled_table(rng, name, table)
     return text.replace("\n", "\r\n") if chance(rng, 3) else text
+
+
+def firmware_pairs(rng: Random, firmware: Firmware) -> list:
+    """Keys and values, those of tables as pairs too."""
+    pairs: List[Tuple[str, object]] = []
+    if firmware.rsdp is not None:
+        pairs.append(("rsdp", firmware.rsdp))
+    if firmware.screen is not None:
+        names = ["base", "pitch", "width", "height", "depth", "red", "green", "blue"]
+        pairs.append(("screen", [(name, list(value) if isinstance(value, Color) else value)
+                                 for name, value in zip(names, firmware.screen)]))
+    if firmware.efi is not None:
+        told = firmware.efi._asdict()
+        told["map"] = hexed(rng, told["map"])
+        if told["secure_boot"] == 0 and chance(rng, 50):
+            del told["secure_boot"]
+        pairs.append(("efi", list(told.items())))
+    if firmware.smbios is not None:
+        told = firmware.smbios._asdict()
+        told["tables"] = hexed(rng, told["tables"])
+        pairs.append(("smbios", list(told.items())))
+    rng.shuffle(pairs)
+    return pairs
+
+
+def is_table(value) -> bool:
+    return isinstance(value, list) and bool(value) and isinstance(value[0], tuple)
+
+
+def spelled_tables(rng: Random, name: str, pairs: list) -> str:
+    """A table and those within it, each with its own head or within a line."""
+    inner = [(key, value) for key, value in pairs if is_table(value) and chance(rng, 80)]
+    outer = [pair for pair in pairs if pair not in inner]
+    texts = [f"\n[{name}]\n" + keys(rng, outer)] if outer or not inner or chance(rng, 30) else []
+    texts += [f"\n[{name}.{key}]\n" + keys(rng, value) for key, value in inner]
+    rng.shuffle(texts)
+    return "".join(texts)
 
 
 def spelled_table(rng: Random, name: str, pairs: list) -> str:
@@ -160,7 +209,7 @@ def spelled_value(rng: Random, value) -> str:
         return rng.choice([str, hex, hex, lambda n: f"{n:_}", oct])(value)
     if isinstance(value, str):
         return spelled_text(rng, value)
-    if value and isinstance(value[0], tuple):
+    if is_table(value):
         return "{" + ", ".join(f"{key} = {spelled_value(rng, v)}" for key, v in value) + "}"
     return "[" + ", ".join(spelled_value(rng, v) for v in value) + "]"
 
@@ -192,7 +241,8 @@ def damaged(rng: Random, text: str) -> str:
             "extra = 1", "line = 1", "initrd = 'f0'", "module = []", "[x]", "fill = 256", "= 1",
             "fill = -1", "fill = 1.0", "fill = true", "# a comment", "fallback = [[0]]", "\t",
             "default = '0'", "size = 9223372036854775808", "region = []", "file = {}",
-            "rsdp_old = '00'", "rsdp_new = ''"]))
+            "rsdp_old = '00'", "rsdp_new = ''", "[firmware]", "[[avoid]]", "rsdp = 0", "avoid = {}",
+            "secure_boot = 4", "bits = 16", "red = [0]"]))
     elif what == 3:
         lines[at] = lines[at].replace(" = ", rng.choice([" = 1", " == ", " = [", " = \"", " "]), 1)
     elif what == 4 and lines[at]:

@@ -61,6 +61,8 @@ def other_tags(rng: Random) -> List[bytes]:
             tags.append(tag(1, flags, words(*types) + bytes(rng.choice([0, 0, 3]))))
         elif what == 1:
             tags.append(tag(4, flags, words(rng.choice([0, 2, 2, 3]))))
+            if chance(rng, 50):
+                tags.append(tag(5, rng.choice([0, 1]), words(80, 25, 0)))
         elif what == 2:
             tags.append(tag(5, flags, words(80, 25, 0)))
         elif what == 3:

@@ -11,7 +11,13 @@ from rules.image import COUNT_AT, FIELDS, HEADS, OLD, RECORD_SIZE, WRITTEN, spel
 from rules.information import Information, Module
 from rules.machine import Run
 
+from . import firmware
 from .chances import chance, changed, copy, number, some_bytes
+
+# Where boot parameters tell what firmware tells.
+TOLD_AT = [0x0F, 0x12, 0x14, 0x16, 0x18, 0x1C, 0x24, *range(0x26, 0x2C), 0x32, 0x36, 0x3A, 0x70,
+           *range(0x1C0, 0x1E0, 4), 0x1EC]
+
 
 def draw(rng: Random) -> bytes:
     """An image of either version that is walked, mostly."""
@@ -52,7 +58,7 @@ def mutated(rng: Random, data: bytes) -> bytes:
     start = head + RECORD_SIZE * parts
     records = [*range(head, start, 4)]
     inner = [*range(start, min(start + 400, len(data)), 2)]
-    fields = [start + at for at in (0x1E8, 0x1F1, 0x1FA, 0x1FE, 0x201, 0x202, 0x206, 0x210, 0x214,
+    fields = [start + at for at in (*TOLD_AT, 0x1E8, 0x1F1, 0x1FA, 0x1FE, 0x201, 0x202, 0x206, 0x210, 0x214,
                                     0x218, 0x21A, 0x21C, 0x228, 0x22A, 0x250, 0x2D0, 0x2D8, 0x2E0)]
     for _ in range(rng.choice([1, 1, 2, 3])):
         if chance(rng, 5) and len(data) >= head:
@@ -129,7 +135,8 @@ def draw_multiboot2(rng: Random) -> Handover:
         rng.choice([None, number(rng, 32)]),
         rng.choice([None, None, copy(rng, 30)]),
         rng.choice([None, None, copy(rng, 30)]),
-        rng.choice([b"bootcore", b"", draw_text(rng)])))
+        rng.choice([b"bootcore", b"", draw_text(rng)]), firmware.draw_told_screen(rng),
+        firmware.draw_efi_tables(rng), firmware.draw_told_smbios(rng)))
     if chance(rng, 20):
         told = damaged(rng, told)
     info = ground.put(INFORMATION, told)
@@ -202,10 +209,12 @@ def draw_linux(rng: Random, protocol: int = LINUX) -> Handover:
                       (0x201, bytes([0x1F1 + len(header) - 0x202]))]:
         header[at - 0x1F1:at - 0x1F1 + len(value)] = value
     params = boot_params.spell(bytes(header), boot_params.Params(
-        kernel, disk[0], disk[1], line, draw_runs(rng, 128)))
+        kernel, disk[0], disk[1], line, draw_runs(rng, 128), firmware.draw_told_screen(rng),
+        number(rng, 64) or None if chance(rng, 40) else None, firmware.draw_efi_info(rng)))
     if chance(rng, 20):
         params = changed(rng, params, [0x1E8, 0x1F1, 0x1FA, 0x1FE, 0x201, 0x202, 0x206, 0x210,
-                                       0x250, 0x228, 0x218, 0x21C, 0x2D0, 0x2E0, 0x2E4], 5)
+                                       0x250, 0x228, 0x218, 0x21C, 0x2D0, 0x2E0, 0x2E4,
+                                       *TOLD_AT], 5)
     at = ground.put(BOOT_PARAMETERS, params)
     if is_wide:
         registers = {**registers_of(LINUX64), "RIP": kernel, "RSI": at, "GDT base": table,

@@ -6,19 +6,23 @@ from typing import List
 from rules.machine import MAX_REGIONS, Machine, Region, usable_ranges
 from rules.numbers import FRAME, round_down, round_up
 
+from . import firmware
 from .chances import chance, number
 
 MIB = 1 << 20
 
 
-def draw(rng: Random) -> Machine:
-    """A machine without fault, in nineteen of twenty."""
+def draw(rng: Random, tells: bool) -> Machine:
+    """A machine without fault, in nineteen of twenty. Of half of those that may tell it, firmware
+    tells something."""
     size = MIB * rng.choice([1, 2, 2, 3, 4, 4, 4, 8, 16, 16, 64, 4096])
     if chance(rng, 20):
         size = min(size + FRAME * rng.randrange(256), 4096 * MIB)
     regions = draw_regions(rng, size)
     pool = draw_pool(rng, Machine(size, regions, (0, 0)))
     machine = Machine(size, regions, pool)
+    if tells:
+        machine = machine._replace(firmware=firmware.draw(rng, machine))
     return broken(rng, machine) if chance(rng, 5) else machine
 
 

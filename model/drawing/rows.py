@@ -3,6 +3,7 @@
 from random import Random
 from typing import List
 
+from rules.firmware import Firmware
 from rules.machine import KIND_NAMES
 
 from . import descriptions, images, kernels, linux_kernels, machines
@@ -23,10 +24,29 @@ def draw(rng: Random, count: int) -> List[str]:
 
 
 def machine(rng: Random) -> str:
-    drawn = machines.draw(rng)
+    drawn = machines.draw(rng, True)
     regions = [f" region={r.base:x}+{r.length:x}:{KIND_NAMES[r.kind]}" for r in drawn.regions]
     start, end = drawn.pool
-    return f"machine size={drawn.size:x} pool={start:x}..{end:x}" + "".join(regions)
+    told = [" " + word for word in firmware_words(drawn.firmware)]
+    return f"machine size={drawn.size:x} pool={start:x}..{end:x}" + "".join(regions + told)
+
+
+def firmware_words(firmware: Firmware) -> List[str]:
+    words = [f"avoid={start:x}..{end:x}" for start, end in firmware.avoided]
+    if firmware.screen is not None:
+        words.append("screen=" + ",".join(
+            [f"{n:x}" for n in firmware.screen[:5]] + [f"{c.position:x}+{c.size:x}"
+                                                       for c in firmware.screen[5:]]))
+    if firmware.rsdp is not None:
+        words.append(f"rsdp={firmware.rsdp:x}")
+    if firmware.efi is not None:
+        efi = firmware.efi
+        told = [*efi[:3], *efi[4:]]
+        words.append("efi=" + ",".join(f"{n:x}" for n in told) + ":" + efi.map.hex())
+    if firmware.smbios is not None:
+        smbios = firmware.smbios
+        words.append(f"smbios={smbios.major:x},{smbios.minor:x}:{smbios.tables.hex()}")
+    return words
 
 
 def digits(data: bytes) -> str:
@@ -38,7 +58,7 @@ def elf(rng: Random) -> str:
 
 
 def header(rng: Random) -> str:
-    return "header " + digits(kernel(rng))
+    return rng.choice(["header ", "header screen of "]) + digits(kernel(rng))
 
 
 def kernel(rng: Random) -> bytes:
@@ -61,7 +81,7 @@ def info(rng: Random) -> str:
 def params(rng: Random) -> str:
     told = next(part for part in images.draw_linux(rng).parts if part.role == 4).pieces[0].data
     for _ in range(rng.choice([0, 1, 1, 2])):
-        told = changed(rng, told, [*range(0x1E8, 0x300)], 3)
+        told = changed(rng, told, [*range(0x1E8, 0x300), *images.TOLD_AT], 3)
     return "read_params " + digits(told)
 
 

@@ -4,10 +4,11 @@ says": the tables of PATH, HELD and ALLOWED."""
 import re
 from typing import Callable, Iterator, List, NamedTuple, Sequence, Tuple
 
-from .description import (FILE_KEYS, LINUX_KEYS, MODULE_KEYS, MULTIBOOT2_KEYS, PROTOCOL, REGION_KEYS,
-                          TABLE, Allowed, Key, entry_count, is_array, is_text, protocol_of,
-                          root_keys)
+from .description import entry_count
 from .handover import MULTIBOOT2
+from .keys import (AVOID_KEYS, EFI_KEYS, FILE_KEYS, FIRMWARE_KEYS, LINUX_KEYS, MODULE_KEYS,
+                   MULTIBOOT2_KEYS, PROTOCOL, REGION_KEYS, SCREEN_KEYS, SMBIOS_KEYS, TABLE, Allowed,
+                   Key, is_array, is_text, protocol_of, root_keys)
 
 MAX_TOLD = 64  # bytes of a text that is told itself
 
@@ -90,6 +91,8 @@ def faults(tree: dict) -> List[Fault]:
     """Each of a whole description; which of them is told is no rule."""
     found = [*in_table("", tree, root_keys(entry_count(tree))),
              *in_items("region", tree, lambda path, table: in_table(path, table, REGION_KEYS)),
+             *in_one("firmware", tree, FIRMWARE_KEYS), *in_firmware(tree.get("firmware")),
+             *in_items("avoid", tree, lambda path, table: in_table(path, table, AVOID_KEYS)),
              *in_items("file", tree, lambda path, table: in_table(path, table, FILE_KEYS)),
              *twice_named(tree), *in_items("entry", tree, in_entry)]
     return list(dict.fromkeys(found))
@@ -108,6 +111,18 @@ def in_table(path: str, table: dict, keys: List[Key]) -> Iterator[Fault]:
                 yield missing(before + key.name, key.allowed)
             continue
         yield from in_value(before + key.name, table[key.name], key)
+
+
+def in_one(key: str, table: dict, keys: List[Key], before: str = "") -> Iterator[Fault]:
+    """Of a table in another, if it is one."""
+    if TABLE.holds(table.get(key)):
+        yield from in_table(before + key, table[key], keys)
+
+
+def in_firmware(value) -> Iterator[Fault]:
+    if TABLE.holds(value):
+        for key, keys in (("screen", SCREEN_KEYS), ("efi", EFI_KEYS), ("smbios", SMBIOS_KEYS)):
+            yield from in_one(key, value, keys, "firmware.")
 
 
 def in_value(path: str, value, key: Key) -> Iterator[Fault]:

@@ -1,8 +1,10 @@
 """Boot parameters and descriptors. FORMATS.md "Boot parameters"; LBP "Zero Page"."""
 
-from typing import List, NamedTuple
+from typing import List, NamedTuple, Optional
 
+from . import told_fields
 from .bzimage import HEADER_START, LEAST_HEADER_END, header_end
+from .firmware import EfiInfo, Screen
 from .machine import REGION_LIMIT, Run
 from .numbers import long, u16, u32, u64, word
 from .refusals import refuse
@@ -19,6 +21,9 @@ class Params(NamedTuple):
     ramdisk_size: int
     cmd_line_ptr: int
     runs: List[Run]
+    screen: Optional[Screen] = None
+    rsdp: Optional[int] = None
+    efi: Optional[EfiInfo] = None
 
 
 def spell(header: bytes, facts: Params) -> bytes:
@@ -36,6 +41,15 @@ def spell(header: bytes, facts: Params) -> bytes:
     for i, run in enumerate(facts.runs):
         entry = long(run.start) + long(run.end - run.start) + word(run.kind)
         put(page, E820_TABLE + i * E820_SIZE, entry)
+    told = []
+    if facts.screen is not None:
+        told += told_fields.screen_bytes(facts.screen)
+    if facts.rsdp is not None:
+        told += told_fields.rsdp_bytes(facts.rsdp)
+    if facts.efi is not None:
+        told += told_fields.efi_bytes(facts.efi)
+    for at, data in told:
+        put(page, at, data)
     return bytes(page)
 
 
@@ -47,11 +61,13 @@ def read(data: bytes) -> Params:
     """Refused with 66, or with 67 and the least offset that breaks the form."""
     if len(data) != LENGTH:
         refuse(66)
-    breaks = [*header_breaks(data), *entry_breaks(data), *zero_breaks(data)]
+    breaks = [*told_fields.breaks(data), *header_breaks(data), *entry_breaks(data),
+              *zero_breaks(data)]
     if breaks:
         refuse(67, min(breaks))
     return Params(u32(data, 0x214), u32(data, 0x218), u32(data, 0x21C), u32(data, 0x228),
-                  [run_of(data, i) for i in range(data[E820_ENTRIES])])
+                  [run_of(data, i) for i in range(data[E820_ENTRIES])],
+                  told_fields.screen_in(data), told_fields.rsdp_in(data), told_fields.efi_in(data))
 
 
 def header_breaks(data: bytes) -> List[int]:
@@ -87,9 +103,13 @@ def entry_breaks(data: bytes) -> List[int]:
 
 def zero_breaks(data: bytes) -> List[int]:
     """The first byte that should be 0 and is not: those before the header, between it and the
-    entries, and after the entries, but for the number of entries."""
+    entries, and after the entries, but for the number of entries and what firmware tells."""
     entries_end = E820_TABLE + min(data[E820_ENTRIES], MAX_ENTRIES) * E820_SIZE
-    for start, end in [(0, E820_ENTRIES), (E820_ENTRIES + 1, HEADER_START),
+    for start, end in [(told_fields.SCREEN_INFO_END, told_fields.RSDP),
+                       (told_fields.RSDP + 8, told_fields.EFI_INFO),
+                       (told_fields.EFI_INFO_END, E820_ENTRIES),
+                       (E820_ENTRIES + 1, told_fields.SECURE_BOOT),
+                       (told_fields.SECURE_BOOT + 1, HEADER_START),
                        (header_end(data), E820_TABLE), (entries_end, LENGTH)]:
         zeros = data[start:end].lstrip(b"\0")
         if zeros:

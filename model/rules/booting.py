@@ -4,9 +4,10 @@ import os
 from typing import Callable, List, NamedTuple, Optional, Tuple, Union
 
 from . import description, digests, image, walking
-from .description import MAX_ENTRIES, MAX_MODULES, BadDescription, MenuEntry
+from .description import BadDescription, MenuEntry
 from .entry import Entry, LinuxEntry, Multiboot2Entry, hand_over, is_copy
 from .handover import MULTIBOOT2, Handover
+from .keys import MAX_ENTRIES, MAX_MODULES
 from .machine import KIND_NAMES, Machine, high_kib, low_kib, normal_map
 from .numbers import FRAME, frames
 from .refusals import Refused, refuse

@@ -1,10 +1,12 @@
 """The description of a boot, in TOML. FORMATS.md "The description"."""
 
-import re
 from typing import Any, Callable, Dict, List, NamedTuple, NoReturn, Optional, Tuple
 
-from .entry import is_copy
-from .handover import MULTIBOOT2, PROTOCOL_NAMES
+from .firmware import Color, Efi, Firmware, Screen, Smbios
+from .handover import MULTIBOOT2
+from .keys import (AVOID_KEYS, EFI_KEYS, FILE_KEYS, FIRMWARE_KEYS, LINUX_KEYS, MODULE_KEYS,
+                   MULTIBOOT2_KEYS, NUMBER_LIMIT, REGION_KEYS, SCREEN_KEYS, SMBIOS_KEYS, TABLE, Key,
+                   is_array, protocol_of, root_keys)
 from .machine import KINDS, Machine, Range, Region, check
 from .refusals import Refused
 
@@ -12,9 +14,6 @@ try:
     import tomllib
 except ImportError:  # before Python 3.11
     tomllib = None
-
-NUMBER_LIMIT = 1 << 63
-MAX_ENTRIES, MAX_MODULES = 32, 64
 
 
 class BadDescription(Exception):
@@ -39,20 +38,6 @@ class Description(NamedTuple):
     fallbacks: List[int]
     files: Dict[str, bytes]
     entries: List[MenuEntry]
-
-
-class Allowed(NamedTuple):
-    """What a value must be, and whether one is; of an array, but for its items."""
-    told: str
-    holds: Callable[[Any], bool]
-    words: Tuple[str, ...] = ()  # if it must be one of these, in the order of the page
-
-
-class Key(NamedTuple):
-    name: str
-    is_required: bool
-    allowed: Allowed
-    items: Optional[Allowed] = None  # what each item of an array must be that is no table
 
 
 def bad(why: str) -> NoReturn:
@@ -90,77 +75,6 @@ def fits(value) -> bool:
     return not isinstance(value, int) or -NUMBER_LIMIT <= value < NUMBER_LIMIT
 
 
-# ---- what a value must be
-
-
-def is_number(value) -> bool:
-    return type(value) is int and 0 <= value < NUMBER_LIMIT
-
-
-def is_text(value) -> bool:
-    return isinstance(value, str)
-
-
-def is_array(value) -> bool:
-    return isinstance(value, list)
-
-
-def is_hex(value) -> bool:
-    return is_text(value) and re.fullmatch("([0-9a-fA-F]{2})*", value) is not None
-
-
-def protocol_of(value) -> Optional[int]:
-    words = {word: protocol for protocol, word in PROTOCOL_NAMES.items()}
-    return words.get(value) if is_text(value) else None
-
-
-NUMBER = Allowed("a number of 0 or more", is_number)
-TWO_NUMBERS = Allowed("an array of two numbers", lambda v: is_array(v) and len(v) == 2)
-BYTE = Allowed("a number from 0 to 255", lambda v: is_number(v) and v <= 255)
-NUMBERS = Allowed("an array of numbers", is_array)
-TABLES = Allowed("an array of tables", is_array)
-ENTRIES = Allowed("an array of 1 to 32 tables",
-                  lambda v: is_array(v) and 1 <= len(v) <= MAX_ENTRIES)
-MODULES = Allowed("an array of at most 64 tables",
-                  lambda v: is_array(v) and len(v) <= MAX_MODULES)
-TABLE = Allowed("a table", lambda v: isinstance(v, dict))
-TEXT = Allowed("a text", is_text)
-TITLE = Allowed("a text of 1 to 64 printable characters of ASCII",
-                lambda v: is_text(v) and re.fullmatch("[ -~]{1,64}", v) is not None)
-KIND = Allowed('"usable", "reserved", "acpi", "nvs" or "bad"', lambda v: is_text(v) and v in KINDS,
-               ("usable", "reserved", "acpi", "nvs", "bad"))
-PROTOCOL = Allowed('"multiboot2", "linux" or "linux64"', lambda v: protocol_of(v) is not None,
-                   ("multiboot2", "linux", "linux64"))
-HEX = Allowed("a text of hexadecimal digits, an even number", is_hex)
-COPY = Allowed("a text of hexadecimal digits, for 1 to 256 bytes",
-               lambda v: is_hex(v) and is_copy(bytes.fromhex(v)))
-
-
-def index_below(count: int) -> Allowed:
-    return Allowed(f"the index of an entry, below {count}", lambda v: is_number(v) and v < count)
-
-
-# ---- the keys of each table
-
-
-def root_keys(count: int) -> List[Key]:
-    """Of a description that has so many entries."""
-    return [Key("size", True, NUMBER), Key("pool", True, TWO_NUMBERS, NUMBER),
-            Key("fill", False, BYTE), Key("default", False, index_below(count)),
-            Key("fallback", False, NUMBERS, index_below(count)), Key("region", False, TABLES),
-            Key("file", False, TABLES), Key("entry", True, ENTRIES)]
-
-
-REGION_KEYS = [Key("base", True, NUMBER), Key("length", True, NUMBER), Key("kind", True, KIND)]
-FILE_KEYS = [Key("name", True, TEXT), Key("hex", True, HEX)]
-ENTRY_KEYS = [Key("title", True, TITLE), Key("protocol", True, PROTOCOL),
-              Key("kernel", True, TEXT), Key("line", False, TEXT)]
-MULTIBOOT2_KEYS = ENTRY_KEYS + [Key("module", False, MODULES), Key("rsdp_old", False, COPY),
-                                Key("rsdp_new", False, COPY)]
-LINUX_KEYS = ENTRY_KEYS + [Key("initrd", False, TEXT)]
-MODULE_KEYS = [Key("file", True, TEXT), Key("line", False, TEXT)]
-
-
 # ---- tables
 
 
@@ -173,8 +87,9 @@ def describe(tree: dict) -> Description:
         bad("two files of one name")
     entries = [entry_in(table) for table in tables(tree, "entry")]
     start, end = tree["pool"]
-    return Description(Machine(tree["size"], regions, (start, end)), tree.get("fill", 0),
-                       tree.get("default", 0), tree.get("fallback", []), files, entries)
+    machine = Machine(tree["size"], regions, (start, end), firmware_in(tree))
+    return Description(machine, tree.get("fill", 0), tree.get("default", 0),
+                       tree.get("fallback", []), files, entries)
 
 
 def entry_count(tree: dict) -> int:
@@ -184,6 +99,44 @@ def entry_count(tree: dict) -> int:
 def region_in(table: dict) -> Region:
     check_keys(table, REGION_KEYS)
     return Region(table["base"], table["length"], KINDS[table["kind"]])
+
+
+def firmware_in(tree: dict) -> Firmware:
+    """Of the tables `firmware` and `avoid`, which may be missing."""
+    table = tree.get("firmware", {})
+    check_keys(table, FIRMWARE_KEYS)
+    avoided = [avoid_in(item) for item in tables(tree, "avoid")]
+    return Firmware(table_in(table, "screen", SCREEN_KEYS, screen_in), table.get("rsdp"),
+                    table_in(table, "efi", EFI_KEYS, efi_in),
+                    table_in(table, "smbios", SMBIOS_KEYS, smbios_in), avoided)
+
+
+def table_in(table: dict, key: str, keys: List[Key], told_in: Callable[[dict], Any]) -> Any:
+    """What a table in another tells, None without it."""
+    if key not in table:
+        return None
+    check_keys(table[key], keys)
+    return told_in(table[key])
+
+
+def screen_in(table: dict) -> Screen:
+    colors = [Color(*table[color]) for color in ("red", "green", "blue")]
+    return Screen(*(table[key] for key in ("base", "pitch", "width", "height", "depth")), *colors)
+
+
+def efi_in(table: dict) -> Efi:
+    return Efi(table["bits"], table["system_table"], table["map_address"],
+               bytes.fromhex(table["map"]), table["descriptor_size"], table["descriptor_version"],
+               table.get("secure_boot", 0))
+
+
+def smbios_in(table: dict) -> Smbios:
+    return Smbios(table["major"], table["minor"], bytes.fromhex(table["tables"]))
+
+
+def avoid_in(table: dict) -> Range:
+    check_keys(table, AVOID_KEYS)
+    return table["base"], table["base"] + table["length"]
 
 
 def file_in(table: dict) -> Tuple[str, bytes]:

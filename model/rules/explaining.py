@@ -6,7 +6,7 @@ import re
 from functools import lru_cache
 from typing import Callable, Dict, List, NamedTuple, Tuple
 
-from . import bad_keys, booting, description
+from . import bad_keys, booting, description, told_lines
 from .bad_keys import shown
 from .booting import File, Outcome, Run
 from .description import BadDescription, Description
@@ -139,7 +139,7 @@ def booted_lines(boot: Boot) -> List[str]:
 
 
 def boot_lines(boot: Boot) -> List[str]:
-    lines = []
+    lines = told_lines.machine_lines(boot.described.machine.firmware)
     for index, refusal in boot.outcome.refused:
         lines += attempt_lines(boot, index)
         lines.append("refused " + told(refusal.number, refusal.data, NAMES, "Of an entry"))

@@ -2,9 +2,12 @@
 
 from typing import List, NamedTuple, Optional, Tuple
 
+from . import told_tags
+from .firmware import EfiTables, Screen, Smbios
 from .machine import REGION_LIMIT, Run
 from .numbers import long, round_up, u32, u64, word
 from .refusals import refuse
+from .told_tags import EFI_MAP, SCREEN, SMBIOS, TABLE_TYPES
 
 LINE, LOADER, MODULE, MEMORY, MAP, OLD_RSDP, NEW_RSDP, LOAD_BASE = 1, 2, 3, 4, 6, 14, 15, 21
 END = 0
@@ -27,6 +30,9 @@ class Information(NamedTuple):
     old_rsdp: Optional[bytes] = None
     new_rsdp: Optional[bytes] = None
     loader: bytes = b"bootcore"
+    screen: Optional[Screen] = None
+    efi: Optional[EfiTables] = None
+    smbios: Optional[Smbios] = None
 
 
 # ---- written
@@ -40,10 +46,18 @@ def spell(facts: Information) -> bytes:
         bodies.append((MODULE, body))
     bodies.append((MEMORY, word(facts.low_kib) + word(facts.high_kib)))
     bodies.append((MAP, word(24) + word(0) + b"".join(spell_run(run) for run in facts.runs)))
+    if facts.screen is not None:
+        bodies.append(told_tags.screen_body(facts.screen))
+    if facts.efi is not None:
+        bodies.append(told_tags.table_body(facts.efi))
+    if facts.smbios is not None:
+        bodies.append(told_tags.smbios_body(facts.smbios))
     if facts.old_rsdp is not None:
         bodies.append((OLD_RSDP, facts.old_rsdp))
     if facts.new_rsdp is not None:
         bodies.append((NEW_RSDP, facts.new_rsdp))
+    if facts.efi is not None:
+        bodies.append(told_tags.efi_map_body(facts.efi))
     if facts.load_base is not None:
         bodies.append((LOAD_BASE, word(facts.load_base)))
     bodies.append((END, b""))
@@ -108,15 +122,21 @@ def read(data: bytes) -> Information:
         modules.append(module_of(*reader.tag(MODULE)))
     low, high = memory_of(*reader.tag(MEMORY))
     runs = map_of(*reader.tag(MAP))
+    screen = told_tags.screen_of(*reader.tag(SCREEN)) if reader.is_next(SCREEN) else None
+    bits = next((bits for bits, type_ in TABLE_TYPES.items() if reader.is_next(type_)), None)
+    table = told_tags.table_of(bits, *reader.tag(TABLE_TYPES[bits])) if bits else None
+    smbios = told_tags.smbios_of(*reader.tag(SMBIOS)) if reader.is_next(SMBIOS) else None
     old_rsdp = reader.tag(OLD_RSDP)[1] if reader.is_next(OLD_RSDP) else None
     new_rsdp = reader.tag(NEW_RSDP)[1] if reader.is_next(NEW_RSDP) else None
+    efi = EfiTables(bits, table, *told_tags.efi_map_of(*reader.tag(EFI_MAP))) if bits else None
     load_base = load_base_of(*reader.tag(LOAD_BASE)) if reader.is_next(LOAD_BASE) else None
     at, body = reader.tag(END)
     if body:
         refuse(63, at)
     if reader.at < len(data):
         refuse(64, reader.at)  # bytes after the end tag
-    return Information(line, modules, low, high, runs, load_base, old_rsdp, new_rsdp, loader)
+    return Information(line, modules, low, high, runs, load_base, old_rsdp, new_rsdp, loader,
+                       screen, efi, smbios)
 
 
 def text(at: int, body: bytes) -> bytes:

@@ -37,8 +37,10 @@ def prepare(machine: Machine, kernel_file: bytes, line: bytes, initrd: Optional[
     if disk:
         disk_at = planner.part(INITRD).highest(disk_length, FRAME, 0x1000,
                                                setup.initrd_addr_max + 1)
+    told = machine.firmware
     params = boot_params.spell(setup.header, boot_params.Params(
-        kernel.address, disk_at, len(disk), line_at, runs))
+        kernel.address, disk_at, len(disk), line_at, runs, told.screen, told.rsdp,
+        told.efi and told.efi.info))
     parts = [
         kernel,
         Part(BOOT_PARAMETERS, 0, params_at, FRAME, [Piece(0, params)]),

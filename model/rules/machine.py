@@ -1,7 +1,10 @@
-"""The machine: its size, its regions, its pool. BOOT-RULES.md "The machine"."""
+"""The machine: its size, its regions, its pool, what its firmware tells. BOOT-RULES.md "The
+machine", "What firmware tells"."""
 
 from typing import List, NamedTuple, Optional, Tuple
 
+from .firmware import (END_LIMIT, MAX_AVOIDED, NO_FIRMWARE, RSDP_LENGTH, Firmware, efi_fault,
+                       is_smbios_size, screen_fault)
 from .numbers import FRAME
 from .refusals import refuse
 
@@ -35,6 +38,7 @@ class Machine(NamedTuple):
     size: int
     regions: List[Region]
     pool: Range
+    firmware: Firmware = NO_FIRMWARE
 
 
 def is_size(size: int) -> bool:
@@ -42,7 +46,8 @@ def is_size(size: int) -> bool:
 
 
 def check(machine: Machine) -> Machine:
-    """The machine, or the first of its faults: refused with 1, 3, 2 and i, or 4, in this order."""
+    """The machine, or the first of its faults: refused with 1, 3, 2 and i, or 4, in this order, and
+    then with 6 to 19 for what its firmware tells."""
     if not is_size(machine.size):
         refuse(1)
     if len(machine.regions) > MAX_REGIONS:
@@ -55,7 +60,42 @@ def check(machine: Machine) -> Machine:
         refuse(4)
     if not is_usable(machine, start, end):
         refuse(4)
+    check_firmware(machine, machine.firmware)
     return machine
+
+
+def check_firmware(machine: Machine, told: Firmware) -> None:
+    """What firmware tells lies apart from the usable bytes, or else a part could lie there."""
+    if told.screen is not None:
+        refuse_for(screen_fault(told.screen))
+        refuse_usable(machine, told.screen.base, told.screen.end, 10)
+    if told.rsdp is not None:
+        if told.rsdp == 0:
+            refuse(11)
+        refuse_usable(machine, told.rsdp, told.rsdp + RSDP_LENGTH, 11)
+    if told.efi is not None:
+        refuse_for(efi_fault(told.efi.info))
+        refuse_usable(machine, told.efi.map_address, told.efi.map_address + len(told.efi.map), 15)
+    if told.smbios is not None and not is_smbios_size(len(told.smbios.tables)):
+        refuse(16)
+    if len(told.avoided) > MAX_AVOIDED:
+        refuse(17)
+    for i, (start, end) in enumerate(told.avoided):
+        if start > end or end > END_LIMIT:
+            refuse(18, i)
+    if any(meets(machine.pool, range_) for range_ in told.avoided):
+        refuse(19)
+
+
+def refuse_for(fault: Optional[int]) -> None:
+    if fault is not None:
+        refuse(fault)
+
+
+def refuse_usable(machine: Machine, start: int, end: int, number: int) -> None:
+    """Refused with this number if a byte of these is usable."""
+    if any(meets((start, end), range_) for range_ in usable_ranges(machine)):
+        refuse(number)
 
 
 def kind_at(regions: List[Region], address: int) -> int:
@@ -88,6 +128,26 @@ def usable_ranges(machine: Machine) -> List[Range]:
         if run.kind == USABLE and start < end:
             ranges.append((start, end))
     return ranges
+
+
+def permitted_ranges(machine: Machine) -> List[Range]:
+    """All bytes that are usable and not avoided, as ascending ranges with gaps between them."""
+    return gaps_between(usable_ranges(machine), machine.firmware.avoided)
+
+
+def gaps_between(ranges: List[Range], without: List[Range]) -> List[Range]:
+    """What of ascending ranges lies in none of the others, as ascending ranges with something
+    between them."""
+    gaps = []
+    for at, end in ranges:
+        for low, high in sorted(without):
+            if meets((low, high), (at, end)):
+                if at < low:
+                    gaps.append((at, low))
+                at = high
+        if at < end:
+            gaps.append((at, end))
+    return gaps
 
 
 def covers(ranges: List[Range], start: int, end: int) -> bool:

@@ -4,14 +4,14 @@ from typing import List, NamedTuple, Optional
 
 from .elf import Segment
 from .numbers import round_up, u16, u32
-from .refusals import refuse
+from .refusals import Refused, refuse
 
 MAGIC = 0xE85250D6
 SEARCH_END = 32768
 FRONT = 16  # bytes of magic, architecture, length and checksum
 LEAST_LENGTH = 24
 
-END, REQUEST, ADDRESS, ENTRY, CONSOLE, RELOCATABLE = 0, 1, 2, 3, 4, 10
+END, REQUEST, ADDRESS, ENTRY, CONSOLE, FRAMEBUFFER, RELOCATABLE = 0, 1, 2, 3, 4, 5, 10
 LEAST_SIZES = {ADDRESS: 24, ENTRY: 12, CONSOLE: 12, RELOCATABLE: 24}
 LAST_TYPE = 10
 INFORMATION_TYPES = [*range(1, 9), *range(10, 22)]  # what may be required of the information
@@ -39,9 +39,9 @@ class Tag(NamedTuple):
     size: int
 
 
-def read(file: bytes) -> Header:
-    """Refused with 4, 5, 6, 7 and the tag's file offset, 8 and its type, 9 and the type asked for,
-    10."""
+def read(file: bytes, has_screen: bool = False) -> Header:
+    """On a machine that has a screen, or on one without. Refused with 4, 5, 6, 7 and the tag's file
+    offset, 8 and its type, 9 and the type asked for, 10."""
     place = find(file)
     end = place + u32(file, place + 8)
     if end - place < LEAST_LENGTH or end > len(file) or end > SEARCH_END:
@@ -50,7 +50,8 @@ def read(file: bytes) -> Header:
         refuse(6)
     segment = entry = relocation = None
     address = None
-    for tag in read_tags(file, place + FRONT, end):  # the last of a type counts
+    has_console = has_screen and wants_screen(file, place + FRONT, end)
+    for tag in read_tags(file, place + FRONT, end, has_console):  # the last of a type counts
         if tag.type == ADDRESS:
             address = tag
         elif tag.type == ENTRY:
@@ -75,12 +76,23 @@ def find(file: bytes) -> int:
     refuse(4)
 
 
-def read_tags(file: bytes, at: int, end: int) -> List[Tag]:
+def wants_screen(file: bytes, at: int, end: int) -> bool:
+    """Whether a framebuffer tag is among the tags from `at` on, as far as they can be followed."""
+    try:
+        tag = read_tag(file, at, end)
+        while tag.type not in (FRAMEBUFFER, END):
+            tag = read_tag(file, round_up(tag.at + tag.size, 8), end)
+        return tag.type == FRAMEBUFFER
+    except Refused:
+        return False
+
+
+def read_tags(file: bytes, at: int, end: int, has_console: bool) -> List[Tag]:
     """The tags from `at` on up to the one of type 0; the first that is bad is refused."""
     tags = []
     while True:
         tag = read_tag(file, at, end)
-        check_tag(file, tag)
+        check_tag(file, tag, has_console)
         if tag.type == END:
             return tags
         tags.append(tag)
@@ -101,7 +113,7 @@ def read_tag(file: bytes, at: int, end: int) -> Tag:
     return tag
 
 
-def check_tag(file: bytes, tag: Tag) -> None:
+def check_tag(file: bytes, tag: Tag, has_console: bool) -> None:
     """Orders 2 to 4 of the table of tags; an optional tag has none of these faults."""
     if tag.is_optional:
         return
@@ -112,7 +124,7 @@ def check_tag(file: bytes, tag: Tag) -> None:
             wanted = u32(file, tag.at + 8 + 4 * i)
             if wanted not in INFORMATION_TYPES:
                 refuse(9, wanted)
-    if tag.type == CONSOLE and u32(file, tag.at + 8) % 2 == 1:
+    if tag.type == CONSOLE and u32(file, tag.at + 8) % 2 == 1 and not has_console:
         refuse(10)
 
 

@@ -12,9 +12,9 @@ from .places import GIB4, MIB, Planner
 from .refusals import refuse
 
 
-def read_kernel(file: bytes) -> Tuple[multiboot2.Header, List[Segment], int]:
+def read_kernel(file: bytes, has_screen: bool) -> Tuple[multiboot2.Header, List[Segment], int]:
     """Steps 5 to 7: the header, the segments, the entry that counts, at its linked address."""
-    header = multiboot2.read(file)
+    header = multiboot2.read(file, has_screen)
     if header.segment is not None:
         segments, own_entry = [header.segment], None
     else:
@@ -31,7 +31,8 @@ def prepare(machine: Machine, kernel: bytes, line: bytes,
             modules: List[Tuple[bytes, bytes]], rsdp_old: Optional[bytes],
             rsdp_new: Optional[bytes]) -> Handover:
     """Steps 5 to 9; a module is its file and its line. The copies are told as they stand."""
-    header, segments, entered = read_kernel(kernel)
+    firmware = machine.firmware
+    header, segments, entered = read_kernel(kernel, firmware.screen is not None)
     planner = Planner(machine)
     if header.relocation is None:
         parts = [fixed_segment(planner, i, segment, kernel)
@@ -49,7 +50,8 @@ def prepare(machine: Machine, kernel: bytes, line: bytes,
         told_modules.append(information.Module(at, at + len(file), module_line))
     told = information.spell(information.Information(
         line, told_modules, low_kib(machine.regions), high_kib(machine.regions),
-        normal_map(machine.regions), load_base, rsdp_old, rsdp_new))
+        normal_map(machine.regions), load_base, rsdp_old, rsdp_new, screen=firmware.screen,
+        efi=firmware.efi and firmware.efi.tables, smbios=firmware.smbios))
     length = frames(len(told)) * FRAME
     at = planner.part(INFORMATION).lowest(length, FRAME, 0x1000, GIB4)
     parts.append(Part(INFORMATION, 0, at, length, [Piece(0, told)]))

@@ -2,7 +2,7 @@
 
 from typing import List, NamedTuple, NoReturn, Optional
 
-from .machine import Machine, Range, covers, meets, usable_ranges
+from .machine import Machine, Range, covers, gaps_between, meets, permitted_ranges
 from .numbers import FRAME, frames, round_down, round_up
 from .refusals import Refused
 
@@ -23,11 +23,11 @@ class Wanted(NamedTuple):
 
 
 class Planner:
-    """The usable bytes of a machine, and the ranges that parts have taken so far. Who asks which
-    part finds no place says by `part` what is placed next."""
+    """The bytes of a machine that are usable and not avoided, and the ranges that parts have taken
+    so far. Who asks which part finds no place says by `part` what is placed next."""
 
     def __init__(self, machine: Machine):
-        self.usable = usable_ranges(machine)
+        self.permitted = permitted_ranges(machine)
         self.taken: List[Range] = []
         self.role, self.index = 0, 0
 
@@ -36,25 +36,15 @@ class Planner:
         return self
 
     def gaps(self) -> List[Range]:
-        """The usable bytes that no part has, as ascending ranges with something between them."""
-        gaps = []
-        for start, end in self.usable:
-            at = start
-            for low, high in sorted(self.taken):
-                if meets((low, high), (at, end)):
-                    if at < low:
-                        gaps.append((at, low))
-                    at = high
-            if at < end:
-                gaps.append((at, end))
-        return gaps
+        """The permitted bytes that no part has, as ascending ranges with something between them."""
+        return gaps_between(self.permitted, self.taken)
 
     def is_permitted(self, at: int, length: int, align: int, low: int, high: int) -> bool:
-        """The five rules of a permitted address, one by one."""
+        """The rules of a permitted address, one by one."""
         return (at % align == 0
                 and low <= at
                 and at + length <= high
-                and covers(self.usable, at, at + length)
+                and covers(self.permitted, at, at + length)
                 and not any(meets((at, at + length), part) for part in self.taken))
 
     def least(self, length: int, align: int, low: int, high: int) -> Optional[int]:
@@ -101,8 +91,9 @@ class Planner:
         return self.take(at, length)
 
     def fixed(self, start: int, end: int) -> int:
-        """A part at its own address: each byte is usable (19), none is in an earlier part (15)."""
-        if not covers(self.usable, start, end):
+        """A part at its own address: each byte is usable, and none is avoided (19); none is in an
+        earlier part (15)."""
+        if not covers(self.permitted, start, end):
             self._refuse(19, end - start, "fixed", start)
         if any(meets((start, end), part) for part in self.taken):
             self._refuse(15, end - start, "fixed", start)

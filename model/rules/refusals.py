@@ -21,7 +21,11 @@ NAMES = {
 # Those of a machine are numbers of their own.
 MACHINE_NAMES = {
     # >>> tools/refusals: model machine names
-    1: "BadSize", 2: "BadRegion", 3: "TooManyRegions", 4: "BadPool",
+    1: "BadSize", 2: "BadRegion", 3: "TooManyRegions", 4: "BadPool", 6: "BadScreenSize",
+    7: "BadScreenDepth", 8: "BadScreenColor", 9: "BadScreenPitch", 10: "BadScreenPlace",
+    11: "BadRsdp", 12: "BadSystemTable", 13: "BadDescriptors", 14: "BadEfiMapSize",
+    15: "BadEfiMapPlace", 16: "BadSmbiosSize", 17: "TooManyAvoided", 18: "BadAvoided",
+    19: "PoolAvoided",
     # <<<
 }
 

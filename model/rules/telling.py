@@ -7,8 +7,8 @@ from . import booting, bzimage, entry as entries
 from .booting import File
 from .description import Description, MenuEntry
 from .handover import PART_NAMES, Handover, Part, names_of
-from .machine import (FIRST_USABLE, KIND_NAMES, USABLE, Machine, Region, kind_at,
-                      usable_ranges)
+from .machine import (FIRST_USABLE, KIND_NAMES, USABLE, Machine, Region, is_usable, kind_at,
+                      permitted_ranges, usable_ranges)
 from .numbers import FRAME, frames, u16, u32
 from .places import Wanted, undisturbed_frames
 from .plans import FILE, OWN, part_steps
@@ -71,7 +71,9 @@ def detail_lines(machine: Machine, entry: MenuEntry, refusal: Refused, files: Li
         return []
     lines = [no_place_line(refusal.wanted)]
     if refusal.wanted.choice == "fixed":
-        lines.append(unusable_line(machine, refusal.wanted.at))
+        lines.append(unpermitted_line(machine, refusal.wanted.at))
+    elif machine.firmware.avoided:
+        lines.append(f"ranges {len(machine.firmware.avoided)} avoided")
     return lines
 
 
@@ -92,8 +94,16 @@ def no_place_line(wanted: Wanted) -> str:
     return f"no place {PART_NAMES[wanted.role]} {wanted.index} {wanted.length} {choice}"
 
 
-def unusable_line(machine: Machine, at: int) -> str:
+def unpermitted_line(machine: Machine, at: int) -> str:
     """The first byte from an address on that no part may have, and why not."""
+    for start, end in permitted_ranges(machine):
+        if start <= at < end:
+            at = end
+    return f"avoided {at:08x}" if is_usable(machine, at, at + 1) else unusable_line(machine, at)
+
+
+def unusable_line(machine: Machine, at: int) -> str:
+    """The first byte from an address on that is not usable, and why not."""
     for start, end in usable_ranges(machine):
         if start <= at < end:
             at = end

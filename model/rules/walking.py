@@ -3,16 +3,18 @@
 Of several faults any may be told, so `faults` gives all that stand.
 """
 
-from typing import List, NamedTuple, Optional, Set, Tuple
+from typing import List, NamedTuple, Optional, Set, Tuple, Union
 
 from . import boot_params, information, paging
 from .boot_params import Params
+from .firmware import EfiInfo, EfiTables, Screen, Smbios
 from .handover import KERNEL, LINUX, LINUX64, MULTIBOOT2, PROTOCOL_NAMES, registers_of
 from .image import Image
 from .information import Information
 from .machine import Run
 from .numbers import u32
 from .refusals import Refused, refuse
+from .told_lines import told_lines
 
 OUTSIDE, BAD_INFO, BAD_STATE = 81, 82, 83
 ADDRESSES = {MULTIBOOT2: ["EIP", "EBX"], LINUX: ["EIP", "ESI", "GDT base"],
@@ -35,6 +37,10 @@ class Seen(NamedTuple):
     runs: List[Run]
     rsdp_old: Optional[bytes] = None
     rsdp_new: Optional[bytes] = None
+    screen: Optional[Screen] = None
+    rsdp: Optional[int] = None
+    efi: Union[EfiInfo, EfiTables, None] = None
+    smbios: Optional[Smbios] = None
 
 
 def faults(image: Image) -> Set[int]:
@@ -62,9 +68,10 @@ def see(image: Image) -> Seen:
     if image.protocol == MULTIBOOT2:
         told = information_of(image)
         return Seen(MULTIBOOT2, entry, told.line, kernel, modules_of(image), None, told.runs,
-                    told.old_rsdp, told.new_rsdp)
-    runs = params_of(image).runs
-    return Seen(image.protocol, entry, line_of(image), kernel, [], initrd_of(image), runs)
+                    told.old_rsdp, told.new_rsdp, told.screen, None, told.efi, told.smbios)
+    params = params_of(image)
+    return Seen(image.protocol, entry, line_of(image), kernel, [], initrd_of(image), params.runs,
+                None, None, params.screen, params.rsdp, params.efi)
 
 
 # ---- the registers and what they lead to
@@ -177,7 +184,7 @@ def lines(seen: Seen) -> List[str]:
         said.append(f"rsdp-old {text_word(seen.rsdp_old)}")
     if seen.rsdp_new is not None:
         said.append(f"rsdp-new {text_word(seen.rsdp_new)}")
-    return said
+    return said + told_lines(seen.screen, seen.rsdp, seen.efi, seen.smbios)
 
 
 def text_word(text: bytes) -> str:

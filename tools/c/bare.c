@@ -58,7 +58,7 @@ static int is_loaded(void) {
 
 int run(void);
 int run(void) {
-    bootcore_seen_arrays none = {NULL, 0, NULL, 0, NULL, 0, NULL, 0, {0, 0, 0, 0}};
+    bootcore_seen_arrays none = {NULL, 0, NULL, 0, NULL, 0, NULL, 0, NULL, {0, 0, 0}};
     set();
     if (bootcore_load(&whole, &machine, &entry, &outcome) != BOOTCORE_STATUS_NO_MEMORY) return 1;
     bootcore_arena(arena, ARENA);

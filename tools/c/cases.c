@@ -136,7 +136,7 @@ static uint8_t text[0x50000];
 static uint32_t walk(const uint8_t *image, size_t length, size_t grants) {
     const bootcore_seen_arrays arrays = {told.parts, BOOTCORE_MAX_PLACES, told.modules, BOOTCORE_MAX_MODULES,
                                          told.runs,  512,                 text,         sizeof text,
-                                         {0, 0, 0, 0}};
+                                         NULL,       {0, 0, 0}};
     bootcore_refusal fault;
     uint32_t status;
     memset(&told, 0xA5, sizeof told);

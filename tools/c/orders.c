@@ -21,6 +21,8 @@ static bootcore_memory memory;
 static uint8_t bytes[MEMORY], bytes_before[MEMORY];
 static bootcore_machine machine;
 static bootcore_region regions[REGION_ROOM];
+static bootcore_firmware firmware;
+static bootcore_avoided avoided[BOOTCORE_MAX_AVOIDED + 9];
 static bootcore_entry entries[BOOTCORE_MAX_ENTRIES + 1];
 static bootcore_module modules[BOOTCORE_MAX_MODULES + 9];
 static bootcore_menu menu;
@@ -64,6 +66,15 @@ static void right(void) {
     machine.pool_length = MEMORY - POOL;
     machine.regions = regions;
     machine.region_count = 3;
+    machine.firmware = &firmware;
+    firmware = (bootcore_firmware){{0xE0000000, 4096, 1024, 768, 32, 0, {16, 8}, {8, 8}, {0, 8}, 0},
+                                   MEMORY,
+                                   {0x500000, {bytes_before, 96}, 0x400000, 64, 48, 1, 2},
+                                   {{bytes_before, 31}, 3, 0, 0, 0},
+                                   avoided,
+                                   2,
+                                   {0}};
+    memset(avoided, 0, sizeof avoided);
     for (i = 0; i < REGION_ROOM; i++) {
         regions[i].base = 0;
         regions[i].length = MEMORY;
@@ -140,7 +151,11 @@ static void null_refusal(void) { told_refusal = NULL; }
 static void null_fed(void) { fed = NULL; }
 static void long_fed(void) { fed_length = sizeof kernel + 1; } /* the first range is the whole kernel */
 static void set_memory(void) { memory.reserved = 1; }
-static void set_machine(void) { machine.reserved[3] = 1; }
+static void set_machine(void) { machine.reserved[2] = 1; }
+static void set_firmware(void) { firmware.reserved[5] = 1; }
+static void set_screen(void) { firmware.screen.reserved8 = 1; }
+static void null_map(void) { firmware.efi.map.bytes = NULL; }
+static void null_avoided(void) { firmware.avoided = NULL; }
 static void set_region(void) { regions[2].reserved = 1; }
 static void set_entry(void) { entries[0].reserved32 = 1; }
 static void set_entry_end(void) { entries[0].reserved[3] = 1; }
@@ -163,6 +178,18 @@ static void bad_region(void) {
     regions[1].length = 1;
 }
 static void bad_pool(void) { machine.pool_length++; }
+static void bad_efi_bits(void) { firmware.efi.bits = 16; }
+static void bad_secure_boot(void) { firmware.efi.secure_boot = 4; }
+static void bad_screen(void) { firmware.screen.width = 0; }
+static void bad_rsdp(void) { firmware.rsdp = MEMORY - 36; }
+static void bad_table(void) { firmware.efi.bits = 32, firmware.efi.system_table = UINT64_MAX; }
+static void bad_map(void) { firmware.efi.map.length--; }
+static void many_avoided(void) { firmware.avoided_count = BOOTCORE_MAX_AVOIDED + 9; }
+static void bad_avoided(void) { avoided[1].base = UINT64_MAX; }
+static void avoided_pool(void) {
+    avoided[0].base = POOL;
+    avoided[0].length = 1;
+}
 static void short_memory(void) { memory.length--; }
 static void high_memory(void) { memory.address = (uint64_t)1 << 32; }
 static void bad_protocol(void) { entries[0].protocol = 4; }
@@ -199,42 +226,58 @@ typedef struct change {
 #define CHANGE(make, status) {#make, make, BOOTCORE_STATUS_##status}
 
 static const change of_load[] = {
-    CHANGE(null_memory, NULL), CHANGE(null_regions, NULL), CHANGE(null_line, NULL), CHANGE(null_kernel, NULL),
-    CHANGE(null_module, NULL), CHANGE(null_places, NULL), CHANGE(set_machine, BAD_RESERVED), CHANGE(set_region, BAD_RESERVED),
+    CHANGE(null_memory, NULL), CHANGE(null_regions, NULL), CHANGE(null_map, NULL), CHANGE(null_avoided, NULL), CHANGE(null_line, NULL),
+    CHANGE(null_kernel, NULL), CHANGE(null_module, NULL), CHANGE(null_places, NULL), CHANGE(set_machine, BAD_RESERVED),
+    CHANGE(set_firmware, BAD_RESERVED), CHANGE(set_screen, BAD_RESERVED), CHANGE(set_region, BAD_RESERVED),
     CHANGE(set_memory, BAD_RESERVED), CHANGE(set_module, BAD_RESERVED), CHANGE(set_entry_end, BAD_RESERVED),
     CHANGE(set_outcome, BAD_RESERVED), CHANGE(set_entry, BAD_RESERVED), CHANGE(unreadable_kernel, BAD_FILE),
-    CHANGE(unreadable_module, BAD_FILE), CHANGE(few_places, SMALL_ROOM), CHANGE(bad_kind, BAD_KIND), CHANGE(bad_size, BAD_SIZE),
-    CHANGE(many_regions, TOO_MANY_REGIONS), CHANGE(bad_region, BAD_REGION), CHANGE(bad_pool, BAD_POOL),
-    CHANGE(short_memory, BAD_MEMORY), CHANGE(high_memory, BAD_MEMORY), CHANGE(bad_protocol, BAD_PROTOCOL),
-    CHANGE(many_modules, TOO_MANY_MODULES), CHANGE(more_modules, TOO_MANY_MODULES), CHANGE(long_rsdp, LONG_RSDP),
-    CHANGE(no_kernel, REFUSED), CHANGE(nothing, DONE)};
+    CHANGE(unreadable_module, BAD_FILE), CHANGE(few_places, SMALL_ROOM), CHANGE(bad_kind, BAD_KIND), CHANGE(bad_efi_bits, BAD_EFI_BITS),
+    CHANGE(bad_secure_boot, BAD_SECURE_BOOT), CHANGE(bad_size, BAD_SIZE), CHANGE(many_regions, TOO_MANY_REGIONS),
+    CHANGE(bad_region, BAD_REGION), CHANGE(bad_pool, BAD_POOL), CHANGE(bad_screen, BAD_SCREEN_SIZE), CHANGE(bad_rsdp, BAD_RSDP),
+    CHANGE(bad_table, BAD_SYSTEM_TABLE), CHANGE(bad_map, BAD_EFI_MAP_SIZE), CHANGE(many_avoided, TOO_MANY_AVOIDED),
+    CHANGE(bad_avoided, BAD_AVOIDED), CHANGE(avoided_pool, POOL_AVOIDED), CHANGE(short_memory, BAD_MEMORY),
+    CHANGE(high_memory, BAD_MEMORY), CHANGE(bad_protocol, BAD_PROTOCOL), CHANGE(many_modules, TOO_MANY_MODULES),
+    CHANGE(more_modules, TOO_MANY_MODULES), CHANGE(long_rsdp, LONG_RSDP), CHANGE(no_kernel, REFUSED), CHANGE(nothing, DONE)};
 /* the same, but for memory and bytes beside the kernel's, which are not looked at; the room is looked at last */
 static const change of_plan[] = {
-    CHANGE(null_regions, NULL), CHANGE(null_line, NULL), CHANGE(null_kernel, NULL), CHANGE(null_places, NULL), CHANGE(null_own, NULL),
-    CHANGE(set_machine, BAD_RESERVED), CHANGE(set_region, BAD_RESERVED), CHANGE(set_module, BAD_RESERVED),
+    CHANGE(null_regions, NULL), CHANGE(null_map, NULL), CHANGE(null_avoided, NULL), CHANGE(null_line, NULL), CHANGE(null_kernel, NULL),
+    CHANGE(null_places, NULL), CHANGE(null_own, NULL), CHANGE(set_machine, BAD_RESERVED), CHANGE(set_firmware, BAD_RESERVED),
+    CHANGE(set_screen, BAD_RESERVED), CHANGE(set_region, BAD_RESERVED), CHANGE(set_module, BAD_RESERVED),
     CHANGE(set_entry_end, BAD_RESERVED), CHANGE(set_outcome, BAD_RESERVED), CHANGE(set_entry, BAD_RESERVED),
-    CHANGE(unreadable_kernel, BAD_FILE), CHANGE(unreadable_module, BAD_FILE),
-    CHANGE(bad_kind, BAD_KIND), CHANGE(bad_size, BAD_SIZE), CHANGE(many_regions, TOO_MANY_REGIONS), CHANGE(bad_region, BAD_REGION),
-    CHANGE(bad_pool, BAD_POOL), CHANGE(bad_protocol, BAD_PROTOCOL), CHANGE(many_modules, TOO_MANY_MODULES),
-    CHANGE(more_modules, TOO_MANY_MODULES), CHANGE(long_rsdp, LONG_RSDP), CHANGE(no_kernel, REFUSED), CHANGE(few_plan_places, SMALL_ROOM),
-    CHANGE(few_steps, SMALL_ROOM), CHANGE(few_bytes, SMALL_ROOM), CHANGE(nothing, DONE)};
+    CHANGE(unreadable_kernel, BAD_FILE), CHANGE(unreadable_module, BAD_FILE), CHANGE(bad_kind, BAD_KIND),
+    CHANGE(bad_efi_bits, BAD_EFI_BITS), CHANGE(bad_secure_boot, BAD_SECURE_BOOT), CHANGE(bad_size, BAD_SIZE),
+    CHANGE(many_regions, TOO_MANY_REGIONS), CHANGE(bad_region, BAD_REGION), CHANGE(bad_pool, BAD_POOL),
+    CHANGE(bad_screen, BAD_SCREEN_SIZE), CHANGE(bad_rsdp, BAD_RSDP), CHANGE(bad_table, BAD_SYSTEM_TABLE),
+    CHANGE(bad_map, BAD_EFI_MAP_SIZE), CHANGE(many_avoided, TOO_MANY_AVOIDED), CHANGE(bad_avoided, BAD_AVOIDED),
+    CHANGE(avoided_pool, POOL_AVOIDED), CHANGE(bad_protocol, BAD_PROTOCOL), CHANGE(many_modules, TOO_MANY_MODULES),
+    CHANGE(more_modules, TOO_MANY_MODULES), CHANGE(long_rsdp, LONG_RSDP), CHANGE(no_kernel, REFUSED),
+    CHANGE(few_plan_places, SMALL_ROOM), CHANGE(few_steps, SMALL_ROOM), CHANGE(few_bytes, SMALL_ROOM), CHANGE(nothing, DONE)};
 static const change of_boot[] = {
-    CHANGE(null_memory, NULL), CHANGE(null_regions, NULL), CHANGE(null_entries, NULL), CHANGE(null_line, NULL),
-    CHANGE(null_kernel, NULL), CHANGE(null_module, NULL), CHANGE(null_places, NULL), CHANGE(set_machine, BAD_RESERVED),
+    CHANGE(null_memory, NULL), CHANGE(null_regions, NULL), CHANGE(null_map, NULL), CHANGE(null_avoided, NULL),
+    CHANGE(null_entries, NULL), CHANGE(null_line, NULL), CHANGE(null_kernel, NULL), CHANGE(null_module, NULL),
+    CHANGE(null_places, NULL), CHANGE(set_machine, BAD_RESERVED), CHANGE(set_firmware, BAD_RESERVED), CHANGE(set_screen, BAD_RESERVED),
     CHANGE(set_region, BAD_RESERVED), CHANGE(set_memory, BAD_RESERVED), CHANGE(set_module, BAD_RESERVED),
     CHANGE(set_entry_end, BAD_RESERVED), CHANGE(set_menu_word, BAD_RESERVED), CHANGE(set_outcome, BAD_RESERVED),
     CHANGE(set_menu, BAD_RESERVED), CHANGE(set_last_entry, BAD_RESERVED), CHANGE(few_places, SMALL_ROOM), CHANGE(bad_kind, BAD_KIND),
-    CHANGE(bad_size, BAD_SIZE), CHANGE(many_regions, TOO_MANY_REGIONS), CHANGE(bad_region, BAD_REGION), CHANGE(bad_pool, BAD_POOL),
-    CHANGE(short_memory, BAD_MEMORY), CHANGE(high_memory, BAD_MEMORY), CHANGE(bad_protocol, BAD_PROTOCOL),
-    CHANGE(bad_last_protocol, BAD_PROTOCOL), CHANGE(many_entries, TOO_MANY_ENTRIES), CHANGE(many_modules, TOO_MANY_MODULES),
-    CHANGE(more_modules, TOO_MANY_MODULES), CHANGE(long_rsdp, LONG_RSDP), CHANGE(bad_first, BAD_INDEX), CHANGE(bad_fallback, BAD_INDEX),
-    CHANGE(low_pool, LOW_POOL), CHANGE(no_kernel, REFUSED), CHANGE(unreadable_kernel, DONE), CHANGE(nothing, DONE)};
+    CHANGE(bad_efi_bits, BAD_EFI_BITS), CHANGE(bad_secure_boot, BAD_SECURE_BOOT), CHANGE(bad_size, BAD_SIZE),
+    CHANGE(many_regions, TOO_MANY_REGIONS), CHANGE(bad_region, BAD_REGION), CHANGE(bad_pool, BAD_POOL),
+    CHANGE(bad_screen, BAD_SCREEN_SIZE), CHANGE(bad_rsdp, BAD_RSDP), CHANGE(bad_table, BAD_SYSTEM_TABLE),
+    CHANGE(bad_map, BAD_EFI_MAP_SIZE), CHANGE(many_avoided, TOO_MANY_AVOIDED), CHANGE(bad_avoided, BAD_AVOIDED),
+    CHANGE(avoided_pool, POOL_AVOIDED), CHANGE(short_memory, BAD_MEMORY), CHANGE(high_memory, BAD_MEMORY),
+    CHANGE(bad_protocol, BAD_PROTOCOL), CHANGE(bad_last_protocol, BAD_PROTOCOL), CHANGE(many_entries, TOO_MANY_ENTRIES),
+    CHANGE(many_modules, TOO_MANY_MODULES), CHANGE(more_modules, TOO_MANY_MODULES), CHANGE(long_rsdp, LONG_RSDP),
+    CHANGE(bad_first, BAD_INDEX), CHANGE(bad_fallback, BAD_INDEX), CHANGE(low_pool, LOW_POOL), CHANGE(no_kernel, REFUSED),
+    CHANGE(unreadable_kernel, DONE), CHANGE(nothing, DONE)};
 static const change of_make[] = {
-    CHANGE(null_session, NULL), CHANGE(null_regions, NULL), CHANGE(null_entries, NULL), CHANGE(null_line, NULL),
-    CHANGE(set_machine, BAD_RESERVED), CHANGE(set_region, BAD_RESERVED), CHANGE(set_module, BAD_RESERVED),
+    CHANGE(null_session, NULL), CHANGE(null_regions, NULL), CHANGE(null_map, NULL), CHANGE(null_avoided, NULL),
+    CHANGE(null_entries, NULL), CHANGE(null_line, NULL), CHANGE(set_machine, BAD_RESERVED), CHANGE(set_firmware, BAD_RESERVED),
+    CHANGE(set_screen, BAD_RESERVED), CHANGE(set_region, BAD_RESERVED), CHANGE(set_module, BAD_RESERVED),
     CHANGE(set_menu_word, BAD_RESERVED), CHANGE(set_menu, BAD_RESERVED), CHANGE(set_last_entry, BAD_RESERVED),
-    CHANGE(bad_kind, BAD_KIND), CHANGE(bad_size, BAD_SIZE), CHANGE(many_regions, TOO_MANY_REGIONS), CHANGE(bad_region, BAD_REGION),
-    CHANGE(bad_pool, BAD_POOL), CHANGE(bad_protocol, BAD_PROTOCOL), CHANGE(bad_last_protocol, BAD_PROTOCOL),
+    CHANGE(bad_kind, BAD_KIND), CHANGE(bad_efi_bits, BAD_EFI_BITS), CHANGE(bad_secure_boot, BAD_SECURE_BOOT),
+    CHANGE(bad_size, BAD_SIZE), CHANGE(many_regions, TOO_MANY_REGIONS), CHANGE(bad_region, BAD_REGION), CHANGE(bad_pool, BAD_POOL),
+    CHANGE(bad_screen, BAD_SCREEN_SIZE), CHANGE(bad_rsdp, BAD_RSDP), CHANGE(bad_table, BAD_SYSTEM_TABLE),
+    CHANGE(bad_map, BAD_EFI_MAP_SIZE), CHANGE(many_avoided, TOO_MANY_AVOIDED), CHANGE(bad_avoided, BAD_AVOIDED),
+    CHANGE(avoided_pool, POOL_AVOIDED), CHANGE(bad_protocol, BAD_PROTOCOL), CHANGE(bad_last_protocol, BAD_PROTOCOL),
     CHANGE(many_entries, TOO_MANY_ENTRIES), CHANGE(many_modules, TOO_MANY_MODULES), CHANGE(more_modules, TOO_MANY_MODULES),
     CHANGE(long_rsdp, LONG_RSDP), CHANGE(bad_first, BAD_INDEX), CHANGE(bad_fallback, BAD_INDEX), CHANGE(null_kernel, DONE),
     CHANGE(null_module, DONE), CHANGE(unreadable_kernel, DONE), CHANGE(nothing, DONE)};
@@ -258,21 +301,29 @@ static const change of_carrying[] = {
     CHANGE(high_memory, OUTSIDE), CHANGE(wrapped, OUTSIDE), CHANGE(nothing, DONE)};
 /* a digest is made as a plan is, and tells no steps; at once it reads all files, as a load does */
 static const change of_digest_make[] = {
-    CHANGE(null_digest, NULL), CHANGE(null_regions, NULL), CHANGE(null_line, NULL), CHANGE(null_kernel, NULL),
-    CHANGE(null_refusal, NULL), CHANGE(set_machine, BAD_RESERVED), CHANGE(set_region, BAD_RESERVED), CHANGE(set_module, BAD_RESERVED),
+    CHANGE(null_digest, NULL), CHANGE(null_regions, NULL), CHANGE(null_map, NULL), CHANGE(null_avoided, NULL), CHANGE(null_line, NULL),
+    CHANGE(null_kernel, NULL), CHANGE(null_refusal, NULL), CHANGE(set_machine, BAD_RESERVED), CHANGE(set_firmware, BAD_RESERVED),
+    CHANGE(set_screen, BAD_RESERVED), CHANGE(set_region, BAD_RESERVED), CHANGE(set_module, BAD_RESERVED),
     CHANGE(set_entry, BAD_RESERVED), CHANGE(unreadable_kernel, BAD_FILE), CHANGE(unreadable_module, BAD_FILE),
-    CHANGE(bad_kind, BAD_KIND), CHANGE(bad_size, BAD_SIZE), CHANGE(many_regions, TOO_MANY_REGIONS), CHANGE(bad_region, BAD_REGION),
-    CHANGE(bad_pool, BAD_POOL), CHANGE(bad_protocol, BAD_PROTOCOL), CHANGE(many_modules, TOO_MANY_MODULES),
+    CHANGE(bad_kind, BAD_KIND), CHANGE(bad_efi_bits, BAD_EFI_BITS), CHANGE(bad_secure_boot, BAD_SECURE_BOOT),
+    CHANGE(bad_size, BAD_SIZE), CHANGE(many_regions, TOO_MANY_REGIONS), CHANGE(bad_region, BAD_REGION), CHANGE(bad_pool, BAD_POOL),
+    CHANGE(bad_screen, BAD_SCREEN_SIZE), CHANGE(bad_rsdp, BAD_RSDP), CHANGE(bad_table, BAD_SYSTEM_TABLE),
+    CHANGE(bad_map, BAD_EFI_MAP_SIZE), CHANGE(many_avoided, TOO_MANY_AVOIDED), CHANGE(bad_avoided, BAD_AVOIDED),
+    CHANGE(avoided_pool, POOL_AVOIDED), CHANGE(bad_protocol, BAD_PROTOCOL), CHANGE(many_modules, TOO_MANY_MODULES),
     CHANGE(more_modules, TOO_MANY_MODULES), CHANGE(long_rsdp, LONG_RSDP), CHANGE(no_kernel, REFUSED), CHANGE(null_module, DONE),
     CHANGE(nothing, DONE)};
 static const change of_digest_entry[] = {
-    CHANGE(null_regions, NULL), CHANGE(null_line, NULL), CHANGE(null_kernel, NULL), CHANGE(null_module, NULL),
-    CHANGE(null_digests, NULL), CHANGE(null_parts, NULL), CHANGE(null_refusal, NULL), CHANGE(set_machine, BAD_RESERVED),
+    CHANGE(null_regions, NULL), CHANGE(null_map, NULL), CHANGE(null_avoided, NULL), CHANGE(null_line, NULL), CHANGE(null_kernel, NULL),
+    CHANGE(null_module, NULL), CHANGE(null_digests, NULL), CHANGE(null_parts, NULL), CHANGE(null_refusal, NULL),
+    CHANGE(set_machine, BAD_RESERVED), CHANGE(set_firmware, BAD_RESERVED), CHANGE(set_screen, BAD_RESERVED),
     CHANGE(set_region, BAD_RESERVED), CHANGE(set_module, BAD_RESERVED), CHANGE(set_entry, BAD_RESERVED),
-    CHANGE(unreadable_kernel, BAD_FILE), CHANGE(unreadable_module, BAD_FILE), CHANGE(bad_kind, BAD_KIND), CHANGE(bad_size, BAD_SIZE),
+    CHANGE(unreadable_kernel, BAD_FILE), CHANGE(unreadable_module, BAD_FILE), CHANGE(bad_kind, BAD_KIND),
+    CHANGE(bad_efi_bits, BAD_EFI_BITS), CHANGE(bad_secure_boot, BAD_SECURE_BOOT), CHANGE(bad_size, BAD_SIZE),
     CHANGE(many_regions, TOO_MANY_REGIONS), CHANGE(bad_region, BAD_REGION), CHANGE(bad_pool, BAD_POOL),
-    CHANGE(bad_protocol, BAD_PROTOCOL), CHANGE(many_modules, TOO_MANY_MODULES), CHANGE(more_modules, TOO_MANY_MODULES),
-    CHANGE(long_rsdp, LONG_RSDP), CHANGE(no_kernel, REFUSED), CHANGE(nothing, DONE)};
+    CHANGE(bad_screen, BAD_SCREEN_SIZE), CHANGE(bad_rsdp, BAD_RSDP), CHANGE(bad_table, BAD_SYSTEM_TABLE),
+    CHANGE(bad_map, BAD_EFI_MAP_SIZE), CHANGE(many_avoided, TOO_MANY_AVOIDED), CHANGE(bad_avoided, BAD_AVOIDED),
+    CHANGE(avoided_pool, POOL_AVOIDED), CHANGE(bad_protocol, BAD_PROTOCOL), CHANGE(many_modules, TOO_MANY_MODULES),
+    CHANGE(more_modules, TOO_MANY_MODULES), CHANGE(long_rsdp, LONG_RSDP), CHANGE(no_kernel, REFUSED), CHANGE(nothing, DONE)};
 /* a struct that keeps no digest, and one that does */
 static const change of_no_feed[] = {
     CHANGE(null_digest, NULL), CHANGE(null_fed, NULL), CHANGE(long_fed, NO_SESSION), CHANGE(nothing, NO_SESSION)};

@@ -14,6 +14,7 @@ PAGE = "docs/THEOREMS.md"
 LINK = re.compile(r"\[`([^`]+)`\]\(\.\./(crates/[^)#]+)\)")
 DEFINED = re.compile(r"\s*(?:(?:abbrev|unfoldable|pub|record|data) )+(?!pub )([^\W\d]\w*)")
 TYPE = re.compile(r"pub (?:struct|enum) (\w+)")
+CONSTANT = re.compile(r"(?:pub(?:\(crate\))? )?const (\w+)")
 SPECS = re.compile(r"use Rattle\.((?:bl|c|program)_\w+)\.specs\.([\w.]+?)(?: as (\w+)|\.\{(.*)\})$", re.M)
 MINUTE = 12
 Place = Tuple[str, int]  # a file and a line, from 1 on
@@ -57,12 +58,21 @@ def defined(path: str) -> Dict[str, int]:
 
 
 @lru_cache(maxsize=None)
+def constants(path: str) -> Dict[str, int]:
+    """The line of each constant of a source."""
+    return {found[1]: number for number, line in enumerate(texts()[path].splitlines(), 1) if (found := CONSTANT.match(line))}
+
+
+@lru_cache(maxsize=None)
 def meanings(path: str) -> Dict[str, Place]:
     """What each name means that a file uses or declares."""
     names = {name: (path, number) for name, number in defined(path).items()}
     for crate, module, alias, listed in SPECS.findall(texts()[path]):
         *folders, last = [part for part in module.split(".") if part != "TheVariants"]
-        if folders[:1] == ["declared"]:
+        if last == "TheConstants":
+            file = f"crates/{crate}/src/{'/'.join(folders[1:])}.rt"
+            there = constants(file)
+        elif folders[:1] == ["declared"]:
             file = f"crates/{crate}/src/{'/'.join(folders[1:])}.rt"
             there = dict.fromkeys(listed.split(", "), defined(file)[last])
         else:

@@ -39,6 +39,38 @@ numbered! {
         LowPool = 117,
         /// A digest is fed more bytes than it wants.
         Unwanted = 118,
+        /// UEFI has neither 32 nor 64 bits.
+        BadEfiBits = 119,
+        /// The state of secure boot is not 0 to 3.
+        BadSecureBoot = 120,
+        /// The screen's width, height or pitch is not 1 to 65535.
+        BadScreenSize = 121,
+        /// A pixel has not 15, 16, 24 or 32 bits.
+        BadScreenDepth = 122,
+        /// A colour's bits do not lie in the pixel.
+        BadScreenColor = 123,
+        /// A line's pixels do not fit into its bytes.
+        BadScreenPitch = 124,
+        /// The screen ends above 2^52, or over a usable byte.
+        BadScreenPlace = 125,
+        /// The root pointer of ACPI lies over a usable byte.
+        BadRsdp = 126,
+        /// With 32 bits UEFI's system table lies at 4 GiB or above.
+        BadSystemTable = 127,
+        /// UEFI's memory map has descriptors of another version than 1, or of a size below 40 or no multiple of 8.
+        BadDescriptors = 128,
+        /// UEFI's memory map has no descriptor, a part of one, or more than 64 KiB.
+        BadEfiMapSize = 129,
+        /// UEFI's memory map lies at 0, at no multiple of 8, above 4 GiB, or over a usable byte.
+        BadEfiMapPlace = 130,
+        /// The tables of SMBIOS have more than 64 KiB.
+        BadSmbiosSize = 131,
+        /// There are more than 128 ranges to avoid.
+        TooManyAvoided = 132,
+        /// A range to avoid ends above 2^52.
+        BadAvoided = 133,
+        /// A range to avoid meets the pool.
+        PoolAvoided = 134,
     }
 }
 

@@ -4,6 +4,7 @@ use alloc::vec::Vec;
 
 use crate::entry::Protocol;
 use crate::error::Error;
+use crate::firmware::{Screen, Smbios};
 use crate::machine::Kind;
 use crate::raw;
 
@@ -43,6 +44,42 @@ impl Run {
     }
 }
 
+/// UEFI as a kernel that is seen is told of it.
+#[derive(Clone, Debug, PartialEq, Eq, Hash)]
+#[non_exhaustive]
+pub struct SeenEfi {
+    /// 32 or 64.
+    pub bits: u32,
+    /// The address of its system table.
+    pub system_table: u64,
+    /// Where its memory map lies, as Linux is told; a Multiboot2 kernel is not.
+    pub map_address: u64,
+    /// The bytes of the map.
+    pub map_length: u64,
+    /// The copy of the map that a Multiboot2 kernel has.
+    pub map: Option<Vec<u8>>,
+    /// The bytes of a descriptor.
+    pub descriptor_size: u32,
+    /// Its version.
+    pub descriptor_version: u32,
+    /// 0 not told, 1 not known, 2 disabled, 3 enabled.
+    pub secure_boot: u32,
+}
+
+/// What firmware tells a kernel that is seen, as its protocol tells it.
+#[derive(Clone, Debug, PartialEq, Eq, Hash)]
+#[non_exhaustive]
+pub struct SeenFirmware {
+    /// A screen.
+    pub screen: Option<Screen>,
+    /// The address of ACPI's root pointer: of Linux.
+    pub rsdp: Option<u64>,
+    /// UEFI.
+    pub efi: Option<SeenEfi>,
+    /// SMBIOS: of Multiboot2.
+    pub smbios: Option<Smbios>,
+}
+
 /// What a kernel sees in an image. The bytes of modules and of an initial ramdisk lie in the image.
 #[derive(Clone, Debug, PartialEq, Eq, Hash)]
 #[non_exhaustive]
@@ -65,6 +102,8 @@ pub struct Seen {
     pub rsdp_old: Option<Vec<u8>>,
     /// A copy of that of ACPI 2.0 or later, if there is one.
     pub rsdp_new: Option<Vec<u8>>,
+    /// What firmware tells it.
+    pub firmware: SeenFirmware,
 }
 
 /// Walks an image in memory, as a measured boot does before it trusts what an image hands over: reads it, and follows the

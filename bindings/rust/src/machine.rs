@@ -3,6 +3,7 @@
 use alloc::vec::Vec;
 
 use crate::error::Error;
+use crate::firmware::Firmware;
 use crate::raw;
 
 /// Kinds of memory: the numbers of an e820 entry. Where regions overlap, the greatest counts.
@@ -77,12 +78,14 @@ pub struct Machine {
     pub pool_base: u64,
     /// The bytes of the pool.
     pub pool_length: u64,
+    /// What firmware tells beside memory.
+    pub firmware: Firmware,
 }
 
 impl Machine {
     /// A machine of this size without regions and without a pool.
     pub fn new(size: u64) -> Machine {
-        Machine { size, regions: Vec::new(), pool_base: 0, pool_length: 0 }
+        Machine { size, regions: Vec::new(), pool_base: 0, pool_length: 0, firmware: Firmware::default() }
     }
 
     /// With a region more.

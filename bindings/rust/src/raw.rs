@@ -92,7 +92,43 @@ records! {
         pool_length: u64,
         regions: *const Region,
         region_count: usize,
-        reserved: [u64; 4],
+        firmware: *const Firmware,
+        reserved: [u64; 3],
+    }
+    #[derive(Default)]
+    Color { position: u8, size: u8, }
+    #[derive(Default)]
+    Screen {
+        base: u64,
+        pitch: u32,
+        width: u32,
+        height: u32,
+        depth: u8,
+        reserved8: u8,
+        red: Color,
+        green: Color,
+        blue: Color,
+        reserved32: u32,
+    }
+    Efi {
+        system_table: u64,
+        map: Bytes,
+        map_address: u64,
+        bits: u32,
+        descriptor_size: u32,
+        descriptor_version: u32,
+        secure_boot: u32,
+    }
+    Smbios { tables: Bytes, major: u8, minor: u8, reserved16: u16, reserved32: u32, }
+    Avoided { base: u64, length: u64, }
+    Firmware {
+        screen: Screen,
+        rsdp: u64,
+        efi: Efi,
+        smbios: Smbios,
+        avoided: *const Avoided,
+        avoided_count: usize,
+        reserved: [u64; 6],
     }
     Module { file: Bytes, line: Bytes, reserved: [u64; 2], }
     Entry {
@@ -183,6 +219,21 @@ records! {
     SeenPart { address: u64, length: u64, reserved: u64, }
     #[derive(Default)]
     SeenModule { address: u64, length: u64, line: Range, reserved: u64, }
+    #[derive(Default)]
+    SeenEfi {
+        system_table: u64,
+        map_address: u64,
+        map_length: u64,
+        bits: u32,
+        descriptor_size: u32,
+        descriptor_version: u32,
+        secure_boot: u32,
+        map: Range,
+    }
+    #[derive(Default)]
+    SeenSmbios { tables: Range, major: u8, minor: u8, reserved16: u16, reserved32: u32, }
+    #[derive(Default)]
+    SeenFirmware { screen: Screen, rsdp: u64, efi: SeenEfi, smbios: SeenSmbios, reserved: [u64; 4], }
     SeenArrays {
         kernel_parts: *mut SeenPart,
         kernel_part_room: usize,
@@ -192,7 +243,8 @@ records! {
         run_room: usize,
         text: *mut u8,
         text_room: usize,
-        reserved: [u64; 4],
+        firmware: *mut SeenFirmware,
+        reserved: [u64; 3],
     }
     Digest { kept: *mut c_void, }
     #[derive(Default)]
@@ -306,21 +358,77 @@ fn file_of(file: &File<'_>) -> Bytes {
     }
 }
 
-fn regions_of(machine: &crate::Machine) -> Vec<Region> {
-    let region =
-        |region: &crate::Region| Region { base: region.base, length: region.length, kind: region.kind.number(), reserved: 0 };
-    machine.regions.iter().map(region).collect()
+/// What a machine points to.
+struct Regions {
+    regions: Vec<Region>,
+    _avoided: Vec<Avoided>,
+    firmware: Firmware,
 }
 
-/// A machine over its regions, as long as these stand.
-fn machine_of(machine: &crate::Machine, regions: &[Region]) -> Machine {
+fn screen_of(screen: &crate::Screen) -> Screen {
+    let color = |color: crate::Color| Color { position: color.position, size: color.size };
+    Screen {
+        base: screen.base,
+        pitch: screen.pitch,
+        width: screen.width,
+        height: screen.height,
+        depth: screen.depth,
+        reserved8: 0,
+        red: color(screen.red),
+        green: color(screen.green),
+        blue: color(screen.blue),
+        reserved32: 0,
+    }
+}
+
+fn efi_of(efi: &crate::Efi) -> Efi {
+    Efi {
+        system_table: efi.system_table,
+        map: bytes_of(&efi.map),
+        map_address: efi.map_address,
+        bits: efi.bits,
+        descriptor_size: efi.descriptor_size,
+        descriptor_version: efi.descriptor_version,
+        secure_boot: efi.secure_boot,
+    }
+}
+
+fn smbios_of(smbios: &crate::Smbios) -> Smbios {
+    Smbios { tables: bytes_of(&smbios.tables), major: smbios.major, minor: smbios.minor, reserved16: 0, reserved32: 0 }
+}
+
+fn regions_of(machine: &crate::Machine) -> Regions {
+    let region =
+        |region: &crate::Region| Region { base: region.base, length: region.length, kind: region.kind.number(), reserved: 0 };
+    // of a range that goes backwards the end is one that no range may have
+    let range = |range: &core::ops::Range<u64>| Avoided {
+        base: range.start,
+        length: range.end.checked_sub(range.start).unwrap_or(u64::MAX),
+    };
+    let told = &machine.firmware;
+    let avoided: Vec<Avoided> = told.avoided.iter().map(range).collect();
+    let firmware = Firmware {
+        screen: told.screen.as_ref().map(screen_of).unwrap_or_default(),
+        rsdp: told.rsdp.unwrap_or(0),
+        efi: efi_of(told.efi.as_ref().unwrap_or(&crate::Efi::default())),
+        smbios: smbios_of(told.smbios.as_ref().unwrap_or(&crate::Smbios::default())),
+        avoided: avoided.as_ptr(),
+        avoided_count: avoided.len(),
+        reserved: [0; 6],
+    };
+    Regions { regions: machine.regions.iter().map(region).collect(), _avoided: avoided, firmware }
+}
+
+/// A machine over its regions and what firmware tells, as long as these stand.
+fn machine_of(machine: &crate::Machine, regions: &Regions) -> Machine {
     Machine {
         size: machine.size,
         pool_base: machine.pool_base,
         pool_length: machine.pool_length,
-        regions: regions.as_ptr(),
-        region_count: regions.len(),
-        reserved: [0; 4],
+        regions: regions.regions.as_ptr(),
+        region_count: regions.regions.len(),
+        firmware: &regions.firmware,
+        reserved: [0; 3],
     }
 }
 
@@ -958,13 +1066,13 @@ pub(crate) fn bad_region(machine: &crate::Machine) -> Result<Option<usize>, Erro
     let regions = regions_of(machine);
     // SAFETY: the machine and its regions stand during the call
     let index = unsafe { bootcore_bad_region(&machine_of(machine, &regions)) };
-    Ok((index < regions.len()).then_some(index))
+    Ok((index < regions.regions.len()).then_some(index))
 }
 
 pub(crate) fn walk(image: &[u8]) -> Result<image::Seen, Error> {
     let _turn = enter()?;
     let mut seen = Seen::default();
-    let mut fault = Refusal::default();
+    let (mut fault, mut firmware) = (Refusal::default(), SeenFirmware::default());
     let (mut parts, mut modules) = (Vec::<SeenPart>::new(), Vec::<SeenModule>::new());
     let (mut runs, mut text) = (Vec::<Region>::new(), Vec::<u8>::new());
     loop {
@@ -977,7 +1085,8 @@ pub(crate) fn walk(image: &[u8]) -> Result<image::Seen, Error> {
             run_room: runs.len(),
             text: text.as_mut_ptr(),
             text_room: text.len(),
-            reserved: [0; 4],
+            firmware: &mut firmware,
+            reserved: [0; 3],
         };
         // SAFETY: the image is borrowed, with its length; the arrays are this call's own, and have the room that is told
         let status = unsafe { bootcore_walk_all(image.as_ptr().cast(), image.len(), &mut seen, &arrays, &mut fault) };
@@ -994,10 +1103,51 @@ pub(crate) fn walk(image: &[u8]) -> Result<image::Seen, Error> {
             other => return Err(Error::of_status(other)),
         }
     }
-    Ok(seen_told(&seen, &parts, &modules, &runs, &text))
+    Ok(seen_told(&seen, &parts, &modules, &runs, &text, &firmware))
 }
 
-fn seen_told(seen: &Seen, parts: &[SeenPart], modules: &[SeenModule], runs: &[Region], text: &[u8]) -> image::Seen {
+fn screen_told(screen: &Screen) -> crate::Screen {
+    let color = |color: Color| crate::Color { position: color.position, size: color.size };
+    crate::Screen {
+        base: screen.base,
+        pitch: screen.pitch,
+        width: screen.width,
+        height: screen.height,
+        depth: screen.depth,
+        red: color(screen.red),
+        green: color(screen.green),
+        blue: color(screen.blue),
+    }
+}
+
+/// What firmware tells, whose copies are those of the text's ranges.
+fn firmware_told(told: &SeenFirmware, copy_of: impl Fn(Range) -> Option<Vec<u8>>) -> image::SeenFirmware {
+    let (efi, smbios) = (&told.efi, &told.smbios);
+    image::SeenFirmware {
+        screen: (told.screen.base != 0).then(|| screen_told(&told.screen)),
+        rsdp: (told.rsdp != 0).then_some(told.rsdp),
+        efi: (efi.system_table != 0).then(|| image::SeenEfi {
+            bits: efi.bits,
+            system_table: efi.system_table,
+            map_address: efi.map_address,
+            map_length: efi.map_length,
+            map: copy_of(efi.map),
+            descriptor_size: efi.descriptor_size,
+            descriptor_version: efi.descriptor_version,
+            secure_boot: efi.secure_boot,
+        }),
+        smbios: copy_of(smbios.tables).map(|tables| crate::Smbios { major: smbios.major, minor: smbios.minor, tables }),
+    }
+}
+
+fn seen_told(
+    seen: &Seen,
+    parts: &[SeenPart],
+    modules: &[SeenModule],
+    runs: &[Region],
+    text: &[u8],
+    firmware: &SeenFirmware,
+) -> image::Seen {
     let range = |address, length| image::Range { address, length };
     let text_of = |range: Range| -> Vec<u8> {
         let (begin, length) = (range.offset as usize, range.length as usize);
@@ -1017,6 +1167,7 @@ fn seen_told(seen: &Seen, parts: &[SeenPart], modules: &[SeenModule], runs: &[Re
         initrd: (seen.initrd_length != 0).then(|| range(seen.initrd, seen.initrd_length)),
         rsdp_old: copy_of(seen.rsdp_old),
         rsdp_new: copy_of(seen.rsdp_new),
+        firmware: firmware_told(firmware, copy_of),
     }
 }
 

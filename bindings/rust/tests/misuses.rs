@@ -43,6 +43,57 @@ fn of_a_machine() {
     all(Misuse::BadPool, &machine().pool(0x9F000, 4096), right);
 }
 
+/// A machine with a change of what firmware tells.
+fn told(change: impl Fn(&mut Firmware)) -> Machine {
+    let mut machine = machine();
+    let color = |position| Color { position, size: 8 };
+    machine.firmware.screen = Some(Screen {
+        base: 0xE000_0000,
+        pitch: 4096,
+        width: 1024,
+        height: 768,
+        depth: 32,
+        red: color(16),
+        green: color(8),
+        blue: color(0),
+    });
+    machine.firmware.efi = Some(Efi {
+        bits: 64,
+        system_table: 1 << 33,
+        map: vec![0; 96],
+        map_address: 0xD000_0000,
+        descriptor_size: 48,
+        descriptor_version: 1,
+        secure_boot: 2,
+    });
+    change(&mut machine.firmware);
+    machine
+}
+
+#[test]
+fn of_firmware() {
+    let right = right;
+    let screen = |change: fn(&mut Screen)| told(|firmware| change(firmware.screen.as_mut().unwrap()));
+    let efi = |change: fn(&mut Efi)| told(|firmware| change(firmware.efi.as_mut().unwrap()));
+    all(Misuse::BadEfiBits, &efi(|efi| efi.bits = 16), right);
+    all(Misuse::BadSecureBoot, &efi(|efi| efi.secure_boot = 4), right);
+    all(Misuse::BadScreenSize, &screen(|screen| screen.width = 0), right);
+    all(Misuse::BadScreenDepth, &screen(|screen| screen.depth = 8), right);
+    all(Misuse::BadScreenColor, &screen(|screen| screen.red.size = 17), right);
+    all(Misuse::BadScreenPitch, &screen(|screen| screen.pitch = 4095), right);
+    all(Misuse::BadScreenPlace, &screen(|screen| screen.base = u64::MAX), right);
+    all(Misuse::BadRsdp, &told(|firmware| firmware.rsdp = Some(0x10000)), right);
+    all(Misuse::BadSystemTable, &efi(|efi| efi.bits = 32), right);
+    all(Misuse::BadDescriptors, &efi(|efi| efi.descriptor_version = 2), right);
+    all(Misuse::BadEfiMapSize, &efi(|efi| efi.map.push(0)), right);
+    all(Misuse::BadEfiMapPlace, &efi(|efi| efi.map_address += 4), right);
+    let tables = Smbios { major: 3, minor: 0, tables: vec![0; 0x10001] };
+    all(Misuse::BadSmbiosSize, &told(|firmware| firmware.smbios = Some(tables.clone())), right);
+    all(Misuse::TooManyAvoided, &told(|firmware| firmware.avoided = vec![0..0; 129]), right);
+    all(Misuse::BadAvoided, &told(|firmware| firmware.avoided.push(1 << 52..(1 << 52) + 1)), right);
+    all(Misuse::BadAvoided, &told(|firmware| firmware.avoided.push(1..0)), right);
+}
+
 #[test]
 fn the_bad_region_is_told() {
     let bad = |machine: Machine| machine.bad_region().unwrap();

@@ -1,5 +1,6 @@
 -- Where the kernel is entered.
-use Rattle.std.proofs.Common.{◌≡◌, ◌<◌, ◌≤◌, ◌+◌, ◌^◌, ℕ, suc, true, false, List, [], ◌∷◌, ◌++◌}
+use Rattle.std.proofs.Common.{◌≡◌, ◌<◌, ◌≤◌, ◌+◌, ◌^◌, ℕ, suc, Bool, true, false, List, []}
+use Rattle.std.proofs.Common.{◌∷◌, ◌++◌}
 use Rattle.std.proofs.Common.{Option, Some, None, arith, refl, sym, ap, subst, All, nat_eq}
 use Rattle.std.specs.Prelude.{◌||◌, ◌&&◌}
 use Rattle.std.specs.List.{list_any}
@@ -51,7 +52,8 @@ held_between (s ∷ segments) a low high above below held =
     ] refl held
 
 -- the entry of a kernel lies within the bounds of its segments
-pub entry_within : (file : List ℕ) (kernel : Multiboot2KernelFacts) → IsMultiboot2Kernel file kernel
+pub entry_within : {screen : Bool} (file : List ℕ) (kernel : Multiboot2KernelFacts)
+    → IsMultiboot2Kernel screen file kernel
     → (low_of kernel.segments ≤ kernel.entry) × (kernel.entry < high_of kernel.segments)
 entry_within file kernel is =
     let sound : entry_point_fault kernel.segments (Some kernel.entry) ≡ None =
@@ -139,9 +141,9 @@ entry_small_by facts file value segments (Some r) entry (p ∷ places) loadable 
     (omega arith, omega arith)
 
 -- the entry lies in the block, and its sums stay small
-pub entry_small : (file : List ℕ) (facts : MachineFacts) (value : EntryValue)
+pub entry_small : {screen : Bool} (file : List ℕ) (facts : MachineFacts) (value : EntryValue)
     (kernel : Multiboot2KernelFacts)
-    (places : List Place) → IsMultiboot2Kernel file kernel → AreLoadable file kernel.segments
+    (places : List Place) → IsMultiboot2Kernel screen file kernel → AreLoadable file kernel.segments
     → ArePlaced facts [] (rows_of facts value (multiboot2 kernel)) places
     → All (λ p. p.address + p.length ≤ 0xFFFFF000) places
     → (low_of kernel.segments ≤ kernel.entry) × (kernel.entry + address_of Kernel 0 places < 2 ^ 64)

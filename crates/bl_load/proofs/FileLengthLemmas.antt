@@ -4,12 +4,13 @@ use Rattle.std.proofs.Common.{Option, arith, refl, ap, ap₂}
 use Rattle.std.specs.Prelude.{max, option_map}
 use Rattle.std.proofs.lemmas.List.{length-replicate, take_all}
 use Rattle.bl_bzimage.specs.declared.setup.Setup.{Setup}
+use Rattle.bl_map.specs.Firmware.{efi_info}
 use Rattle.bl_map.specs.Limits.{frame_size, first_usable, max_size, high_start}
 use Rattle.bl_map.specs.MachineFacts.{MachineFacts}
 use Rattle.bl_map.specs.NormalMap.{low_kib, high_kib}
 use Rattle.bl_map.specs.PoolFrames.{round_up_to_frames}
 use Rattle.bl_mb2head.specs.declared.relocation.Relocation.{Relocation}
-use Rattle.bl_mbi.specs.InfoToWriteFacts.{ModuleInfo, InfoToWriteFacts, info_size}
+use Rattle.bl_mbi.specs.InfoToWriteFacts.{ModuleInfo, InfoToWriteFacts, efi_tables, info_size}
 use Rattle.bl_mem.specs.FileSet.{nth_file}
 use Rattle.bl_params.specs.ParamsToWriteFacts.{ParamsToWriteFacts}
 use Rattle.bl_plan.specs.declared.part.Choice.TheVariants.{Lowest, Highest}
@@ -112,6 +113,9 @@ info_by facts value relocation places modules = record {
   mem_lower = low_kib facts.runs;
   mem_upper = high_kib facts.runs;
   runs = facts.runs;
+  screen = facts.firmware.screen;
+  efi = option_map efi_tables facts.firmware.efi;
+  smbios = facts.firmware.smbios;
   rsdp_old = value.rsdp_old;
   rsdp_new = value.rsdp_new;
   load_base = option_map (λ r. address_of Kernel 0 places) relocation;
@@ -124,6 +128,9 @@ params_by facts places size = record {
   ramdisk_size = size;
   cmd_line_ptr = address_of CommandLine 0 places;
   runs = facts.runs;
+  screen = facts.firmware.screen;
+  rsdp = facts.firmware.rsdp;
+  efi = option_map efi_info facts.firmware.efi;
 }
 
 module _ (facts : MachineFacts) (value : EntryValue) (texts : List (List ℕ))

@@ -50,7 +50,7 @@ address_fits bytes h (Some t) sound =
     tag_fits (length bytes) h tag
     (no_fault (is_bad_address (length bytes) h tag) (BadTag t.place) sound)
 
-header_fits : (bytes : List ℕ) (header : Header) → IsHeader bytes header
+header_fits : {screen : Bool} (bytes : List ℕ) (header : Header) → IsHeader screen bytes header
     → IfSome header.segment (λ s. s.filesz ≤ s.memsz)
 header_fits bytes header is =
     subst (λ (s : Option Segment). IfSome s (λ t. t.filesz ≤ t.memsz)) (sym is.segment)
@@ -70,7 +70,8 @@ loaded_full file None facts entry fits loaded sound =
     λ k d within. record { filled = (all k d within).filled; fits = (all k d within).fits }
 
 -- a kernel has a segment, and each of its segments is full
-pub kernel_full : (file : List ℕ) (kernel : Multiboot2KernelFacts) → IsMultiboot2Kernel file kernel
+pub kernel_full : {screen : Bool} (file : List ℕ) (kernel : Multiboot2KernelFacts)
+    → IsMultiboot2Kernel screen file kernel
     → (1 ≤ length kernel.segments) × All IsFull kernel.segments
 kernel_full file kernel is =
     let counted = effective_entry_point is.header is.facts in (
@@ -88,7 +89,8 @@ loaded_few file (Some segment) facts loaded =
     subst (λ (f : ElfFacts). length f.segments ≤ 128) (sym loaded) (omega arith)
 loaded_few file None facts loaded = elf_few file facts loaded
 
-pub kernel_few : (file : List ℕ) (kernel : Multiboot2KernelFacts) → IsMultiboot2Kernel file kernel
+pub kernel_few : {screen : Bool} (file : List ℕ) (kernel : Multiboot2KernelFacts)
+    → IsMultiboot2Kernel screen file kernel
     → length kernel.segments ≤ 128
 kernel_few file kernel is =
     subst (λ (ss : List Segment). length ss ≤ 128) (sym is.segments)
@@ -102,7 +104,8 @@ loaded_apart file (Some segment) facts loaded =
     (λ i j d ij within. absurd (omega arith))
 loaded_apart file None facts loaded = elf_apart file facts loaded
 
-pub kernel_apart : (file : List ℕ) (kernel : Multiboot2KernelFacts) → IsMultiboot2Kernel file kernel
+pub kernel_apart : {screen : Bool} (file : List ℕ) (kernel : Multiboot2KernelFacts)
+    → IsMultiboot2Kernel screen file kernel
     → AllPairs AreApartSegments kernel.segments
 kernel_apart file kernel is =
     subst (λ (ss : List Segment). AllPairs AreApartSegments ss) (sym is.segments)

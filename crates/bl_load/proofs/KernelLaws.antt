@@ -111,7 +111,8 @@ kernel_loadable file None facts entry fits loaded sound short =
     elf_as_loadable file facts entry loaded sound
 
 -- a fault of what the header leads to refuses the kernel
-pub load_refused : (file : List ℕ) (head : Header) (fault : PrepFault) → IsHeader file head
-    → IsElfRefusal file head.segment fault → IsMultiboot2Fault file fault
+pub load_refused : {screen : Bool} (file : List ℕ) (head : Header) (fault : PrepFault)
+    → IsHeader screen file head → IsElfRefusal file head.segment fault
+    → IsMultiboot2Fault screen file fault
 load_refused file head (prep.Refused refused) is h = inr (inl (head, is, h))
 load_refused file head prep.NoMemory is h = tt

@@ -66,13 +66,19 @@ chosen_allowed : (facts : MachineFacts) (taken ranges : List (Range ℕ)) (count
     → AreUntaken ranges a (a + count)
     → IsAllowed facts ranges count choice a
 chosen_allowed facts taken ranges count (Fixed at) a chosen free =
-    let e = chosen.0 in (e, (λ b low high. chosen.1 b (omega arith) (omega arith)), free)
+    let e = chosen.0 in (
+      e,
+      (λ b low high. chosen.1 b (omega arith) (omega arith)),
+      (λ b low high. chosen.2 b (omega arith) (omega arith)),
+      free,
+    )
 chosen_allowed facts taken ranges count (Lowest align low high) a chosen free =
     record {
       aligned = chosen.holds.aligned;
       above = chosen.holds.above;
       below = chosen.holds.below;
       usable = chosen.holds.usable;
+      unavoided = chosen.holds.unavoided;
       apart = free;
     }
 chosen_allowed facts taken ranges count (Highest align low high) a chosen free =
@@ -81,6 +87,7 @@ chosen_allowed facts taken ranges count (Highest align low high) a chosen free =
       above = chosen.holds.above;
       below = chosen.holds.below;
       usable = chosen.holds.usable;
+      unavoided = chosen.holds.unavoided;
       apart = free;
     }
 chosen_allowed facts taken ranges count (Preferred at align low high) a chosen free =
@@ -91,6 +98,7 @@ chosen_allowed facts taken ranges count (Preferred at align low high) a chosen f
       above = p.above;
       below = p.below;
       usable = p.usable;
+      unavoided = p.unavoided;
       apart = free;
     }
 

@@ -44,6 +44,7 @@ pub mod RowCountLemmas
 pub mod PlanLimitLemmas
 pub mod AnyOrderLemmas
 pub mod FileLengthLemmas
+pub mod FirmwareLemmas
 pub mod OtherFilesLemmas
 pub mod OtherContentsLemmas
 pub mod LengthLaws

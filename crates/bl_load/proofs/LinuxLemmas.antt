@@ -173,7 +173,7 @@ kernel_no_overlap : (facts : MachineFacts) (setup : Setup)
 kernel_no_overlap facts setup =
     cond_both (nat_eq setup.relocatable_kernel 0) (fixed_kernel_row setup) (relocatable_kernel_row setup)
     (λ row. HasChoiceFault facts [] row.length row.choice Overlap → ⊥)
-    (λ _ here. here.1 (nothing_taken high_start (high_start + (fixed_kernel_row setup).length)))
+    (λ _ here. here.2 (nothing_taken high_start (high_start + (fixed_kernel_row setup).length)))
     (λ _ here. here)
 
 initrd_no_overlap : (facts : MachineFacts) (taken : List (Range ℕ)) (setup : Setup)

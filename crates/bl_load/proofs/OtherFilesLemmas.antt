@@ -22,7 +22,7 @@ use Rattle.bl_load.specs.declared.refusal.PrepFault.TheVariants as prep
 use Rattle.bl_load.specs.declared.refusal.Refusal.{Refusal}
 use Rattle.bl_load.specs.EntryValue.{EntryValue}
 use Rattle.bl_load.specs.KernelReading.{KernelReading, multiboot2, linux, IsKernelReading}
-use Rattle.bl_load.specs.KernelReading.{HasKernelFileFault}
+use Rattle.bl_load.specs.KernelReading.{has_screen, HasKernelFileFault}
 use Rattle.bl_load.specs.LinuxKernel.{IsLinuxKernel, HasLinuxFault}
 use Rattle.bl_load.specs.Multiboot2Kernel.{IsMultiboot2Kernel, HasMultiboot2Fault}
 use Rattle.bl_load.specs.Origins.{Origin, made, file_range}
@@ -49,7 +49,7 @@ module _ (facts : MachineFacts) (value : EntryValue) (texts : List (List ℕ))
   pub read_with : (reading : KernelReading) → IsKernelReading facts value reading
       → IsKernelReading facts (with_files texts value) reading
   read_with (multiboot2 k) is =
-      (is.0, subst (λ (file : List ℕ). IsMultiboot2Kernel file k) (sym kernel) is.1)
+      (is.0, subst (λ (file : List ℕ). IsMultiboot2Kernel (has_screen facts) file k) (sym kernel) is.1)
   read_with (linux setup) is = (
     is.0,
     subst (λ (file : List ℕ). IsLinuxKernel value.protocol facts.runs value.line file setup)
@@ -60,7 +60,7 @@ module _ (facts : MachineFacts) (value : EntryValue) (texts : List (List ℕ))
       → HasKernelFileFault facts (with_files texts value) r
   file_fault_with r has =
       subst (λ (file : List ℕ).
-      ((value.protocol ≡ protocols.Multiboot2) × HasMultiboot2Fault file r)
+      ((value.protocol ≡ protocols.Multiboot2) × HasMultiboot2Fault (has_screen facts) file r)
       ⊎ ((has_params value.protocol ≡ true)
       × HasLinuxFault value.protocol facts.runs value.line file r)) (sym kernel) has
 

@@ -46,7 +46,7 @@ segments_no_overlap : (facts : MachineFacts) (taken : List (Range ℕ)) (k : ℕ
     → IsFirstPlaceFault facts taken (segment_rows k segments ++ rest) Overlap → ⊥
 segments_no_overlap facts taken k [] rest free apart none h = none taken h
 segments_no_overlap facts taken k (s ∷ segments) rest free apart none (inl here) =
-    here.1 (All-head (IsFreeSegment taken) s segments free)
+    here.2 (All-head (IsFreeSegment taken) s segments free)
 segments_no_overlap facts taken k (s ∷ segments) rest free apart none (inr later) =
     let row : Row =
     record { role = Kernel; index = k; length = s.memsz; choice = Fixed s.address } in

@@ -7,7 +7,8 @@ use Rattle.std.proofs.lemmas.List.Sums.{sum_by-cons}
 use Rattle.std.specs.Prelude.{cond}
 use Rattle.std.specs.List.{AllZip, count_by}
 use Rattle.bl_map.specs.MachineFacts.{MachineFacts, AllUsable}
-use Rattle.bl_plan.specs.Placed.{IsPlaceable, IsPlaceOf, IsWellFormedRow}
+use Rattle.bl_plan.specs.Permitted.{AreUnavoided}
+use Rattle.bl_plan.specs.Placed.{IsPlaceable, IsUnavoided, IsPlaceOf, IsWellFormedRow}
 use Rattle.bl_plan.specs.declared.part.Place.{Place}
 use Rattle.bl_plan.specs.declared.part.Role.{Role}
 use Rattle.bl_plan.specs.declared.part.Row.{Row}
@@ -115,6 +116,12 @@ module _ (facts : MachineFacts) (value : EntryValue) (h : Handover) (is : IsHand
         in_order_all place_key (IsPlaceable facts) is.places
         (places_laws.all_usable facts [] rows is.places is.placed)
 
+    sorted_unavoided : All (IsUnavoided facts) sorted
+    unfolding sorted rows
+    sorted_unavoided =
+        in_order_all place_key (IsUnavoided facts) is.places
+        (places_laws.all_unavoided facts [] rows is.places is.placed)
+
     pub all_filled : All (λ (p : Part). 1 ≤ length p.bytes) h.parts
     all_filled =
         subst (All (λ (p : Part). 1 ≤ length p.bytes)) (sym parts_are)
@@ -129,6 +136,16 @@ module _ (facts : MachineFacts) (value : EntryValue) (h : Handover) (is : IsHand
         (All-map (λ (p : Part). AllUsable facts p.address (end_of p)) part sorted
         (λ k d within. λ a low high. let size = all_sized k d within in
         sorted_usable k d within a low (omega arith)))
+
+    pub all_unavoided : All (λ (p : Part). AreUnavoided facts p.address (end_of p))
+        h.parts
+    unfolding part
+    all_unavoided =
+        subst (All (λ (p : Part). AreUnavoided facts p.address (end_of p)))
+        (sym parts_are)
+        (All-map (λ (p : Part). AreUnavoided facts p.address (end_of p)) part sorted
+        (λ k d within. λ a low high. let size = all_sized k d within in
+        sorted_unavoided k d within a low (omega arith)))
 
     pub all_apart : AllPairs (λ (p q : Part). end_of p ≤ q.address) h.parts
     unfolding part sorted rows

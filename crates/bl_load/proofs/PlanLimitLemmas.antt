@@ -1,7 +1,7 @@
--- A plan has at most 520 steps, and at most 272 KiB of its own.
+-- A plan has at most 520 steps, and at most 400 KiB of its own.
 use Rattle.std.proofs.Common.{◌≡◌, ◌≤◌, ◌+◌, ℕ, List, [], ◌∷◌, length, All, get_or}
 use Rattle.std.proofs.Common.{None, Option, arith, refl, ap}
-use Rattle.std.specs.Prelude.{sum_by, codes, is_some}
+use Rattle.std.specs.Prelude.{sum_by, codes, is_some, option_map}
 use Rattle.std.proofs.lemmas.List.Sums.{sum_by-le}
 use Rattle.std.proofs.lemmas.List.Elements.{All-nil, All-cons}
 use Rattle.bl_map.specs.MachineFacts.{MachineFacts, IsWellFormedMachine}
@@ -12,7 +12,6 @@ use Rattle.bl_plan.specs.Placed.{ArePlaced}
 use Rattle.bl_plan.specs.declared.part.Place.{Place}
 use Rattle.bl_plan.specs.declared.part.Role.{Role}
 use Rattle.bl_plan.specs.declared.part.Role.TheVariants.{Information}
-use Rattle.bl_plan.specs.declared.protocol.Protocol.TheVariants as protocols
 use Rattle.bl_load.specs.EntryValue.{EntryValue, HasLimits, kernel_file, initrd_file, line_fault}
 use Rattle.bl_load.specs.EntryValue.{lines_fault, lines_of}
 use Rattle.bl_load.specs.KernelReading.{KernelReading, multiboot2, linux, IsKernelReading}
@@ -23,6 +22,7 @@ use Rattle.bl_load.specs.Rows.{information_of}
 use Rattle.bl_load.specs.StepsByOrigins.{own_of_origin, steps_by, own_by}
 use Rattle.bl_load.specs.internal.Placing.{module_tags_size}
 use Rattle.bl_load.proofs.FullLemmas.{kernel_few}
+use Rattle.bl_load.proofs.FirmwareLemmas.{efi_map_few, smbios_few}
 use Rattle.bl_load.proofs.InformationLemmas.{info_size_is, tags_small, told_small}
 use Rattle.bl_load.proofs.LineLemmas.{first_sound, sound_short}
 use Rattle.bl_load.proofs.LinuxLemmas.{linux_few}
@@ -101,9 +101,12 @@ module _ (facts : MachineFacts) (value : EntryValue) (limits : HasLimits value) 
         let lines = first_sound (line_fault value.line) (lines_fault value.module_lines) sound in
         let tags = tags_small value.module_lines (lines_short value.module_lines lines.1) in
         let small =
-        told_small (length value.line) (module_tags_size value.module_lines) (length facts.runs)
-        value.rsdp_old value.rsdp_new (is_some relocation) (sound_short value.line lines.0)
-        machine.few limits.rsdp_old limits.rsdp_new in
+        told_small (length value.line) (length facts.runs) (is_some facts.firmware.screen)
+        (option_map (λ told. length told.map) facts.firmware.efi)
+        (option_map (λ told. length told.tables) facts.firmware.smbios) value.rsdp_old
+        value.rsdp_new (is_some relocation) (sound_short value.line lines.0) machine.few
+        (efi_map_few facts machine) (smbios_few facts machine) limits.rsdp_old limits.rsdp_new
+        (module_tags_size value.module_lines) in
         let few = limits.few in
         omega (
           arith,

@@ -1,29 +1,33 @@
 -- What is prepared of an entry by its lines and its kernel.
-use Rattle.std.proofs.Common.{◌≡◌, ◌≤◌, ℕ, List, [], ◌∷◌, length, get_or, map, Option, None, arith}
-use Rattle.std.proofs.Common.{refl}
-use Rattle.std.proofs.Common.{true, sym, ap, ◌∙◌, inl, inr}
+use Rattle.std.proofs.Common.{◌≡◌, ◌≤◌, ℕ, List, [], length, get_or, map, None, arith}
+use Rattle.std.proofs.Common.{true, sym, subst, inl, inr}
 use Rattle.std.proofs.lemmas.List.{get_or-map}
 use Rattle.bl_map.specs.MachineFacts.{MachineFacts}
+use Rattle.bl_mem.specs.FileSet.{nth_file}
+use Rattle.bl_mem.specs.declared.byte_view.ByteView.{Ghosts}
+use Rattle.bl_plan.specs.declared.protocol.Protocol.TheVariants.{Multiboot2}
+use Rattle.bl_load.specs.EntryValue.{EntryValue, kernel_file, lines_fault, lines_of}
+use Rattle.bl_load.specs.Handover.{Handover}
+use Rattle.bl_load.specs.KernelReading.{KernelReading, has_screen, IsKernelReading}
+use Rattle.bl_load.specs.Parts.{IsHandover, IsPrepFault}
+use Rattle.bl_load.specs.PlanContents.{handover_by}
+use Rattle.bl_load.specs.Protocols.{has_params}
+use Rattle.bl_load.specs.Rows.{rows_of}
+use Rattle.bl_load.specs.declared.checked_entry.CheckedEntry.{CheckedEntry}
+use Rattle.bl_load.specs.declared.plan.Plan.{Plan}
 use Rattle.bl_load.specs.declared.refusal.PrepFault.{PrepFault}
 use Rattle.bl_load.specs.declared.refusal.PrepFault.TheVariants as prep
-use Rattle.bl_plan.specs.declared.protocol.Protocol.{Protocol}
-use Rattle.bl_load.specs.Handover.{Handover}
-use Rattle.bl_load.specs.internal.ReadMultiboot2Kernels.{IsMultiboot2Fault}
-use Rattle.bl_load.specs.internal.ReadKernels.{IsLinuxFault}
-use Rattle.bl_load.specs.EntryValue.{EntryValue, multiboot2_value, linux_value, lines_fault}
-use Rattle.bl_load.specs.EntryValue.{lines_of}
-use Rattle.bl_load.specs.Protocols.{has_params}
-use Rattle.bl_load.specs.KernelReading.{KernelReading, IsKernelReading}
-use Rattle.bl_load.specs.Rows.{rows_of}
-use Rattle.bl_load.specs.Parts.{IsHandover, IsPrepFault}
+use Rattle.bl_load.specs.internal.CheckedEntries.{texts_in, value_of_files, IsCheckedEntry}
+use Rattle.bl_load.specs.internal.CheckedEntries.{IsReadWithFiles}
 use Rattle.bl_load.specs.internal.Placing.{IsPlaceFault, IsPlacedHandover}
-use Rattle.bl_mem.specs.FileSet.{nth_file}
+use Rattle.bl_load.specs.internal.Plans.{IsPlanOfValue, IsPlacedPlan}
+use Rattle.bl_load.specs.internal.ReadKernels.{IsKernelFault, IsLinuxFault}
+use Rattle.bl_load.specs.internal.ReadMultiboot2Kernels.{IsMultiboot2Fault}
 
 -- the kernel's file is the first
 pub first_text : {V : Type 0} (bytes : V → List ℕ) (files : List V) (file : V) → 1 ≤ length files
-    → file ≡ get_or files 0 file → bytes file ≡ nth_file (map bytes files) 0
-first_text bytes files file some is =
-    ap bytes is ∙ sym (get_or-map bytes files 0 file [] (omega arith))
+    → bytes (get_or files 0 file) ≡ nth_file (map bytes files) 0
+first_text bytes files file some = sym (get_or-map bytes files 0 file [] (omega arith))
 
 -- a value whose lines have no fault
 module _ (facts : MachineFacts) (value : EntryValue) (sound : lines_fault (lines_of value) ≡ None)
@@ -46,20 +50,65 @@ module _ (facts : MachineFacts) (value : EntryValue) (sound : lines_fault (lines
     refused_places reading (prep.Refused refused) is has = inr (sound, inr (reading, is, has))
     refused_places reading prep.NoMemory is has = tt
 
--- a fault of its kernel refuses an entry whose lines have none
-pub refused_multiboot2 : (facts : MachineFacts) (texts : List (List ℕ)) (line : List ℕ)
-    (lines : List (List ℕ)) (old new : Option (List ℕ)) → lines_fault (line ∷ lines) ≡ None
-    → (fault : PrepFault) → IsMultiboot2Fault (nth_file texts 0) fault
-    → IsPrepFault facts (multiboot2_value texts line lines old new) fault
-refused_multiboot2 facts texts line lines old new sound (prep.Refused refused) has =
-    inr (sound, inl (inl (refl, has)))
-refused_multiboot2 facts texts line lines old new sound prep.NoMemory has = tt
+    -- and a fault of its kernel
+    pub refused_kernel : (fault : PrepFault) → IsKernelFault facts value fault
+        → IsPrepFault facts value fault
+    refused_kernel (prep.Refused refused) has = inr (sound, inl has)
+    refused_kernel prep.NoMemory has = tt
 
-pub refused_linux : (facts : MachineFacts) (protocol : Protocol) (texts : List (List ℕ))
-    (line : List ℕ) → has_params protocol ≡ true → lines_fault (line ∷ []) ≡ None
+-- a fault of a kernel's file is one of the entry's kernel, by its protocol
+pub multiboot2_fault : (facts : MachineFacts) (value : EntryValue) → value.protocol ≡ Multiboot2
+    → (fault : PrepFault) → IsMultiboot2Fault (has_screen facts) (kernel_file value) fault
+    → IsKernelFault facts value fault
+multiboot2_fault facts value is (prep.Refused refused) has = inl (is, has)
+multiboot2_fault facts value is prep.NoMemory has = tt
+
+pub linux_fault : (facts : MachineFacts) (value : EntryValue) → has_params value.protocol ≡ true
     → (fault : PrepFault)
-    → IsLinuxFault protocol facts.runs line (nth_file texts 0) fault
-    → IsPrepFault facts (linux_value protocol texts line) fault
-refused_linux facts protocol texts line params sound (prep.Refused refused) has =
-    inr (sound, inl (inr (params, has)))
-refused_linux facts protocol texts line params sound prep.NoMemory has = tt
+    → IsLinuxFault value.protocol facts.runs value.line (kernel_file value) fault
+    → IsKernelFault facts value fault
+linux_fault facts value is (prep.Refused refused) has = inr (is, has)
+linux_fault facts value is prep.NoMemory has = tt
+
+-- what holds of an entry with its files holds of its value
+module _ {A V : Type 0} {view : Ghosts V} (facts : MachineFacts) (texts : List (List ℕ))
+    (value : EntryValue) (entry : CheckedEntry A V view)
+    (is : IsCheckedEntry facts texts value entry) where
+  pub as_value : (P : MachineFacts → EntryValue → Type 0)
+      → P entry.machine.now (value_of_files entry) → P facts value
+  as_value P h =
+      subst (λ (f : MachineFacts). P f value) is.machine
+      (subst (λ (v : EntryValue). P entry.machine.now v) is.is h)
+
+  -- so does what is planned
+  pub planned : {B : Type 0} (reading : KernelReading) (plan : Plan B)
+      → IsReadWithFiles entry reading → IsPlacedPlan entry reading plan
+      → IsPlanOfValue facts texts value plan
+  planned reading plan read placed =
+      let at_files : IsPlanOfValue entry.machine.now (texts_in entry) (value_of_files entry) plan =
+      record {
+        handover =
+            prepared entry.machine.now (value_of_files entry) is.lines reading
+            (handover_by (texts_in entry) plan) read.read placed.handover;
+        loadable = placed.loadable;
+        lean = placed.lean;
+        origins = placed.origins;
+      } in
+      as_value (λ f v. IsPlanOfValue f texts v plan)
+      (subst (λ (ts : List (List ℕ)).
+      IsPlanOfValue entry.machine.now ts (value_of_files entry) plan) is.texts at_files)
+
+  pub planned_fault : (reading : KernelReading) (fault : PrepFault)
+      → IsReadWithFiles entry reading
+      → IsPlaceFault entry.machine.now
+      (rows_of entry.machine.now (value_of_files entry) reading) fault
+      → IsPrepFault facts value fault
+  planned_fault reading fault read has =
+      as_value (λ f v. IsPrepFault f v fault)
+      (refused_places entry.machine.now (value_of_files entry) is.lines reading fault read.read has)
+
+  pub kernel_fault : (fault : PrepFault)
+      → IsKernelFault entry.machine.now (value_of_files entry) fault → IsPrepFault facts value fault
+  kernel_fault fault has =
+      as_value (λ f v. IsPrepFault f v fault)
+      (refused_kernel entry.machine.now (value_of_files entry) is.lines fault has)

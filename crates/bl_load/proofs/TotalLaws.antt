@@ -1,5 +1,5 @@
 -- Each entry has a handover or a first refusal.
-use Rattle.std.proofs.Common.{◌≡◌, ◌≢◌, ℕ, true, List, [], ◌∷◌, Option, Some, None, ◌⊎◌, inl, inr}
+use Rattle.std.proofs.Common.{◌≡◌, ◌≢◌, ℕ, Bool, true, List, [], ◌∷◌, Option, Some, None, ◌⊎◌, inl, inr}
 use Rattle.std.proofs.Common.{refl}
 use Rattle.bl_mem.specs.declared.segment.Segment.{Segment}
 use Rattle.bl_map.specs.MachineFacts.{MachineFacts}
@@ -28,7 +28,7 @@ use Rattle.bl_load.specs.Multiboot2Kernel.{HasMultiboot2Fault}
 use Rattle.bl_load.specs.Multiboot2Kernel.{entry_point_fault, effective_entry_point, head_refusal}
 use Rattle.bl_load.specs.Multiboot2Kernel.{elf_refusal}
 use Rattle.bl_load.specs.KernelReading.{KernelReading, multiboot2, linux, IsKernelReading}
-use Rattle.bl_load.specs.KernelReading.{HasKernelFileFault}
+use Rattle.bl_load.specs.KernelReading.{has_screen, HasKernelFileFault}
 use Rattle.bl_load.specs.LinuxKernel.{IsLinuxKernel, HasLinuxFault, linux_fault}
 use Rattle.bl_load.specs.Protocols.{has_params}
 use Rattle.bl_load.specs.Rows.{rows_of}
@@ -69,11 +69,11 @@ entry_given : (segments : List Segment) (entry : Option ℕ) → entry_point_fau
 entry_given segments None sound = absurd cc
 entry_given segments (Some a) sound = (a, refl)
 
-kernel_of : (file : List ℕ) (header : Header) (facts : ElfFacts) → IsHeader file header
+kernel_of : (screen : Bool) (file : List ℕ) (header : Header) (facts : ElfFacts) → IsHeader screen file header
     → IsLoadedBy file header.segment facts
     → entry_point_fault facts.segments (effective_entry_point header facts) ≡ None
-    → (kernel : Multiboot2KernelFacts) × IsMultiboot2Kernel file kernel
-kernel_of file header facts is loaded sound =
+    → (kernel : Multiboot2KernelFacts) × IsMultiboot2Kernel screen file kernel
+kernel_of screen file header facts is loaded sound =
     let entry = entry_given facts.segments (effective_entry_point header facts) sound in (
       record { segments = facts.segments; entry = entry.0; relocation = header.relocation },
       record {
@@ -88,18 +88,18 @@ kernel_of file header facts is loaded sound =
       },
     )
 
-kernel_or_fault : (file : List ℕ)
-    → ((kernel : Multiboot2KernelFacts) × IsMultiboot2Kernel file kernel)
-    ⊎ ((r : Refusal) × HasMultiboot2Fault file r)
-kernel_or_fault file =
-    elim (header_or_fault file) [
+kernel_or_fault : (screen : Bool) (file : List ℕ)
+    → ((kernel : Multiboot2KernelFacts) × IsMultiboot2Kernel screen file kernel)
+    ⊎ ((r : Refusal) × HasMultiboot2Fault screen file r)
+kernel_or_fault screen file =
+    elim (header_or_fault screen file) [
       | inr (fault, has) ↦ inr (head_refusal fault, inl (fault, has, refl))
       | inl (header, is) ↦ elim (loaded_or_fault file header.segment) [
         | inr (r, has) ↦ inr (r, inr (inl (header, is, has)))
         | inl (facts, loaded) ↦
             elim (some_or_none (entry_point_fault facts.segments (effective_entry_point header facts))) [
               | inl (r, has) ↦ inr (r, inr (inr (header, facts, is, loaded, has)))
-              | inr sound ↦ inl (kernel_of file header facts is loaded sound)
+              | inr sound ↦ inl (kernel_of screen file header facts is loaded sound)
             ]
       ]
     ]
@@ -128,7 +128,7 @@ read_or_fault : (facts : MachineFacts) (value : EntryValue)
     ⊎ ((r : Refusal) × HasKernelFileFault facts value r)
 read_or_fault facts value =
     elim (is_either value.protocol) [
-      | inl is ↦ elim (kernel_or_fault (kernel_file value)) [
+      | inl is ↦ elim (kernel_or_fault (has_screen facts) (kernel_file value)) [
         | inl (kernel, is_kernel) ↦ inl (multiboot2 kernel, (is, is_kernel))
         | inr (r, has) ↦ inr (r, inl (is, has))
       ]

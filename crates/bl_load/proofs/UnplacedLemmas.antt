@@ -1,6 +1,6 @@
 -- Rows of files that no machine can hold may be told shorter, where one of them has no place.
 use Rattle.std.proofs.Common.{◌≡◌, ◌<◌, ◌+◌, ℕ, suc, List, [], ◌∷◌, ◌++◌, length, arith, subst}
-use Rattle.std.proofs.Common.{refl, sym, inl, inr, Option, Some, None, true, get_or, drop}
+use Rattle.std.proofs.Common.{refl, sym, inl, inr, Option, Some, None, get_or, drop}
 use Rattle.std.proofs.Math.Seq.{drop-cons}
 use Rattle.std.specs.Prelude.{max}
 use Rattle.std.specs.declared.ops.Range.{Range}
@@ -26,15 +26,11 @@ use Rattle.bl_load.specs.KernelReading.{KernelReading, multiboot2, linux, IsKern
 use Rattle.bl_load.specs.Rows.{module_rows, kernel_rows, information_row, rows_of}
 use Rattle.bl_load.specs.Unplaced.{IsToldAs, IsFirstUnplaced, IsUnplacedOf, IsUnplaced}
 use Rattle.bl_load.specs.Unplaced.{IsFaultBeforePlacing}
-use Rattle.bl_load.specs.EntryValue.{EntryValue, module_file, initrd_file, multiboot2_value}
-use Rattle.bl_load.specs.EntryValue.{linux_value}
+use Rattle.bl_load.specs.EntryValue.{EntryValue, module_file, initrd_file}
 use Rattle.bl_load.specs.EntryValue.{lines_fault, lines_of}
-use Rattle.bl_load.specs.internal.ReadMultiboot2Kernels.{IsMultiboot2Fault}
-use Rattle.bl_load.specs.internal.ReadKernels.{IsLinuxFault}
-use Rattle.bl_load.specs.Protocols.{has_params}
+use Rattle.bl_load.specs.internal.ReadKernels.{IsKernelFault}
 use Rattle.bl_load.specs.declared.refusal.PrepFault.{PrepFault}
 use Rattle.bl_load.specs.declared.refusal.PrepFault.TheVariants as prep
-use Rattle.bl_mem.specs.FileSet.{nth_file}
 use Rattle.bl_load.proofs.NoRoomLemmas as modules
 use Rattle.bl_load.proofs.LinuxToldLemmas as initrds
 use Rattle.bl_load.proofs.ReadingLemmas.{told_placed}
@@ -169,22 +165,10 @@ as_unplaced_of facts value reading None has =
 as_unplaced_of facts value reading (Some which) has = as_unplaced facts which value reading has
 
 -- what its kernel's file refuses, where its lines have no fault
-pub reading_multiboot2 : (facts : MachineFacts) (texts : List (List ℕ)) (line : List ℕ)
-    (lines : List (List ℕ)) (old new : Option (List ℕ)) → lines_fault (line ∷ lines) ≡ None
-    → (fault : PrepFault) → IsMultiboot2Fault (nth_file texts 0) fault
-    → IsFaultBeforePlacing facts (multiboot2_value texts line lines old new) fault
-reading_multiboot2 facts texts line lines old new sound (prep.Refused refused) has =
-    inr (sound, inl (refl, has))
-reading_multiboot2 facts texts line lines old new sound prep.NoMemory has = tt
-
-pub reading_linux : (facts : MachineFacts) (protocol : Protocol) (texts : List (List ℕ))
-    (line : List ℕ) → has_params protocol ≡ true → lines_fault (line ∷ []) ≡ None
-    → (fault : PrepFault)
-    → IsLinuxFault protocol facts.runs line (nth_file texts 0) fault
-    → IsFaultBeforePlacing facts (linux_value protocol texts line) fault
-reading_linux facts protocol texts line params sound (prep.Refused refused) has =
-    inr (sound, inr (params, has))
-reading_linux facts protocol texts line params sound prep.NoMemory has = tt
+pub early_fault : (facts : MachineFacts) (value : EntryValue) → lines_fault (lines_of value) ≡ None
+    → (fault : PrepFault) → IsKernelFault facts value fault → IsFaultBeforePlacing facts value fault
+early_fault facts value sound (prep.Refused refused) has = inr (sound, has)
+early_fault facts value sound prep.NoMemory has = tt
 
 -- want of memory is no refusal
 pub reading_no_memory : (facts : MachineFacts) (value : EntryValue) (fault : PrepFault)

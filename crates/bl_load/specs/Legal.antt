@@ -3,7 +3,7 @@ use Rattle.std.specs.Prelude.{◌≡◌, ◌+◌, ℕ, List, map, Some, None}
 use Rattle.std.specs.List.{AllZip, remove, slice_get}
 use Rattle.std.specs.declared.ops.Range.{Range}
 use Rattle.bl_map.specs.MachineFacts.{MachineFacts, AllUsable}
-use Rattle.bl_plan.specs.Permitted.{AreUntaken, IsPermitted}
+use Rattle.bl_plan.specs.Permitted.{AreUntaken, AreUnavoided, IsPermitted}
 use Rattle.bl_plan.specs.Placed.{IsPlaceOf, place_range}
 use Rattle.bl_plan.specs.declared.part.Choice.{Choice}
 use Rattle.bl_plan.specs.declared.part.Choice.TheVariants.{Fixed, Lowest, Highest, Preferred}
@@ -15,11 +15,13 @@ use Rattle.bl_load.specs.Rows.{rows_of}
 use Rattle.bl_load.specs.Handover.{Handover}
 use Rattle.bl_load.specs.Parts.{handover_of}
 
--- an address that a row's choice allows for so many bytes beside these ranges: the fixed one, or
--- any within its limits; that it is the lowest, the highest or the preferred one is not asked
+-- an address that a row's choice allows for so many bytes beside these ranges and those that are
+-- avoided: the fixed one, or any within its limits; that it is the lowest, the highest or the
+-- preferred one is not asked
 abbrev pub IsAllowed : MachineFacts → List (Range ℕ) → ℕ → Choice → ℕ → Type 0
 IsAllowed facts ranges length (Fixed at) a =
-    (a ≡ at) × AllUsable facts a (a + length) × AreUntaken ranges a (a + length)
+    (a ≡ at) × AllUsable facts a (a + length) × AreUnavoided facts a (a + length)
+    × AreUntaken ranges a (a + length)
 IsAllowed facts ranges length (Lowest align low high) a =
     IsPermitted facts ranges length align low high a
 IsAllowed facts ranges length (Highest align low high) a =

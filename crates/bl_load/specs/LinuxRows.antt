@@ -2,7 +2,8 @@
 -- "pref_address", "init_size", "initrd_addr_max"; what the text leaves open is own), and what the
 -- kernel is told of them.
 use Rattle.std.specs.Prelude.{ℕ, ◌+◌, ◌-◌, max, if◌then◌else◌, ◌==◌, List, [], ◌∷◌, ◌++◌, length}
-use Rattle.std.specs.Prelude.{Option, Some, None, option_to_list}
+use Rattle.std.specs.Prelude.{Option, Some, None, option_map, option_to_list}
+use Rattle.bl_map.specs.Firmware.{efi_info}
 use Rattle.bl_map.specs.MachineFacts.{MachineFacts}
 use Rattle.bl_map.specs.Limits.{frame_size, first_usable, max_size, high_start}
 use Rattle.bl_map.specs.PoolFrames.{round_up_to_frames}
@@ -95,7 +96,7 @@ abbrev pub linux_rows : Protocol → Setup → List ℕ → List Row
 linux_rows protocol setup initrd = front_rows protocol setup ++ initrd_rows setup initrd
 
 -- what boot parameters tell, where the parts have these places: without an initrd its address and
--- its length are 0
+-- its length are 0. UEFI's memory map stays where it lies
 abbrev pub boot_params_facts : MachineFacts → EntryValue → List Place → ParamsToWriteFacts
 boot_params_facts facts value places = record {
   code32_start = address_of Kernel 0 places;
@@ -103,4 +104,7 @@ boot_params_facts facts value places = record {
   ramdisk_size = length (initrd_file value.files);
   cmd_line_ptr = address_of CommandLine 0 places;
   runs = facts.runs;
+  screen = facts.firmware.screen;
+  rsdp = facts.firmware.rsdp;
+  efi = option_map efi_info facts.firmware.efi;
 }

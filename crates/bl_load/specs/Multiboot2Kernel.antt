@@ -1,6 +1,6 @@
 -- A Multiboot2 kernel's file: what is loaded of it, where it is entered, how it may be moved; or
 -- its first fault.
-use Rattle.std.specs.Prelude.{◌≡◌, ℕ, if◌then◌else◌, List, [], ◌∷◌, Option, Some, None, ◌⊎◌}
+use Rattle.std.specs.Prelude.{◌≡◌, ℕ, Bool, if◌then◌else◌, List, [], ◌∷◌, Option, Some, None, ◌⊎◌}
 use Rattle.std.specs.Option.{option_or}
 use Rattle.std.specs.List.{list_any}
 use Rattle.bl_mem.specs.declared.segment.Segment.{Segment}
@@ -41,10 +41,12 @@ entry_point_fault segments (Some entry) =
 abbrev pub effective_entry_point : Header → ElfFacts → Option ℕ
 effective_entry_point header facts = option_or header.entry facts.entry
 
-pub record IsMultiboot2Kernel (file : List ℕ) (kernel : Multiboot2KernelFacts) : Type 0 where
+-- on a machine that has a screen or none, this is what is read of a kernel's file
+pub record IsMultiboot2Kernel (has_screen : Bool) (file : List ℕ) (kernel : Multiboot2KernelFacts)
+    : Type 0 where
   pub header : Header
   pub facts : ElfFacts
-  pub is_header : IsHeader file header
+  pub is_header : IsHeader has_screen file header
   pub loaded : IsLoadedBy file header.segment facts
   pub sound : entry_point_fault facts.segments (effective_entry_point header facts) ≡ None
   pub entry : effective_entry_point header facts ≡ Some kernel.entry
@@ -78,10 +80,11 @@ HasElfRefusal file None refused =
     (fault : ElfFault) × (elf_refusal fault ≡ Some refused) × elf.HasFirstElfFault file fault
 
 -- the file's first fault: the header's, the ELF file's, the entry's
-abbrev pub HasMultiboot2Fault : List ℕ → Refusal → Type 0
-HasMultiboot2Fault file refused =
-    ((fault : HeadFault) × header.HasFirstHeadFault file fault × (refused ≡ head_refusal fault))
-    ⊎ ((head : Header) × IsHeader file head × HasElfRefusal file head.segment refused)
-    ⊎ ((head : Header) × (facts : ElfFacts) × IsHeader file head
+abbrev pub HasMultiboot2Fault : Bool → List ℕ → Refusal → Type 0
+HasMultiboot2Fault has_screen file refused =
+    ((fault : HeadFault) × header.HasFirstHeadFault has_screen file fault
+    × (refused ≡ head_refusal fault))
+    ⊎ ((head : Header) × IsHeader has_screen file head × HasElfRefusal file head.segment refused)
+    ⊎ ((head : Header) × (facts : ElfFacts) × IsHeader has_screen file head
     × IsLoadedBy file head.segment facts
     × (entry_point_fault facts.segments (effective_entry_point head facts) ≡ Some refused))

@@ -6,7 +6,8 @@ use Rattle.std.specs.Prelude.{ℕ}
 abbrev pub max_steps : ℕ
 max_steps = 520
 
--- 272 KiB. The information has most: 4112 bytes for each of 64 modules, 4104 for the kernel's line,
--- 24 for each of 256 runs of memory, 264 for each of two copies of the RSDP, 88 for the rest
+-- 400 KiB. The information has most: 4112 bytes for each of 64 modules, 4104 for the kernel's line,
+-- 24 for each of 256 runs of memory, 264 for each of two copies of the RSDP, 64 KiB for the memory
+-- map of UEFI and for the tables of SMBIOS each, 176 for the rest
 abbrev pub max_own : ℕ
-max_own = 278528
+max_own = 409600

@@ -8,7 +8,8 @@ use Rattle.bl_map.specs.NormalMap.{low_kib, high_kib}
 use Rattle.bl_map.specs.Limits.{frame_size, first_usable, max_size, high_start}
 use Rattle.bl_map.specs.PoolFrames.{round_up_to_frames}
 use Rattle.bl_mb2head.specs.declared.relocation.Relocation.{Relocation}
-use Rattle.bl_mbi.specs.InfoToWriteFacts.{ModuleInfo, InfoToWriteFacts, info_size}
+use Rattle.bl_mbi.specs.InfoToWriteFacts.{ModuleInfo, InfoToWriteFacts, efi_tables}
+use Rattle.bl_mbi.specs.InfoToWriteFacts.{info_size}
 use Rattle.bl_plan.specs.declared.part.Row.{Row}
 use Rattle.bl_plan.specs.declared.part.Place.{Place}
 use Rattle.bl_plan.specs.declared.part.Role.TheVariants.{Kernel, Module, Information}
@@ -80,8 +81,8 @@ told_modules files places k (line ∷ lines) = record {
   line = line;
 } ∷ told_modules files places (suc k) lines
 
--- what the information tells, where the parts have these places: the copies of the RSDP as they
--- stand, the load base only with a relocatable tag
+-- what the information tells, where the parts have these places: what firmware tells and the copies
+-- of the RSDP as they stand, the load base only with a relocatable tag
 abbrev pub information_of : MachineFacts → EntryValue → Option Relocation → List Place
     → InfoToWriteFacts
 information_of facts value relocation places = record {
@@ -90,6 +91,9 @@ information_of facts value relocation places = record {
   mem_lower = low_kib facts.runs;
   mem_upper = high_kib facts.runs;
   runs = facts.runs;
+  screen = facts.firmware.screen;
+  efi = option_map efi_tables facts.firmware.efi;
+  smbios = facts.firmware.smbios;
   rsdp_old = value.rsdp_old;
   rsdp_new = value.rsdp_new;
   load_base = option_map (λ r. address_of Kernel 0 places) relocation;

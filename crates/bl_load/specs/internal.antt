@@ -5,6 +5,7 @@ pub mod ReadMultiboot2Kernels
 pub mod Placing
 pub mod ReadKernels
 pub mod CheckedEntries
+pub mod EntryKernels
 pub mod Contents
 pub mod Plans
 pub mod KnownFiles

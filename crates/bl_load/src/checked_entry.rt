@@ -28,10 +28,3 @@ pub struct CheckedEntry<'a, A: Allocator, V: ByteView> {
     ghost old: { IfSome rsdp_old.now IsRsdpCopy } by { Prim.hlevel props },
     ghost new: { IfSome rsdp_new.now IsRsdpCopy } by { Prim.hlevel props },
 }
-
-/// The copies of the RSDP that an entry hands over, of ACPI 1.0 and of ACPI 2.0 or later.
-#[derive(Drop)]
-pub struct Rsdps<'a, A: Allocator> {
-    pub old: &'a Option<Bytes<A>>,
-    pub new: &'a Option<Bytes<A>>,
-}

@@ -2,6 +2,7 @@
 ghost use Rattle.std.specs.Prelude.{◌≡◌, ◌≤◌, ◌⊎◌, ℕ, Bool, length, All, AllPairs};
 ghost use Rattle.std.specs.List.{count_by};
 ghost use Rattle.bl_map.specs.MachineFacts.{MachineFacts, AllUsable};
+ghost use Rattle.bl_plan.specs.Permitted.{AreUnavoided};
 ghost use Rattle.bl_plan.specs.declared.part.Role.{Role};
 ghost use Rattle.bl_load.specs.declared.refusal.Refusal.{Refusal};
 ghost use Rattle.bl_load.specs.EntryValue.{EntryValue};
@@ -47,8 +48,8 @@ pub fn parts_are_of_the_rows()
 {}
 
 /// The parts of what is handed over lie in memory that may be used, beside one another: none is
-/// empty, each of its bytes is usable, and each part begins at or after the end of those before it
-/// in the list.
+/// empty, each of its bytes is usable, none is avoided, and each part begins at or after the end of
+/// those before it in the list.
 pub fn parts_are_apart_and_usable()
     ensures filled { (facts : MachineFacts) (value : EntryValue) (h : Handover)
         → IsHandover facts value h
@@ -56,6 +57,9 @@ pub fn parts_are_apart_and_usable()
     ensures usable { (facts : MachineFacts) (value : EntryValue) (h : Handover)
         → IsHandover facts value h
         → All (λ part. AllUsable facts part.address (end_of part)) h.parts }
+    ensures unavoided { (facts : MachineFacts) (value : EntryValue) (h : Handover)
+        → IsHandover facts value h
+        → All (λ part. AreUnavoided facts part.address (end_of part)) h.parts }
     ensures apart { (facts : MachineFacts) (value : EntryValue) (h : Handover)
         → IsHandover facts value h
         → AllPairs (λ p q. end_of p ≤ q.address) h.parts }

@@ -6,6 +6,8 @@ mod capped_lengths;
 mod checked_entry;
 mod copying;
 mod entry;
+mod entry_checks;
+mod entry_kernel;
 mod entry_loading;
 mod handoff;
 mod kernel_block;

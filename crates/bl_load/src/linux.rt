@@ -1,27 +1,21 @@
 //! A Linux entry.
-ghost use Rattle.std.specs.Prelude.{◌≡◌, ◌≤◌, true, IfOk, IfErr, length, map};
+ghost use Rattle.std.specs.Prelude.{◌≡◌, ◌≤◌, true, IfOk, IfErr, length};
 ghost use Rattle.bl_load.specs.KernelReading.{linux};
-ghost use Rattle.bl_load.specs.EntryValue.{linux_value};
 ghost use Rattle.bl_load.specs.Protocols.{has_params};
-ghost use Rattle.bl_load.specs.Parts.{IsPrepFault};
-ghost use Rattle.bl_load.specs.internal.Plans.{IsPlanOfValue};
-ghost use Rattle.bl_load.specs.Unplaced.{IsUnplaced, IsFaultBeforePlacing};
+ghost use Rattle.bl_load.specs.internal.CheckedEntries.{value_of_files, IsReadWithFiles};
+ghost use Rattle.bl_load.specs.internal.ReadKernels.{IsKernelFault};
 
 use crate::addresses::address_of;
 use crate::checked_entry::CheckedEntry;
-use crate::line_checks::check_line;
 use crate::linux::contents::linux_content;
 use crate::linux::kernel::{ENTRY_64, read_linux};
 use crate::linux::rows::linux_rows;
 use crate::loadable_kernel::LoadableKernel;
-use crate::placing::plan_parts;
-use crate::plan::{Content, Plan};
+use crate::plan::Content;
 use crate::refusal::PrepFault;
 use crate::registers::{Registers, linux_registers};
 use crate::registers64::linux64_registers;
-use crate::unplaced_row::unplaced_part;
 use bl_bzimage::Setup;
-use bl_map::Machine;
 use bl_mem::ByteView;
 use bl_plan::{Place, Protocol, Role, Row};
 use std::alloc::{AllocError, Allocator};
@@ -72,62 +66,19 @@ impl LoadableKernel for Setup {
     }
 }
 
-/// What is loaded for a Linux entry of this line, whose kernel is entered by this protocol, or its
-/// first refusal.
-pub fn prepare<A: Allocator + Copy, V: ByteView>(
-    alloc: A,
-    machine: &Machine<A>,
-    protocol: Protocol,
-    line: &[u8],
-    files: &[V],
-) -> Result<Plan<A>, PrepFault>
-    requires params { has_params protocol ≡ true }
-    requires files { 1 ≤ length files.now }
-    ensures ok { IfOk result (IsPlanOfValue machine.now
-        (linux_value protocol (map V.bytes files.now) line.now)) }
-    ensures fault { IfErr result (IsPrepFault machine.now
-        (linux_value protocol (map V.bytes files.now) line.now)) }
+/// What is read of the kernel of a Linux entry, or its first fault.
+pub fn read_linux_kernel<A: Allocator, V: ByteView>(
+    entry: &CheckedEntry<'_, A, V>,
+) -> Result<Setup, PrepFault>
+    requires params { has_params entry.now.protocol ≡ true }
+    requires files { 1 ≤ length entry.now.files.now }
+    ensures read { IfOk result (λ setup. IsReadWithFiles entry.now (linux setup)) }
+    ensures fault { IfErr result (IsKernelFault entry.now.machine.now (value_of_files entry.now)) }
 {
-    check_line(line)?;
-    let setup = read_linux(protocol, &files[0], line, machine.normal())?;
-    let entry = CheckedEntry {
-        protocol,
-        machine,
-        line,
-        modules: &[],
-        rsdp_old: &None,
-        rsdp_new: &None,
-        files,
-    };
-    plan_parts(alloc, &entry, &setup)
-}
-
-/// The first part that has no place of a Linux entry of this line, whose kernel is entered by this
-/// protocol, or none; or what refuses it before.
-pub(crate) fn unplaced<A: Allocator + Copy, V: ByteView>(
-    alloc: A,
-    machine: &Machine<A>,
-    protocol: Protocol,
-    line: &[u8],
-    files: &[V],
-) -> Result<Option<Row>, PrepFault>
-    requires params { has_params protocol ≡ true }
-    requires files { 1 ≤ length files.now }
-    ensures which { IfOk result (IsUnplaced machine.now
-        (linux_value protocol (map V.bytes files.now) line.now)) }
-    ensures fault { IfErr result (IsFaultBeforePlacing machine.now
-        (linux_value protocol (map V.bytes files.now) line.now)) }
-{
-    check_line(line)?;
-    let setup = read_linux(protocol, &files[0], line, machine.normal())?;
-    let entry = CheckedEntry {
-        protocol,
-        machine,
-        line,
-        modules: &[],
-        rsdp_old: &None,
-        rsdp_new: &None,
-        files,
-    };
-    unplaced_part(alloc, &entry, &setup)
+    read_linux(
+        entry.protocol,
+        &entry.files[0],
+        entry.line,
+        entry.machine.normal(),
+    )
 }

@@ -1,35 +1,29 @@
 //! A Multiboot2 entry.
-ghost use Rattle.std.specs.Prelude.{◌≡◌, ◌≤◌, ◌<◌, ◌+◌, ◌^◌, IfOk, IfErr, map};
+ghost use Rattle.std.specs.Prelude.{◌≡◌, ◌≤◌, ◌<◌, ◌+◌, ◌^◌, IfOk, IfErr, length};
+ghost use Rattle.bl_plan.specs.declared.protocol.Protocol.TheVariants.{Multiboot2};
 ghost use Rattle.bl_load.specs.KernelBlock as blocks;
-ghost use Rattle.bl_load.specs.internal.ReadMultiboot2Kernels.{kernel_by};
 ghost use Rattle.bl_load.specs.KernelReading.{multiboot2};
 ghost use Rattle.bl_load.specs.Parts as parts;
-ghost use Rattle.bl_load.specs.Parts.{IsPrepFault};
-ghost use Rattle.bl_load.specs.internal.Multiboot2Entries.{value_with_modules, IsMultiboot2Entry};
-ghost use Rattle.bl_load.specs.internal.Plans.{IsPlanOfValue};
-ghost use Rattle.bl_load.specs.Unplaced.{IsUnplaced, IsFaultBeforePlacing};
+ghost use Rattle.bl_load.specs.internal.CheckedEntries.{value_of_files, IsReadWithFiles};
+ghost use Rattle.bl_load.specs.internal.ReadKernels.{IsKernelFault};
+ghost use Rattle.bl_load.specs.internal.ReadMultiboot2Kernels.{kernel_by};
 
 use crate::addresses::address_of;
-use crate::checked_entry::{CheckedEntry, Rsdps};
-use crate::entry::Module;
-use crate::line_checks::check_lines;
+use crate::checked_entry::CheckedEntry;
 use crate::loadable_kernel::LoadableKernel;
 use crate::multiboot2::contents::multiboot2_content;
 use crate::multiboot2::kernel::{Kernel, read_kernel};
 use crate::multiboot2::rows::{low_of, multiboot2_rows};
-use crate::placing::plan_parts;
-use crate::plan::{Content, Plan};
+use crate::plan::Content;
 use crate::refusal::PrepFault;
 use crate::registers::{Registers, multiboot2_registers};
-use crate::unplaced_row::unplaced_part;
-use bl_map::Machine;
 use bl_mem::ByteView;
 use bl_plan::{Place, Protocol, Role, Row};
 use std::alloc::{AllocError, Allocator};
 
 mod contents;
 mod information;
-mod kernel;
+pub mod kernel;
 mod rows;
 
 /// Where a Multiboot2 kernel is entered, once the first of its parts stands at `base`.
@@ -74,62 +68,18 @@ impl<B: Allocator> LoadableKernel for Kernel<B> {
     }
 }
 
-/// What is loaded for a Multiboot2 entry of this line, these modules and these copies of the RSDP,
-/// or its first refusal.
-pub fn prepare<A: Allocator + Copy, V: ByteView>(
+/// What is read of the kernel of a Multiboot2 entry, or its first fault. A screen that firmware
+/// tells may be its console.
+pub fn read_multiboot2_kernel<A: Allocator + Copy, V: ByteView>(
     alloc: A,
-    machine: &Machine<A>,
-    line: &[u8],
-    modules: &[Module<A>],
-    rsdps: &Rsdps<'_, A>,
-    files: &[V],
-) -> Result<Plan<A>, PrepFault>
-    requires { IsMultiboot2Entry files.now modules.now rsdps.now }
-    ensures ok { IfOk result (IsPlanOfValue machine.now
-        (value_with_modules (map V.bytes files.now) line.now modules.now rsdps.now)) }
-    ensures fault { IfErr result (IsPrepFault machine.now
-        (value_with_modules (map V.bytes files.now) line.now modules.now rsdps.now)) }
+    entry: &CheckedEntry<'_, A, V>,
+) -> Result<Kernel<A>, PrepFault>
+    requires protocol { entry.now.protocol ≡ Multiboot2 }
+    requires files { length entry.now.files.now ≡ 1 + length entry.now.modules.now }
+    ensures read { IfOk result (λ kernel. IsReadWithFiles entry.now
+        (multiboot2 (kernel_by kernel))) }
+    ensures fault { IfErr result (IsKernelFault entry.now.machine.now (value_of_files entry.now)) }
 {
-    check_lines(line, modules)?;
-    let kernel = read_kernel(alloc, &files[0])?;
-    let entry = CheckedEntry {
-        protocol: Protocol::Multiboot2,
-        machine,
-        line,
-        modules,
-        rsdp_old: rsdps.old,
-        rsdp_new: rsdps.new,
-        files,
-    };
-    plan_parts(alloc, &entry, &kernel)
-}
-
-/// The first part that has no place of a Multiboot2 entry of this line, these modules and these
-/// copies of the RSDP, or none; or what refuses it before.
-pub(crate) fn unplaced<A: Allocator + Copy, V: ByteView>(
-    alloc: A,
-    machine: &Machine<A>,
-    line: &[u8],
-    modules: &[Module<A>],
-    rsdps: &Rsdps<'_, A>,
-    files: &[V],
-) -> Result<Option<Row>, PrepFault>
-    requires { IsMultiboot2Entry files.now modules.now rsdps.now }
-    ensures which { IfOk result (IsUnplaced machine.now
-        (value_with_modules (map V.bytes files.now) line.now modules.now rsdps.now)) }
-    ensures fault { IfErr result (IsFaultBeforePlacing machine.now
-        (value_with_modules (map V.bytes files.now) line.now modules.now rsdps.now)) }
-{
-    check_lines(line, modules)?;
-    let kernel = read_kernel(alloc, &files[0])?;
-    let entry = CheckedEntry {
-        protocol: Protocol::Multiboot2,
-        machine,
-        line,
-        modules,
-        rsdp_old: rsdps.old,
-        rsdp_new: rsdps.new,
-        files,
-    };
-    unplaced_part(alloc, &entry, &kernel)
+    let firmware = entry.machine.firmware();
+    read_kernel(alloc, &entry.files[0], firmware.screen.is_some())
 }

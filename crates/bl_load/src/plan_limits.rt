@@ -12,7 +12,7 @@ use std::alloc::Allocator;
 pub const MAX_STEPS: usize = 520;
 
 /// The most bytes that a plan holds itself.
-pub const MAX_OWN: usize = 278528;
+pub const MAX_OWN: usize = 409600;
 
 /// A plan that `prepare` answers is small: arrays of a fixed room have room for its steps and for
 /// the bytes that it holds itself.

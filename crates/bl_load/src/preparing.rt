@@ -7,14 +7,14 @@ ghost use Rattle.bl_load.specs.PlanContents.{handover_by};
 ghost use Rattle.bl_load.specs.Loadable.{lengths_of, IsLoadable};
 ghost use Rattle.bl_load.specs.LeanPlans.{IsLean};
 
-use crate::checked_entry::Rsdps;
 use crate::entry::Entry;
+use crate::entry_checks::checked_entry;
+use crate::entry_kernel::read_entry_kernel;
+use crate::placing::plan_parts;
 use crate::plan::Plan;
 use crate::refusal::PrepFault;
-use crate::{linux, multiboot2};
 use bl_map::Machine;
 use bl_mem::ByteView;
-use bl_plan::Protocol;
 use std::alloc::Allocator;
 
 /// What is loaded for an entry on a machine, or its first refusal. `files` are the entry's files in
@@ -26,7 +26,6 @@ use std::alloc::Allocator;
 /// it, a line longer than `cmdline_size`, a memory map of more than 128 runs. Want of memory may be
 /// answered at any growth, in the place of a refusal that would have come later; it is never told
 /// as a refusal.
-#[tactic(auto, unfolding(crate::specs::EntryValue::IsWithinLimits))]
 pub fn prepare<A: Allocator + Copy, V: ByteView>(
     alloc: A,
     machine: &Machine<A>,
@@ -52,24 +51,8 @@ pub fn prepare<A: Allocator + Copy, V: ByteView>(
     ensures fault { IfErr result (λ fault. IsPrepFault machine.now
         (value_of (map V.bytes files.now) entry.now) fault) }
 {
-    match entry {
-        Entry::Multiboot2 {
-            line,
-            modules,
-            rsdp_old,
-            rsdp_new,
-            ..
-        } => {
-            let rsdps = Rsdps {
-                old: rsdp_old,
-                new: rsdp_new,
-            };
-            let modules = modules.as_slice();
-            multiboot2::prepare(alloc, machine, line.as_slice(), modules, &rsdps, files)
-        }
-        Entry::Linux { line, wide, .. } => {
-            let protocol = Protocol::of_linux(*wide);
-            linux::prepare(alloc, machine, protocol, line.as_slice(), files)
-        }
-    }
+    let no_copy = None;
+    let checked = checked_entry(machine, entry, &no_copy, files)?;
+    let kernel = read_entry_kernel(alloc, &checked)?;
+    plan_parts(alloc, &checked, &kernel)
 }

@@ -7,14 +7,15 @@ ghost use Rattle.bl_load.specs.Unplaced.{IsUnplacedOf, IsUnplaced, IsFaultBefore
 ghost use Rattle.bl_load.specs.EntryValue.{value_of, file_count, IsWithinLimits};
 ghost use Rattle.bl_load.specs.declared.refusal.PrepFault.TheVariants.{NoMemory};
 
-use crate::checked_entry::{CheckedEntry, Rsdps};
+use crate::checked_entry::CheckedEntry;
 use crate::entry::Entry;
+use crate::entry_checks::checked_entry;
+use crate::entry_kernel::read_entry_kernel;
 use crate::loadable_kernel::LoadableKernel;
 use crate::refusal::PrepFault;
-use crate::{linux, multiboot2};
 use bl_map::Machine;
 use bl_mem::ByteView;
-use bl_plan::{PlanFault, Planner, Protocol, Row};
+use bl_plan::{PlanFault, Planner, Row};
 use std::alloc::Allocator;
 
 /// The first of these rows that has no place, or none.
@@ -41,7 +42,7 @@ fn first_unplaced<A: Allocator + Copy>(
 }
 
 /// The first part that has no place of an entry whose kernel was read, or none.
-pub(crate) fn unplaced_part<A: Allocator + Copy, V: ByteView, K: LoadableKernel>(
+fn unplaced_part<A: Allocator + Copy, V: ByteView, K: LoadableKernel>(
     alloc: A,
     entry: &CheckedEntry<'_, A, V>,
     kernel: &K,
@@ -65,7 +66,6 @@ pub(crate) fn unplaced_part<A: Allocator + Copy, V: ByteView, K: LoadableKernel>
 /// as another one above 4 GiB. What refuses before a place is looked for is the fault, as of
 /// `prepare`: the lines, then what is read of the kernel. Want of memory may be answered at any
 /// growth.
-#[tactic(auto, unfolding(crate::specs::EntryValue::IsWithinLimits))]
 pub fn unplaced<A: Allocator + Copy, V: ByteView>(
     alloc: A,
     machine: &Machine<A>,
@@ -79,24 +79,8 @@ pub fn unplaced<A: Allocator + Copy, V: ByteView>(
     ensures fault { IfErr result (IsFaultBeforePlacing machine.now
         (value_of (map V.bytes files.now) entry.now)) }
 {
-    match entry {
-        Entry::Multiboot2 {
-            line,
-            modules,
-            rsdp_old,
-            rsdp_new,
-            ..
-        } => {
-            let rsdps = Rsdps {
-                old: rsdp_old,
-                new: rsdp_new,
-            };
-            let modules = modules.as_slice();
-            multiboot2::unplaced(alloc, machine, line.as_slice(), modules, &rsdps, files)
-        }
-        Entry::Linux { line, wide, .. } => {
-            let protocol = Protocol::of_linux(*wide);
-            linux::unplaced(alloc, machine, protocol, line.as_slice(), files)
-        }
-    }
+    let no_copy = None;
+    let checked = checked_entry(machine, entry, &no_copy, files)?;
+    let kernel = read_entry_kernel(alloc, &checked)?;
+    unplaced_part(alloc, &checked, &kernel)
 }

@@ -4,3 +4,5 @@ pub mod SweepLemmas
 pub mod MapLaws
 pub mod EdgeLemmas
 pub mod RoomLemmas
+pub mod FirmwareLemmas
+pub mod RunsLemmas

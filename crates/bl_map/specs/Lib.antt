@@ -1,7 +1,11 @@
 pub mod Limits
 pub mod Kinds
 pub mod NormalMap
+pub mod Firmware
+pub mod FirmwareLimits
+pub mod FirmwareNumbers
 pub mod MachineFacts
 pub mod Faults
+pub mod FirmwareFaults
 pub mod PoolFrames
 pub mod internal

@@ -5,8 +5,9 @@ ghost use Rattle.bl_map.specs.declared.fault.MapFault.TheVariants.{NoMemory};
 use std::alloc::{AllocError, AllocFailed};
 use thiserror::Error;
 
-/// Why a machine is refused: the first fault in the order size, number of regions, regions, pool.
-/// Memory may run out at any growth.
+/// Why a machine is refused: the first fault in the order size, number of regions, regions, pool;
+/// then what firmware tells: screen, root pointer of ACPI, UEFI, SMBIOS, ranges to avoid. Memory may
+/// run out at any growth.
 #[derive(Clone, Copy, Debug, PartialEq, Eq, Error)]
 pub enum MapFault {
     #[error("bad size")]
@@ -19,12 +20,40 @@ pub enum MapFault {
     BadPool,
     #[error("no memory")]
     NoMemory,
+    #[error("bad screen size")]
+    BadScreenSize,
+    #[error("bad screen depth")]
+    BadScreenDepth,
+    #[error("bad screen color")]
+    BadScreenColor,
+    #[error("bad screen pitch")]
+    BadScreenPitch,
+    #[error("bad screen place")]
+    BadScreenPlace,
+    #[error("bad rsdp")]
+    BadRsdp,
+    #[error("bad system table")]
+    BadSystemTable,
+    #[error("bad descriptors")]
+    BadDescriptors,
+    #[error("bad efi map size")]
+    BadEfiMapSize,
+    #[error("bad efi map place")]
+    BadEfiMapPlace,
+    #[error("bad smbios size")]
+    BadSmbiosSize,
+    #[error("too many avoided ranges")]
+    TooManyAvoided,
+    #[error("bad avoided range {0}")]
+    BadAvoided(usize),
+    #[error("pool is avoided")]
+    PoolAvoided,
 }
 
 impl MapFault {
     ghost use Rattle.bl_map.specs.Faults.{map_fault_number};
 
-    /// The fault's number, 1 to 5.
+    /// The fault's number, 1 to 19.
     pub fn number(self) -> u32
         ensures { result ≡ map_fault_number self }
     {
@@ -35,6 +64,20 @@ impl MapFault {
             MapFault::TooManyRegions => 3,
             MapFault::BadPool => 4,
             MapFault::NoMemory => 5,
+            MapFault::BadScreenSize => 6,
+            MapFault::BadScreenDepth => 7,
+            MapFault::BadScreenColor => 8,
+            MapFault::BadScreenPitch => 9,
+            MapFault::BadScreenPlace => 10,
+            MapFault::BadRsdp => 11,
+            MapFault::BadSystemTable => 12,
+            MapFault::BadDescriptors => 13,
+            MapFault::BadEfiMapSize => 14,
+            MapFault::BadEfiMapPlace => 15,
+            MapFault::BadSmbiosSize => 16,
+            MapFault::TooManyAvoided => 17,
+            MapFault::BadAvoided(_) => 18,
+            MapFault::PoolAvoided => 19,
             // <<<
         }
     }

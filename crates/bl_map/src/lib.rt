@@ -1,7 +1,8 @@
-//! A machine: the kinds of its addresses, its normal map, its pool.
+//! A machine: the kinds of its addresses, its normal map, its pool, what firmware tells of it.
 #![tactic(auto)]
 
 mod fault;
+mod firmware;
 mod kind;
 mod laws;
 mod limits;
@@ -12,6 +13,11 @@ mod region;
 mod rules;
 
 pub use fault::MapFault;
+pub use firmware::{
+    ColorField, Efi, EfiBits, EfiInfo, Firmware, MAX_AVOIDED, MAX_EFI_MAP, MAX_SMBIOS, OwnedEfi,
+    OwnedFirmware, OwnedSmbios, RSDP_LENGTH, Screen, SecureBoot, Smbios, are_descriptors,
+    is_efi_map_place, is_efi_map_size, is_smbios_size, is_system_table,
+};
 pub use kind::Kind;
 pub use laws::normal_maps_are_determined;
 pub use limits::{

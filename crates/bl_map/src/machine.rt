@@ -3,6 +3,7 @@ ghost use Rattle.std.specs.Prelude.{IfErr, OnOk};
 ghost use Rattle.bl_map.specs.Faults.{HasFirstMapFault, IsAccepted};
 
 use crate::fault::MapFault;
+use crate::firmware::OwnedFirmware;
 use crate::kind::Kind;
 use crate::limits::{HIGH_START, KIB, MAX_HIGH_KIB, MAX_LOW_KIB, MAX_REGIONS};
 use crate::normalization::{greatest_kind, normal_map};
@@ -11,6 +12,8 @@ use crate::rules::{first_high, is_pool, is_size, is_usable_among, usable_end};
 use std::alloc::Allocator;
 use std::marker::Model;
 use std::ops::Range;
+
+mod told;
 
 /// The first fault that stands of what a machine is made of, before memory is asked for.
 fn check_parts(size: u64, regions: &[Region], pool: &Range<u64>) -> Result<(), MapFault>
@@ -32,23 +35,36 @@ fn check_parts(size: u64, regions: &[Region], pool: &Range<u64>) -> Result<(), M
     Ok(())
 }
 
-/// A machine: its size, its normal map, its pool. Contracts see it as these facts.
+/// A machine: its size, its normal map, its pool, what firmware tells of it. Contracts see it as
+/// these facts.
 #[derive(Drop)]
 pub struct Machine<A: Allocator> {
     size: u64,
     runs: Vec<Region, A>,
     pool: Range<u64>,
+    firmware: Option<OwnedFirmware<A>>,
 }
 
 impl<A: Allocator> Model for Machine<A> {
+    ghost use Rattle.std.specs.Prelude.{unwrap_or};
+    ghost use Rattle.bl_map.specs.Firmware.{no_firmware};
     ghost use Rattle.bl_map.specs.MachineFacts.{MachineFacts, IsWellFormedMachine};
 
     ghost Value = { MachineFacts };
 
-    ghost view = { λ m. record { size = m.size; runs = m.runs.items; pool = m.pool } };
+    ghost view = { λ m. record {
+      size = m.size;
+      runs = m.runs.items;
+      pool = m.pool;
+      firmware = unwrap_or m.firmware no_firmware;
+    } };
 
-    ghost invariant = { λ m.
-        IsWellFormedMachine record { size = m.size; runs = m.runs.items; pool = m.pool } };
+    ghost invariant = { λ m. IsWellFormedMachine record {
+      size = m.size;
+      runs = m.runs.items;
+      pool = m.pool;
+      firmware = unwrap_or m.firmware no_firmware;
+    } };
 }
 
 impl<A: Allocator> Machine<A> {
@@ -58,9 +74,11 @@ impl<A: Allocator> Machine<A> {
     ghost use Rattle.bl_map.specs.NormalMap as normal_map;
     ghost use Rattle.bl_map.specs.MachineFacts.{AllUsable, IsWellFormedMachine};
     ghost use Rattle.bl_map.specs.Faults.{HasFirstMapFault, IsAccepted};
+    ghost use Rattle.bl_map.specs.Firmware.{no_firmware};
 
     /// The machine of these regions, in any order, overlapping, adjoining or empty. `size` is in
-    /// bytes; `pool` has the addresses of the frames that files are staged in.
+    /// bytes; `pool` has the addresses of the frames that files are staged in. Firmware tells nothing
+    /// of it.
     ///
     /// The first of these faults that stands refuses it:
     /// - `BadSize`: the size is not 1 MiB to 4 GiB in whole frames of 4096 bytes.
@@ -79,11 +97,17 @@ impl<A: Allocator> Machine<A> {
         ensures size { IfOk result (λ m. m.size ≡ size) }
         ensures runs { IfOk result (λ m. IsNormalMap regions.now m.runs) }
         ensures pool { IfOk result (λ m. m.pool ≡ pool) }
+        ensures firmware { IfOk result (λ m. m.firmware ≡ no_firmware) }
         ensures first_fault { IfErr result (HasFirstMapFault size regions.now pool) }
     {
         check_parts(size, regions, &pool)?;
         let runs = normal_map(alloc, regions)?;
-        Ok(Machine { size, runs, pool })
+        Ok(Machine {
+            size,
+            runs,
+            pool,
+            firmware: None,
+        })
     }
 
     /// How many bytes of memory there are.

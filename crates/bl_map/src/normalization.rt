@@ -43,6 +43,13 @@ pub fn greatest_kind(regions: &[Region], a: u64) -> Option<Kind>
     greatest
 }
 
+/// The number of that kind, 0 where no region holds the address.
+pub fn kind_number_at(regions: &[Region], a: u64) -> u32
+    ensures { result ≡ kind_at regions.now a }
+{
+    known_number(greatest_kind(regions, a))
+}
+
 /// An address up to `limit` before which the region holds all addresses from `at` on, or none.
 fn change_in(region: &Region, at: u64, limit: u64) -> u64
     requires low { HasAllowedEnd region.now }

@@ -1,13 +1,13 @@
 //! The rules that a machine is accepted by.
-ghost use Rattle.std.specs.Prelude.{◌≡◌, ℕ, ◌<◌, ◌≤◌, All, IfSome, MatchBool, MatchOption, length};
-ghost use Rattle.std.specs.Prelude.{slice_get, take};
-ghost use Rattle.bl_map.specs.MachineFacts.{IsPool, IsSize, IsUsableAmong};
+ghost use Rattle.std.specs.Prelude.{◌≡◌, ℕ, ◌+◌, ◌<◌, ◌≤◌, All, IfSome, MatchBool, MatchOption};
+ghost use Rattle.std.specs.Prelude.{length, slice_get, take};
+ghost use Rattle.bl_map.specs.MachineFacts.{AreUnusable, IsPool, IsSize, IsUsableAmong};
 ghost use Rattle.bl_map.specs.Faults.{HasAllowedEnd};
 ghost use Rattle.bl_map.specs.NormalMap as normal_map;
 
 use crate::kind::Kind;
 use crate::limits::{FIRST_USABLE, FRAME_SIZE, MAX_SIZE, MIN_SIZE, USABLE_LIMIT};
-use crate::normalization::{greatest_kind, run_end};
+use crate::normalization::{greatest_kind, kind_number_at, run_end};
 use crate::region::Region;
 use std::ops::Range;
 
@@ -54,6 +54,25 @@ pub fn is_usable_among(regions: &[Region], size: u64, start: u64, end: u64) -> b
         Some(Kind::Usable) => end <= run_end(regions, start),
         Some(Kind::Reserved | Kind::Acpi | Kind::Nvs | Kind::Bad) | None => false,
     }
+}
+
+/// Whether none of the `bytes` bytes from `start` on is usable in a machine of this size and these
+/// regions.
+pub fn are_unusable(regions: &[Region], size: u64, start: u64, bytes: u64) -> bool
+    requires low { All HasAllowedEnd regions.now }
+    ensures { MatchBool result
+        (AreUnusable regions.now size start (start + bytes))
+        (¬ AreUnusable regions.now size start (start + bytes)) }
+{
+    let end = start.saturating_add(bytes).min(size).min(USABLE_LIMIT);
+    let mut at = start.max(FIRST_USABLE);
+    while at < end {
+        if kind_number_at(regions, at) == 1 {
+            return false;
+        }
+        at = run_end(regions, at);
+    }
+    true
 }
 
 /// Whether the pool is whole usable frames, perhaps none.

@@ -1,5 +1,5 @@
 -- Which faults a tag can have, and that they are the file's first faults.
-use Rattle.std.proofs.Common.{◌≡◌, ◌+◌, ℕ, Bool, true, false, if◌then◌else◌, Option, Some, None}
+use Rattle.std.proofs.Common.{◌≡◌, ℕ, Bool, true, false, if◌then◌else◌, Option, Some, None}
 use Rattle.std.proofs.Common.{List, length, refl, sym, ap, ◌∙◌, inl, inr}
 use Rattle.bl_mb2head.specs.declared.fault.HeadFault.{HeadFault}
 use Rattle.bl_mb2head.specs.declared.fault.HeadFault.TheVariants.{NoHeader, HeaderCut}
@@ -7,9 +7,10 @@ use Rattle.bl_mb2head.specs.declared.fault.HeadFault.TheVariants.{BadArchitectur
 use Rattle.bl_mb2head.specs.declared.fault.HeadFault.TheVariants.{UnsupportedTag}
 use Rattle.bl_mb2head.specs.declared.fault.HeadFault.TheVariants.{UnsupportedRequest, NoConsole}
 use Rattle.bl_mb2head.specs.declared.tag.Tag.{Tag}
-use Rattle.bl_mb2head.specs.Tags.{request_fault, tag_fault_at, IsFirstTagFault, last_of}
+use Rattle.bl_mb2head.specs.Tags.{request_fault, tag_fault_at, last_of}
 use Rattle.bl_mb2head.specs.Address.{address_fault, address_tag_at, is_bad_address}
-use Rattle.bl_mb2head.specs.Header.{tags_end, BeginsAt, IsAddressFault, HasFirstHeadFault}
+use Rattle.bl_mb2head.specs.Header.{tags_end, has_console, BeginsAt, IsTagFaultOf, IsAddressFault}
+use Rattle.bl_mb2head.specs.Header.{HasFirstHeadFault}
 
 -- no fault, or one that a tag can have
 abbrev is_of_tag : Option HeadFault → Bool
@@ -42,9 +43,9 @@ request_is_of_tag : (kind : Option ℕ) → is_of_tag (request_fault kind) ≡ t
 request_is_of_tag None = refl
 request_is_of_tag (Some kind) = refl
 
-fault_is_of_tag : (bytes : List ℕ) (end at : ℕ) → is_of_tag (tag_fault_at bytes end at) ≡ true
+fault_is_of_tag : (console : Bool) (bytes : List ℕ) (end at : ℕ) → is_of_tag (tag_fault_at console bytes end at) ≡ true
 unfolding tag_fault_at
-fault_is_of_tag bytes end at = search (is_of_tag-if, request_is_of_tag)
+fault_is_of_tag console bytes end at = search (is_of_tag-if, request_is_of_tag)
 
 address_is_of_address : (bytes : List ℕ) (h : ℕ) (tag : Option Tag)
     → is_of_address (address_fault bytes h tag) ≡ true
@@ -55,50 +56,50 @@ address_is_of_address bytes h (Some t) =
     [ true ↦ refl | false ↦ refl ]
 
 -- the first fault among the tags is the file's
-pub tag_fault_first : (bytes : List ℕ) (h : ℕ) (fault : HeadFault) → BeginsAt bytes h
-    → IsFirstTagFault bytes (tags_end bytes h) (h + 16) fault → HasFirstHeadFault bytes fault
-tag_fault_first bytes h NoHeader begins first =
+pub tag_fault_first : (screen : Bool) (bytes : List ℕ) (h : ℕ) (fault : HeadFault) → BeginsAt bytes h
+    → IsTagFaultOf screen bytes h fault → HasFirstHeadFault screen bytes fault
+tag_fault_first screen bytes h NoHeader begins first =
     let bad : is_of_tag (Some NoHeader) ≡ true =
-    ap is_of_tag (sym first.faulty) ∙ fault_is_of_tag bytes (tags_end bytes h) first.next in
+    ap is_of_tag (sym first.faulty) ∙ fault_is_of_tag (has_console screen bytes h) bytes (tags_end bytes h) first.next in
     absurd cc
-tag_fault_first bytes h HeaderCut begins first =
+tag_fault_first screen bytes h HeaderCut begins first =
     let bad : is_of_tag (Some HeaderCut) ≡ true =
-    ap is_of_tag (sym first.faulty) ∙ fault_is_of_tag bytes (tags_end bytes h) first.next in
+    ap is_of_tag (sym first.faulty) ∙ fault_is_of_tag (has_console screen bytes h) bytes (tags_end bytes h) first.next in
     absurd cc
-tag_fault_first bytes h BadArchitecture begins first =
+tag_fault_first screen bytes h BadArchitecture begins first =
     let bad : is_of_tag (Some BadArchitecture) ≡ true =
-    ap is_of_tag (sym first.faulty) ∙ fault_is_of_tag bytes (tags_end bytes h) first.next in
+    ap is_of_tag (sym first.faulty) ∙ fault_is_of_tag (has_console screen bytes h) bytes (tags_end bytes h) first.next in
     absurd cc
-tag_fault_first bytes h (BadTag at) begins first = (h, begins, inl first)
-tag_fault_first bytes h (UnsupportedTag kind) begins first = (h, begins, first)
-tag_fault_first bytes h (UnsupportedRequest kind) begins first = (h, begins, first)
-tag_fault_first bytes h NoConsole begins first = (h, begins, first)
+tag_fault_first screen bytes h (BadTag at) begins first = (h, begins, inl first)
+tag_fault_first screen bytes h (UnsupportedTag kind) begins first = (h, begins, first)
+tag_fault_first screen bytes h (UnsupportedRequest kind) begins first = (h, begins, first)
+tag_fault_first screen bytes h NoConsole begins first = (h, begins, first)
 
 -- and so is that of the address tag that counts, where no tag has one of its own
-pub address_fault_first : (bytes : List ℕ) (h : ℕ) (fault : HeadFault) → BeginsAt bytes h
-    → IsAddressFault bytes h fault → HasFirstHeadFault bytes fault
-address_fault_first bytes h (BadTag at) begins address = (h, begins, inr address)
-address_fault_first bytes h NoHeader begins address =
+pub address_fault_first : (screen : Bool) (bytes : List ℕ) (h : ℕ) (fault : HeadFault) → BeginsAt bytes h
+    → IsAddressFault screen bytes h fault → HasFirstHeadFault screen bytes fault
+address_fault_first screen bytes h (BadTag at) begins address = (h, begins, inr address)
+address_fault_first screen bytes h NoHeader begins address =
     let bad : false ≡ true =
     ap is_of_address (sym address.faulty)
     ∙ address_is_of_address bytes h (last_of 2 address.tags) in absurd cc
-address_fault_first bytes h HeaderCut begins address =
+address_fault_first screen bytes h HeaderCut begins address =
     let bad : false ≡ true =
     ap is_of_address (sym address.faulty)
     ∙ address_is_of_address bytes h (last_of 2 address.tags) in absurd cc
-address_fault_first bytes h BadArchitecture begins address =
+address_fault_first screen bytes h BadArchitecture begins address =
     let bad : false ≡ true =
     ap is_of_address (sym address.faulty)
     ∙ address_is_of_address bytes h (last_of 2 address.tags) in absurd cc
-address_fault_first bytes h (UnsupportedTag kind) begins address =
+address_fault_first screen bytes h (UnsupportedTag kind) begins address =
     let bad : false ≡ true =
     ap is_of_address (sym address.faulty)
     ∙ address_is_of_address bytes h (last_of 2 address.tags) in absurd cc
-address_fault_first bytes h (UnsupportedRequest kind) begins address =
+address_fault_first screen bytes h (UnsupportedRequest kind) begins address =
     let bad : false ≡ true =
     ap is_of_address (sym address.faulty)
     ∙ address_is_of_address bytes h (last_of 2 address.tags) in absurd cc
-address_fault_first bytes h NoConsole begins address =
+address_fault_first screen bytes h NoConsole begins address =
     let bad : false ≡ true =
     ap is_of_address (sym address.faulty)
     ∙ address_is_of_address bytes h (last_of 2 address.tags) in absurd cc

@@ -44,9 +44,9 @@ address_fits bytes h (Some t) small inside sound =
     (u32_at-lt bytes (t.place + 12) small) (u32_at-lt bytes (t.place + 20) small)
     (no_fault (is_bad_address (length bytes) h tag) (BadTag t.place) sound)
 
-pub header_segment_fits : (bytes : List ℕ) (header : Header) → ((k : ℕ) → slice_index bytes k < 256)
-    → IsHeader bytes header → IfSome header.segment (SegmentFitsFile bytes)
-header_segment_fits bytes header small is =
+pub header_segment_fits : (screen : Bool) (bytes : List ℕ) (header : Header) → ((k : ℕ) → slice_index bytes k < 256)
+    → IsHeader screen bytes header → IfSome header.segment (SegmentFitsFile bytes)
+header_segment_fits screen bytes header small is =
     let here = is.begins.place.holds.in_file in
     subst (λ (s : Option Segment). IfSome s (SegmentFitsFile bytes)) (sym is.segment)
     (address_fits bytes header.place (last_of 2 is.tags) small (omega arith) is.sound)
@@ -56,8 +56,8 @@ entry_fits : (bytes : List ℕ) (tag : Option Tag) → ((k : ℕ) → slice_inde
 entry_fits bytes None small = tt
 entry_fits bytes (Some t) small = u32_at-lt bytes (t.place + 8) small
 
-pub header_entry_fits : (bytes : List ℕ) (header : Header) → ((k : ℕ) → slice_index bytes k < 256)
-    → IsHeader bytes header → IfSome header.entry (λ entry. entry < 2 ^ 32)
-header_entry_fits bytes header small is =
+pub header_entry_fits : (screen : Bool) (bytes : List ℕ) (header : Header) → ((k : ℕ) → slice_index bytes k < 256)
+    → IsHeader screen bytes header → IfSome header.entry (λ entry. entry < 2 ^ 32)
+header_entry_fits screen bytes header small is =
     subst (λ (e : Option ℕ). IfSome e (λ entry. entry < 2 ^ 32)) (sym is.entry)
     (entry_fits bytes (last_of 3 is.tags) small)

@@ -1,6 +1,6 @@
 -- Steps along the tags of a header, and along the words of a request.
-use Rattle.std.proofs.Common.{◌≡◌, ◌<◌, ◌+◌, ◌-◌, ◌*◌, ◌/◌, ℕ, suc, true, false, not, Some, None}
-use Rattle.std.proofs.Common.{List, [], ◌∷◌, ◌++◌, arith, refl, sym, ap, subst, nat_eq}
+use Rattle.std.proofs.Common.{◌≡◌, ◌<◌, ◌+◌, ◌-◌, ◌*◌, ℕ, suc, Bool, true, false, not, Some, None}
+use Rattle.std.proofs.Common.{List, [], ◌∷◌, ◌++◌, arith, refl, sym, subst, nat_eq}
 use Rattle.std.specs.List.{find}
 use Rattle.std.proofs.lemmas.Bool.Decides.{nat_tests}
 use Rattle.bl_mem.specs.LittleEndian.{u32_at}
@@ -32,24 +32,22 @@ pub unknown_from : (bytes : List ℕ) (at count i : ℕ) → i < count
     (words_at bytes (at + 4 * (i + 1)) (count - (i + 1)))
 unknown_from bytes at count i lt known = rw (words_from bytes at count i lt, known) refl
 
-push : (bytes : List ℕ) (end at next : ℕ) (ts : List Tag) (t : Tag) → AreTags bytes end at next ts
-    → t ≡ tag_at bytes next → tag_fault_at bytes end next ≡ None → nat_eq t.kind 0 ≡ false
-    → AreTags bytes end at (next_tag_place t) (ts ++ t ∷ [])
-push bytes end at next [] t tags is sound more = (
+push : (console : Bool) (bytes : List ℕ) (end at next : ℕ) (ts : List Tag) (t : Tag) → AreTags console bytes end at next ts
+    → t ≡ tag_at bytes next → tag_fault_at console bytes end next ≡ None → nat_eq t.kind 0 ≡ false
+    → AreTags console bytes end at (next_tag_place t) (ts ++ t ∷ [])
+push console bytes end at next [] t tags is sound more = (
   subst (λ (p : ℕ). t ≡ tag_at bytes p) (sym tags) is,
-  subst (λ (p : ℕ). tag_fault_at bytes end p ≡ None) (sym tags) sound,
+  subst (λ (p : ℕ). tag_fault_at console bytes end p ≡ None) (sym tags) sound,
   more,
   refl,
 )
-push bytes end at next (s ∷ ts) t tags is sound more =
-    (tags.0, tags.1, tags.2, push bytes end (next_tag_place s) next ts t tags.3 is sound more)
+push console bytes end at next (s ∷ ts) t tags is sound more =
+    (tags.0, tags.1, tags.2, push console bytes end (next_tag_place s) next ts t tags.3 is sound more)
 
 -- one more tag after the tags up to a place
-pub AreTags-push : (bytes : List ℕ) (end at next : ℕ) (ts : List Tag) (t : Tag)
-    → AreTags bytes end at next ts → t ≡ tag_at bytes next → tag_fault_at bytes end next ≡ None
-    → (t.kind ≡ 0 → ⊥) → AreTags bytes end at ((next + t.size + 7) / 8 * 8) (ts ++ t ∷ [])
-AreTags-push bytes end at next ts t tags is sound more =
-    let place : t.place ≡ next = ap (λ (s : Tag). s.place) is in
-    let differs : nat_eq t.kind 0 ≡ false = grind (arith, nat_tests) in
-    subst (λ (p : ℕ). AreTags bytes end at ((p + t.size + 7) / 8 * 8) (ts ++ t ∷ [])) place
-    (push bytes end at next ts t tags is sound differs)
+pub AreTags-push : (console : Bool) (bytes : List ℕ) (end at next : ℕ) (ts : List Tag) (t : Tag)
+    → AreTags console bytes end at next ts → t ≡ tag_at bytes next
+    → tag_fault_at console bytes end next ≡ None → (t.kind ≡ 0 → ⊥)
+    → AreTags console bytes end at (next_tag_place t) (ts ++ t ∷ [])
+AreTags-push console bytes end at next ts t tags is sound more =
+    push console bytes end at next ts t tags is sound (grind (arith, nat_tests))

@@ -1,5 +1,6 @@
 -- Each file has a header or a first fault.
-use Rattle.std.proofs.Common.{◌≡◌, ◌+◌, ◌%◌, ◌^◌, ◌⊎◌, inl, inr, ℕ, List, length, refl, arith}
+use Rattle.std.proofs.Common.{◌≡◌, ◌+◌, ◌%◌, ◌^◌, ◌⊎◌, inl, inr, ℕ, Bool, List, length}
+use Rattle.std.proofs.Common.{refl, arith}
 use Rattle.std.proofs.lemmas.Bool.{cases_lt, cases_Bool}
 use Rattle.bl_mem.specs.Least.{IsLeast}
 use Rattle.bl_mem.specs.LittleEndian.{u32_at}
@@ -11,9 +12,9 @@ use Rattle.bl_mb2head.specs.declared.header.Header.{Header}
 use Rattle.bl_mb2head.specs.declared.tag.Tag.{Tag}
 use Rattle.bl_mb2head.specs.Address.{address_fault, address_segment}
 use Rattle.bl_mb2head.specs.HeaderPlace.{IsHeaderAt, sum_at}
-use Rattle.bl_mb2head.specs.Tags.{AreAllTags, last_of}
+use Rattle.bl_mb2head.specs.Tags.{last_of}
 use Rattle.bl_mb2head.specs.Header.{tags_end, is_cut, architecture_at, entry_address_of}
-use Rattle.bl_mb2head.specs.Header.{relocation_of}
+use Rattle.bl_mb2head.specs.Header.{relocation_of, has_console, AreTagsOf}
 use Rattle.bl_mb2head.specs.Header.{BeginsAt, IsHeader, HasFirstHeadFault}
 use Rattle.bl_mb2head.proofs.FaultLemmas.{tag_fault_first, address_fault_first}
 use Rattle.bl_mb2head.proofs.TagTotalLaws.{some_or_none, tags_or_fault}
@@ -56,19 +57,19 @@ stands_or_not bytes h =
     ]
 
 -- the file has a header or a first fault
-abbrev IsJudged : List ℕ → Type 0
-IsJudged bytes =
-    ((header : Header) × IsHeader bytes header)
-    ⊎ ((fault : HeadFault) × HasFirstHeadFault bytes fault)
+abbrev IsJudged : Bool → List ℕ → Type 0
+IsJudged screen bytes =
+    ((header : Header) × IsHeader screen bytes header)
+    ⊎ ((fault : HeadFault) × HasFirstHeadFault screen bytes fault)
 
-judged_tags : (bytes : List ℕ) (h : ℕ) → BeginsAt bytes h → (ts : List Tag)
-    → AreAllTags bytes (tags_end bytes h) (h + 16) ts → IsJudged bytes
-judged_tags bytes h begins ts all =
+judged_tags : (screen : Bool) (bytes : List ℕ) (h : ℕ) → BeginsAt bytes h → (ts : List Tag)
+    → AreTagsOf screen bytes h ts → IsJudged screen bytes
+judged_tags screen bytes h begins ts all =
     elim (some_or_none (address_fault bytes h (last_of 2 ts))) [
       | inl (fault, faulty) ↦
           inr (
             fault,
-            address_fault_first bytes h fault begins
+            address_fault_first screen bytes h fault begins
                 record { tags = ts; all = all; faulty = faulty },
           )
       | inr sound ↦ inl (
@@ -90,30 +91,30 @@ judged_tags bytes h begins ts all =
       )
     ]
 
-judged_begun : (bytes : List ℕ) (h : ℕ) → BeginsAt bytes h → IsJudged bytes
-judged_begun bytes h begins =
-    elim (tags_or_fault bytes (tags_end bytes h) (h + 16)) [
-      | inl (ts, all) ↦ judged_tags bytes h begins ts all
-      | inr (fault, first) ↦ inr (fault, tag_fault_first bytes h fault begins first)
+judged_begun : (screen : Bool) (bytes : List ℕ) (h : ℕ) → BeginsAt bytes h → IsJudged screen bytes
+judged_begun screen bytes h begins =
+    elim (tags_or_fault (has_console screen bytes h) bytes (tags_end bytes h) (h + 16)) [
+      | inl (ts, all) ↦ judged_tags screen bytes h begins ts all
+      | inr (fault, first) ↦ inr (fault, tag_fault_first screen bytes h fault begins first)
     ]
 
-judged_at : (bytes : List ℕ) (h : ℕ) → IsLeast (IsHeaderAt bytes) h → IsJudged bytes
-judged_at bytes h place =
+judged_at : (screen : Bool) (bytes : List ℕ) (h : ℕ) → IsLeast (IsHeaderAt bytes) h → IsJudged screen bytes
+judged_at screen bytes h place =
     elim (cases_Bool (is_cut bytes h)) [
       | inl cut ↦ inr (HeaderCut, (h, place, cut))
       | inr whole ↦ elim (eq_or_not (architecture_at bytes h) 0) [
         | inl architecture ↦
-            judged_begun bytes h
+            judged_begun screen bytes h
             record { place = place; whole = whole; architecture = architecture }
         | inr other ↦ inr (BadArchitecture, (h, place, whole, other))
       ]
     ]
 
-pub header_or_fault : (bytes : List ℕ)
-    → ((header : Header) × IsHeader bytes header)
-    ⊎ ((fault : HeadFault) × HasFirstHeadFault bytes fault)
-header_or_fault bytes =
+pub header_or_fault : (screen : Bool) (bytes : List ℕ)
+    → ((header : Header) × IsHeader screen bytes header)
+    ⊎ ((fault : HeadFault) × HasFirstHeadFault screen bytes fault)
+header_or_fault screen bytes =
     elim (least_below (IsHeaderAt bytes) (stands_or_not bytes) (length bytes)) [
       | inl none ↦ inr (NoHeader, (λ h here. none h (omega (arith, here.in_file)) here))
-      | inr some ↦ judged_at bytes some.0 some.2
+      | inr some ↦ judged_at screen bytes some.0 some.2
     ]

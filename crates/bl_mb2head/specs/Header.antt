@@ -1,13 +1,13 @@
 -- A whole header: its place, its length, its architecture, its tags (Multiboot2 2.0, "3.1 OS image
 -- format").
-use Rattle.std.specs.Prelude.{◌≡◌, ◌≢◌, ◌≤◌, ◌<◌, ◌+◌, ◌^◌, ◌⊎◌, ℕ, Bool, true, false, ◌||◌, nat_lt}
-use Rattle.std.specs.Prelude.{max, List, length, Option, Some, None}
+use Rattle.std.specs.Prelude.{◌≡◌, ◌≢◌, ◌≤◌, ◌<◌, ◌+◌, ◌^◌, ◌⊎◌, ℕ, Bool, true, false, ◌&&◌, ◌||◌}
+use Rattle.std.specs.Prelude.{nat_lt, max, List, length, Option, Some, None}
 use Rattle.bl_mem.specs.Least.{IsLeast}
 use Rattle.bl_mem.specs.LittleEndian.{u32_at}
 use Rattle.bl_mem.specs.declared.segment.Segment.{Segment}
 use Rattle.bl_mb2head.specs.HeaderPlace.{IsHeaderAt, search_end}
-use Rattle.bl_mb2head.specs.Tags.{AreAllTags, IsFirstTagFault, last_of, address_type, entry_type}
-use Rattle.bl_mb2head.specs.Tags.{relocatable_type}
+use Rattle.bl_mb2head.specs.Tags.{has_framebuffer_tag, AreAllTags, IsFirstTagFault, last_of}
+use Rattle.bl_mb2head.specs.Tags.{address_type, entry_type, relocatable_type}
 use Rattle.bl_mb2head.specs.Address.{address_fault, address_segment}
 use Rattle.bl_mb2head.specs.declared.tag.Tag.{Tag}
 use Rattle.bl_mb2head.specs.declared.relocation.Relocation.{Relocation}
@@ -38,6 +38,12 @@ is_cut bytes h =
 abbrev pub architecture_at : List ℕ → ℕ → ℕ
 architecture_at bytes h = u32_at bytes (h + 4)
 
+-- own: a screen is the console of a kernel whose header has a framebuffer tag, before the console
+-- flags or after them. It has fewer tags than bytes
+abbrev pub has_console : Bool → List ℕ → ℕ → Bool
+has_console has_screen bytes h =
+    has_screen && has_framebuffer_tag bytes (tags_end bytes h) (tags_end bytes h) (h + 16)
+
 -- the entry address that a tag gives (3.1.6)
 abbrev pub entry_address_of : List ℕ → Option Tag → Option ℕ
 entry_address_of bytes None = None
@@ -59,17 +65,29 @@ pub record BeginsAt (bytes : List ℕ) (h : ℕ) : Type 0 where
   pub whole : is_cut bytes h ≡ false
   pub architecture : architecture_at bytes h ≡ 0
 
--- no tag of the header at h has a fault of its own, and the address tag that counts has this one
-pub record IsAddressFault (bytes : List ℕ) (h : ℕ) (fault : HeadFault) : Type 0 where
-  pub tags : List Tag
-  pub all : AreAllTags bytes (tags_end bytes h) (h + 16) tags
-  pub faulty : address_fault bytes h (last_of address_type tags) ≡ Some fault
+-- these are all tags of the header at h, none of them with a fault of its own
+abbrev pub AreTagsOf : Bool → List ℕ → ℕ → List Tag → Type 0
+AreTagsOf has_screen bytes h tags =
+    AreAllTags (has_console has_screen bytes h) bytes (tags_end bytes h) (h + 16) tags
 
--- the file has a header with no fault, and this is what it says
-pub record IsHeader (bytes : List ℕ) (header : Header) : Type 0 where
+-- the first tag of the header at h with a fault has this one
+abbrev pub IsTagFaultOf : Bool → List ℕ → ℕ → HeadFault → Type 0
+IsTagFaultOf has_screen bytes h fault =
+    IsFirstTagFault (has_console has_screen bytes h) bytes (tags_end bytes h) (h + 16) fault
+
+-- no tag of the header at h has a fault of its own, and the address tag that counts has this one
+pub record IsAddressFault (has_screen : Bool) (bytes : List ℕ) (h : ℕ) (fault : HeadFault) : Type 0
+  where
+    pub tags : List Tag
+    pub all : AreTagsOf has_screen bytes h tags
+    pub faulty : address_fault bytes h (last_of address_type tags) ≡ Some fault
+
+-- on a machine that has a screen or none, the file has a header with no fault, and this is what it
+-- says
+pub record IsHeader (has_screen : Bool) (bytes : List ℕ) (header : Header) : Type 0 where
   pub begins : BeginsAt bytes header.place
   pub tags : List Tag
-  pub all : AreAllTags bytes (tags_end bytes header.place) (header.place + 16) tags
+  pub all : AreTagsOf has_screen bytes header.place tags
   pub sound : address_fault bytes header.place (last_of address_type tags) ≡ None
   pub segment : header.segment ≡ address_segment bytes header.place (last_of address_type tags)
   pub entry : header.entry ≡ entry_address_of bytes (last_of entry_type tags)
@@ -77,24 +95,23 @@ pub record IsHeader (bytes : List ℕ) (header : Header) : Type 0 where
 
 -- the file's first fault, in the order of these lines. The tags are judged one after the other, and
 -- the address tag that counts after all of them
-abbrev pub HasFirstHeadFault : List ℕ → HeadFault → Type 0
-HasFirstHeadFault bytes NoHeader = (h : ℕ) → IsHeaderAt bytes h → ⊥
-HasFirstHeadFault bytes HeaderCut = (h : ℕ) × IsLeast (IsHeaderAt bytes) h × (is_cut bytes h ≡ true)
-HasFirstHeadFault bytes BadArchitecture =
+abbrev pub HasFirstHeadFault : Bool → List ℕ → HeadFault → Type 0
+HasFirstHeadFault has_screen bytes NoHeader = (h : ℕ) → IsHeaderAt bytes h → ⊥
+HasFirstHeadFault has_screen bytes HeaderCut =
+    (h : ℕ) × IsLeast (IsHeaderAt bytes) h × (is_cut bytes h ≡ true)
+HasFirstHeadFault has_screen bytes BadArchitecture =
     (h : ℕ) × IsLeast (IsHeaderAt bytes) h × (is_cut bytes h ≡ false)
     × (architecture_at bytes h ≢ 0)
-HasFirstHeadFault bytes (BadTag at) =
+HasFirstHeadFault has_screen bytes (BadTag at) =
     (h : ℕ) × BeginsAt bytes h
-    × (IsFirstTagFault bytes (tags_end bytes h) (h + 16) (BadTag at)
-    ⊎ IsAddressFault bytes h (BadTag at))
-HasFirstHeadFault bytes (UnsupportedTag kind) =
-    (h : ℕ) × BeginsAt bytes h
-    × IsFirstTagFault bytes (tags_end bytes h) (h + 16) (UnsupportedTag kind)
-HasFirstHeadFault bytes (UnsupportedRequest kind) =
-    (h : ℕ) × BeginsAt bytes h
-    × IsFirstTagFault bytes (tags_end bytes h) (h + 16) (UnsupportedRequest kind)
-HasFirstHeadFault bytes NoConsole =
-    (h : ℕ) × BeginsAt bytes h × IsFirstTagFault bytes (tags_end bytes h) (h + 16) NoConsole
+    × (IsTagFaultOf has_screen bytes h (BadTag at)
+    ⊎ IsAddressFault has_screen bytes h (BadTag at))
+HasFirstHeadFault has_screen bytes (UnsupportedTag kind) =
+    (h : ℕ) × BeginsAt bytes h × IsTagFaultOf has_screen bytes h (UnsupportedTag kind)
+HasFirstHeadFault has_screen bytes (UnsupportedRequest kind) =
+    (h : ℕ) × BeginsAt bytes h × IsTagFaultOf has_screen bytes h (UnsupportedRequest kind)
+HasFirstHeadFault has_screen bytes NoConsole =
+    (h : ℕ) × BeginsAt bytes h × IsTagFaultOf has_screen bytes h NoConsole
 
 -- a segment that the file can fill, with sums that stay small
 pub record SegmentFitsFile (bytes : List ℕ) (segment : Segment) : Type 0 where

@@ -11,7 +11,7 @@ use Rattle.bl_mb2head.specs.declared.fault.HeadFault.TheVariants.{BadTag, Unsupp
 use Rattle.bl_mb2head.specs.declared.fault.HeadFault.TheVariants.{UnsupportedRequest, NoConsole}
 
 -- the types of tags that are read: end (3.1.3), information request (3.1.4), address (3.1.5), entry
--- address (3.1.6), console flags (3.1.9), relocatable (3.1.13)
+-- address (3.1.6), console flags (3.1.9), framebuffer (3.1.10), relocatable (3.1.13)
 abbrev pub end_type : ℕ
 end_type = 0
 
@@ -26,6 +26,9 @@ entry_type = 3
 
 abbrev pub console_type : ℕ
 console_type = 4
+
+abbrev pub framebuffer_type : ℕ
+framebuffer_type = 5
 
 abbrev pub relocatable_type : ℕ
 relocatable_type = 10
@@ -89,37 +92,49 @@ abbrev pub asks_for_console : List ℕ → Tag → Bool
 asks_for_console bytes t =
     t.kind == console_type && not (bit_and (u32_at bytes (t.place + 8)) 1 == 0)
 
--- what is wrong with the tag at a place: the first fault in this order. Own: there is no console
-unfoldable pub tag_fault_at : List ℕ → ℕ → ℕ → Option HeadFault
-tag_fault_at bytes end at =
+-- a framebuffer tag (3.1.10) is one of the n tags from a place on, as far as they can be followed:
+-- none follows the last, or a bad one
+abbrev pub has_framebuffer_tag : List ℕ → ℕ → ℕ → ℕ → Bool
+has_framebuffer_tag bytes end zero at = false
+has_framebuffer_tag bytes end (suc n) at =
+    is_well_formed bytes end at && not (u16_at bytes at == end_type)
+    && (u16_at bytes at == framebuffer_type
+    || has_framebuffer_tag bytes end n (next_tag_place (tag_at bytes at)))
+
+-- what is wrong with the tag at a place: the first fault in this order
+unfoldable pub tag_fault_at : Bool → List ℕ → ℕ → ℕ → Option HeadFault
+tag_fault_at has_console bytes end at =
     let t = tag_at bytes at in
     if not (is_well_formed bytes end at) then Some (BadTag at) else
     if is_optional t then None else
     if nat_lt last_type t.kind then Some (UnsupportedTag t.kind) else
     if t.kind == request_type then request_fault (first_unsupported bytes t) else
-    if asks_for_console bytes t then Some NoConsole else
+    if asks_for_console bytes t && not has_console then Some NoConsole else
     None
 
 -- these tags stand one after the other from at to next, none of them the last, with no fault
-abbrev pub AreTags : List ℕ → ℕ → ℕ → ℕ → List Tag → Type 0
-AreTags bytes end at next [] = at ≡ next
-AreTags bytes end at next (t ∷ ts) =
-    (t ≡ tag_at bytes at) × (tag_fault_at bytes end at ≡ None) × (nat_eq t.kind end_type ≡ false)
-    × AreTags bytes end (next_tag_place t) next ts
+abbrev pub AreTags : Bool → List ℕ → ℕ → ℕ → ℕ → List Tag → Type 0
+AreTags has_console bytes end at next [] = at ≡ next
+AreTags has_console bytes end at next (t ∷ ts) =
+    (t ≡ tag_at bytes at) × (tag_fault_at has_console bytes end at ≡ None)
+    × (nat_eq t.kind end_type ≡ false)
+    × AreTags has_console bytes end (next_tag_place t) next ts
 
 -- these are all tags from at on, up to the tag of type 0 at some place
-pub record AreAllTags (bytes : List ℕ) (end at : ℕ) (ts : List Tag) : Type 0 where
-  pub next : ℕ
-  pub tags : AreTags bytes end at next ts
-  pub sound : tag_fault_at bytes end next ≡ None
-  pub ends : u16_at bytes next ≡ end_type
+pub record AreAllTags (has_console : Bool) (bytes : List ℕ) (end at : ℕ) (ts : List Tag) : Type 0
+  where
+    pub next : ℕ
+    pub tags : AreTags has_console bytes end at next ts
+    pub sound : tag_fault_at has_console bytes end next ≡ None
+    pub ends : u16_at bytes next ≡ end_type
 
 -- the first tag with a fault has this one
-pub record IsFirstTagFault (bytes : List ℕ) (end at : ℕ) (fault : HeadFault) : Type 0 where
+pub record IsFirstTagFault (has_console : Bool) (bytes : List ℕ) (end at : ℕ) (fault : HeadFault)
+    : Type 0 where
   pub before : List Tag
   pub next : ℕ
-  pub tags : AreTags bytes end at next before
-  pub faulty : tag_fault_at bytes end next ≡ Some fault
+  pub tags : AreTags has_console bytes end at next before
+  pub faulty : tag_fault_at has_console bytes end next ≡ Some fault
 
 -- own: of several tags of one kind the last one counts, be it optional or not
 abbrev pub last_of : ℕ → List Tag → Option Tag

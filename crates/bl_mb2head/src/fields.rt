@@ -106,6 +106,9 @@ pub const CONSOLE_FLAGS: u64 = 8;
 /// The bit of `console_flags` by which there has to be a console (3.1.9).
 pub const CONSOLE_REQUIRED: u32 = 1;
 
+/// The type of a framebuffer tag (3.1.10).
+pub const TAG_FRAMEBUFFER: u16 = 5;
+
 /// The type of a relocatable tag (3.1.13).
 pub const TAG_RELOCATABLE: u16 = 10;
 

@@ -1,11 +1,13 @@
 //! The whole header.
 
-ghost use Rattle.std.specs.Prelude.{◌≡◌, ◌+◌, ◌≤◌, ◌<◌, ◌^◌, length, IfOk, IfErr, IfSome};
+ghost use Rattle.std.specs.Prelude.{◌≡◌, ◌+◌, ◌≤◌, ◌<◌, ◌^◌, Bool, false, length, IfOk, IfErr};
+ghost use Rattle.std.specs.Prelude.{IfSome};
 ghost use Rattle.bl_mb2head.specs.Header as header;
 ghost use Rattle.bl_mb2head.specs.Header.{IsHeader, BeginsAt, HasFirstHeadFault, is_cut};
 ghost use Rattle.bl_mb2head.specs.Header.{SegmentFitsFile};
 
 use crate::address::address_segment;
+use crate::console::has_console;
 use crate::fault::HeadFault;
 use crate::fields::{
     ARCHITECTURE, ENTRY_ADDR, ENTRY_SIZE, HEADER_LENGTH, I386, MIN_LENGTH, SEARCH_END, TAGS,
@@ -43,7 +45,8 @@ fn is_cut<V: ByteView>(view: &V, place: u64) -> bool
 /// The place of the file's header, or what is wrong with it before its tags.
 fn checked_place<V: ByteView>(view: &V) -> Result<u64, HeadFault>
     ensures begins { IfOk result (BeginsAt (V.bytes view.now)) }
-    ensures first_fault { IfErr result (HasFirstHeadFault (V.bytes view.now)) }
+    ensures first_fault { IfErr result (λ fault. (has_screen : Bool)
+        → HasFirstHeadFault has_screen (V.bytes view.now) fault) }
 {
     let Some(place) = find_header_place(view) else {
         return Err(HeadFault::NoHeader);
@@ -72,20 +75,37 @@ fn entry_address_of<V: ByteView>(view: &V, tag: Option<Tag>) -> Option<u64>
 /// format"). It takes no memory. Of several address, entry address or relocatable tags the last one
 /// counts. What the last address tag asks is judged after all tags: where the file can't give it,
 /// the fault is `BadTag` of that tag's offset, and comes only if no tag has a fault of its own.
-pub fn find_header<V: ByteView>(view: &V) -> Result<Header, HeadFault>
-    ensures found { IfOk result (λ header. IsHeader (V.bytes view.now) header) }
-    ensures first_fault { IfErr result (λ fault. HasFirstHeadFault (V.bytes view.now) fault) }
+///
+/// If `has_screen`, there is a console for each kernel whose header has a framebuffer tag (3.1.10),
+/// as far as its tags can be followed. Else there is none.
+pub fn find_header_for<V: ByteView>(view: &V, has_screen: bool) -> Result<Header, HeadFault>
+    ensures found { IfOk result (λ header. IsHeader has_screen (V.bytes view.now) header) }
+    ensures first_fault { IfErr result (λ fault.
+        HasFirstHeadFault has_screen (V.bytes view.now) fault) }
     ensures segment { IfOk result (λ header.
         IfSome header.segment (SegmentFitsFile (V.bytes view.now))) }
     ensures entry { IfOk result (λ header. IfSome header.entry (λ entry. entry < 2 ^ 32)) }
 {
     let place = checked_place(view)?;
     let end = place + u32_at(view, place + HEADER_LENGTH) as u64;
-    let last = last_tags(view, place + TAGS, end)?;
+    let console = has_console(view, has_screen, place, end);
+    let last = last_tags(view, place + TAGS, end, console)?;
     Ok(Header {
         place,
         segment: address_segment(view, place, last.address)?,
         entry: entry_address_of(view, last.entry),
         relocation: relocation_of(view, last.relocation),
     })
+}
+
+/// The header of a file of any length, or the file's first fault, where there is no screen and so
+/// no console: [`find_header_for`] says more.
+pub fn find_header<V: ByteView>(view: &V) -> Result<Header, HeadFault>
+    ensures found { IfOk result (λ header. IsHeader false (V.bytes view.now) header) }
+    ensures first_fault { IfErr result (λ fault. HasFirstHeadFault false (V.bytes view.now) fault) }
+    ensures segment { IfOk result (λ header.
+        IfSome header.segment (SegmentFitsFile (V.bytes view.now))) }
+    ensures entry { IfOk result (λ header. IfSome header.entry (λ entry. entry < 2 ^ 32)) }
+{
+    find_header_for(view, false)
 }

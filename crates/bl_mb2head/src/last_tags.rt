@@ -8,8 +8,8 @@ ghost use Rattle.bl_mb2head.specs.internal.LastTags.{LieBefore};
 ghost use Rattle.bl_mb2head.specs.declared.tag.Tag.{Tag};
 
 use crate::fault::HeadFault;
-use crate::fields::{ALIGNMENT, SEARCH_END, TAG_ADDRESS, TAG_END, TAG_ENTRY, TAG_RELOCATABLE};
-use crate::tag::{Tag, checked_tag};
+use crate::fields::{SEARCH_END, TAG_ADDRESS, TAG_END, TAG_ENTRY, TAG_RELOCATABLE};
+use crate::tag::{Tag, checked_tag, next_tag_place};
 use bl_mem::ByteView;
 
 /// The last tags of the kinds that count.
@@ -48,14 +48,20 @@ impl LastTags {
 
 /// The last tags that count, from `start` to the tag of type 0 before `end`, or the fault of the
 /// first tag that has one.
-pub fn last_tags<V: ByteView>(view: &V, start: u64, end: u64) -> Result<LastTags, HeadFault>
+pub fn last_tags<V: ByteView>(
+    view: &V,
+    start: u64,
+    end: u64,
+    has_console: bool,
+) -> Result<LastTags, HeadFault>
     requires in_file { end ≤ length (V.bytes view.now) }
     requires in_front { end ≤ SEARCH_END }
     requires in_order { start ≤ end }
     ensures fits { IfOk result (LieBefore end) }
     ensures last { IfOk result (λ last.
-        (ts : List Tag) × AreAllTags (V.bytes view.now) end start ts × (last ≡ kept.last_tags ts)) }
-    ensures first_fault { IfErr result (λ fault. IsFirstTagFault
+        (ts : List Tag) × AreAllTags has_console (V.bytes view.now) end start ts
+        × (last ≡ kept.last_tags ts)) }
+    ensures first_fault { IfErr result (λ fault. IsFirstTagFault has_console
         (V.bytes view.now) end start fault) }
 {
     let mut at = start;
@@ -65,11 +71,11 @@ pub fn last_tags<V: ByteView>(view: &V, start: u64, end: u64) -> Result<LastTags
         relocation: None,
     };
     loop {
-        let tag = checked_tag(view, at, end)?;
+        let tag = checked_tag(view, at, end, has_console)?;
         if tag.kind == TAG_END {
             return Ok(last);
         }
         last = last.with(tag);
-        at = (at + tag.size as u64 + (ALIGNMENT - 1)) / ALIGNMENT * ALIGNMENT;
+        at = next_tag_place(tag);
     }
 }

@@ -2,6 +2,7 @@
 #![tactic(auto)]
 
 mod address;
+mod console;
 mod fault;
 mod fields;
 mod header;
@@ -12,6 +13,6 @@ mod relocation;
 mod tag;
 
 pub use fault::HeadFault;
-pub use header::{Header, find_header};
+pub use header::{Header, find_header, find_header_for};
 pub use laws::{headers_are_determined, headers_fit, tags_are_determined};
 pub use relocation::Relocation;

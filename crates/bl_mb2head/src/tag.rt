@@ -26,6 +26,14 @@ pub struct Tag {
     pub size: u32,
 }
 
+/// Where the tag after this one stands: padding is not part of its size.
+pub fn next_tag_place(tag: Tag) -> u64
+    requires in_front { tag.place + tag.size ≤ SEARCH_END }
+    ensures { result ≡ tags.next_tag_place tag }
+{
+    (tag.place + tag.size as u64 + (ALIGNMENT - 1)) / ALIGNMENT * ALIGNMENT
+}
+
 /// The least size of a kind of tag.
 fn least_size(kind: u16) -> u32
     ensures { result ≡ tags.min_tag_size kind }
@@ -64,7 +72,7 @@ fn first_unsupported_word<V: ByteView>(view: &V, at: u64, count: u64) -> Option<
 
 /// The tag at a place, where it lies before `end` and has a size of its kind.
 #[tactic(auto, unfolding(crate::specs::Tags::is_well_formed))]
-fn well_formed_tag<V: ByteView>(view: &V, at: u64, end: u64) -> Option<Tag>
+pub fn well_formed_tag<V: ByteView>(view: &V, at: u64, end: u64) -> Option<Tag>
     requires in_file { end ≤ length (V.bytes view.now) }
     requires in_front { end ≤ SEARCH_END }
     requires in_reach { at ≤ end + ALIGNMENT }
@@ -128,7 +136,12 @@ fn wants_console<V: ByteView>(view: &V, tag: Tag) -> bool
 
 /// The tag at a place, or its first fault.
 #[tactic(auto, unfolding(crate::specs::Tags::tag_fault_at))]
-pub fn checked_tag<V: ByteView>(view: &V, at: u64, end: u64) -> Result<Tag, HeadFault>
+pub fn checked_tag<V: ByteView>(
+    view: &V,
+    at: u64,
+    end: u64,
+    has_console: bool,
+) -> Result<Tag, HeadFault>
     requires in_file { end ≤ length (V.bytes view.now) }
     requires in_front { end ≤ SEARCH_END }
     requires in_reach { at ≤ end + ALIGNMENT }
@@ -136,8 +149,8 @@ pub fn checked_tag<V: ByteView>(view: &V, at: u64, end: u64) -> Result<Tag, Head
         × (tags.min_tag_size tag.kind ≤ tag.size) × (at + tag.size ≤ end)) }
     ensures exact { MatchResult result
         (λ tag. (tag ≡ tag_at (V.bytes view.now) at)
-        × (tag_fault_at (V.bytes view.now) end at ≡ None))
-        (λ fault. tag_fault_at (V.bytes view.now) end at ≡ Some fault) }
+        × (tag_fault_at has_console (V.bytes view.now) end at ≡ None))
+        (λ fault. tag_fault_at has_console (V.bytes view.now) end at ≡ Some fault) }
 {
     let Some(tag) = well_formed_tag(view, at, end) else {
         return Err(HeadFault::BadTag(at));
@@ -151,7 +164,7 @@ pub fn checked_tag<V: ByteView>(view: &V, at: u64, end: u64) -> Result<Tag, Head
     if let Some(kind) = unknown_request(view, tag) {
         return Err(HeadFault::UnsupportedRequest(kind));
     }
-    if wants_console(view, tag) {
+    if wants_console(view, tag) && !has_console {
         return Err(HeadFault::NoConsole);
     }
     Ok(tag)

@@ -1,24 +1,36 @@
 -- Boot information that is read is spelled so.
-use Rattle.std.proofs.Common.{◌≡◌, ◌≤◌, ◌+◌, ℕ, List, [], ◌++◌, length, drop, Ok, arith, sym}
-use Rattle.std.proofs.Common.{ap, ap₂, ◌∙◌, append_assoc, length-drop}
+use Rattle.std.proofs.Common.{◌≡◌, ◌<◌, ◌≤◌, ◌+◌, ◌^◌, ℕ, List, [], ◌++◌, length, drop, Ok, arith}
+use Rattle.std.proofs.Common.{sym, ap, ap₂, ◌∙◌, append_assoc, length-drop, option_map}
 use Rattle.std.specs.Prelude.{nat_eq, nat_lt, not}
+use Rattle.std.specs.List.{flat_map}
 use Rattle.std.proofs.lemmas.Bool.{not-false}
 use Rattle.std.proofs.lemmas.Bool.Decides.{nat_tests}
 use Rattle.std.proofs.lemmas.List.{drop-drop}
-use Rattle.bl_mbi.specs.InfoToWriteFacts.{InfoToWriteFacts, IsText, AreBytes, FitsInfoFields}
-use Rattle.bl_mbi.specs.InfoFacts.{InfoFacts, IsSpelling}
 use Rattle.bl_mem.specs.LittleEndian.{u32_bytes}
-use Rattle.bl_mbi.specs.Tags.{tag}
+use Rattle.bl_mbi.specs.declared.tag_types.TheConstants.{TAG_COMMAND_LINE, TAG_BOOT_LOADER_NAME}
+use Rattle.bl_mbi.specs.declared.tag_types.TheConstants.{TAG_BASIC_MEMORY, TAG_MEMORY_MAP}
+use Rattle.bl_mbi.specs.declared.tag_types.TheConstants.{TAG_FRAMEBUFFER, TAG_SMBIOS, TAG_ACPI_OLD}
+use Rattle.bl_mbi.specs.declared.tag_types.TheConstants.{TAG_ACPI_NEW, TAG_EFI_MAP, TAG_LOAD_BASE}
+use Rattle.bl_mbi.specs.declared.tag_types.TheConstants.{TAG_END}
+use Rattle.bl_mbi.specs.InfoToWriteFacts.{InfoToWriteFacts, IsText, AreBytes, IsToldScreen}
+use Rattle.bl_mbi.specs.InfoToWriteFacts.{FitsInfoFields}
+use Rattle.bl_mbi.specs.InfoFacts.{InfoFacts, IsSpelling}
+use Rattle.bl_mbi.specs.Tags.{tag, tag_if, text_body, module_tag, memory_body, map_body}
+use Rattle.bl_mbi.specs.Tags.{screen_body, pointer_tag, smbios_body, efi_map_body}
 use Rattle.bl_mbi.specs.Spelling.{tags, info_spelling}
-use Rattle.bl_mbi.specs.ReadingSteps.{RestFacts, first_u32}
-use Rattle.bl_mbi.specs.Reading.{text_tag_at, modules_at, memory_at, map_at, copy_at, load_base_at}
-use Rattle.bl_mbi.specs.Reading.{end_at, info_of_tags, info_of}
+use Rattle.bl_mbi.specs.ReadingSteps.{RestFacts, first_u32, optional_at}
+use Rattle.bl_mbi.specs.Bodies.{load_base_of}
+use Rattle.bl_mbi.specs.FirmwareBodies.{framebuffer_of}
+use Rattle.bl_mbi.specs.Reading.{text_and_module_tags_at, memory_tags_at, table_tags_at, end_at}
+use Rattle.bl_mbi.specs.Reading.{info_of_tags, info_of}
 use Rattle.bl_mbi.proofs.Inverse.{passed, made, same_ok}
 use Rattle.bl_mbi.proofs.Sizes.{length-tag}
 use Rattle.bl_mbi.proofs.WordLaws.{word_then, word_small}
 use Rattle.bl_mbi.proofs.TagIs.{IsRead, drop_small}
-use Rattle.bl_mbi.proofs.ReadIs.{both_read, text_tag_at_is, modules_at_are, memory_at_is}
-use Rattle.bl_mbi.proofs.ReadIs.{map_at_is, copy_at_is, load_base_at_is, end_at_is}
+use Rattle.bl_mbi.proofs.BodyIs.{load_base_is}
+use Rattle.bl_mbi.proofs.FirmwareBodyIs.{screen_is}
+use Rattle.bl_mbi.proofs.ReadIs.{both_read, optional_is, end_at_is}
+use Rattle.bl_mbi.proofs.GroupIs.{texts_are, memory_tags_are, table_tags_are}
 
 -- the tags that were read, one after the other
 record IsInOrder (left : RestFacts) (info : InfoFacts) : Type 0 where
@@ -26,76 +38,105 @@ record IsInOrder (left : RestFacts) (info : InfoFacts) : Type 0 where
   name : IsText info.name
   facts : FitsInfoFields info.facts
 
-end_stands : 1 ≤ length (tag 0 [])
-end_stands = omega (arith, length-tag 0 [])
+end_stands : 1 ≤ length (tag TAG_END [])
+end_stands = omega (arith, length-tag TAG_END [])
 
 -- the end tag stands behind the last of them, so the end cuts none
-in_order : (l0 l1 l2 l3 l4 l5 l6 l7 l8 : RestFacts) (a b c d e f g h : List ℕ) → IsRead l0 a l1
-    → IsRead l1 b l2 → IsRead l2 c l3 → IsRead l3 d l4 → IsRead l4 e l5 → IsRead l5 f l6
-    → IsRead l6 g l7 → IsRead l7 h l8 → l8.bytes ≡ tag 0 []
-    → l0.bytes ≡ a ++ (b ++ (c ++ (d ++ (e ++ (f ++ (g ++ (h ++ tag 0 [])))))))
-in_order l0 l1 l2 l3 l4 l5 l6 l7 l8 a b c d e f g h r1 r2 r3 r4 r5 r6 r7 r8 last =
-    let from_7 = both_read l6 l7 l8 g h r7 r8 in
-    let from_6 = both_read l5 l6 l8 f _ r6 from_7 in
-    let from_5 = both_read l4 l5 l8 e _ r5 from_6 in
-    let from_4 = both_read l3 l4 l8 d _ r4 from_5 in
-    let from_3 = both_read l2 l3 l8 c _ r3 from_4 in
-    let from_2 = both_read l1 l2 l8 b _ r2 from_3 in
-    let from_1 = both_read l0 l1 l8 a _ r1 from_2 in
+in_order : (l0 l1 l2 l3 l4 l5 : RestFacts) (a b c d e : List ℕ) → IsRead l0 a l1 → IsRead l1 b l2
+    → IsRead l2 c l3 → IsRead l3 d l4 → IsRead l4 e l5 → l5.bytes ≡ tag TAG_END []
+    → l0.bytes ≡ a ++ (b ++ (c ++ (d ++ (e ++ tag TAG_END []))))
+in_order l0 l1 l2 l3 l4 l5 a b c d e r1 r2 r3 r4 r5 last =
+    let from_4 = both_read l3 l4 l5 d e r4 r5 in
+    let from_3 = both_read l2 l3 l5 c _ r3 from_4 in
+    let from_2 = both_read l1 l2 l5 b _ r2 from_3 in
+    let from_1 = both_read l0 l1 l5 a _ r1 from_2 in
     from_1.bytes (rw last end_stands) ∙ rw last (simp append_assoc)
+
+-- the groups together, one tag after the other
+flat : (a b c d e f g h i j k l m : List ℕ)
+    → (a ++ (b ++ c)) ++ ((d ++ e) ++ (f ++ ((g ++ (h ++ (i ++ (j ++ k)))) ++ (l ++ m))))
+    ≡ a ++ (b ++ (c ++ (d ++ (e ++ (f ++ (g ++ (h ++ (i ++ (j ++ (k ++ (l ++ m)))))))))))
+flat a b c d e f g h i j k l m = simp append_assoc
+
+tags_by_groups : (name : List ℕ) (facts : InfoToWriteFacts)
+    → (tag TAG_COMMAND_LINE (text_body facts.line)
+    ++ (tag TAG_BOOT_LOADER_NAME (text_body name) ++ flat_map module_tag facts.modules))
+    ++ ((tag TAG_BASIC_MEMORY (memory_body facts.mem_lower facts.mem_upper)
+    ++ tag TAG_MEMORY_MAP (map_body facts.runs))
+    ++ (tag_if TAG_FRAMEBUFFER (option_map screen_body facts.screen)
+    ++ ((pointer_tag facts.efi
+    ++ (tag_if TAG_SMBIOS (option_map smbios_body facts.smbios)
+    ++ (tag_if TAG_ACPI_OLD facts.rsdp_old
+    ++ (tag_if TAG_ACPI_NEW facts.rsdp_new
+    ++ tag_if TAG_EFI_MAP (option_map efi_map_body facts.efi)))))
+    ++ (tag_if TAG_LOAD_BASE (option_map u32_bytes facts.load_base) ++ tag TAG_END []))))
+    ≡ tags name facts
+tags_by_groups name facts =
+    flat (tag TAG_COMMAND_LINE (text_body facts.line)) (tag TAG_BOOT_LOADER_NAME (text_body name))
+    (flat_map module_tag facts.modules)
+    (tag TAG_BASIC_MEMORY (memory_body facts.mem_lower facts.mem_upper))
+    (tag TAG_MEMORY_MAP (map_body facts.runs))
+    (tag_if TAG_FRAMEBUFFER (option_map screen_body facts.screen)) (pointer_tag facts.efi)
+    (tag_if TAG_SMBIOS (option_map smbios_body facts.smbios)) (tag_if TAG_ACPI_OLD facts.rsdp_old)
+    (tag_if TAG_ACPI_NEW facts.rsdp_new) (tag_if TAG_EFI_MAP (option_map efi_map_body facts.efi))
+    (tag_if TAG_LOAD_BASE (option_map u32_bytes facts.load_base)) (tag TAG_END [])
 
 tags_are : (left : RestFacts) (info : InfoFacts) → AreBytes left.bytes → info_of_tags left ≡ Ok info
     → IsInOrder left info
 unfolding info_of_tags
 tags_are left info small h =
-    let s1 = made (text_tag_at 1 left) _ info h in
-    let s2 = made (text_tag_at 2 s1.0.1) _ info s1.2 in
-    let s3 = made (modules_at s2.0.1) _ info s2.2 in
-    let s4 = made (memory_at s3.0.1) _ info s3.2 in
-    let s5 = made (map_at s4.0.1) _ info s4.2 in
-    let s6 = made (copy_at 14 s5.0.1) _ info s5.2 in
-    let s7 = made (copy_at 15 s6.0.1) _ info s6.2 in
-    let s8 = made (load_base_at s7.0.1) _ info s7.2 in
-    let s9 = made (end_at s8.0.1) _ info s8.2 in
-    let line = text_tag_at_is 1 left s1.0 small s1.1 in
-    let name = text_tag_at_is 2 s1.0.1 s2.0 line.0.small s2.1 in
-    let modules = modules_at_are s2.0.1 s3.0 name.0.small s3.1 in
-    let memory = memory_at_is s3.0.1 s4.0 modules.0.small s4.1 in
-    let map = map_at_is s4.0.1 s5.0 memory.0.small s5.1 in
-    let old = copy_at_is 14 s5.0.1 s6.0 map.0.small s6.1 in
-    let new = copy_at_is 15 s6.0.1 s7.0 old.0.small s7.1 in
-    let base = load_base_at_is s7.0.1 s8.0 new.0.small s8.1 in
-    let end : s8.0.1.bytes ≡ tag 0 [] = end_at_is s8.0.1 base.0.small s9.1 in
+    let s1 = made (text_and_module_tags_at left) _ info h in
+    let s2 = made (memory_tags_at s1.0.1) _ info s1.2 in
+    let s3 = made (optional_at TAG_FRAMEBUFFER framebuffer_of s2.0.1) _ info s2.2 in
+    let s4 = made (table_tags_at s3.0.1) _ info s3.2 in
+    let s5 = made (optional_at TAG_LOAD_BASE load_base_of s4.0.1) _ info s4.2 in
+    let s6 = made (end_at s5.0.1) _ info s5.2 in
+    let texts = texts_are left s1.0 small s1.1 in
+    let memory = memory_tags_are s1.0.1 s2.0 texts.read.small s2.1 in
+    let screen =
+    optional_is IsToldScreen TAG_FRAMEBUFFER framebuffer_of screen_body s2.0.1 s3.0 screen_is
+    memory.read.small s3.1 in
+    let tables = table_tags_are s3.0.1 s4.0 screen.0.small s4.1 in
+    let base =
+    optional_is (λ (base : ℕ). base < 2 ^ 32) TAG_LOAD_BASE load_base_of u32_bytes s4.0.1 s5.0
+    load_base_is tables.read.small s5.1 in
+    let end : s5.0.1.bytes ≡ tag TAG_END [] = end_at_is s5.0.1 base.0.small s6.1 in
     let facts : InfoToWriteFacts =
     record {
-      line = s1.0.0;
-      modules = s3.0.0;
-      mem_lower = s4.0.0.0;
-      mem_upper = s4.0.0.1;
-      runs = s5.0.0;
-      rsdp_old = s6.0.0;
-      rsdp_new = s7.0.0;
-      load_base = s8.0.0;
+      line = s1.0.0.0;
+      modules = s1.0.0.2;
+      mem_lower = s2.0.0.0.0;
+      mem_upper = s2.0.0.0.1;
+      runs = s2.0.0.1;
+      screen = s3.0.0;
+      efi = s4.0.0.0;
+      smbios = s4.0.0.1;
+      rsdp_old = s4.0.0.2;
+      rsdp_new = s4.0.0.3;
+      load_base = s5.0.0;
     } in
-    let info_is : InfoFacts = record { name = s2.0.0; facts = facts } in
+    let info_is : InfoFacts = record { name = s1.0.0.1; facts = facts } in
     let is : IsInOrder left info_is = record {
       bytes =
-          in_order left s1.0.1 s2.0.1 s3.0.1 s4.0.1 s5.0.1 s6.0.1 s7.0.1 s8.0.1
-          _ _ _ _ _ _ _ _ line.0 name.0 modules.0 memory.0 map.0 old.0 new.0 base.0 end;
-      name = name.1;
+          in_order left s1.0.1 s2.0.1 s3.0.1 s4.0.1 s5.0.1 _ _ _ _ _ texts.read memory.read screen.0
+          tables.read base.0 end ∙ tags_by_groups s1.0.0.1 facts;
+      name = texts.name;
       facts =
           record {
-            line = line.1;
-            modules = modules.1;
-            mem_lower = memory.1;
-            mem_upper = memory.2;
-            runs = map.1;
-            rsdp_old = old.1;
-            rsdp_new = new.1;
+            line = texts.line;
+            modules = texts.modules;
+            mem_lower = memory.sizes.lower;
+            mem_upper = memory.sizes.upper;
+            runs = memory.runs;
+            screen = screen.1;
+            efi = tables.efi;
+            smbios = tables.smbios;
+            rsdp_old = tables.old;
+            rsdp_new = tables.new;
             load_base = base.1;
           };
     } in
-    rw (← same_ok info_is info s9.2) is
+    rw (← same_ok info_is info s6.2) is
 
 -- what was read is spelled so
 pub read_is_spelled : (bytes : List ℕ) (info : InfoFacts) → AreBytes bytes → info_of bytes ≡ Ok info

@@ -1,6 +1,6 @@
 -- What must have held where reading gave a value.
 use Rattle.std.proofs.Common.{◌≡◌, ℕ, Bool, true, false, Option, Some, None, Result, Ok, Err, refl}
-use Rattle.std.proofs.Common.{option_map, cond, ◌⊎◌, inl, inr}
+use Rattle.std.proofs.Common.{option_map, is_some, cond, ◌⊎◌, inl, inr}
 use Rattle.std.specs.Prelude.{option_and_then}
 use Rattle.bl_mbi.specs.declared.fault.InfoFault.{InfoFault}
 use Rattle.bl_mbi.specs.ReadingSteps.{◌>>=◌, or_bad}
@@ -20,6 +20,10 @@ pub passed_some : {A : Type 0} (b : Bool) (x : Option A) (y : A) → cond b None
     → (b ≡ false) × (x ≡ Some y)
 passed_some true x y h = absurd (cc)
 passed_some false x y h = (refl, h)
+
+pub is_none : {E : Type 0} (x : Option E) → is_some x ≡ false → x ≡ None
+is_none (Some e) h = absurd (cc)
+is_none None h = refl
 
 -- one of two
 pub chosen : {A : Type 0} (b : Bool) (x y : A) (r : A) → cond b x y ≡ r → (x ≡ r) ⊎ (y ≡ r)

@@ -1,7 +1,8 @@
 -- Pieces appended one after the other are the tags.
 use Rattle.std.proofs.Common.{◌≡◌, ◌+◌, ℕ, List, [], ◌∷◌, ◌++◌, length, arith, append_assoc}
-use Rattle.bl_mbi.specs.InfoToWriteFacts.{ModuleInfo}
 use Rattle.bl_mem.specs.LittleEndian.{u32_bytes}
+use Rattle.bl_mbi.specs.declared.tag_types.TheConstants.{TAG_MODULE}
+use Rattle.bl_mbi.specs.InfoToWriteFacts.{ModuleInfo}
 use Rattle.bl_mbi.specs.Tags.{padding, module_body, module_tag}
 use Rattle.bl_mbi.proofs.Sizes.{length-module_body}
 
@@ -13,7 +14,7 @@ appended_7 o p q r s t u v a b c d e f h p-is q-is r-is s-is t-is u-is v-is =
     rw (v-is, u-is, t-is, s-is, r-is, q-is, p-is) (simp append_assoc)
 
 pub module_pieces : (m : ModuleInfo) (line : List ℕ) → line ≡ m.line
-    → u32_bytes 3
+    → u32_bytes TAG_MODULE
     ++ (u32_bytes (length line + 17)
     ++ (u32_bytes m.mod_start
     ++ (u32_bytes m.mod_end ++ (line ++ (0 ∷ [] ++ padding (length line + 9))))))

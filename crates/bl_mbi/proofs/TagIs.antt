@@ -27,7 +27,7 @@ drop_small n bytes small = All-drop (λ b. b < 256) n bytes small
 pub take_small : (n : ℕ) (bytes : List ℕ) → AreBytes bytes → AreBytes (take n bytes)
 take_small n bytes small = All-take (λ b. b < 256) n bytes small
 
-all_zero : (xs : List ℕ) → list_all (λ b. b == 0) xs ≡ true → xs ≡ replicate (length xs) 0
+pub all_zero : (xs : List ℕ) → list_all (λ b. b == 0) xs ≡ true → xs ≡ replicate (length xs) 0
 all_zero [] h = refl
 all_zero (x ∷ xs) h =
     let both = and_parts (nat_eq x 0) (list_all (λ b. nat_eq b 0) xs) h in

@@ -28,11 +28,14 @@ behind_long n rest = refl
 pub word_alone : (n : ℕ) → n < 2 ^ 32 → first_u32 (u32_bytes n) ≡ n
 word_alone n fits = ap first_u32 (sym (append-nil (u32_bytes n))) ∙ word_front n [] fits
 
+pub long_alone : (n : ℕ) → n < 2 ^ 64 → first_u64 (u64_bytes n) ≡ n
+long_alone n fits = ap first_u64 (sym (append-nil (u64_bytes n))) ∙ long_front n [] fits
+
 pub behind_words : (m n : ℕ) (rest : List ℕ) → drop 8 (u32_bytes m ++ (u32_bytes n ++ rest)) ≡ rest
 unfolding u32_bytes
 behind_words m n rest = refl
 
-small_at : (bytes : List ℕ) (i : ℕ) → AreBytes bytes → get_or bytes i 0 < 256
+pub small_at : (bytes : List ℕ) (i : ℕ) → AreBytes bytes → get_or bytes i 0 < 256
 small_at bytes i small =
     ⊎_elim (λ inside. All-get_or (λ b. b < 256) bytes i 0 inside small)
     (λ past. let none = get_or_past bytes i 0 past in omega arith) (cases_lt i (length bytes))

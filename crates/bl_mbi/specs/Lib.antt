@@ -1,5 +1,6 @@
 pub mod Bodies
 pub mod Faults
+pub mod FirmwareBodies
 pub mod ReadingSteps
 pub mod internal
 pub mod InfoToWriteFacts

@@ -62,3 +62,20 @@ next_info_tag kind left =
 abbrev pub or_bad : {A : Type 0} → ℕ → Option A → Result A InfoFault
 or_bad at None = Err (BadTag at)
 or_bad at (Some x) = Ok x
+
+-- what the tag there tells, which must be of this type
+unfoldable pub required_at : {A : Type 0} → ℕ → (List ℕ → Option A) → RestFacts
+    → Result (A × RestFacts) InfoFault
+required_at kind of_body left = do
+  tag ← next_info_tag kind left
+  told ← or_bad left.at (of_body tag.0)
+  Ok (told, tag.1)
+
+-- what a tag of this type tells, where it stands there
+unfoldable pub optional_at : {A : Type 0} → ℕ → (List ℕ → Option A) → RestFacts
+    → Result (Option A × RestFacts) InfoFault
+optional_at kind of_body left =
+    if not (is_next kind left) then Ok (None, left) else do
+      tag ← next_info_tag kind left
+      told ← or_bad left.at (of_body tag.0)
+      Ok (Some told, tag.1)

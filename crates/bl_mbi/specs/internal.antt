@@ -1,4 +1,4 @@
 pub mod Appending
+pub mod FactsInside
 pub mod GroupSizes
-pub mod TagGroups
 pub mod BytesLeft

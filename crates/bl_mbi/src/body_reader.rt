@@ -20,7 +20,7 @@ pub(crate) fn word(bytes: &[u8]) -> u32
     u32_at(&SliceView::new(bytes), 0)
 }
 
-fn long(bytes: &[u8]) -> u64
+pub(crate) fn long(bytes: &[u8]) -> u64
     requires { 8 ≤ length bytes.now }
     ensures { result ≡ fields.first_u64 bytes.now }
 {

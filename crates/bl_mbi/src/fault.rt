@@ -24,14 +24,16 @@ pub enum InfoFault {
     /// its size is below 8, passes the end or does not fit the type; its padding is not zero; or
     /// its body is not one: a text without its one zero at its end, `mod_end` below `mod_start`,
     /// `mem_lower` above 640, an entry size other than 24, a version or a reserved word other than
-    /// 0, a kind outside 1 to 5, a run that ends above 2^52. So too where only 1 to 7 bytes are
-    /// left for a tag.
+    /// 0, a kind outside 1 to 5, a run that ends above 2^52, a screen, a system table, a memory map
+    /// of UEFI or tables of SMBIOS outside their limits. So too where only 1 to 7 bytes are left
+    /// for a tag.
     #[error("bad tag at {0}")]
     BadTag(u64),
 
     /// At this offset another tag should begin than does: its type is unknown, out of order or
-    /// repeated, or one that must stand is missing; also where no byte is left for it. Bytes after
-    /// the end tag are in no order either: the offset is that of the first of them.
+    /// repeated, or one that must stand is missing; also where no byte is left for it. UEFI's
+    /// memory map must stand where its system table is told, and only there. Bytes after the end
+    /// tag are in no order either: the offset is that of the first of them.
     #[error("bad order at {0}")]
     BadOrder(u64),
 

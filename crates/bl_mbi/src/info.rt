@@ -1,6 +1,8 @@
 //! What boot information says to its reader.
+use crate::efi_copy::EfiCopy;
 use crate::module::Module;
-use bl_map::Region;
+use crate::smbios_copy::SmbiosCopy;
+use bl_map::{Region, Screen};
 use bl_mem::Bytes;
 use std::alloc::Allocator;
 use std::marker::Model;
@@ -15,6 +17,9 @@ pub struct Info<A: Allocator> {
     pub mem_lower: u32,
     pub mem_upper: u32,
     pub runs: Vec<Region, A>,
+    pub screen: Option<Screen>,
+    pub efi: Option<EfiCopy<A>>,
+    pub smbios: Option<SmbiosCopy<A>>,
     pub rsdp_old: Option<Bytes<A>>,
     pub rsdp_new: Option<Bytes<A>>,
     pub load_base: Option<u32>,
@@ -33,6 +38,9 @@ impl<A: Allocator> Model for Info<A> {
         mem_lower = i.mem_lower;
         mem_upper = i.mem_upper;
         runs = i.runs.items;
+        screen = i.screen;
+        efi = i.efi;
+        smbios = i.smbios;
         rsdp_old = i.rsdp_old;
         rsdp_new = i.rsdp_new;
         load_base = i.load_base;

@@ -10,18 +10,30 @@ ghost use Rattle.bl_mbi.specs.Reading as spec;
 use crate::body_reader::word;
 use crate::fault::InfoFault;
 use crate::info::Info;
+use crate::optional_tag_reader::{load_base_at, screen_at};
 use crate::rest::Rest;
-use crate::tag_groups::{closing_tags_at, map_tags_at, text_and_module_tags_at};
+use crate::tag_groups::{Tables, memory_tags_at, table_tags_at, text_and_module_tags_at};
+use crate::tag_reader::end_at;
 use crate::tag_types::MIN_INFO_SIZE;
 use std::alloc::Allocator;
 
 /// What the tags tell.
+#[tactic(auto, unfolding(crate::specs::Reading::info_of_tags))]
 fn info_of_tags<A: Allocator + Copy>(alloc: A, rest: Rest) -> Result<Info<A>, InfoFault>
     ensures { MatchesReading (λ info. info) result (spec.info_of_tags (rest_facts rest.entry)) }
 {
     let ((line, name, modules), rest) = text_and_module_tags_at(alloc, rest)?;
-    let (((mem_lower, mem_upper), runs), rest) = map_tags_at(alloc, rest)?;
-    let (rsdp_old, rsdp_new, load_base) = closing_tags_at(alloc, rest)?;
+    let (((mem_lower, mem_upper), runs), rest) = memory_tags_at(alloc, rest)?;
+    let (screen, rest) = screen_at(rest)?;
+    let (tables, rest) = table_tags_at(alloc, rest)?;
+    let (load_base, rest) = load_base_at(rest)?;
+    end_at(rest)?;
+    let Tables {
+        efi,
+        smbios,
+        rsdp_old,
+        rsdp_new,
+    } = tables;
     Ok(Info {
         name,
         line,
@@ -29,6 +41,9 @@ fn info_of_tags<A: Allocator + Copy>(alloc: A, rest: Rest) -> Result<Info<A>, In
         mem_lower,
         mem_upper,
         runs,
+        screen,
+        efi,
+        smbios,
         rsdp_old,
         rsdp_new,
         load_base,

@@ -1,24 +1,20 @@
-//! Each tag of boot information, appended where there is room for it.
-ghost use Rattle.std.specs.Prelude.{◌≡◌, ◌+◌, ◌-◌, ◌*◌, ◌%◌, ◌^◌, ◌<◌, ◌++◌, [], length, is_some};
-ghost use Rattle.std.specs.Prelude.{option_map, option_copied};
+//! Each tag of boot information that always stands, appended where there is room for it.
+ghost use Rattle.std.specs.Prelude.{◌≡◌, ◌+◌, ◌-◌, ◌*◌, ◌%◌, ◌^◌, ◌<◌, ◌++◌, [], length};
 ghost use Rattle.std.specs.List.{flat_map};
-ghost use Rattle.bl_mbi.specs.Size.{tag_size, copy_size, load_base_size, map_entry_size};
+ghost use Rattle.bl_mbi.specs.Size.{tag_size, map_entry_size};
 ghost use Rattle.bl_mbi.specs.Tags.{padding, tag, text_body, module_tag, memory_body, run_bytes};
 ghost use Rattle.bl_mbi.specs.Tags.{map_body};
-ghost use Rattle.bl_mbi.specs.Tags.{copy_tag, load_base_tag};
 ghost use Rattle.bl_mbi.specs.internal.Appending.{HasRoomFor, Appends};
 ghost use Rattle.bl_mbi.specs.internal.GroupSizes.{modules_size};
 
 use crate::module_to_write::ModuleToWrite;
-use crate::tag_types::{
-    ENTRY_SIZE, TAG_BASIC_MEMORY, TAG_END, TAG_LOAD_BASE, TAG_MEMORY_MAP, TAG_MODULE,
-};
+use crate::tag_types::{ENTRY_SIZE, TAG_BASIC_MEMORY, TAG_END, TAG_MEMORY_MAP, TAG_MODULE};
 use bl_map::Region;
 use bl_mem::{put_bytes, put_u32, put_u64};
 use std::alloc::Allocator;
 
 /// Appends zeros after `len` bytes of a body, up to the next multiple of 8.
-fn put_padding<A: Allocator>(out: &mut Vec<u8, A>, len: u64)
+pub(crate) fn put_padding<A: Allocator>(out: &mut Vec<u8, A>, len: u64)
     requires { HasRoomFor out.old ((8 - len % 8) % 8) }
     ensures { Appends out.old out.new (padding len) ((8 - len % 8) % 8) }
 {
@@ -73,7 +69,7 @@ pub(crate) fn put_modules<A: Allocator>(out: &mut Vec<u8, A>, modules: &[ModuleT
 /// Appends the sizes of memory.
 pub(crate) fn put_memory<A: Allocator>(out: &mut Vec<u8, A>, mem_lower: u32, mem_upper: u32)
     requires { HasRoomFor out.old 16 }
-    ensures { Appends out.old out.new (tag 4 (memory_body mem_lower mem_upper)) 16 }
+    ensures { Appends out.old out.new (tag TAG_BASIC_MEMORY (memory_body mem_lower mem_upper)) 16 }
 {
     put_u32(out, TAG_BASIC_MEMORY);
     put_u32(out, 16);
@@ -105,7 +101,7 @@ fn put_runs<A: Allocator>(out: &mut Vec<u8, A>, runs: &[Region])
 pub(crate) fn put_map<A: Allocator>(out: &mut Vec<u8, A>, runs: &[Region])
     requires room { HasRoomFor out.old (16 + map_entry_size * length runs.now) }
     requires small { 16 + map_entry_size * length runs.now < 2 ^ 32 }
-    ensures { Appends out.old out.new (tag 6 (map_body runs.now))
+    ensures { Appends out.old out.new (tag TAG_MEMORY_MAP (map_body runs.now))
         (16 + map_entry_size * length runs.now) }
 {
     put_u32(out, TAG_MEMORY_MAP);
@@ -115,39 +111,10 @@ pub(crate) fn put_map<A: Allocator>(out: &mut Vec<u8, A>, runs: &[Region])
     put_runs(out, runs);
 }
 
-/// Appends the tag of a copy, where there is one.
-pub(crate) fn put_copy<A: Allocator>(out: &mut Vec<u8, A>, kind: u32, copy: Option<&[u8]>)
-    requires room { HasRoomFor out.old (copy_size (option_map length (option_copied copy))) }
-    requires small { copy_size (option_map length (option_copied copy)) < 2 ^ 32 }
-    ensures { Appends out.old out.new (copy_tag kind (option_copied copy.entry))
-        (copy_size (option_map length (option_copied copy.entry))) }
-{
-    if let Some(copy) = copy {
-        put_u32(out, kind);
-        put_u32(out, copy.len() as u32 + 8);
-        put_bytes(out, copy);
-        put_padding(out, copy.len() as u64);
-    }
-}
-
-/// Appends the tag of a load base, where there is one.
-pub(crate) fn put_load_base<A: Allocator>(out: &mut Vec<u8, A>, load_base: Option<u32>)
-    requires { HasRoomFor out.old (load_base_size (is_some load_base)) }
-    ensures { Appends out.old out.new (load_base_tag load_base)
-        (load_base_size (is_some load_base)) }
-{
-    if let Some(load_base_addr) = load_base {
-        put_u32(out, TAG_LOAD_BASE);
-        put_u32(out, 12);
-        put_u32(out, load_base_addr);
-        put_padding(out, 4);
-    }
-}
-
 /// Appends the tag that ends the information.
 pub(crate) fn put_end<A: Allocator>(out: &mut Vec<u8, A>)
     requires { HasRoomFor out.old 8 }
-    ensures { out.new.items ≡ out.old.items ++ tag 0 [] }
+    ensures { out.new.items ≡ out.old.items ++ tag TAG_END [] }
 {
     put_u32(out, TAG_END);
     put_u32(out, 8);

@@ -7,7 +7,9 @@ use Rattle.std.proofs.lemmas.Bool.Decides.{nat_tests}
 use Rattle.bl_mem.specs.LittleEndian.{u32_at, u64_at}
 use Rattle.bl_bzimage.specs.Setup.{header_end}
 use Rattle.bl_params.specs.BootParamsForm.{breaks_at, breaks_header, breaks_e820_entry}
-use Rattle.bl_params.specs.BootParamsForm.{is_nonzero_at}
+use Rattle.bl_params.specs.BootParamsForm.{breaks_front}
+use Rattle.bl_params.specs.FieldBytes.{is_nonzero_at}
+use Rattle.bl_params.specs.EfiInfo.{breaks_secure_boot}
 use Rattle.bl_params.specs.BootParamsForm.{e820_entry_count}
 use Rattle.bl_params.specs.BootParamsForm.{e820_entry_offset}
 use Rattle.bl_params.specs.internal.CheckedForm.{HasFormBelow, HasFormBetween}
@@ -25,7 +27,7 @@ pub or_false : (x : Bool) → (x || false) ≡ x
 or_false true = refl
 or_false false = refl
 
-pub front_is : (bytes : List ℕ) (k : ℕ) → k < 0x1E8 → breaks_at bytes k ≡ is_nonzero_at bytes k
+pub front_is : (bytes : List ℕ) (k : ℕ) → k < 0x1E8 → breaks_at bytes k ≡ breaks_front bytes k
 unfolding breaks_at
 front_is bytes k below = rw (lt_yes k 0x1E8 below) refl
 
@@ -33,11 +35,20 @@ pub count_is : (bytes : List ℕ) → breaks_at bytes 0x1E8 ≡ nat_lt 128 (e820
 unfolding breaks_at
 count_is bytes = refl
 
-pub gap_is : (bytes : List ℕ) (k : ℕ) → 0x1E9 ≤ k → k < 0x1F1 → breaks_at bytes k
+pub gap_is : (bytes : List ℕ) (k : ℕ) → 0x1E9 ≤ k → k < 0x1F1 → k ≢ 0x1EC → breaks_at bytes k
     ≡ is_nonzero_at bytes k
 unfolding breaks_at
-gap_is bytes k from below =
-    rw (lt_no k 0x1E8 (omega arith), eq_no k 0x1E8 (omega arith), lt_yes k 0x1F1 below) refl
+gap_is bytes k from below other =
+    rw (
+      lt_no k 0x1E8 (omega arith),
+      eq_no k 0x1E8 (omega arith),
+      lt_yes k 0x1F1 below,
+      eq_no k 0x1EC other,
+    ) refl
+
+pub secure_boot_is : (bytes : List ℕ) → breaks_at bytes 0x1EC ≡ breaks_secure_boot bytes
+unfolding breaks_at
+secure_boot_is bytes = refl
 
 pub header_is : (bytes : List ℕ) (k : ℕ) → 0x1F1 ≤ k → k < header_end bytes
     → breaks_at bytes k ≡ breaks_header bytes k

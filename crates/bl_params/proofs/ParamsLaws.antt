@@ -47,6 +47,9 @@ one_reading bytes p q a b =
     let pref_address = a.pref_address ∙ sym b.pref_address in
     let init_size = a.init_size ∙ sym b.init_size in
     let runs = same_entries bytes 0x2D0 p.runs q.runs (a.count ∙ sym b.count) a.runs b.runs in
+    let screen = a.screen ∙ sym b.screen in
+    let rsdp = a.rsdp ∙ sym b.rsdp in
+    let efi = a.efi ∙ sym b.efi in
     λ i. record {
       version = version i;
       loadflags = loadflags i;
@@ -62,6 +65,9 @@ one_reading bytes p q a b =
       pref_address = pref_address i;
       init_size = init_size i;
       runs = runs i;
+      screen = screen i;
+      rsdp = rsdp i;
+      efi = efi i;
     }
 
 pub one_fault : (bytes : List ℕ) (f g : ParamFault) → ¬ (f ≡ NoMemory) → ¬ (g ≡ NoMemory)

@@ -17,6 +17,9 @@ use Rattle.bl_params.specs.declared.fault.ParamFault.TheVariants.{WrongLength, B
 use Rattle.bl_params.specs.BootParamsForm.{breaks_at, e820_entry_count, e820_entry_offset}
 use Rattle.bl_params.specs.ParamsFacts.{ParamsFacts}
 use Rattle.bl_params.specs.Reading.{IsE820Entry, AreE820Entries, IsParams, HasFirstParamFault}
+use Rattle.bl_params.specs.Reading.{rsdp_of}
+use Rattle.bl_params.specs.ScreenInfo.{screen_of}
+use Rattle.bl_params.specs.EfiInfo.{efi_of}
 use Rattle.bl_params.proofs.FormLemmas.{count_is, kind_is}
 use Rattle.bl_params.proofs.EntriesRead.{entries_push}
 
@@ -102,6 +105,9 @@ told_of bytes whole sound =
         pref_address = u64_at bytes 0x258;
         init_size = u32_at bytes 0x260;
         runs = told.0;
+        screen = screen_of bytes;
+        rsdp = rsdp_of bytes;
+        efi = efi_of bytes;
       },
       record {
         size = whole;
@@ -121,6 +127,9 @@ told_of bytes whole sound =
         init_size = refl;
         count = told.1;
         runs = told.2;
+        screen = refl;
+        rsdp = refl;
+        efi = refl;
       },
     )
 

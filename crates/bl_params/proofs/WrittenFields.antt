@@ -12,11 +12,12 @@ use Rattle.bl_params.specs.BootParamsForm.{e820_entry_count}
 use Rattle.bl_params.specs.Reading.{AreE820Entries}
 use Rattle.bl_params.proofs.OverLemmas.{over_in, over_above}
 use Rattle.bl_params.proofs.EntriesTold.{number_same, all_low, Stand, stand_number, entries_told}
-use Rattle.bl_params.proofs.RegionLemmas.{params, is_at, vid_len, load_len, image_len, size_len}
-use Rattle.bl_params.proofs.RegionLemmas.{line_len, data_len, map_len, l1, l2, l3, l4, l5, l6, l7}
-use Rattle.bl_params.proofs.RegionLemmas.{l8, l9, above_9, above_8, above_7, above_6, above_5}
+use Rattle.bl_params.proofs.FieldLists.{params, is_at, vid_len, load_len, image_len, size_len}
+use Rattle.bl_params.proofs.FieldLists.{line_len, data_len, map_len, l1, l2, l3, l4, l5, l6, l7}
+use Rattle.bl_params.proofs.FieldLists.{l8, l10}
+use Rattle.bl_params.proofs.RegionLemmas.{above_11, above_9, above_8, above_7, above_6, above_5}
 use Rattle.bl_params.proofs.RegionLemmas.{above_4, above_3, above_2, above_1, below_2, below_3}
-use Rattle.bl_params.proofs.RegionLemmas.{below_7, below_8, below_9, below_10, below_1}
+use Rattle.bl_params.proofs.RegionLemmas.{below_7, below_8}
 
 module _ (file header : List ℕ) (end : ℕ) (facts : ParamsToWriteFacts)
     (long : 0x1F1 + length header ≡ end) (low : 0x264 ≤ end) (high : end ≤ 0x290)
@@ -57,16 +58,6 @@ module _ (file header : List ℕ) (end : ℕ) (facts : ParamsToWriteFacts)
       is_at header facts k (omega arith) ∙ above_2 header facts k from
       ∙ below_2 header facts k (omega arith)
       ∙ header_byte k (omega arith) (omega (arith, low))
-
-  pub zero_front : (k : ℕ) → k < 0x1E8 → slice_index (params header facts) k ≡ 0
-  zero_front k below =
-      is_at header facts k (omega arith) ∙ below_10 header facts k below
-      ∙ below_1 header facts k (omega arith)
-
-  pub zero_gap : (k : ℕ) → 0x1E9 ≤ k → k < 0x1F1 → slice_index (params header facts) k ≡ 0
-  zero_gap k from below =
-      is_at header facts k (omega arith) ∙ above_9 header facts k from
-      ∙ below_9 header facts k (omega arith) ∙ below_1 header facts k below
 
   pub zero_behind : (k : ℕ) → end ≤ k → k < 0x2D0 → slice_index (params header facts) k ≡ 0
   zero_behind k from below =
@@ -134,9 +125,9 @@ module _ (file header : List ℕ) (end : ℕ) (facts : ParamsToWriteFacts)
 
   pub count : e820_entry_count (params header facts) ≡ length facts.runs
   count =
-      is_at header facts 0x1E8 (omega arith)
+      is_at header facts 0x1E8 (omega arith) ∙ above_11 header facts 0x1E8 (omega arith)
       ∙ over_in 0x1E8 (length facts.runs
-      ∷ []) (byte_of_fields (l9 header facts)) 0x1E8 (omega arith)
+      ∷ []) (byte_of_fields (l10 header facts)) 0x1E8 (omega arith)
       (omega arith)
 
   runs_stand : Stand (params header facts) 0x2D0 (flat_map e820_entry_bytes facts.runs)

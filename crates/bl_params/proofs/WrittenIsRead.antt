@@ -10,16 +10,18 @@ use Rattle.bl_bzimage.proofs.SetupLaws.{IsSoundFile, setup_sound, fields_are, he
 use Rattle.bl_bzimage.proofs.SetupLaws.{header_high, header_same}
 use Rattle.bl_params.specs.ParamsToWriteFacts.{ParamsToWriteFacts, AreE820Runs}
 use Rattle.bl_params.specs.BootParams.{boot_params}
-use Rattle.bl_params.specs.BootParamsForm.{breaks_at, breaks_header, is_nonzero_at}
+use Rattle.bl_params.specs.BootParamsForm.{breaks_at, breaks_header}
+use Rattle.bl_params.specs.FieldBytes.{is_nonzero_at}
 use Rattle.bl_params.specs.BootParamsForm.{e820_entry_count}
 use Rattle.bl_params.specs.Reading.{IsParams}
 use Rattle.bl_params.specs.WrittenParams.{params_of, FitParamFields}
 use Rattle.bl_params.proofs.Lengths.{length-boot_params}
-use Rattle.bl_params.proofs.FormLemmas.{lt_no, front_is, count_is, gap_is, header_is, behind_is}
+use Rattle.bl_params.proofs.FormLemmas.{lt_no, count_is, header_is, behind_is}
 use Rattle.bl_params.proofs.FormLemmas.{entries_are, end_is}
 use Rattle.bl_params.proofs.EntriesTold.{all_low, entries_sound}
-use Rattle.bl_params.proofs.RegionLemmas.{params}
-use Rattle.bl_params.proofs.WrittenFields.{copied_2, copied_3, zero_front, zero_gap, zero_behind}
+use Rattle.bl_params.proofs.FieldLists.{params}
+use Rattle.bl_params.proofs.WrittenFront.{front_sound, gap_sound, screen_told, rsdp_told, efi_told}
+use Rattle.bl_params.proofs.WrittenFields.{copied_2, copied_3, zero_behind}
 use Rattle.bl_params.proofs.WrittenFields.{zero_end, vid_mode, loader, code32_start, ramdisk_image}
 use Rattle.bl_params.proofs.WrittenFields.{ramdisk_size, cmd_line_ptr, setup_data, count, runs_are}
 use Rattle.bl_params.proofs.WrittenFields.{number_1, number_3, number_4, end_is_same}
@@ -69,15 +71,13 @@ module _ (file header : List ℕ) (end : ℕ) (facts : ParamsToWriteFacts)
       rw (t1, t2, t3, t4, t5, t6, t7) refl
 
   -- nothing breaks the form
-  form : IsSoundFile file → header_end file ≡ end → (k : ℕ) → k < 4096
+  form : FitParamFields facts → IsSoundFile file → header_end file ≡ end → (k : ℕ) → k < 4096
       → breaks_at (params header facts) k ≡ false
-  form sound e k within =
+  form words sound e k within =
       let stop : header_end (params header facts) ≡ end =
       end_is_same file header end facts long low high same told ∙ e in
       ⊎_elim
-      (λ front.
-      front_is (params header facts) k front
-      ∙ unfilled k (zero_front file header end facts long low high same told k front))
+      (λ front. front_sound header facts words k front)
       (λ past_front.
       ⊎_elim
       (λ at_count.
@@ -87,10 +87,7 @@ module _ (file header : List ℕ) (end : ℕ) (facts : ParamsToWriteFacts)
       (omega (arith, count file header end facts long low high same told, told.few))))
       (λ not_count.
       ⊎_elim
-      (λ gap.
-      gap_is (params header facts) k (omega arith) gap
-      ∙ unfilled k
-      (zero_gap file header end facts long low high same told k (omega arith) gap))
+      (λ gap. gap_sound header facts words k (omega arith) gap)
       (λ past_gap.
       ⊎_elim
       (λ in_header.
@@ -129,7 +126,7 @@ written_is_read file setup facts is told words =
     let same = header_same file setup is in
     record {
       size = length-boot_params setup.header facts;
-      sound = form file setup.header e facts long low high same told sound refl;
+      sound = form file setup.header e facts long low high same told words sound refl;
       version =
           fields.version
           ∙ sym
@@ -185,4 +182,7 @@ written_is_read file setup facts is told words =
           (omega arith));
       count = sym (count file setup.header e facts long low high same told);
       runs = runs_are file setup.header e facts long low high same told;
+      screen = sym (screen_told setup.header facts words);
+      rsdp = sym (rsdp_told setup.header facts words);
+      efi = sym (efi_told setup.header facts words);
     }

@@ -1,11 +1,14 @@
 -- The form of boot parameters (Linux/x86 Boot Protocol, "Details of Header Fields" and "Zero Page";
 -- own: what a loader of this kind writes), and the offsets at which bytes break it.
-use Rattle.std.specs.Prelude.{ℕ, ◌+◌, ◌-◌, ◌*◌, ◌%◌, Bool, ◌&&◌, ◌||◌, not, if◌then◌else◌}
-use Rattle.std.specs.Prelude.{◌==◌, nat_lt, nat_le, List, slice_index}
+use Rattle.std.specs.Prelude.{ℕ, ◌+◌, ◌-◌, ◌*◌, ◌%◌, Bool, false, ◌&&◌, ◌||◌, not}
+use Rattle.std.specs.Prelude.{if◌then◌else◌, ◌==◌, nat_lt, nat_le, List, slice_index}
 use Rattle.bl_mem.specs.LittleEndian.{u16_at, u32_at, u64_at}
 use Rattle.bl_map.specs.Limits.{max_region_end}
 use Rattle.bl_bzimage.specs.Setup.{header_end}
 use Rattle.bl_params.specs.ParamsToWriteFacts.{max_e820_entries}
+use Rattle.bl_params.specs.FieldBytes.{is_nonzero_at}
+use Rattle.bl_params.specs.ScreenInfo.{breaks_screen_info}
+use Rattle.bl_params.specs.EfiInfo.{breaks_efi_info, breaks_secure_boot}
 use Rattle.bl_params.specs.SizesAndOffsets.{e820_entries_at, e820_table_at, e820_entry_size}
 use Rattle.bl_params.specs.SizesAndOffsets.{e820_size_at}
 use Rattle.bl_params.specs.SizesAndOffsets.{e820_type_at, header_at}
@@ -18,9 +21,18 @@ e820_entry_count bytes = slice_index bytes e820_entries_at
 abbrev pub e820_entry_offset : ℕ → ℕ
 e820_entry_offset i = e820_table_at + e820_entry_size * i
 
--- a byte of no field must be 0
-abbrev pub is_nonzero_at : List ℕ → ℕ → Bool
-is_nonzero_at bytes k = not (slice_index bytes k == 0)
+-- the fields in front of "e820_entries": "screen_info", "acpi_rsdp_addr", which may be any address,
+-- "efi_info"
+unfoldable pub breaks_front : List ℕ → ℕ → Bool
+breaks_front bytes k =
+    if nat_lt k 0x40 then breaks_screen_info bytes k else
+    if nat_le 0x70 k && nat_lt k 0x78 then false else
+    if nat_le 0x1C0 k && nat_lt k 0x1E0 then breaks_efi_info bytes k else
+    is_nonzero_at bytes k
+
+-- "secure_boot", between "e820_entries" and the header
+abbrev pub breaks_gap : List ℕ → ℕ → Bool
+breaks_gap bytes k = if k == 0x1EC then breaks_secure_boot bytes else is_nonzero_at bytes k
 
 -- the fields of the header, each by the offset at which it counts
 abbrev pub breaks_header : List ℕ → ℕ → Bool
@@ -42,9 +54,9 @@ breaks_e820_entry bytes place k =
 -- whether what stands at an offset breaks the form
 unfoldable pub breaks_at : List ℕ → ℕ → Bool
 breaks_at bytes k =
-    if nat_lt k e820_entries_at then is_nonzero_at bytes k else
+    if nat_lt k e820_entries_at then breaks_front bytes k else
     if k == e820_entries_at then nat_lt max_e820_entries (e820_entry_count bytes) else
-    if nat_lt k header_at then is_nonzero_at bytes k else
+    if nat_lt k header_at then breaks_gap bytes k else
     if nat_lt k (header_end bytes) then breaks_header bytes k else
     if nat_lt k e820_table_at then is_nonzero_at bytes k else
     if nat_lt k (e820_entry_offset (e820_entry_count bytes)) then

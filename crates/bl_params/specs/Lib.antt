@@ -2,6 +2,8 @@ pub mod ParamsToWriteFacts
 pub mod ParamsFacts
 pub mod Faults
 pub mod FieldBytes
+pub mod ScreenInfo
+pub mod EfiInfo
 pub mod BootParams
 pub mod Gdt
 pub mod Paging

@@ -1,6 +1,8 @@
 -- What boot parameters tell to their reader: numbers of the header too.
-use Rattle.std.specs.Prelude.{ℕ, List}
+use Rattle.std.specs.Prelude.{ℕ, List, Option}
 use Rattle.bl_map.specs.declared.region.Region.{Region}
+use Rattle.bl_map.specs.declared.firmware.efi.EfiInfo.{EfiInfo}
+use Rattle.bl_map.specs.declared.firmware.screen.Screen.{Screen}
 
 pub record ParamsFacts : Type 0 where
   pub version : ℕ
@@ -17,3 +19,6 @@ pub record ParamsFacts : Type 0 where
   pub pref_address : ℕ
   pub init_size : ℕ
   pub runs : List Region
+  pub screen : Option Screen
+  pub rsdp : Option ℕ
+  pub efi : Option EfiInfo

@@ -1,5 +1,6 @@
 -- What is read of boot parameters, or why they are refused.
-use Rattle.std.specs.Prelude.{◌≡◌, ℕ, ◌+◌, ◌<◌, List, [], ◌∷◌, length, slice_index, true, false}
+use Rattle.std.specs.Prelude.{◌≡◌, ◌==◌, ℕ, ◌+◌, ◌<◌, if◌then◌else◌, List, [], ◌∷◌, length}
+use Rattle.std.specs.Prelude.{slice_index, true, false, Option, Some, None}
 use Rattle.bl_mem.specs.LittleEndian.{u16_at, u32_at, u64_at}
 use Rattle.bl_mem.specs.Least.{IsLeast}
 use Rattle.bl_map.specs.declared.region.Region.{Region}
@@ -8,6 +9,8 @@ use Rattle.bl_params.specs.declared.fault.ParamFault.{ParamFault}
 use Rattle.bl_params.specs.declared.fault.ParamFault.TheVariants.{WrongLength, BadParams, NoMemory}
 use Rattle.bl_params.specs.BootParamsForm.{breaks_at, e820_entry_count}
 use Rattle.bl_params.specs.ParamsFacts.{ParamsFacts}
+use Rattle.bl_params.specs.ScreenInfo.{screen_of}
+use Rattle.bl_params.specs.EfiInfo.{efi_of}
 use Rattle.bl_params.specs.SizesAndOffsets.{params_size, e820_table_at, e820_entry_size}
 use Rattle.bl_params.specs.SizesAndOffsets.{e820_size_at}
 use Rattle.bl_params.specs.SizesAndOffsets.{e820_type_at}
@@ -23,6 +26,10 @@ abbrev pub AreE820Entries : List ℕ → ℕ → List Region → Type 0
 AreE820Entries bytes at [] = Unit {0}
 AreE820Entries bytes at (run ∷ runs) =
     IsE820Entry bytes at run × AreE820Entries bytes (at + e820_entry_size) runs
+
+-- "acpi_rsdp_addr": 0 is "not told"
+unfoldable pub rsdp_of : List ℕ → Option ℕ
+rsdp_of bytes = if u64_at bytes 0x070 == 0 then None else Some (u64_at bytes 0x070)
 
 -- these bytes have the form, and tell this: each number at its offset, and as many runs as are
 -- counted
@@ -44,6 +51,9 @@ pub record IsParams (bytes : List ℕ) (params : ParamsFacts) : Type 0 where
   pub init_size : params.init_size ≡ u32_at bytes 0x260
   pub count : length params.runs ≡ e820_entry_count bytes
   pub runs : AreE820Entries bytes e820_table_at params.runs
+  pub screen : params.screen ≡ screen_of bytes
+  pub rsdp : params.rsdp ≡ rsdp_of bytes
+  pub efi : params.efi ≡ efi_of bytes
 
 -- the least offset that breaks the form, of as many bytes as boot parameters have; or memory ran
 -- out

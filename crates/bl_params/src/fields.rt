@@ -7,6 +7,12 @@ pub use bl_bzimage::fields::{BOOT_FLAG_MAGIC, HEADER_MAGIC, MIN_VERSION};
 /// How many bytes boot parameters take.
 pub const PARAMS_SIZE: usize = 4096;
 
+/// `acpi_rsdp_addr`, the address of ACPI's root pointer, 0 for none ("Zero Page").
+pub const ACPI_RSDP_ADDR: usize = 0x070;
+
+/// Where it ends.
+pub const ACPI_RSDP_ADDR_END: usize = 0x078;
+
 /// `e820_entries`, the number of entries of the memory map ("Zero Page").
 pub const E820_ENTRIES: usize = 0x1E8;
 

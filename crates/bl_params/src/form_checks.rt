@@ -2,18 +2,22 @@
 ghost use Rattle.std.specs.Prelude.{◌≡◌, ◌≤◌, ◌<◌, ◌+◌, ℕ, false, length};
 ghost use Rattle.std.specs.Prelude.{MatchResult};
 ghost use Rattle.bl_bzimage.specs.Setup.{header_end};
-ghost use Rattle.bl_params.specs.BootParamsForm.{breaks_at, is_nonzero_at, e820_entry_count};
+ghost use Rattle.bl_params.specs.BootParamsForm.{breaks_at, e820_entry_count};
+ghost use Rattle.bl_params.specs.FieldBytes.{is_nonzero_at};
 ghost use Rattle.bl_params.specs.Reading.{HasFirstParamFault};
 ghost use Rattle.bl_params.specs.ParamsToWriteFacts.{max_e820_entries};
 ghost use Rattle.bl_params.specs.internal.CheckedForm.{HasFormBelow, HasFormBetween, GoesOnTo};
-ghost use Rattle.bl_params.specs.SizesAndOffsets.{params_size};
+ghost use Rattle.bl_params.specs.SizesAndOffsets.{params_size, e820_entries_at};
 
+use crate::efi_fields::SECURE_BOOT;
+use crate::efi_reader::breaks_secure_boot;
 use crate::fault::ParamFault;
 use crate::fields::{
     BOOT_FLAG, BOOT_FLAG_MAGIC, E820_ENTRIES, HEADER, HEADER_MAGIC, HEADER_START,
     JUMP_DISPLACEMENT, LOADER_UNDEFINED, MAX_E820_ENTRIES, MAX_END, MIN_END, MIN_VERSION,
     SETUP_DATA, TYPE_OF_LOADER, VERSION, VID_MODE, VID_MODE_NORMAL,
 };
+use crate::front_reader::breaks_front;
 use crate::little_endian_slice::{u16_in, u32_in, u64_in};
 
 /// Goes on from `at` to `next`, unless what stands at `at` breaks the form.
@@ -47,6 +51,18 @@ pub fn pass_zeros(bytes: &[u8], start: usize, end: usize) -> Result<(), ParamFau
     Ok(())
 }
 
+/// The bytes in front of `e820_entries`.
+fn pass_front(bytes: &[u8]) -> Result<(), ParamFault>
+    requires { length bytes.now ≡ params_size }
+    ensures { MatchResult result
+        (λ _. HasFormBelow bytes.now e820_entries_at) (HasFirstParamFault bytes.now) }
+{
+    for at in 0..E820_ENTRIES {
+        check_field(bytes, at, at + 1, breaks_front(bytes, at))?;
+    }
+    Ok(())
+}
+
 /// Where the header ends.
 pub fn end_of_header(bytes: &[u8]) -> usize
     requires { length bytes.now ≡ params_size }
@@ -62,14 +78,21 @@ pub fn pass_before_header(bytes: &[u8]) -> Result<(), ParamFault>
     requires { length bytes.now ≡ params_size }
     ensures { GoesOnTo bytes.now 0x1F1 (e820_entry_count bytes.now ≤ max_e820_entries) result }
 {
-    pass_zeros(bytes, 0, E820_ENTRIES)?;
+    pass_front(bytes)?;
     check_field(
         bytes,
         E820_ENTRIES,
         E820_ENTRIES + 1,
         bytes[E820_ENTRIES] > MAX_E820_ENTRIES,
     )?;
-    pass_zeros(bytes, E820_ENTRIES + 1, HEADER_START)?;
+    pass_zeros(bytes, E820_ENTRIES + 1, SECURE_BOOT)?;
+    check_field(
+        bytes,
+        SECURE_BOOT,
+        SECURE_BOOT + 1,
+        breaks_secure_boot(bytes),
+    )?;
+    pass_zeros(bytes, SECURE_BOOT + 1, HEADER_START)?;
     Ok(())
 }
 

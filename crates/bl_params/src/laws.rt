@@ -1,11 +1,12 @@
 //! Laws of the definitions: bytes have one reading or one first fault; page tables.
 ghost use Rattle.std.specs.Prelude.{◌≡◌, ◌⊎◌, ◌^◌, ◌+◌, ◌<◌, ◌≤◌, ℕ, List, length, take, All};
-ghost use Rattle.std.specs.Prelude.{None, Some};
+ghost use Rattle.std.specs.Prelude.{None, Some, slice_index};
 ghost use Rattle.bl_map.specs.NormalMap.{region_end};
 ghost use Rattle.bl_bzimage.specs.declared.setup.Setup.{Setup};
 ghost use Rattle.bl_bzimage.specs.Setup.{IsSetup};
 ghost use Rattle.bl_params.specs.BootParams.{boot_params};
 ghost use Rattle.bl_params.specs.ParamsToWriteFacts.{ParamsToWriteFacts, AreE820Runs};
+ghost use Rattle.bl_params.specs.ParamsToWriteFacts.{IsToldFirmware};
 ghost use Rattle.bl_params.specs.Gdt.{gdt, gdt_part};
 ghost use Rattle.bl_params.specs.Paging.{paging};
 ghost use Rattle.bl_params.specs.Translation.{translation};
@@ -42,6 +43,12 @@ pub fn params_are_determined()
 pub fn runs_end_low()
     ensures { (bytes : List ℕ) (params : ParamsFacts) → IsParams bytes params
         → All (λ run. region_end run ≤ 2 ^ 52) params.runs }
+{}
+
+/// What boot parameters tell of firmware is within its limits, whoever wrote them.
+pub fn told_firmware_is_sound()
+    ensures { (bytes : List ℕ) (params : ParamsFacts) → ((k : ℕ) → slice_index bytes k < 256)
+        → IsParams bytes params → IsToldFirmware params.screen params.rsdp params.efi }
 {}
 
 /// The descriptors are the first 32 bytes of their frame.

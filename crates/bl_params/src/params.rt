@@ -1,14 +1,14 @@
 //! What boot parameters tell to their reader.
-use bl_map::Region;
+use bl_map::{EfiInfo, Region, Screen};
 use std::alloc::Allocator;
 use std::marker::Model;
 
 /// What boot parameters tell, by the boot protocol's names (Linux/x86 Boot Protocol, "Details of
 /// Header Fields"): where the kernel, the initrd and the line are, what the kernel's header says of
-/// itself, and the memory map.
+/// itself, the memory map, and what firmware tells ("Zero Page").
 ///
 /// Addresses and lengths are in bytes; an initrd of length 0 is none. `xloadflags` has a meaning
-/// from version 2.12 on.
+/// from version 2.12 on. `rsdp` is the address of ACPI's root pointer.
 #[derive(Drop)]
 pub struct Params<A: Allocator> {
     pub version: u16,
@@ -25,6 +25,9 @@ pub struct Params<A: Allocator> {
     pub pref_address: u64,
     pub init_size: u32,
     pub runs: Vec<Region, A>,
+    pub screen: Option<Screen>,
+    pub rsdp: Option<u64>,
+    pub efi: Option<EfiInfo>,
 }
 
 impl<A: Allocator> Model for Params<A> {
@@ -47,5 +50,8 @@ impl<A: Allocator> Model for Params<A> {
       pref_address = p.pref_address;
       init_size = p.init_size;
       runs = p.runs.items;
+      screen = p.screen;
+      rsdp = p.rsdp;
+      efi = p.efi;
     } };
 }

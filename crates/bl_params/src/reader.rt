@@ -2,6 +2,7 @@
 ghost use Rattle.std.specs.Prelude.{◌+◌, ◌*◌, IfOk, IfErr};
 ghost use Rattle.bl_params.specs.Reading.{IsParams, HasFirstParamFault};
 
+use crate::efi_reader::efi_of;
 use crate::fault::ParamFault;
 use crate::fields::{
     CMD_LINE_PTR, CMDLINE_SIZE, CODE32_START, E820_ENTRIES, E820_TABLE, ENTRY_SIZE, INIT_SIZE,
@@ -9,9 +10,11 @@ use crate::fields::{
     RAMDISK_SIZE, RELOCATABLE_KERNEL, VERSION, XLOADFLAGS,
 };
 use crate::form_checks::{end_of_header, pass_before_header, pass_header, pass_zeros};
+use crate::front_reader::rsdp_of;
 use crate::little_endian_slice::{u16_in, u32_in, u64_in};
 use crate::map_reader::entries;
 use crate::params::Params;
+use crate::screen_reader::screen_of;
 use std::alloc::Allocator;
 
 /// Reads boot parameters of the form that `write_params` gives, or answers why the bytes have not
@@ -44,5 +47,8 @@ pub fn read_params<A: Allocator + Copy>(alloc: A, bytes: &[u8]) -> Result<Params
         pref_address: u64_in(bytes, PREF_ADDRESS),
         init_size: u32_in(bytes, INIT_SIZE),
         runs,
+        screen: screen_of(bytes),
+        rsdp: rsdp_of(bytes),
+        efi: efi_of(bytes),
     })
 }

@@ -6,13 +6,17 @@ ghost use Rattle.bl_params.specs.ParamsToWriteFacts.{max_e820_entries};
 ghost use Rattle.bl_params.specs.internal.FieldWriting.{IsWrittenAt};
 ghost use Rattle.bl_params.specs.SizesAndOffsets.{e820_entry_size, e820_table_at, params_size};
 
+use crate::efi_fields::{EFI_INFO, SECURE_BOOT};
+use crate::efi_writer::{efi_info, secure_boot};
 use crate::field_writer::{write_field, write_u16, write_u32, write_u64};
 use crate::fields::{
-    CMD_LINE_PTR, CODE32_START, E820_ENTRIES, E820_TABLE, ENTRY_LENGTH, ENTRY_SIZE, ENTRY_TYPE,
-    HEADER_START, LOADER_UNDEFINED, RAMDISK_IMAGE, RAMDISK_SIZE, SETUP_DATA, TYPE_OF_LOADER,
-    VID_MODE, VID_MODE_NORMAL,
+    ACPI_RSDP_ADDR, CMD_LINE_PTR, CODE32_START, E820_ENTRIES, E820_TABLE, ENTRY_LENGTH, ENTRY_SIZE,
+    ENTRY_TYPE, HEADER_START, LOADER_UNDEFINED, RAMDISK_IMAGE, RAMDISK_SIZE, SETUP_DATA,
+    TYPE_OF_LOADER, VID_MODE, VID_MODE_NORMAL,
 };
 use crate::params_to_write::ParamsToWrite;
+use crate::screen_fields::SCREEN_INFO;
+use crate::screen_writer::screen_info;
 use bl_bzimage::Setup;
 use bl_map::Region;
 
@@ -45,8 +49,8 @@ fn put_entries(out: &mut [u8; 4096], runs: &[Region])
 }
 
 /// Writes boot parameters over whatever stands there: zeros, the setup header from 0x1F1 on as it
-/// stands in the file, the fields that a loader writes, and the memory map (Linux/x86 Boot
-/// Protocol, "Zero Page"). Takes no memory.
+/// stands in the file, the fields that a loader writes, the memory map, and what firmware tells
+/// (Linux/x86 Boot Protocol, "Zero Page"). Takes no memory.
 pub fn write_params(setup: &Setup, facts: &ParamsToWrite<'_>, out: &mut [u8; 4096])
     ensures { out.new ≡ boot_params setup.now.header facts.now }
 {
@@ -61,5 +65,9 @@ pub fn write_params(setup: &Setup, facts: &ParamsToWrite<'_>, out: &mut [u8; 409
     write_u32(out, CODE32_START, facts.code32_start);
     write_field(out, TYPE_OF_LOADER, &[LOADER_UNDEFINED]);
     write_u16(out, VID_MODE, VID_MODE_NORMAL);
+    write_field(out, SECURE_BOOT, &[secure_boot(facts.efi)]);
     write_field(out, E820_ENTRIES, &[runs.len() as u8]);
+    write_field(out, EFI_INFO, &efi_info(facts.efi));
+    write_u64(out, ACPI_RSDP_ADDR, facts.rsdp.unwrap_or(0));
+    write_field(out, SCREEN_INFO, &screen_info(facts.screen));
 }

@@ -37,11 +37,15 @@ none_up_to_end facts taken length align low high at a stretch some h above below
       | inl less ↦ let e = h.meets_end in
           h.without stretch.start (omega arith) h.forward (
             p.usable stretch.start (omega arith) (omega arith),
+            p.unavoided stretch.start (omega arith) (omega arith),
             p.apart stretch.start (omega arith) (omega arith),
           )
       | inr more ↦
-          h.without a more below
-          (p.usable a (omega arith) (omega arith), p.apart a (omega arith) (omega arith))
+          h.without a more below (
+            p.usable a (omega arith) (omega arith),
+            p.unavoided a (omega arith) (omega arith),
+            p.apart a (omega arith) (omega arith),
+          )
     ]
 
 -- no address up to at from which the bytes reach into the stretch is permitted
@@ -55,9 +59,13 @@ none_down_to_start facts taken length align low high at a stretch some h below a
       | inl less ↦
           h.without stretch.start (omega arith) h.forward (
             p.usable stretch.start (omega arith) above,
+            p.unavoided stretch.start (omega arith) above,
             p.apart stretch.start (omega arith) above,
           )
       | inr more ↦
-          h.without a more (omega arith)
-          (p.usable a (omega arith) (omega arith), p.apart a (omega arith) (omega arith))
+          h.without a more (omega arith) (
+            p.usable a (omega arith) (omega arith),
+            p.unavoided a (omega arith) (omega arith),
+            p.apart a (omega arith) (omega arith),
+          )
     ]

@@ -57,7 +57,7 @@ throughout_or_not P has start (suc n) =
       ]
     ]
 
-usable_or_not : (facts : MachineFacts) (a : ℕ) → IsDecided (IsUsable facts a)
+pub usable_or_not : (facts : MachineFacts) (a : ℕ) → IsDecided (IsUsable facts a)
 usable_or_not facts a =
     elim (eq_or_not (kind_at facts.runs a) 1) [
       | inr never ↦ inr (λ usable. never usable.kind)
@@ -115,17 +115,21 @@ module _ (facts : MachineFacts) (taken : List (Range ℕ)) (count align low high
             | inr never ↦ inr (λ permitted. never permitted.below)
             | inl below ↦ elim (all_usable_or_not facts a (a + count)) [
               | inr never ↦ inr (λ permitted. never permitted.usable)
-              | inl usable ↦ elim (all_open_or_not taken a (a + count)) [
-                | inr never ↦ inr (λ permitted. never permitted.apart)
-                | inl apart ↦
-                    inl
-                    (record {
-                      aligned = aligned;
-                      above = above;
-                      below = below;
-                      usable = usable;
-                      apart = apart;
-                    })
+              | inl usable ↦ elim (all_open_or_not facts.firmware.avoided a (a + count)) [
+                | inr never ↦ inr (λ permitted. never permitted.unavoided)
+                | inl unavoided ↦ elim (all_open_or_not taken a (a + count)) [
+                  | inr never ↦ inr (λ permitted. never permitted.apart)
+                  | inl apart ↦
+                      inl
+                      (record {
+                        aligned = aligned;
+                        above = above;
+                        below = below;
+                        usable = usable;
+                        unavoided = unavoided;
+                        apart = apart;
+                      })
+                ]
               ]
             ]
           ]

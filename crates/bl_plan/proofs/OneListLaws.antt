@@ -4,7 +4,8 @@ use Rattle.std.proofs.Common.{inl, inr}
 use Rattle.std.specs.declared.ops.Range.{Range}
 use Rattle.bl_map.specs.MachineFacts.{MachineFacts, AllUsable}
 use Rattle.bl_mem.specs.Least.{IsLeast, IsGreatest}
-use Rattle.bl_plan.specs.Permitted.{AreUntaken, IsPermitted, IsPreferred, HasFixedFault, HasNoRoom}
+use Rattle.bl_plan.specs.Permitted.{AreUntaken, AreUnavoided, IsPermitted, IsPreferred}
+use Rattle.bl_plan.specs.Permitted.{HasFixedFault, HasNoRoom}
 use Rattle.bl_plan.specs.PlannerFacts.{put_in}
 use Rattle.bl_plan.specs.declared.part.Choice.{Choice}
 use Rattle.bl_plan.specs.declared.part.Choice.TheVariants.{Fixed, Lowest, Highest, Preferred}
@@ -49,19 +50,20 @@ one_no_room P NoRoom NoMemory p q = absurd q
 
 module _ (facts : MachineFacts) where
   not_fixed : (taken : List (Range ℕ)) (start end : ℕ) (f : PlanFault) → AllUsable facts start end
-      → AreUntaken taken start end → HasFixedFault facts taken start end f → ⊥
-  not_fixed taken start end NotUsable usable free q = q usable
-  not_fixed taken start end Overlap usable free q = q.1 free
-  not_fixed taken start end NoRoom usable free q = q
-  not_fixed taken start end NoMemory usable free q = q
+      → AreUnavoided facts start end → AreUntaken taken start end
+      → HasFixedFault facts taken start end f → ⊥
+  not_fixed taken start end NotUsable usable unavoided free q = q (usable, unavoided)
+  not_fixed taken start end Overlap usable unavoided free q = q.2 free
+  not_fixed taken start end NoRoom usable unavoided free q = q
+  not_fixed taken start end NoMemory usable unavoided free q = q
 
   one_fixed : (taken : List (Range ℕ)) (start end : ℕ) (f g : PlanFault)
       → HasFixedFault facts taken start end f → HasFixedFault facts taken start end g → f ≡ g
   one_fixed taken start end NotUsable NotUsable p q = refl
-  one_fixed taken start end NotUsable Overlap p q = absurd (p q.0)
+  one_fixed taken start end NotUsable Overlap p q = absurd (p (q.0, q.1))
   one_fixed taken start end NotUsable NoRoom p q = absurd q
   one_fixed taken start end NotUsable NoMemory p q = absurd q
-  one_fixed taken start end Overlap NotUsable p q = absurd (q p.0)
+  one_fixed taken start end Overlap NotUsable p q = absurd (q (p.0, p.1))
   one_fixed taken start end Overlap Overlap p q = refl
   one_fixed taken start end Overlap NoRoom p q = absurd q
   one_fixed taken start end Overlap NoMemory p q = absurd q
@@ -82,7 +84,8 @@ module _ (facts : MachineFacts) where
       (f : PlanFault) → IsChosen facts taken count choice a
       → HasChoiceFault facts taken count choice f
       → ⊥
-  not_chosen_and_faulty taken count (Fixed at) a f p q = not_fixed taken at (at + count) f p.1 p.2 q
+  not_chosen_and_faulty taken count (Fixed at) a f p q =
+      not_fixed taken at (at + count) f p.1 p.2 p.3 q
   not_chosen_and_faulty taken count (Lowest align low high) a f p q =
       not_room (IsPermitted facts taken count align low high) a f p.holds q
   not_chosen_and_faulty taken count (Highest align low high) a f p q =

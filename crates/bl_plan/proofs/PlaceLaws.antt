@@ -7,14 +7,14 @@ use Rattle.std.proofs.lemmas.List.Kept.{AllPairs-cons}
 use Rattle.std.specs.declared.ops.Range.{Range}
 use Rattle.bl_map.specs.MachineFacts.{MachineFacts, AllUsable}
 use Rattle.bl_mem.specs.Memory.{IsIn}
-use Rattle.bl_plan.specs.Permitted.{AreUntaken, IsPermitted}
+use Rattle.bl_plan.specs.Permitted.{AreUntaken, AreUnavoided, IsPermitted}
 use Rattle.bl_plan.specs.PlannerFacts.{put_in}
 use Rattle.bl_plan.specs.declared.part.Choice.{Choice}
 use Rattle.bl_plan.specs.declared.part.Choice.TheVariants.{Fixed, Lowest, Highest, Preferred}
 use Rattle.bl_plan.specs.declared.part.Row.{Row}
 use Rattle.bl_plan.specs.declared.part.Place.{Place}
 use Rattle.bl_plan.specs.Placed.{IsChosen, row_place, place_range, ArePlaced, IsPlaceable, IsApart}
-use Rattle.bl_plan.specs.Placed.{IsUntaken, IsPlaceOf}
+use Rattle.bl_plan.specs.Placed.{IsUntaken, IsUnavoided, IsPlaceOf}
 use Rattle.bl_plan.specs.AddressOrder.{range_key}
 use Rattle.bl_plan.proofs.OrderLemmas.{put_from}
 use Rattle.bl_plan.proofs.OneListLaws.{preferred_holds}
@@ -30,10 +30,19 @@ module _ (facts : MachineFacts) where
   chosen_usable taken count (Preferred at align low high) a p =
       (preferred_holds at (IsPermitted facts taken count align low high) a p).usable
 
+  chosen_unavoided : (taken : List (Range ℕ)) (count : ℕ) (choice : Choice) (a : ℕ)
+      → IsChosen facts taken count choice a → AreUnavoided facts a (a + count)
+  chosen_unavoided taken count (Fixed at) a p =
+      let e = p.0 in λ b low high. p.2 b (omega arith) (omega arith)
+  chosen_unavoided taken count (Lowest align low high) a p = p.holds.unavoided
+  chosen_unavoided taken count (Highest align low high) a p = p.holds.unavoided
+  chosen_unavoided taken count (Preferred at align low high) a p =
+      (preferred_holds at (IsPermitted facts taken count align low high) a p).unavoided
+
   chosen_open : (taken : List (Range ℕ)) (count : ℕ) (choice : Choice) (a : ℕ)
       → IsChosen facts taken count choice a → AreUntaken taken a (a + count)
   chosen_open taken count (Fixed at) a p =
-      let e = p.0 in λ b low high. p.2 b (omega arith) (omega arith)
+      let e = p.0 in λ b low high. p.3 b (omega arith) (omega arith)
   chosen_open taken count (Lowest align low high) a p = p.holds.apart
   chosen_open taken count (Highest align low high) a p = p.holds.apart
   chosen_open taken count (Preferred at align low high) a p =
@@ -50,6 +59,18 @@ module _ (facts : MachineFacts) where
       (λ b low high.
       chosen_usable taken row.length row.choice p.address a.0 b low (omega arith))
       (all_usable (put_in (place_range p) taken) rows ps a.2)
+
+  pub all_unavoided : (taken : List (Range ℕ)) (rows : List Row) (ps : List Place)
+      → ArePlaced facts taken rows ps → All (IsUnavoided facts) ps
+  all_unavoided taken [] [] a = All-nil (IsUnavoided facts)
+  all_unavoided taken [] (p ∷ ps) a = absurd a
+  all_unavoided taken (row ∷ rows) [] a = absurd a
+  all_unavoided taken (row ∷ rows) (p ∷ ps) a =
+      let size = ap (λ (x : Place). x.length) a.1 in
+      All-cons (IsUnavoided facts) p ps
+      (λ b low high.
+      chosen_unavoided taken row.length row.choice p.address a.0 b low (omega arith))
+      (all_unavoided (put_in (place_range p) taken) rows ps a.2)
 
   here_open : (taken : List (Range ℕ)) (row : Row) (p : Place)
       → IsChosen facts taken row.length row.choice p.address → p ≡ row_place row p.address

@@ -80,10 +80,13 @@ chosen_or_fault : (facts : MachineFacts) (taken : List (Range ℕ)) (count : ℕ
     → IsMetOrNot facts taken count choice
 chosen_or_fault facts taken count (Fixed at) =
     elim (all_usable_or_not facts at (at + count)) [
-      | inr never ↦ inr (NotUsable, (λ e. absurd cc), never)
-      | inl usable ↦ elim (all_open_or_not taken at (at + count)) [
-        | inr never ↦ inr (Overlap, (λ e. absurd cc), (usable, never))
-        | inl free ↦ inl (at, (refl, usable, free))
+      | inr never ↦ inr (NotUsable, (λ e. absurd cc), (λ both. never both.0))
+      | inl usable ↦ elim (all_open_or_not facts.firmware.avoided at (at + count)) [
+        | inr never ↦ inr (NotUsable, (λ e. absurd cc), (λ both. never both.1))
+        | inl unavoided ↦ elim (all_open_or_not taken at (at + count)) [
+          | inr never ↦ inr (Overlap, (λ e. absurd cc), (usable, unavoided, never))
+          | inl free ↦ inl (at, (refl, usable, unavoided, free))
+        ]
       ]
     ]
 chosen_or_fault facts taken count (Lowest align low high) =

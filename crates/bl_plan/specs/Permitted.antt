@@ -13,13 +13,19 @@ use Rattle.bl_plan.specs.declared.fault.PlanFault.TheVariants.{NotUsable, Overla
 abbrev pub AreUntaken : List (Range ℕ) → ℕ → ℕ → Type 0
 AreUntaken taken start end = (a : ℕ) → start ≤ a → a < end → All (λ range. ¬ IsIn range a) taken
 
--- an address at which so many bytes lie between low and high, all usable, none in a taken range
+-- no address from start up to end is avoided
+abbrev pub AreUnavoided : MachineFacts → ℕ → ℕ → Type 0
+AreUnavoided facts start end = AreUntaken facts.firmware.avoided start end
+
+-- an address at which so many bytes lie between low and high, all usable, none avoided, none in a
+-- taken range
 pub record IsPermitted (facts : MachineFacts) (taken : List (Range ℕ))
     (length align low high a : ℕ) : Type 0 where
   pub aligned : a % align ≡ 0
   pub above : low ≤ a
   pub below : a + length ≤ high
   pub usable : AllUsable facts a (a + length)
+  pub unavoided : AreUnavoided facts a (a + length)
   pub apart : AreUntaken taken a (a + length)
 
 -- of the numbers with a property, the one at this side
@@ -33,9 +39,10 @@ IsPreferred at P a = (P at × (a ≡ at)) ⊎ ((¬ P at) × IsLeast P a)
 
 -- these addresses are refused for this reason
 abbrev pub HasFixedFault : MachineFacts → List (Range ℕ) → ℕ → ℕ → PlanFault → Type 0
-HasFixedFault facts taken start end NotUsable = ¬ AllUsable facts start end
+HasFixedFault facts taken start end NotUsable =
+    ¬ (AllUsable facts start end × AreUnavoided facts start end)
 HasFixedFault facts taken start end Overlap =
-    AllUsable facts start end × (¬ AreUntaken taken start end)
+    AllUsable facts start end × AreUnavoided facts start end × (¬ AreUntaken taken start end)
 HasFixedFault facts taken start end NoRoom = ⊥
 HasFixedFault facts taken start end NoMemory = ⊥
 

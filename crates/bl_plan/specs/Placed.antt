@@ -4,7 +4,7 @@ use Rattle.std.specs.declared.ops.Range.{Range}
 use Rattle.bl_map.specs.MachineFacts.{MachineFacts, AllUsable}
 use Rattle.bl_mem.specs.Least.{IsLeast, IsGreatest}
 use Rattle.bl_plan.specs.Permitted.{AreUntaken, IsPermitted, IsPreferred, HasFixedFault, HasNoRoom}
-use Rattle.bl_plan.specs.Permitted.{OrNoMemory}
+use Rattle.bl_plan.specs.Permitted.{OrNoMemory, AreUnavoided}
 use Rattle.bl_plan.specs.PlannerFacts.{put_in}
 use Rattle.bl_plan.specs.declared.part.Choice.{Choice}
 use Rattle.bl_plan.specs.declared.part.Choice.TheVariants.{Fixed, Lowest, Highest, Preferred}
@@ -15,7 +15,8 @@ use Rattle.bl_plan.specs.declared.part.Place.{Place}
 -- the address that a choice asks for, for so many bytes beside what is taken
 abbrev pub IsChosen : MachineFacts → List (Range ℕ) → ℕ → Choice → ℕ → Type 0
 IsChosen facts taken length (Fixed at) a =
-    (a ≡ at) × AllUsable facts at (at + length) × AreUntaken taken at (at + length)
+    (a ≡ at) × AllUsable facts at (at + length) × AreUnavoided facts at (at + length)
+    × AreUntaken taken at (at + length)
 IsChosen facts taken length (Lowest align low high) a =
     IsLeast (IsPermitted facts taken length align low high) a
 IsChosen facts taken length (Highest align low high) a =
@@ -78,6 +79,10 @@ IsPlacingFault facts rows fault = OrNoMemory (IsFirstPlaceFault facts [] rows) f
 -- each byte of the place is usable
 abbrev pub IsPlaceable : MachineFacts → Place → Type 0
 IsPlaceable facts place = AllUsable facts place.address (place.address + place.length)
+
+-- no byte of the place is avoided
+abbrev pub IsUnavoided : MachineFacts → Place → Type 0
+IsUnavoided facts place = AreUnavoided facts place.address (place.address + place.length)
 
 -- a is an address of the place
 abbrev pub Covers : Place → ℕ → Type 0

@@ -1,11 +1,10 @@
 //! Stretches of bytes that can't be part of a place.
-ghost use Rattle.std.specs.Prelude.{◌≡◌, ℕ, ◌<◌, ◌≤◌, All, length, MatchOption};
+ghost use Rattle.std.specs.Prelude.{◌≡◌, ℕ, ◌<◌, ◌≤◌, length, MatchOption};
 ghost use Rattle.std.specs.List.{AllWithin};
-ghost use Rattle.bl_mem.specs.Memory.{IsIn};
 ghost use Rattle.bl_map.specs.NormalMap.{kind_at, AreRuns};
 ghost use Rattle.bl_map.specs.MachineFacts.{AllUsable};
-ghost use Rattle.bl_plan.specs.internal.FreeBytes.{IsBlockedBy, IsFree};
-ghost use Rattle.bl_plan.specs.Permitted.{AreUntaken};
+ghost use Rattle.bl_plan.specs.internal.FreeBytes.{IsBlockedBy, IsFree, IsInNone};
+ghost use Rattle.bl_plan.specs.Permitted.{AreUntaken, AreUnavoided};
 ghost use Rattle.bl_plan.specs.PlannerFacts.{AreApartRanges};
 
 use bl_map::{FIRST_USABLE, Kind, Machine, Region, USABLE_LIMIT};
@@ -49,7 +48,7 @@ fn ended_by(ranges: &[Range<u64>], start: u64) -> usize
 pub fn taken_stretch(taken: &[Range<u64>], start: u64, end: u64) -> Option<Range<u64>>
     requires apart { AreApartRanges taken.now }
     ensures { MatchOption result (AreUntaken taken.now start end)
-        (IsBlockedBy (λ a. All (λ range. ¬ IsIn range a) taken.now) start end) }
+        (IsBlockedBy (IsInNone taken.now) start end) }
 {
     let next = ended_by(taken, start);
     if next < taken.len() {
@@ -59,6 +58,31 @@ pub fn taken_stretch(taken: &[Range<u64>], start: u64, end: u64) -> Option<Range
         }
     }
     None
+}
+
+/// One of these ranges, which are in any order and may be empty, that meets these bytes.
+fn meeting_range(ranges: &[Range<u64>], start: u64, end: u64) -> Option<Range<u64>>
+    ensures { MatchOption result (AreUntaken ranges.now start end)
+        (IsBlockedBy (IsInNone ranges.now) start end) }
+{
+    for range in ranges {
+        if range.start < range.end && range.start < end && start < range.end {
+            return Some(range.start..range.end);
+        }
+    }
+    None
+}
+
+/// An avoided range that meets these bytes.
+pub fn avoided_stretch<A: Allocator>(
+    machine: &Machine<A>,
+    start: u64,
+    end: u64,
+) -> Option<Range<u64>>
+    ensures { MatchOption result (AreUnavoided machine.now start end)
+        (IsBlockedBy (IsInNone machine.now.firmware.avoided) start end) }
+{
+    meeting_range(machine.avoided(), start, end)
 }
 
 /// A stretch without free bytes that meets these bytes.
@@ -73,11 +97,19 @@ pub fn blocked_stretch<A: Allocator>(
     requires above { FIRST_USABLE ≤ start }
     requires in_size { end ≤ machine.now.size }
     requires below { end ≤ USABLE_LIMIT }
-    ensures { MatchOption result (AllUsable machine.now start end × AreUntaken taken.now start end)
+    ensures { MatchOption result
+        (AllUsable machine.now start end × AreUnavoided machine.now start end
+        × AreUntaken taken.now start end)
         (IsBlockedBy (IsFree machine.now taken.now) start end) }
 {
     if let Some(stretch) = unusable_stretch(machine.normal(), start, end) {
         return Some(stretch);
     }
-    taken_stretch(taken, start, end)
+    if let Some(stretch) = avoided_stretch(machine, start, end) {
+        return Some(stretch);
+    }
+    if let Some(stretch) = taken_stretch(taken, start, end) {
+        return Some(stretch);
+    }
+    None
 }

@@ -8,7 +8,7 @@ use thiserror::Error;
 /// Why there is no place. Memory may run out at any growth.
 #[derive(Clone, Copy, Debug, PartialEq, Eq, Error)]
 pub enum PlanFault {
-    #[error("a byte of a fixed range is not usable")]
+    #[error("a byte of a fixed range is not usable, or is avoided")]
     NotUsable,
     #[error("a fixed range meets an earlier part")]
     Overlap,

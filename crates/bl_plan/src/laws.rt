@@ -8,7 +8,7 @@ ghost use Rattle.bl_plan.specs.declared.fault.PlanFault.TheVariants.{NoMemory};
 ghost use Rattle.bl_plan.specs.declared.part.Row.{Row};
 ghost use Rattle.bl_plan.specs.declared.part.Place.{Place};
 ghost use Rattle.bl_plan.specs.Placed.{ArePlaced, IsFirstPlaceFault, IsApart, IsPlaceable};
-ghost use Rattle.bl_plan.specs.Placed.{IsUntaken};
+ghost use Rattle.bl_plan.specs.Placed.{IsUntaken, IsUnavoided};
 ghost use Rattle.bl_plan.specs.Placed.{IsPlaceOf};
 
 /// Rows have one list of places, or one first fault, and never both.
@@ -32,10 +32,13 @@ pub fn rows_have_places_or_a_fault()
         ⊎ ((f : PlanFault) × (f ≢ NoMemory) × IsFirstPlaceFault facts taken rows f) }
 {}
 
-/// The places of rows are usable and meet neither one another nor what was taken before.
+/// The places of rows are usable and not avoided, and meet neither one another nor what was taken
+/// before.
 pub fn places_are_legal()
     ensures usable { (facts : MachineFacts) (taken : List (Range ℕ)) (rows : List Row)
         (ps : List Place) → ArePlaced facts taken rows ps → All (IsPlaceable facts) ps }
+    ensures unavoided { (facts : MachineFacts) (taken : List (Range ℕ)) (rows : List Row)
+        (ps : List Place) → ArePlaced facts taken rows ps → All (IsUnavoided facts) ps }
     ensures beside { (facts : MachineFacts) (taken : List (Range ℕ)) (rows : List Row)
         (ps : List Place) → ArePlaced facts taken rows ps → All (IsUntaken taken) ps }
     ensures apart { (facts : MachineFacts) (taken : List (Range ℕ)) (rows : List Row)

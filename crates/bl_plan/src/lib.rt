@@ -24,4 +24,4 @@ pub use part::{Choice, Place, Role, Row, Side};
 pub use placing::place_rows;
 pub use planner::Planner;
 pub use protocol::Protocol;
-pub use unusable_byte::first_unusable;
+pub use unusable_byte::{first_unplaceable, first_unusable};

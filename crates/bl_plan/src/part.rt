@@ -69,7 +69,7 @@ pub(crate) struct Window {
 
 /// How a part's address is chosen. An address is permitted for a part where it is a multiple of
 /// `align` (any number from 1 on), is not below `low`, the part ends at most at `high`, and each of
-/// its bytes is usable and in no earlier part.
+/// its bytes is usable, not avoided and in no earlier part.
 #[derive(Clone, Copy, Debug, PartialEq, Eq)]
 pub enum Choice {
     /// This address.

@@ -14,7 +14,7 @@ use std::alloc::Allocator;
 /// place ends at most at 0xFFFFF000.
 ///
 /// The first row that has no place refuses all, and nothing is answered of the rows before it:
-/// - `NotUsable`: its address is fixed, and a byte there is not usable.
+/// - `NotUsable`: its address is fixed, and a byte there is not usable, or is avoided.
 /// - `Overlap`: its address is fixed, and a byte there belongs to an earlier row.
 /// - `NoRoom`: its address is not fixed, and none is permitted.
 /// - `NoMemory`: there was no memory for the places. It may come before another fault is found.

@@ -1,6 +1,6 @@
 //! A planner.
 use crate::address_order::position_for;
-use crate::blocked_stretch::taken_stretch;
+use crate::blocked_stretch::{avoided_stretch, taken_stretch};
 use crate::fault::PlanFault;
 use bl_map::Machine;
 use std::alloc::{AllocError, Allocator};
@@ -29,7 +29,7 @@ impl<'m, A: Allocator> Model for Planner<'m, A> {
 impl<'m, A: Allocator> Planner<'m, A> {
     ghost use Rattle.std.specs.Prelude.{◌≡◌, ◌<◌, [], IsOk, IfOk, IfErr, OnOk, OnErr};
     ghost use Rattle.bl_map.specs.MachineFacts.{AllUsable};
-    ghost use Rattle.bl_plan.specs.Permitted.{AreUntaken, HasFixedFault, OrNoMemory};
+    ghost use Rattle.bl_plan.specs.Permitted.{AreUntaken, AreUnavoided, HasFixedFault, OrNoMemory};
     ghost use Rattle.bl_plan.specs.PlannerFacts.{AreTaken, with_taken};
 
     /// A planner of this machine, of which nothing is taken. It asks for no memory, so it is never
@@ -61,12 +61,13 @@ impl<'m, A: Allocator> Planner<'m, A> {
     /// Takes the bytes from `range.start` up to `range.end`, at least one.
     ///
     /// The first of these faults that stands refuses it, and the planner stays as it was:
-    /// - `NotUsable`: a byte of the range is not usable.
+    /// - `NotUsable`: a byte of the range is not usable, or is avoided.
     /// - `Overlap`: a byte of it is taken.
     /// - `NoMemory`: there was no memory to keep it.
     pub fn take_fixed(&mut self, range: Range<u64>) -> Result<(), PlanFault>
         requires filled { range.start < range.end }
         ensures free { OnOk result (AllUsable self.old.facts range.start range.end
+            × AreUnavoided self.old.facts range.start range.end
             × AreUntaken self.old.taken range.start range.end) }
         ensures taken { OnOk result (self.new ≡ with_taken self.old range) }
         ensures fault { IfErr result
@@ -74,6 +75,9 @@ impl<'m, A: Allocator> Planner<'m, A> {
         ensures unchanged { OnErr result (self.new ≡ self.old) }
     {
         if !self.machine.is_usable(range.start..range.end) {
+            return Err(PlanFault::NotUsable);
+        }
+        if let Some(_) = avoided_stretch(self.machine, range.start, range.end) {
             return Err(PlanFault::NotUsable);
         }
         if let Some(_) = taken_stretch(self.taken.as_slice(), range.start, range.end) {

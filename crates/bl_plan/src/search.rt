@@ -5,7 +5,7 @@ ghost use Rattle.bl_mem.specs.Least.{IsLeast, IsGreatest};
 ghost use Rattle.bl_plan.specs.Permitted.{IsAtSide};
 ghost use Rattle.bl_plan.specs.internal.FreeBytes.{IsPermittedIn, CanSearch, Finds};
 
-use crate::blocked_stretch::{blocked_stretch, taken_stretch};
+use crate::blocked_stretch::{avoided_stretch, blocked_stretch, taken_stretch};
 use crate::part::{Side, Window};
 use crate::rounding::{round_down, round_up};
 use bl_map::{FIRST_USABLE, Machine, USABLE_LIMIT};
@@ -117,6 +117,9 @@ pub fn is_permitted<A: Allocator>(
         return false;
     }
     if !machine.is_usable(at..at + length) {
+        return false;
+    }
+    if let Some(_) = avoided_stretch(machine, at, at + length) {
         return false;
     }
     match taken_stretch(taken, at, at + length) {

@@ -1,8 +1,10 @@
-//! Which byte of a range is the first that is not usable.
-ghost use Rattle.std.specs.Prelude.{◌<◌, ◌≤◌, MatchOption};
+//! Which byte of a range is the first on which no part may lie.
+ghost use Rattle.std.specs.Prelude.{◌<◌, ◌≤◌, All, MatchOption};
 ghost use Rattle.bl_mem.specs.Least.{IsLeast};
-ghost use Rattle.bl_map.specs.MachineFacts.{AllUsable};
-ghost use Rattle.bl_plan.specs.Unusable.{IsUnusableFrom};
+ghost use Rattle.bl_mem.specs.Memory.{IsIn};
+ghost use Rattle.bl_map.specs.MachineFacts.{AllUsable, IsUsable};
+ghost use Rattle.bl_plan.specs.Permitted.{AreUntaken, AreUnavoided};
+ghost use Rattle.bl_plan.specs.Unusable.{IsUnusableFrom, IsUnplaceableFrom};
 
 use bl_map::Machine;
 use std::alloc::Allocator;
@@ -45,4 +47,63 @@ pub fn first_unusable<A: Allocator>(machine: &Machine<A>, range: Range<u64>) -> 
         return None;
     }
     Some(first_between(machine, range.start, range.start, range.end))
+}
+
+/// Where the usable bytes from `start` on end, at `end` at the latest.
+fn usable_before<A: Allocator>(machine: &Machine<A>, start: u64, end: u64) -> u64
+    requires forward { start ≤ end }
+    ensures from { start ≤ result }
+    ensures within { result ≤ end }
+    ensures before { AllUsable machine.now start result }
+    ensures behind { result < end → ¬ IsUsable machine.now result }
+{
+    match first_unusable(machine, start..end) {
+        Some(a) => a,
+        None => end,
+    }
+}
+
+/// The first address from `start` on that lies in one of the ranges, `end` if there is none before
+/// it.
+fn first_in(ranges: &[Range<u64>], start: u64, end: u64) -> u64
+    requires forward { start ≤ end }
+    ensures from { start ≤ result }
+    ensures within { result ≤ end }
+    ensures before { AreUntaken ranges.now start result }
+    ensures behind { result < end → ¬ All (λ range. ¬ IsIn range result) ranges.now }
+{
+    let mut first = end;
+    for range in ranges {
+        let at = range.start.max(start);
+        if at < range.end && at < first {
+            first = at;
+        }
+    }
+    first
+}
+
+/// The first address from `start` on that is avoided, `end` if there is none before it.
+fn first_avoided<A: Allocator>(machine: &Machine<A>, start: u64, end: u64) -> u64
+    requires forward { start ≤ end }
+    ensures from { start ≤ result }
+    ensures within { result ≤ end }
+    ensures before { AreUnavoided machine.now start result }
+    ensures behind { result < end
+        → ¬ All (λ range. ¬ IsIn range result) machine.now.firmware.avoided }
+{
+    first_in(machine.avoided(), start, end)
+}
+
+/// The first address of the range that is not usable, as `first_unusable` tells it, or is avoided;
+/// none if no byte of the range is either.
+pub fn first_unplaceable<A: Allocator>(machine: &Machine<A>, range: Range<u64>) -> Option<u64>
+    requires forward { range.start ≤ range.end }
+    ensures { MatchOption result
+        (AllUsable machine.now range.start range.end
+        × AreUnavoided machine.now range.start range.end)
+        (λ a. (a < range.end) × IsLeast (IsUnplaceableFrom machine.now range.start) a) }
+{
+    let usable = usable_before(machine, range.start, range.end);
+    let first = first_avoided(machine, range.start, usable);
+    if first < range.end { Some(first) } else { None }
 }

@@ -1,6 +1,6 @@
 -- A Multiboot2 kernel is entered in one of its places.
-use Rattle.std.proofs.Common.{◌≡◌, ◌+◌, ◌-◌, ◌||◌, ◌++◌, ◌∷◌, ℕ, suc, true, false, List, [], Option}
-use Rattle.std.proofs.Common.{Some, None, refl, sym, ap, arith, subst}
+use Rattle.std.proofs.Common.{◌≡◌, ◌+◌, ◌-◌, ◌||◌, ◌++◌, ◌∷◌, ℕ, suc, Bool, true, false, List, []}
+use Rattle.std.proofs.Common.{Option, Some, None, refl, sym, ap, arith, subst}
 use Rattle.std.specs.List.{list_any}
 use Rattle.std.proofs.Math.Bool.{or-true}
 use Rattle.std.specs.declared.ops.Range.{Range}
@@ -50,8 +50,8 @@ segments_enter facts taken k entry (s ∷ segments) rest (p ∷ places) placed h
     ] refl held
 
 -- the entry is that of a segment
-entry_is_held : (file : List ℕ) (kernel : Multiboot2KernelFacts) → IsMultiboot2Kernel file kernel
-    → list_any (is_in_segment kernel.entry) kernel.segments ≡ true
+entry_is_held : {screen : Bool} (file : List ℕ) (kernel : Multiboot2KernelFacts)
+    → IsMultiboot2Kernel screen file kernel → list_any (is_in_segment kernel.entry) kernel.segments ≡ true
 entry_is_held file kernel is =
     let sound : entry_point_fault kernel.segments (Some kernel.entry) ≡ None =
     subst (λ (e : Option ℕ). entry_point_fault kernel.segments e ≡ None) is.entry
@@ -60,8 +60,8 @@ entry_is_held file kernel is =
     entry_held kernel.segments kernel.entry sound
 
 -- with a relocatable tag or without one: `given` is the kernel's own
-module _ (facts : MachineFacts) (file : List ℕ) (kernel : Multiboot2KernelFacts) (rest : List Row)
-    (is : IsMultiboot2Kernel file kernel) where
+module _ {screen : Bool} (facts : MachineFacts) (file : List ℕ) (kernel : Multiboot2KernelFacts)
+    (rest : List Row) (is : IsMultiboot2Kernel screen file kernel) where
   -- the block holds the entry that moved with it
   block_holds : (base : ℕ) (p : Place) → p.role ≡ Kernel → p.address ≡ base
       → p.length ≡ span_of kernel.segments

@@ -1,7 +1,7 @@
 -- What a Multiboot2 kernel is told fits its fields, and stands in the image of its handover.
 use Rattle.std.proofs.Common.{◌≡◌, ◌+◌, ◌<◌, ◌≤◌, ◌^◌, ◌∷◌, ◌++◌, ℕ, true, List, [], length, take}
 use Rattle.std.proofs.Common.{Some, None, refl, arith, All, AllPairs}
-use Rattle.std.specs.Prelude.{is_some, codes}
+use Rattle.std.specs.Prelude.{is_some, codes, option_map}
 use Rattle.std.specs.List.{list_any}
 use Rattle.std.proofs.lemmas.List.Elements.{All-head, All-tail}
 use Rattle.bl_map.specs.MachineFacts.{MachineFacts, IsWellFormedMachine}
@@ -19,11 +19,13 @@ use Rattle.bl_load.specs.Multiboot2Kernel.{Multiboot2KernelFacts, IsMultiboot2Ke
 use Rattle.bl_load.specs.WellFormedEntry.{IsWellFormedValue}
 use Rattle.bl_load.specs.Parts.{content_of, handover_of}
 use Rattle.bl_load.specs.internal.Placing.{module_tags_size}
-use Rattle.bl_load.specs.KernelReading.{multiboot2}
+use Rattle.bl_load.specs.KernelReading.{multiboot2, has_screen}
 use Rattle.bl_load.specs.Rows.{rows_of, kernel_rows, module_rows, information_row, information_of}
 use Rattle.bl_load.specs.EntryValue.{EntryValue, kernel_file, module_file, line_fault, lines_fault}
 use Rattle.bl_load.specs.EntryValue.{lines_of}
 use Rattle.bl_load.proofs.EntryLemmas.{small_address}
+use Rattle.bl_load.proofs.FirmwareLemmas.{machine_screen, machine_efi, machine_smbios}
+use Rattle.bl_load.proofs.FirmwareLemmas.{efi_map_few, smbios_few}
 use Rattle.bl_load.proofs.InformationLemmas.{info_size_is, tags_small, told_below}
 use Rattle.bl_load.proofs.LineLemmas.{sound_text, sound_short, first_sound}
 use Rattle.bl_load.proofs.ModuleLemmas.{modules_end_low}
@@ -60,7 +62,7 @@ module _ (facts : MachineFacts) (value : EntryValue) (kernel : Multiboot2KernelF
     (places : List Place)
     (machine : IsWellFormedMachine facts) (offered : IsWellFormedValue value)
     (lines : lines_fault (lines_of value) ≡ None)
-    (is_kernel : IsMultiboot2Kernel (kernel_file value) kernel)
+    (is_kernel : IsMultiboot2Kernel (has_screen facts) (kernel_file value) kernel)
     (placed : ArePlaced facts [] (rows_of facts value (multiboot2 kernel)) places)
     (apart : AllPairs (λ p q. end_of p ≤ q.address)
     (handover_of facts value (multiboot2 kernel) places).parts) where
@@ -115,6 +117,9 @@ module _ (facts : MachineFacts) (value : EntryValue) (kernel : Multiboot2KernelF
         mem_lower = omega arith;
         mem_upper = omega arith;
         runs = machine.runs.low;
+        screen = machine_screen facts machine;
+        efi = machine_efi facts machine;
+        smbios = machine_smbios facts machine;
         rsdp_old = offered.rsdp_old;
         rsdp_new = offered.rsdp_new;
         load_base = base_fits kernel.relocation (address_of Kernel 0 places) (omega arith);
@@ -128,9 +133,13 @@ module _ (facts : MachineFacts) (value : EntryValue) (kernel : Multiboot2KernelF
       let tags = tags_small value.module_lines (lines_short value.module_lines split.1) in
       let small : module_tags_size value.module_lines < 2 ^ 20 = omega (arith, few, tags) in
       let below =
-      told_below (length value.line) (module_tags_size value.module_lines) (length facts.runs)
-      value.rsdp_old value.rsdp_new (is_some kernel.relocation) short machine.few small
-      offered.limits.rsdp_old offered.limits.rsdp_new in
+      told_below (length value.line) (length facts.runs) (is_some facts.firmware.screen)
+      (option_map (λ told. length told.map) facts.firmware.efi)
+      (option_map (λ told. length told.tables) facts.firmware.smbios)
+      value.rsdp_old value.rsdp_new (is_some kernel.relocation) short machine.few
+      (efi_map_few facts machine) (smbios_few facts machine)
+      offered.limits.rsdp_old offered.limits.rsdp_new
+      (module_tags_size value.module_lines) small in
       let whole = length-spelling (told facts value kernel places) in
       let sum = info_size_is facts value kernel.relocation places in
       omega (arith, below, whole, sum)

@@ -15,16 +15,16 @@ use Rattle.bl_load.specs.Handover.{end_of}
 use Rattle.bl_load.specs.Multiboot2Kernel.{Multiboot2KernelFacts, IsMultiboot2Kernel}
 use Rattle.bl_load.specs.WellFormedEntry.{IsWellFormedValue}
 use Rattle.bl_load.specs.Parts.{handover_of, entered_at, kernel_entry_base}
-use Rattle.bl_load.specs.KernelReading.{multiboot2}
+use Rattle.bl_load.specs.KernelReading.{multiboot2, has_screen}
 use Rattle.bl_load.specs.Registers.{entry_in, information_in}
 use Rattle.bl_load.specs.Rows.{rows_of, kernel_rows, module_rows}
 use Rattle.bl_load.specs.EntryValue.{EntryValue, kernel_file, module_file, lines_fault, lines_of}
 use Rattle.bl_walk.specs.Seen.{HasTotalSize, IsInformation, HasInformation, InformationShows}
-use Rattle.bl_walk.specs.Seen.{IsSeen}
+use Rattle.bl_walk.specs.Seen.{IsSeen, firmware_in_information}
 use Rattle.bl_walk.specs.internal.Walking.{seen_without_files}
 use Rattle.bl_walk.specs.SeenFacts.{SeenFacts}
 use Rattle.bl_walk.specs.EntryShown.{ShowsSegments, ShowsKernel, ShowsModules, ShowsFiles}
-use Rattle.bl_walk.specs.EntryShown.{ShowsEntry}
+use Rattle.bl_walk.specs.EntryShown.{ShowsEntry, told_firmware}
 use Rattle.bl_walk.specs.State.{IsEntered}
 use Rattle.bl_walk.specs.PartBytes.{bytes_in}
 use Rattle.bl_walk.proofs.EnteredLemmas.{entered_place}
@@ -44,7 +44,7 @@ module _ (facts : MachineFacts) (value : EntryValue) (kernel : Multiboot2KernelF
     (places : List Place)
     (machine : IsWellFormedMachine facts) (offered : IsWellFormedValue value)
     (lines : lines_fault (lines_of value) ≡ None)
-    (is_kernel : IsMultiboot2Kernel (kernel_file value) kernel)
+    (is_kernel : IsMultiboot2Kernel (has_screen facts) (kernel_file value) kernel)
     (placed : ArePlaced facts [] (rows_of facts value (multiboot2 kernel)) places)
     (apart : AllPairs (λ p q. end_of p ≤ q.address)
     (handover_of facts value (multiboot2 kernel) places).parts) where
@@ -106,11 +106,12 @@ module _ (facts : MachineFacts) (value : EntryValue) (kernel : Multiboot2KernelF
     }
 
     abbrev pub seen : SeenFacts
-    seen = record (seen_without_files (handover facts value kernel places) value.line facts.runs) {
-      modules = shown_modules value.files places 0 value.module_lines;
-      rsdp_old = value.rsdp_old;
-      rsdp_new = value.rsdp_new;
-    }
+    seen = record (seen_without_files (handover facts value kernel places) value.line facts.runs
+        (firmware_in_information (told facts value kernel places))) {
+          modules = shown_modules value.files places 0 value.module_lines;
+          rsdp_old = value.rsdp_old;
+          rsdp_new = value.rsdp_new;
+        }
 
     shows : InformationShows (handover facts value kernel places) seen
     shows = record {
@@ -129,6 +130,7 @@ module _ (facts : MachineFacts) (value : EntryValue) (kernel : Multiboot2KernelF
       runs = refl;
       rsdp_old = refl;
       rsdp_new = refl;
+      firmware = refl;
     }
 
     pub information_seen : IsSeen (handover facts value kernel places) seen
@@ -185,10 +187,13 @@ module _ (facts : MachineFacts) (value : EntryValue) (kernel : Multiboot2KernelF
       protocol = refl;
       line = refl;
       kernel =
-          subst (λ (p : Protocol). ShowsKernel value seen p) (sym protocol)
+          subst (λ (p : Protocol). ShowsKernel facts value seen p) (sym protocol)
           (kernel, is_kernel, segments);
       files = subst (λ (p : Protocol). ShowsFiles value seen p) (sym protocol) modules;
       runs = refl;
+      firmware =
+          subst (λ (p : Protocol). seen.firmware ≡ told_firmware facts.firmware p)
+          (sym protocol) refl;
     }
 
     pub information_entered : IsEntered (handover facts value kernel places)

@@ -14,6 +14,7 @@ use Rattle.bl_params.specs.ParamsToWriteFacts.{ParamsToWriteFacts, AreE820Runs}
 use Rattle.bl_params.specs.ParamsFacts.{ParamsFacts}
 use Rattle.bl_params.specs.WrittenParams.{FitParamFields, params_of}
 use Rattle.bl_params.proofs.Lengths.{length-boot_params}
+use Rattle.bl_params.proofs.MachineTold.{machine_told, machine_rsdp_small}
 use Rattle.bl_params.proofs.WrittenIsRead.{written_is_read}
 use Rattle.bl_plan.specs.Placed.{ArePlaced}
 use Rattle.bl_plan.specs.declared.part.Place.{Place}
@@ -100,6 +101,8 @@ module _ (facts : MachineFacts) (value : EntryValue) (setup : Setup) (places : L
             initrd_fits facts value.protocol setup (initrd facts value setup places) places placed
             low;
         cmd_line_ptr = omega arith;
+        told = machine_told facts machine;
+        rsdp = machine_rsdp_small facts machine;
       }
 
   are_told : AreE820Runs (told facts value setup places).runs

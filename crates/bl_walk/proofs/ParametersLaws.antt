@@ -27,10 +27,10 @@ use Rattle.bl_load.proofs.LinuxKernelLemmas.{setup_is}
 use Rattle.bl_load.proofs.PageTablesLemmas.{tables_fit}
 use Rattle.bl_walk.specs.declared.seen.SeenPart.{SeenPart}
 use Rattle.bl_walk.specs.internal.Walking.{seen_without_files}
-use Rattle.bl_walk.specs.Seen.{ParametersShow, IsSeen}
+use Rattle.bl_walk.specs.Seen.{ParametersShow, IsSeen, firmware_in_parameters}
 use Rattle.bl_walk.specs.SeenFacts.{SeenFacts}
 use Rattle.bl_walk.specs.EntryShown.{ShowsEntry, ShowsKernel, ShowsFiles, ShowsPayload}
-use Rattle.bl_walk.specs.EntryShown.{ShowsRamdisk}
+use Rattle.bl_walk.specs.EntryShown.{ShowsRamdisk, told_firmware}
 use Rattle.bl_walk.specs.State.{IsEntered}
 use Rattle.bl_walk.proofs.KernelLemmas.{AreSplit, are_split, first_places, kernel_shown, seen_place}
 use Rattle.bl_walk.proofs.EntryPartLemmas.{entered_in}
@@ -51,11 +51,12 @@ module _ (facts : MachineFacts) (value : EntryValue) (setup : Setup) (places : L
   -- ---- all of it
 
   abbrev pub seen : SeenFacts
-  seen = record (seen_without_files (handover facts value setup places) value.line facts.runs) {
-    initrd =
-        (ramdisk facts value setup places machine offered lines handed is_kernel placed apart
-        (initrd facts value setup places) refl).0;
-  }
+  seen = record (seen_without_files (handover facts value setup places) value.line facts.runs
+      (firmware_in_parameters (params facts value setup places))) {
+        initrd =
+            (ramdisk facts value setup places machine offered lines handed is_kernel placed apart
+            (initrd facts value setup places) refl).0;
+      }
 
   shows : ParametersShow (handover facts value setup places) seen
   shows =
@@ -71,6 +72,7 @@ module _ (facts : MachineFacts) (value : EntryValue) (setup : Setup) (places : L
         runs = refl;
         rsdp_old = refl;
         rsdp_new = refl;
+        firmware = refl;
       }
 
   pub linux_seen : IsSeen (handover facts value setup places) seen
@@ -113,10 +115,16 @@ module _ (facts : MachineFacts) (value : EntryValue) (setup : Setup) (places : L
 
   -- so a kernel is shown that is handed boot parameters, and its files
   kernel_by : (p : Protocol) → has_params p ≡ true → ShowsPayload (entry_offset p) setup seen
-      → ShowsKernel value seen p
+      → ShowsKernel facts value seen p
   kernel_by Multiboot2 is shown = absurd (cc)
   kernel_by Linux is shown = (setup, setup_is is_kernel, shown)
   kernel_by Linux64 is shown = (setup, setup_is is_kernel, shown)
+
+  firmware_by : (p : Protocol) → has_params p ≡ true
+      → seen.firmware ≡ told_firmware facts.firmware p
+  firmware_by Multiboot2 is = absurd (cc)
+  firmware_by Linux is = refl
+  firmware_by Linux64 is = refl
 
   files_by : (p : Protocol) → has_params p ≡ true → ShowsRamdisk value seen
       → ShowsFiles value seen p
@@ -140,6 +148,7 @@ module _ (facts : MachineFacts) (value : EntryValue) (setup : Setup) (places : L
           rsdp_new = refl;
         });
     runs = refl;
+    firmware = firmware_by value.protocol handed;
   }
 
   pub linux_entered : IsEntered (handover facts value setup places)

@@ -6,7 +6,8 @@ use Rattle.bl_mbi.specs.InfoFacts.{InfoFacts}
 use Rattle.bl_params.specs.ParamsFacts.{ParamsFacts}
 use Rattle.bl_load.specs.Handover.{Part, Handover}
 use Rattle.bl_walk.specs.Seen.{IsSeenModule, AreSeenModules, InformationShows, IsLine, IsInitrd}
-use Rattle.bl_walk.specs.Seen.{ParametersShow, IsSeen, text_to_zero}
+use Rattle.bl_walk.specs.Seen.{ParametersShow, IsSeen, text_to_zero, firmware_in_information}
+use Rattle.bl_walk.specs.Seen.{firmware_in_parameters}
 use Rattle.bl_walk.specs.SeenFacts.{SeenModuleFacts, SeenFileFacts, SeenFacts}
 use Rattle.bl_walk.proofs.LengthLemmas.{same_some}
 use Rattle.bl_walk.proofs.OneToldLemmas.{not_handed, same_info, same_params}
@@ -55,6 +56,7 @@ record AreSame (s t : SeenFacts) : Type 0 where
   runs : s.map ≡ t.map
   rsdp_old : s.rsdp_old ≡ t.rsdp_old
   rsdp_new : s.rsdp_new ≡ t.rsdp_new
+  firmware : s.firmware ≡ t.firmware
 
 by_information : (h : Handover) (s t : SeenFacts) → InformationShows h s → InformationShows h t
     → AreSame s t
@@ -70,6 +72,9 @@ by_information h s t a b =
       runs = a.runs ∙ ap (λ (i : InfoFacts). i.facts.runs) same ∙ sym b.runs;
       rsdp_old = a.rsdp_old ∙ ap (λ (i : InfoFacts). i.facts.rsdp_old) same ∙ sym b.rsdp_old;
       rsdp_new = a.rsdp_new ∙ ap (λ (i : InfoFacts). i.facts.rsdp_new) same ∙ sym b.rsdp_new;
+      firmware =
+          a.firmware ∙ ap (λ (i : InfoFacts). firmware_in_information i.facts) same
+          ∙ sym b.firmware;
     }
 
 by_parameters : (h : Handover) (s t : SeenFacts) → ParametersShow h s → ParametersShow h t
@@ -85,6 +90,7 @@ by_parameters h s t a b =
       runs = a.runs ∙ ap (λ (p : ParamsFacts). p.runs) same ∙ sym b.runs;
       rsdp_old = a.rsdp_old ∙ sym b.rsdp_old;
       rsdp_new = a.rsdp_new ∙ sym b.rsdp_new;
+      firmware = a.firmware ∙ ap firmware_in_parameters same ∙ sym b.firmware;
     }
 
 -- one protocol
@@ -111,6 +117,7 @@ seen_is_determined h s t a b =
     let runs = same.runs in
     let rsdp_old = same.rsdp_old in
     let rsdp_new = same.rsdp_new in
+    let firmware = same.firmware in
     λ i. record {
       protocol = protocol i;
       entry = entry i;
@@ -121,4 +128,5 @@ seen_is_determined h s t a b =
       map = runs i;
       rsdp_old = rsdp_old i;
       rsdp_new = rsdp_new i;
+      firmware = firmware i;
     }

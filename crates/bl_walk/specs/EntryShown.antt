@@ -4,6 +4,7 @@ use Rattle.std.specs.Prelude.{All, Option, Some, None, option_map}
 use Rattle.bl_mem.specs.declared.segment.Segment.{Segment}
 use Rattle.bl_map.specs.NormalMap.{region_end}
 use Rattle.bl_map.specs.Limits.{max_region_end}
+use Rattle.bl_map.specs.Firmware.{FirmwareFacts, efi_info}
 use Rattle.bl_map.specs.MachineFacts.{MachineFacts}
 use Rattle.bl_mb2head.specs.declared.relocation.Relocation.{Relocation}
 use Rattle.bl_bzimage.specs.declared.setup.Setup.{Setup}
@@ -11,13 +12,15 @@ use Rattle.bl_bzimage.specs.Setup.{IsSetup}
 use Rattle.bl_plan.specs.AddressOrder.{segments_in_order}
 use Rattle.bl_plan.specs.declared.protocol.Protocol.{Protocol}
 use Rattle.bl_plan.specs.declared.protocol.Protocol.TheVariants.{Multiboot2, Linux, Linux64}
+use Rattle.bl_mbi.specs.InfoToWriteFacts.{efi_tables}
 use Rattle.bl_load.specs.KernelBlock.{span_of}
 use Rattle.bl_load.specs.Multiboot2Kernel.{Multiboot2KernelFacts, IsMultiboot2Kernel}
+use Rattle.bl_load.specs.KernelReading.{has_screen}
 use Rattle.bl_load.specs.LinuxKernel.{entry_64}
 use Rattle.bl_load.specs.LinuxRows.{linux_kernel_row}
 use Rattle.bl_load.specs.Parts.{entered_at}
 use Rattle.bl_load.specs.EntryValue.{EntryValue, kernel_file, module_file, initrd_file}
-use Rattle.bl_walk.specs.SeenFacts.{SeenFacts}
+use Rattle.bl_walk.specs.SeenFacts.{SeenFirmwareFacts, SeenFacts}
 use Rattle.bl_walk.specs.declared.seen.SeenPart.{SeenPart}
 
 -- ---- the kernel
@@ -42,13 +45,14 @@ pub record ShowsPayload (offset : ℕ) (setup : Setup) (seen : SeenFacts) : Type
   pub kernel :
       seen.kernel ≡ record { address = base; length = (linux_kernel_row setup).length } ∷ []
 
-abbrev pub ShowsKernel : EntryValue → SeenFacts → Protocol → Type 0
-ShowsKernel value seen Multiboot2 =
-    (kernel : Multiboot2KernelFacts) × IsMultiboot2Kernel (kernel_file value) kernel
+abbrev pub ShowsKernel : MachineFacts → EntryValue → SeenFacts → Protocol → Type 0
+ShowsKernel facts value seen Multiboot2 =
+    (kernel : Multiboot2KernelFacts)
+    × IsMultiboot2Kernel (has_screen facts) (kernel_file value) kernel
     × ShowsSegments kernel.segments kernel.entry kernel.relocation seen
-ShowsKernel value seen Linux =
+ShowsKernel facts value seen Linux =
     (setup : Setup) × IsSetup (kernel_file value) setup × ShowsPayload 0 setup seen
-ShowsKernel value seen Linux64 =
+ShowsKernel facts value seen Linux64 =
     (setup : Setup) × IsSetup (kernel_file value) setup × ShowsPayload entry_64 setup seen
 
 -- ---- its other files, and the copies of the RSDP
@@ -80,15 +84,44 @@ ShowsFiles value seen Multiboot2 = ShowsModules value seen
 ShowsFiles value seen Linux = ShowsRamdisk value seen
 ShowsFiles value seen Linux64 = ShowsRamdisk value seen
 
+-- ---- what firmware tells
+
+-- Multiboot2: the screen, UEFI's system table and its memory map, SMBIOS
+abbrev pub multiboot2_firmware : FirmwareFacts → SeenFirmwareFacts
+multiboot2_firmware firmware = record {
+  screen = firmware.screen;
+  rsdp = None;
+  efi_info = None;
+  efi_tables = option_map efi_tables firmware.efi;
+  smbios = firmware.smbios;
+}
+
+-- Linux: the screen, the address of ACPI's root pointer, UEFI's numbers
+abbrev pub linux_firmware : FirmwareFacts → SeenFirmwareFacts
+linux_firmware firmware = record {
+  screen = firmware.screen;
+  rsdp = firmware.rsdp;
+  efi_info = option_map efi_info firmware.efi;
+  efi_tables = None;
+  smbios = None;
+}
+
+abbrev pub told_firmware : FirmwareFacts → Protocol → SeenFirmwareFacts
+told_firmware firmware Multiboot2 = multiboot2_firmware firmware
+told_firmware firmware Linux = linux_firmware firmware
+told_firmware firmware Linux64 = linux_firmware firmware
+
 -- ---- all
 
--- the entry's protocol, line, kernel, files and copies of the RSDP, and the machine's runs
+-- the entry's protocol, line, kernel, files and copies of the RSDP, the machine's runs, and what
+-- firmware tells by this protocol
 pub record ShowsEntry (facts : MachineFacts) (value : EntryValue) (seen : SeenFacts) : Type 0 where
   pub protocol : seen.protocol ≡ value.protocol
   pub line : seen.line ≡ value.line
-  pub kernel : ShowsKernel value seen value.protocol
+  pub kernel : ShowsKernel facts value seen value.protocol
   pub files : ShowsFiles value seen value.protocol
   pub runs : seen.map ≡ facts.runs
+  pub firmware : seen.firmware ≡ told_firmware facts.firmware value.protocol
 
 -- each run of the memory map that is seen ends at most at 2^52
 abbrev pub RunsEndLow : SeenFacts → Type 0

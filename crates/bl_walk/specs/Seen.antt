@@ -5,7 +5,7 @@ use Rattle.std.specs.Prelude.{◌≡◌, ◌-◌, ◌<◌, ◌≤◌, ◌^◌, �
 use Rattle.std.specs.Prelude.{◌==◌, true, Option, Some, None, option_map}
 use Rattle.std.specs.List.{filter, position}
 use Rattle.bl_mem.specs.LittleEndian.{u32_at}
-use Rattle.bl_mbi.specs.InfoToWriteFacts.{ModuleInfo}
+use Rattle.bl_mbi.specs.InfoToWriteFacts.{InfoToWriteFacts, ModuleInfo}
 use Rattle.bl_mbi.specs.InfoFacts.{InfoFacts, IsSpelling}
 use Rattle.bl_params.specs.ParamsFacts.{ParamsFacts}
 use Rattle.bl_params.specs.Reading.{IsParams}
@@ -16,7 +16,7 @@ use Rattle.bl_load.specs.Registers.{entry_in, information_in, params_in}
 use Rattle.bl_walk.specs.declared.seen.SeenPart.{SeenPart}
 use Rattle.bl_walk.specs.PartBytes.{bytes_in, rest_in}
 use Rattle.bl_walk.specs.State.{is_kernel}
-use Rattle.bl_walk.specs.SeenFacts.{SeenModuleFacts, SeenFileFacts, SeenFacts}
+use Rattle.bl_walk.specs.SeenFacts.{SeenModuleFacts, SeenFileFacts, SeenFirmwareFacts, SeenFacts}
 use Rattle.bl_mbi.specs.Size.{min_info_size}
 use Rattle.bl_params.specs.SizesAndOffsets.{params_size}
 
@@ -64,6 +64,16 @@ AreSeenModules parts (m ∷ modules) [] = ⊥
 AreSeenModules parts (m ∷ modules) (seen ∷ more) =
     IsSeenModule parts m seen × AreSeenModules parts modules more
 
+-- what it tells of firmware
+abbrev pub firmware_in_information : InfoToWriteFacts → SeenFirmwareFacts
+firmware_in_information facts = record {
+  screen = facts.screen;
+  rsdp = None;
+  efi_info = None;
+  efi_tables = facts.efi;
+  smbios = facts.smbios;
+}
+
 -- what the information shows
 pub record InformationShows (h : Handover) (seen : SeenFacts) : Type 0 where
   pub info : InfoFacts
@@ -74,6 +84,7 @@ pub record InformationShows (h : Handover) (seen : SeenFacts) : Type 0 where
   pub runs : seen.map ≡ info.facts.runs
   pub rsdp_old : seen.rsdp_old ≡ info.facts.rsdp_old
   pub rsdp_new : seen.rsdp_new ≡ info.facts.rsdp_new
+  pub firmware : seen.firmware ≡ firmware_in_information info.facts
 
 -- ---- Linux
 
@@ -105,6 +116,16 @@ IsInitrd parts params (Some file) =
     (1 ≤ params.ramdisk_size) × (file.address ≡ params.ramdisk_image)
     × (bytes_in parts params.ramdisk_image params.ramdisk_size ≡ Some file.bytes)
 
+-- what they tell of firmware
+abbrev pub firmware_in_parameters : ParamsFacts → SeenFirmwareFacts
+firmware_in_parameters params = record {
+  screen = params.screen;
+  rsdp = params.rsdp;
+  efi_info = params.efi;
+  efi_tables = None;
+  smbios = None;
+}
+
 -- what the boot parameters show
 pub record ParametersShow (h : Handover) (seen : SeenFacts) : Type 0 where
   pub params : ParamsFacts
@@ -115,6 +136,7 @@ pub record ParametersShow (h : Handover) (seen : SeenFacts) : Type 0 where
   pub runs : seen.map ≡ params.runs
   pub rsdp_old : seen.rsdp_old ≡ None
   pub rsdp_new : seen.rsdp_new ≡ None
+  pub firmware : seen.firmware ≡ firmware_in_parameters params
 
 -- ---- both
 

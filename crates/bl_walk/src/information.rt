@@ -8,6 +8,7 @@ ghost use Rattle.bl_mbi.specs.Size.{min_info_size};
 use crate::fault::WalkFault;
 use crate::followed_bytes::follow;
 use crate::seen::Seen;
+use crate::seen_firmware::SeenFirmware;
 use crate::seen_modules::modules_at;
 use bl_image::Image;
 use bl_mbi::{Info, MIN_INFO_SIZE, read_info};
@@ -51,7 +52,14 @@ pub(crate) fn shown_by_information<'a, A: Allocator + Copy>(
 {
     let info = information(alloc, image)?;
     let modules = modules_at(alloc, image, info.modules.as_slice())?;
-    let mut seen = Seen::new(alloc, image, info.line, info.runs)?;
+    let firmware = SeenFirmware {
+        screen: info.screen,
+        rsdp: None,
+        efi_info: None,
+        efi_tables: info.efi,
+        smbios: info.smbios,
+    };
+    let mut seen = Seen::new(alloc, image, info.line, info.runs, firmware)?;
     seen.modules = modules;
     seen.rsdp_old = info.rsdp_old;
     seen.rsdp_new = info.rsdp_new;

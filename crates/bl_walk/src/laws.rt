@@ -36,8 +36,9 @@ pub fn ranges_lie_in_one_part()
 {}
 
 /// What an entry hands over shows its kernel the entry: its protocol, its line, where its kernel
-/// lies and is entered, the bytes of its other files, its copies of the RSDP under Multiboot2, and
-/// the machine's runs; the kernel is entered as its protocol says; and no fault stands in it.
+/// lies and is entered, the bytes of its other files, its copies of the RSDP under Multiboot2, the
+/// machine's runs, and what firmware tells by its protocol; the kernel is entered as its protocol
+/// says; and no fault stands in it.
 pub fn handovers_are_seen()
     ensures seen { (facts : MachineFacts) (value : EntryValue) (h : Handover)
         → IsWellFormedMachine facts → IsWellFormedValue value → IsHandover facts value h

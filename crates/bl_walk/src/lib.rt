@@ -9,6 +9,7 @@ mod laws;
 mod parameters;
 mod part_bytes;
 mod seen;
+mod seen_firmware;
 mod seen_modules;
 mod state;
 mod walking;
@@ -19,4 +20,5 @@ pub use laws::{
     seen_is_sound, seen_runs_end_low,
 };
 pub use seen::{Seen, SeenFile, SeenModule, SeenPart};
+pub use seen_firmware::SeenFirmware;
 pub use walking::walk;

@@ -8,6 +8,7 @@ use crate::fault::WalkFault;
 use crate::followed_bytes::{follow, text_to_zero};
 use crate::part_bytes::rest_at;
 use crate::seen::{Seen, SeenFile};
+use crate::seen_firmware::SeenFirmware;
 use bl_image::Image;
 use bl_mem::Bytes;
 use bl_params::{PARAMS_SIZE, Params, read_params};
@@ -69,7 +70,14 @@ pub(crate) fn shown_by_parameters<'a, A: Allocator + Copy>(
     let params = parameters(alloc, image)?;
     let line = line(alloc, image, &params)?;
     let initrd = initrd(image, &params)?;
-    let mut seen = Seen::new(alloc, image, line, params.runs)?;
+    let firmware = SeenFirmware {
+        screen: params.screen,
+        rsdp: params.rsdp,
+        efi_info: params.efi,
+        efi_tables: None,
+        smbios: None,
+    };
+    let mut seen = Seen::new(alloc, image, line, params.runs, firmware)?;
     seen.initrd = initrd;
     Ok(seen)
 }

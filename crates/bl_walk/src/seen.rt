@@ -1,5 +1,6 @@
 //! What a kernel sees in an image.
 use crate::kernel_parts::kernel_of;
+use crate::seen_firmware::SeenFirmware;
 use bl_image::Image;
 use bl_load::Protocol;
 use bl_map::Region;
@@ -56,9 +57,9 @@ impl<'a> Model for SeenFile<'a> {
 
 /// What a kernel sees in an image: how and where it is entered, a physical address, its line, its
 /// parts in address order, the modules in order (none under Linux), the initial ramdisk (none under
-/// Multiboot2, nor where it has no byte), the memory map's runs, and the copies of the Root System
+/// Multiboot2, nor where it has no byte), the memory map's runs, the copies of the Root System
 /// Description Pointer (Multiboot2 3.6.16 "ACPI old RSDP", 3.6.17 "ACPI new RSDP"; none under
-/// Linux). The bytes of files are those of the image, and are not copied.
+/// Linux), and what firmware tells. The bytes of files are those of the image, and are not copied.
 #[derive(Drop)]
 pub struct Seen<'a, A: Allocator> {
     pub protocol: Protocol,
@@ -70,6 +71,7 @@ pub struct Seen<'a, A: Allocator> {
     pub map: Vec<Region, A>,
     pub rsdp_old: Option<Bytes<A>>,
     pub rsdp_new: Option<Bytes<A>>,
+    pub firmware: SeenFirmware<A>,
 }
 
 impl<'a, A: Allocator> Model for Seen<'a, A> {
@@ -87,6 +89,7 @@ impl<'a, A: Allocator> Model for Seen<'a, A> {
       map = s.map.items;
       rsdp_old = s.rsdp_old;
       rsdp_new = s.rsdp_new;
+      firmware = s.firmware;
     } };
 }
 
@@ -94,15 +97,17 @@ impl<'a, A: Allocator + Copy> Seen<'a, A> {
     ghost use Rattle.std.specs.Prelude.{◌≡◌, IfOk};
     ghost use Rattle.bl_walk.specs.internal.Walking.{seen_without_files};
 
-    /// What a kernel sees in an image that is told this line and these runs, and of no file and no
-    /// copy of an RSDP beside them: what else it is told of is put in its place.
+    /// What a kernel sees in an image that is told this line, these runs and this of firmware, and
+    /// of no file and no copy of an RSDP: what else it is told of is put in its place.
     pub(crate) fn new(
         alloc: A,
         image: &Image<A>,
         line: Bytes<A>,
         map: Vec<Region, A>,
+        firmware: SeenFirmware<A>,
     ) -> Result<Seen<'a, A>, AllocError>
-        ensures { IfOk result (λ seen. seen ≡ seen_without_files image.now line map.items) }
+        ensures { IfOk result (λ seen.
+            seen ≡ seen_without_files image.now line map.items firmware) }
     {
         Ok(Seen {
             protocol: image.protocol(),
@@ -114,6 +119,7 @@ impl<'a, A: Allocator + Copy> Seen<'a, A> {
             map,
             rsdp_old: None,
             rsdp_new: None,
+            firmware,
         })
     }
 }

@@ -6,7 +6,9 @@ ghost use Rattle.c_records.specs.WalkTold.{TellsWalk, TellsWalkAll};
 ghost use Rattle.c_records.specs.declared.seen_records.WalkStop.{WalkStop};
 
 use c_abi::{walk_all_told, walk_told};
-use c_records::{RefusalRecord, RegionRecord, SeenModuleRecord, SeenPartRecord, SeenRecord};
+use c_records::{
+    RefusalRecord, RegionRecord, SeenFirmwareRecord, SeenModuleRecord, SeenPartRecord, SeenRecord,
+};
 use std::alloc::Global;
 
 /// An image in memory is walked.
@@ -34,6 +36,7 @@ pub extern "C" fn bootcore_walk_all_arrays(
     modules: &mut [SeenModuleRecord],
     runs: &mut [RegionRecord],
     text: &mut [u8],
+    firmware: &mut SeenFirmwareRecord,
     fault: &mut RefusalRecord,
 ) -> u32
     ensures { (end : Result WalkRecordsFacts WalkStop)
@@ -45,6 +48,7 @@ pub extern "C" fn bootcore_walk_all_arrays(
           modules = modules.old;
           runs = runs.old;
           text = text.old;
+          firmware = firmware.old;
         })
         (record {
           seen = told.new;
@@ -52,8 +56,11 @@ pub extern "C" fn bootcore_walk_all_arrays(
           modules = modules.new;
           runs = runs.new;
           text = text.new;
+          firmware = firmware.new;
         })
         fault.old fault.new }
 {
-    walk_all_told(alloc, image, told, kernel, modules, runs, text, fault)
+    walk_all_told(
+        alloc, image, told, kernel, modules, runs, text, firmware, fault,
+    )
 }

@@ -6,6 +6,7 @@ mod PlanLemmas
 mod PlanLaws
 mod UnplacedLemmas
 mod DigestLemmas
+mod MapFaultLaws
 mod MachineLaws
 mod FaultLaws
 mod PrepareLaws

@@ -12,8 +12,8 @@ ghost use Rattle.c_records.specs.declared.seen_records.WalkStop.{WalkStop};
 use bl_image::{Image, ImageFault, IoSource, read_image};
 use bl_walk::{WalkFault, walk};
 use c_records::{
-    RefusalRecord, RegionRecord, SeenModuleRecord, SeenPartRecord, SeenRecord, SeenVectors,
-    WalkStop, records_of, stop_status, stop_told, tell_records, tell_walk,
+    RefusalRecord, RegionRecord, SeenFirmwareRecord, SeenModuleRecord, SeenPartRecord, SeenRecord,
+    SeenVectors, WalkStop, records_of, stop_status, stop_told, tell_records, tell_walk,
 };
 use std::alloc::Allocator;
 
@@ -72,6 +72,7 @@ pub fn walk_all_told<A: Allocator + Copy>(
     modules: &mut [SeenModuleRecord],
     runs: &mut [RegionRecord],
     text: &mut [u8],
+    firmware: &mut SeenFirmwareRecord,
     fault: &mut RefusalRecord,
 ) -> u32
     ensures { (end : Result WalkRecordsFacts WalkStop)
@@ -83,6 +84,7 @@ pub fn walk_all_told<A: Allocator + Copy>(
           modules = modules.old;
           runs = runs.old;
           text = text.old;
+          firmware = firmware.old;
         })
         (record {
           seen = told.new;
@@ -90,12 +92,13 @@ pub fn walk_all_told<A: Allocator + Copy>(
           modules = modules.new;
           runs = runs.new;
           text = text.new;
+          firmware = firmware.new;
         })
         fault.old fault.new }
 {
     let end = walk_bytes(alloc, bytes);
     match end {
-        Ok(records) => tell_records(&records, told, kernel, modules, runs, text),
+        Ok(records) => tell_records(&records, told, kernel, modules, runs, text, firmware),
         Err(stop) => {
             *fault = stop_told(stop);
             stop_status(stop)

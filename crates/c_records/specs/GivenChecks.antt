@@ -1,12 +1,15 @@
 -- What C may not give, in the order of these lines. Own.
-use Rattle.std.specs.Prelude.{ℕ, Bool, true, ◌&&◌, not, nat_le, ◌==◌, if◌then◌else◌, Option, Some}
-use Rattle.std.specs.Prelude.{None, List, [], ◌∷◌, length, ◌≡◌, Result, MatchResult}
+use Rattle.std.specs.Prelude.{ℕ, Bool, true, ◌&&◌, ◌||◌, not, nat_le, ◌==◌, if◌then◌else◌, Option}
+use Rattle.std.specs.Prelude.{Some, None, List, [], ◌∷◌, length, ◌≡◌, Result, MatchResult}
 use Rattle.std.specs.List.{list_all}
 use Rattle.std.specs.Option.{option_or}
 use Rattle.bl_plan.specs.MenuLimits.{max_modules}
+use Rattle.c_records.specs.declared.firmware_records.EfiRecord.{EfiRecord}
+use Rattle.c_records.specs.declared.given_records.MachineRecord.{MachineRecord}
 use Rattle.c_records.specs.declared.given_records.RegionRecord.{RegionRecord}
 use Rattle.c_records.specs.declared.given_records.EntryRecord.{EntryRecord}
 use Rattle.c_records.specs.declared.misuse.Misuse.{Misuse}
+use Rattle.c_records.specs.declared.misuse.Misuse.TheVariants.{BadKind, BadEfiBits, BadSecureBoot}
 use Rattle.c_records.specs.declared.misuse.Misuse.TheVariants.{BadProtocol}
 
 -- the number of a kind of memory
@@ -16,6 +19,22 @@ is_kind kind = nat_le 1 kind && nat_le kind 5
 -- each region is of a kind
 abbrev pub have_kinds : List RegionRecord → Bool
 have_kinds regions = list_all (λ region. is_kind region.kind) regions
+
+-- the number of UEFI's bits, and that of the state of secure boot; without a system table no UEFI
+-- is told
+abbrev pub has_efi_bits : EfiRecord → Bool
+has_efi_bits efi = (efi.system_table == 0) || (efi.bits == 32) || (efi.bits == 64)
+
+abbrev pub has_secure_boot : EfiRecord → Bool
+has_secure_boot efi = (efi.system_table == 0) || nat_le efi.secure_boot 3
+
+-- the first misuse of a machine's numbers
+unfoldable pub machine_misuse : MachineRecord → Option Misuse
+machine_misuse machine =
+    if not (have_kinds machine.regions.now) then Some BadKind else
+    if not (has_efi_bits machine.firmware.now.efi) then Some BadEfiBits else
+    if not (has_secure_boot machine.firmware.now.efi) then Some BadSecureBoot else
+    None
 
 -- the number of a protocol
 abbrev pub is_protocol : ℕ → Bool

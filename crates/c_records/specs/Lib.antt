@@ -1,5 +1,6 @@
 pub mod Given
 pub mod GivenChecks
+pub mod FirmwareGiven
 pub mod EntryFaults
 pub mod MenuGiven
 pub mod Machines
@@ -9,5 +10,6 @@ pub mod Status
 pub mod LoadTold
 pub mod SegmentsTold
 pub mod TextRanges
+pub mod SeenFirmwareTold
 pub mod SeenTold
 pub mod WalkTold

@@ -12,10 +12,13 @@ use Rattle.c_records.specs.declared.given_records.RegionRecord.{RegionRecord}
 use Rattle.c_records.specs.declared.seen_records.SeenModuleRecord.{SeenModuleRecord}
 use Rattle.c_records.specs.declared.seen_records.SeenPartRecord.{SeenPartRecord}
 use Rattle.c_records.specs.declared.seen_records.SeenRecord.{SeenRecord}
+use Rattle.c_records.specs.declared.seen_firmware_records.SeenFirmwareRecord.{SeenFirmwareRecord}
 use Rattle.c_records.specs.LoadTold.{no_words}
+use Rattle.c_records.specs.SeenFirmwareTold.{firmware_told, with_tables}
 use Rattle.c_records.specs.TextRanges.{no_range}
 
--- ---- the text: the line, the modules' lines in order, the copies of the RSDP, the old one first
+-- ---- the text: the line, the modules' lines in order, the copies of the RSDP, the old one first,
+-- the copy of UEFI's memory map, the tables of SMBIOS
 
 -- up to the copies
 abbrev pub lines_seen : SeenFacts → List ℕ
@@ -25,8 +28,12 @@ lines_seen seen = seen.line ++ flat_map (λ m. m.line) seen.modules
 abbrev pub text_before_rsdp_new : SeenFacts → List ℕ
 text_before_rsdp_new seen = lines_seen seen ++ unwrap_or seen.rsdp_old []
 
+-- up to what firmware tells
+abbrev pub text_before_firmware : SeenFacts → List ℕ
+text_before_firmware seen = text_before_rsdp_new seen ++ unwrap_or seen.rsdp_new []
+
 abbrev pub text_seen : SeenFacts → List ℕ
-text_seen seen = text_before_rsdp_new seen ++ unwrap_or seen.rsdp_new []
+text_seen seen = with_tables (text_before_firmware seen) seen.firmware
 
 -- the range of a copy that lies in the text from this offset on; a copy that is not there has the
 -- range of a file that can't be read
@@ -89,13 +96,14 @@ run_told run = record {
   reserved = 0;
 }
 
--- the summary, and of each array the elements that are told
+-- the summary, of each array the elements that are told, and what firmware tells
 pub record WalkRecordsFacts : Type 0 where
   pub seen : SeenRecord
   pub kernel : List SeenPartRecord
   pub modules : List SeenModuleRecord
   pub runs : List RegionRecord
   pub text : List ℕ
+  pub firmware : SeenFirmwareRecord
 
 abbrev pub walk_records : SeenFacts → WalkRecordsFacts
 walk_records seen = record {
@@ -104,4 +112,5 @@ walk_records seen = record {
   modules = modules_told (length seen.line) seen.modules;
   runs = map run_told seen.map;
   text = text_seen seen;
+  firmware = firmware_told (text_before_firmware seen) seen.firmware;
 }

@@ -1,5 +1,6 @@
 -- The numbers that a call answers. Own.
-use Rattle.std.specs.Prelude.{ℕ}
+use Rattle.std.specs.Prelude.{ℕ, ◌+◌}
+use Rattle.bl_map.specs.Faults.{map_fault_number}
 use Rattle.c_records.specs.declared.misuse.Misuse.{Misuse}
 use Rattle.c_records.specs.declared.misuse.Misuse.TheVariants as misuse
 use Rattle.c_records.specs.declared.load_fault.LoadFault.{LoadFault}
@@ -35,6 +36,9 @@ misuse_status misuse.TooManyEntries = 112
 misuse_status misuse.TooManyModules = 113
 misuse_status misuse.LongRsdp = 114
 misuse_status misuse.BadIndex = 115
+misuse_status misuse.BadEfiBits = 119
+misuse_status misuse.BadSecureBoot = 120
+misuse_status (misuse.BadFirmware fault) = 115 + map_fault_number fault
 
 -- of a load that ended so
 abbrev pub fault_status : LoadFault → ℕ

@@ -11,6 +11,7 @@ use Rattle.c_records.specs.Status.{done_status, misuse_status}
 use Rattle.c_records.specs.declared.misuse.Misuse.TheVariants.{SmallRoom}
 use Rattle.c_records.specs.declared.given_records.RegionRecord.{RegionRecord}
 use Rattle.c_records.specs.declared.end_records.RefusalRecord.{RefusalRecord}
+use Rattle.c_records.specs.declared.seen_firmware_records.SeenFirmwareRecord.{SeenFirmwareRecord}
 use Rattle.c_records.specs.declared.seen_records.SeenModuleRecord.{SeenModuleRecord}
 use Rattle.c_records.specs.declared.seen_records.SeenPartRecord.{SeenPartRecord}
 use Rattle.c_records.specs.declared.seen_records.SeenRecord.{SeenRecord}
@@ -19,9 +20,15 @@ use Rattle.c_records.specs.declared.seen_records.WalkStop.TheVariants.{NoImage, 
 
 -- what stands in the records and the text
 abbrev pub walk_telling : SeenRecord → List SeenPartRecord → List SeenModuleRecord
-    → List RegionRecord → List ℕ → WalkRecordsFacts
-walk_telling seen kernel modules runs text =
-    record { seen = seen; kernel = kernel; modules = modules; runs = runs; text = text }
+    → List RegionRecord → List ℕ → SeenFirmwareRecord → WalkRecordsFacts
+walk_telling seen kernel modules runs text firmware = record {
+  seen = seen;
+  kernel = kernel;
+  modules = modules;
+  runs = runs;
+  text = text;
+  firmware = firmware;
+}
 
 -- ---- why nothing is seen
 
@@ -96,6 +103,7 @@ all_told told old = record {
   modules = told_over told.modules old.modules;
   runs = told_over told.runs old.runs;
   text = told_over told.text old.text;
+  firmware = told.firmware;
 }
 
 -- all is told if there is room for it, and else the summary, which has the numbers of elements

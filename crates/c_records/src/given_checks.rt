@@ -1,9 +1,10 @@
-//! Whether regions and entries are ones that may be given.
+//! Whether machines and entries are ones that may be given.
 ghost use Rattle.std.specs.Prelude.{◌≡◌};
 ghost use Rattle.c_records.specs.GivenChecks as spec;
 ghost use Rattle.c_records.specs.GivenChecks.{FindsMisuse};
 
-use crate::given_records::{EntryRecord, RegionRecord};
+use crate::firmware_records::EfiRecord;
+use crate::given_records::{EntryRecord, MachineRecord, RegionRecord};
 use crate::misuse::Misuse;
 use bl_plan::{MAX_MODULES, Protocol};
 
@@ -19,6 +20,38 @@ pub(crate) fn have_kinds(regions: &[RegionRecord]) -> bool
     ensures { result ≡ spec.have_kinds regions.now }
 {
     regions.iter().all(|region| is_kind(region.kind))
+}
+
+/// Whether UEFI has 32 or 64 bits, where it is told.
+fn has_efi_bits(efi: &EfiRecord) -> bool
+    ensures { result ≡ spec.has_efi_bits efi.now }
+{
+    efi.system_table == 0 || efi.bits == 32 || efi.bits == 64
+}
+
+/// Whether the state of secure boot is one, where UEFI is told.
+fn has_secure_boot(efi: &EfiRecord) -> bool
+    ensures { result ≡ spec.has_secure_boot efi.now }
+{
+    efi.system_table == 0 || efi.secure_boot <= 3
+}
+
+/// Checks the numbers that are to stand for something in what is given of a machine: the first
+/// misuse.
+#[tactic(auto, unfolding(crate::specs::GivenChecks::machine_misuse))]
+pub(crate) fn check_machine(machine: &MachineRecord) -> Result<(), Misuse>
+    ensures { FindsMisuse (spec.machine_misuse machine.now) result }
+{
+    if !have_kinds(machine.regions) {
+        return Err(Misuse::BadKind);
+    }
+    if !has_efi_bits(&machine.firmware.efi) {
+        return Err(Misuse::BadEfiBits);
+    }
+    if !has_secure_boot(&machine.firmware.efi) {
+        return Err(Misuse::BadSecureBoot);
+    }
+    Ok(())
 }
 
 /// Whether a number is that of a protocol.

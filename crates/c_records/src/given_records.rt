@@ -1,5 +1,6 @@
 //! What C gives, as plain records. Addresses and lengths are in bytes. A slice in a record is a
 //! pointer and a length there; no pointer is null.
+use crate::firmware_records::FirmwareRecord;
 use bl_plan::Protocol;
 
 /// A region of the memory map. `kind` is 1 to 5; `reserved` is not looked at.
@@ -12,8 +13,8 @@ pub struct RegionRecord {
     pub reserved: u32,
 }
 
-/// A machine: the size of its memory, the pool that files are staged in, its regions. All that is
-/// told of a machine crosses in it; `reserved` is not looked at.
+/// A machine: the size of its memory, the pool that files are staged in, its regions, what firmware
+/// tells. All that is told of a machine crosses in it; `reserved` is not looked at.
 #[repr(C)]
 #[derive(Clone, Copy)]
 pub struct MachineRecord<'a> {
@@ -21,7 +22,8 @@ pub struct MachineRecord<'a> {
     pub pool_base: u64,
     pub pool_length: u64,
     pub regions: &'a [RegionRecord],
-    pub reserved: [u64; 4],
+    pub firmware: &'a FirmwareRecord<'a>,
+    pub reserved: [u64; 3],
 }
 
 /// A file. A call that loads, or digests at once, reads its bytes and does not look at `length`; a

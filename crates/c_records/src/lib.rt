@@ -7,6 +7,8 @@ mod digest_records;
 mod end_records;
 mod entries;
 mod file_views;
+mod firmware_given;
+mod firmware_records;
 mod given_checks;
 mod given_fault;
 mod given_records;
@@ -18,6 +20,8 @@ mod misuse;
 mod plan_records;
 mod refusal_telling;
 mod registers_record;
+mod seen_firmware_records;
+mod seen_firmware_telling;
 mod seen_records;
 mod seen_telling;
 mod seen_vectors;
@@ -33,6 +37,9 @@ pub use digest_records::{DigestsRecord, FileRangeRecord, PartDigestRecord};
 pub use end_records::{HandoffRecord, NO_WORDS, PlaceRecord, RefusalRecord, RegistersRecord};
 pub use entries::{entry_of, take_entry};
 pub use file_views::{lengths_beside, views_of};
+pub use firmware_records::{
+    AvoidedRecord, ColorRecord, EfiRecord, FirmwareRecord, ScreenRecord, SmbiosRecord,
+};
 pub use given_checks::{check_entries, have_few_modules};
 pub use given_fault::GivenFault;
 pub use given_records::{
@@ -47,6 +54,7 @@ pub use misuse::Misuse;
 pub use plan_records::{PlanCountsRecord, StepRecord};
 pub use refusal_telling::refusal_record;
 pub use registers_record::registers_told;
+pub use seen_firmware_records::{SeenEfiRecord, SeenFirmwareRecord, SeenSmbiosRecord};
 pub use seen_records::{
     ByteRange, MISSING, SeenModuleRecord, SeenPartRecord, SeenRecord, WalkStop,
 };

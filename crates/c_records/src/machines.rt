@@ -3,7 +3,8 @@ ghost use Rattle.std.specs.Prelude.{◌≡◌, ◌+◌, ◌-◌, IfOk, IfErr, On
 ghost use Rattle.c_records.specs.Given as spec;
 ghost use Rattle.c_records.specs.Machines as machines;
 
-use crate::given_checks::have_kinds;
+use crate::firmware_given::{firmware_of, ranges_of};
+use crate::given_checks::check_machine;
 use crate::given_fault::GivenFault;
 use crate::given_records::{MachineRecord, RegionRecord};
 use crate::misuse::Misuse;
@@ -48,6 +49,7 @@ fn given_fault_of_map(fault: MapFault) -> GivenFault
         MapFault::TooManyRegions => GivenFault::Misused(Misuse::TooManyRegions),
         MapFault::BadPool => GivenFault::Misused(Misuse::BadPool),
         MapFault::NoMemory => GivenFault::NoMemory,
+        told => GivenFault::Misused(Misuse::BadFirmware(told)),
     }
 }
 
@@ -60,11 +62,11 @@ pub fn machine_of<A: Allocator + Copy>(
     ensures sound { OnOk result (machines.IsMachineSound machine.now) }
     ensures fault { IfErr result (machines.HasMachineFault machine.now) }
 {
-    if !have_kinds(machine.regions) {
-        return Err(GivenFault::Misused(Misuse::BadKind));
-    }
+    check_machine(machine)?;
     let typed = regions_of(alloc, machine.regions)?;
-    match Machine::new(alloc, machine.size, &typed, pool_of(machine)) {
+    let avoided = ranges_of(alloc, machine.firmware.avoided)?;
+    let told = firmware_of(machine.firmware, &avoided);
+    match Machine::with_firmware(alloc, machine.size, &typed, pool_of(machine), &told) {
         Ok(made) => Ok(made),
         Err(fault) => Err(given_fault_of_map(fault)),
     }

@@ -2,6 +2,8 @@
 ghost use Rattle.std.specs.Prelude.{◌≡◌};
 ghost use Rattle.c_records.specs.Status.{misuse_status};
 
+use bl_map::MapFault;
+
 /// A condition of a call that its caller broke, found before any memory was changed. Of several the
 /// first in this order is told.
 #[derive(Clone, Copy)]
@@ -30,7 +32,16 @@ pub enum Misuse {
     LongRsdp,
     /// There is no such entry.
     BadIndex,
+    /// UEFI has neither 32 nor 64 bits.
+    BadEfiBits,
+    /// There is no such state of secure boot.
+    BadSecureBoot,
+    /// What firmware tells has this fault.
+    BadFirmware(MapFault),
 }
+
+/// What the status of a fault of firmware has beside the fault's number, which is 6 to 19.
+const FIRMWARE_STATUS: u32 = 115;
 
 impl Misuse {
     /// The status that tells of it. No refusal and no fault has such a number.
@@ -50,6 +61,9 @@ impl Misuse {
             Misuse::TooManyModules => 113,
             Misuse::LongRsdp => 114,
             Misuse::BadIndex => 115,
+            Misuse::BadEfiBits => 119,
+            Misuse::BadSecureBoot => 120,
+            Misuse::BadFirmware(fault) => FIRMWARE_STATUS + fault.number(),
         }
     }
 }

@@ -5,6 +5,7 @@ ghost use Rattle.c_records.specs.SeenTold as spec;
 
 use crate::end_records::NO_WORDS;
 use crate::given_records::RegionRecord;
+use crate::seen_firmware_telling::add_firmware;
 use crate::seen_records::{ByteRange, MISSING, SeenModuleRecord, SeenPartRecord, SeenRecord};
 use crate::seen_vectors::SeenVectors;
 use bl_map::Region;
@@ -178,11 +179,13 @@ pub fn records_of<A: Allocator + Copy>(
     add_modules(&seen.modules, &mut modules, &mut text)?;
     let rsdp_old = add_copy(&seen.rsdp_old, &mut text)?;
     let rsdp_new = add_copy(&seen.rsdp_new, &mut text)?;
+    let firmware = add_firmware(&seen.firmware, &mut text)?;
     Ok(SeenVectors {
         seen: seen_told(seen, text.len() as u64, rsdp_old, rsdp_new),
         kernel: parts_told(alloc, &seen.kernel)?,
         modules,
         runs: runs_told(alloc, &seen.map)?,
         text,
+        firmware,
     })
 }

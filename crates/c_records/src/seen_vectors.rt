@@ -1,11 +1,12 @@
 //! All that C is told of what a kernel sees.
 use crate::given_records::RegionRecord;
+use crate::seen_firmware_records::SeenFirmwareRecord;
 use crate::seen_records::{SeenModuleRecord, SeenPartRecord, SeenRecord};
 use std::alloc::Allocator;
 use std::marker::Model;
 
 /// What a kernel sees, as C is told: the summary; its parts, the modules and the runs of memory,
-/// each in order; and the text.
+/// each in order; the text; and what firmware tells.
 #[derive(Drop)]
 pub struct SeenVectors<A: Allocator> {
     pub seen: SeenRecord,
@@ -13,6 +14,7 @@ pub struct SeenVectors<A: Allocator> {
     pub modules: Vec<SeenModuleRecord, A>,
     pub runs: Vec<RegionRecord, A>,
     pub text: Vec<u8, A>,
+    pub firmware: SeenFirmwareRecord,
 }
 
 impl<A: Allocator> Model for SeenVectors<A> {
@@ -26,5 +28,6 @@ impl<A: Allocator> Model for SeenVectors<A> {
       modules = w.modules.items;
       runs = w.runs.items;
       text = w.text.items;
+      firmware = w.firmware;
     } };
 }

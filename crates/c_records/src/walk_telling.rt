@@ -7,6 +7,7 @@ use crate::array_fronts::put_front;
 use crate::end_records::RefusalRecord;
 use crate::given_records::RegionRecord;
 use crate::misuse::Misuse;
+use crate::seen_firmware_records::SeenFirmwareRecord;
 use crate::seen_records::{SeenModuleRecord, SeenPartRecord, SeenRecord, WalkStop};
 use crate::seen_vectors::SeenVectors;
 use crate::walk_stops::{stop_status, stop_told};
@@ -67,10 +68,11 @@ pub fn tell_records<A: Allocator>(
     modules: &mut [SeenModuleRecord],
     runs: &mut [RegionRecord],
     text: &mut [u8],
+    firmware: &mut SeenFirmwareRecord,
 ) -> u32
     ensures { spec.TellsSeen records.now result
-        (walk_telling told.old kernel.old modules.old runs.old text.old)
-        (walk_telling told.new kernel.new modules.new runs.new text.new) }
+        (walk_telling told.old kernel.old modules.old runs.old text.old firmware.old)
+        (walk_telling told.new kernel.new modules.new runs.new text.new firmware.new) }
 {
     *told = records.seen;
     if !fits_into(records, kernel, modules, runs, text) {
@@ -80,5 +82,6 @@ pub fn tell_records<A: Allocator>(
     put_front(&records.modules, modules);
     put_front(&records.runs, runs);
     put_front(&records.text, text);
+    *firmware = records.firmware;
     0
 }

@@ -2,6 +2,7 @@
 use Rattle.std.proofs.Common.{◌≡◌, ◌++◌, ◌∙◌, ℕ, Bool, true, false, List, Option, None, refl, sym}
 use Rattle.std.proofs.Common.{ap, if◌then◌else◌}
 use Rattle.std.specs.declared.ops.Range.{Range}
+use Rattle.bl_map.specs.Firmware.{FirmwareFacts}
 use Rattle.bl_map.specs.MachineFacts.{MachineFacts}
 use Rattle.bl_map.specs.NormalMap.{kind_at}
 use Rattle.bl_map.specs.declared.region.Region.{Region}
@@ -77,15 +78,17 @@ module _ {F G : Type 0} {answers : F → List ℕ → File → Type 0} {faults :
         (none_if (are_whole (fresh f_a entry)) ∙ sym (none_if (are_whole (fresh f_b index)))) value
         x y
 
-facts_of : (s t : ℕ) (x y : List Region) (p q : Range ℕ) → s ≡ t → x ≡ y → p ≡ q
-    → ◌≡◌ {A = MachineFacts} record { size = s; runs = x; pool = p }
-    record { size = t; runs = y; pool = q }
-facts_of s t x y p q size runs pool = rw (size, runs, pool) refl
+facts_of : (s t : ℕ) (x y : List Region) (p q : Range ℕ) (f g : FirmwareFacts)
+    → s ≡ t → x ≡ y → p ≡ q → f ≡ g
+    → ◌≡◌ {A = MachineFacts} record { size = s; runs = x; pool = p; firmware = f }
+    record { size = t; runs = y; pool = q; firmware = g }
+facts_of s t x y p q f g size runs pool firmware = rw (size, runs, pool, firmware) refl
 
 pub same_facts : (one two : DescriptionFacts) (f g : MachineFacts) → IsMachineOf one f → IsMachineOf two g
-    → one.size ≡ two.size → one.pool ≡ two.pool
+    → one.size ≡ two.size → one.pool ≡ two.pool → one.firmware ≡ two.firmware
     → ((a : ℕ) → kind_at one.regions a ≡ kind_at two.regions a) → f ≡ g
-same_facts one two f g a b size pool kinds =
-    facts_of f.size g.size f.runs g.runs f.pool g.pool (a.size ∙ size ∙ sym b.size)
+same_facts one two f g a b size pool firmware kinds =
+    facts_of f.size g.size f.runs g.runs f.pool g.pool f.firmware g.firmware
+    (a.size ∙ size ∙ sym b.size)
     (one_normal_map one.regions two.regions f.runs g.runs kinds a.runs b.runs)
-    (a.pool ∙ pool ∙ sym b.pool)
+    (a.pool ∙ pool ∙ sym b.pool) (a.firmware ∙ firmware ∙ sym b.firmware)

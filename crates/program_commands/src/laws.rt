@@ -51,11 +51,11 @@ pub fn two_boots<F: Files, G: Files>()
         → entry_value_at a entry ≡ entry_value_at b index → (e f : AttemptResult)
         → HasResultAt a entry e → HasResultAt b index f → e ≡ f }
 
-    // Machines have equal facts where size and pool are equal and each address has one kind in
-    // the two.
+    // Machines have equal facts where size, pool and what firmware tells are equal and each
+    // address has one kind in the two.
     ensures same_facts { (one two : DescriptionFacts) (f g : MachineFacts) →
         IsMachineOf one f → IsMachineOf two g → one.size ≡ two.size → one.pool ≡ two.pool →
-        ((a : ℕ) → kind_at one.regions a ≡ kind_at two.regions a) → f ≡ g }
+        one.firmware ≡ two.firmware → ((a : ℕ) → kind_at one.regions a ≡ kind_at two.regions a) → f ≡ g }
 {}
 
 /// Whatever is read from the image of an entry that was booted shows that entry and nothing else;

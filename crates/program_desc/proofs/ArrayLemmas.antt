@@ -13,7 +13,7 @@ use Rattle.program_desc.specs.TomlValues.{◌>>=◌, array_of, at_key, each_item
 use Rattle.program_desc.specs.TomlValues.{range_in, required, some_when, toml_range}
 use Rattle.program_desc.specs.Allowed.{allows, item_count}
 use Rattle.program_desc.specs.KeyRules.{KeyRule, required_key, with_items}
-use Rattle.program_desc.specs.BadKeys.{BreaksRule, IsBadKey, IsItemFault}
+use Rattle.program_desc.specs.BadKeys.{BreaksRule, IsItemFault}
 use Rattle.program_desc.specs.internal.TableReading.{AllowsArrays, BreaksAt, HasBadItem, IsBadItem}
 use Rattle.program_desc.specs.internal.TableReading.{IsBadTable, IsItemFaultAt, allows_count}
 use Rattle.program_desc.specs.internal.TableReading.{array_by, array_items, number_item, passes, passes_at}
@@ -28,6 +28,8 @@ use Rattle.program_desc.specs.declared.allowed.Allowed.TheVariants.{EntryTables,
 use Rattle.program_desc.specs.declared.allowed.Allowed.TheVariants.{AnyText}
 use Rattle.program_desc.specs.declared.allowed.Allowed.TheVariants.{Title, KindName, ProtocolName}
 use Rattle.program_desc.specs.declared.allowed.Allowed.TheVariants.{HexText, CopyText}
+use Rattle.program_desc.specs.declared.allowed.Allowed.TheVariants.{Word, OneTable, Color}
+use Rattle.program_desc.specs.declared.allowed.Allowed.TheVariants as rules
 use Rattle.program_desc.specs.declared.bad_key.BadKey.{BadKey}
 use Rattle.program_desc.specs.declared.bad_key.KeyFault.{KeyFault}
 use Rattle.program_desc.specs.declared.bad_key.KeyFault.TheVariants.{NoTable, Unknown, Missing}
@@ -35,7 +37,6 @@ use Rattle.program_desc.specs.declared.bad_key.KeyFault.TheVariants.{BadValue, B
 use Rattle.program_desc.specs.declared.bad_key.TablePlace.{TablePlace}
 use Rattle.program_desc.specs.declared.bad_key.TablePlace.TheVariants as places
 use Rattle.program_desc.specs.declared.key_set.KeySet.{KeySet}
-use Rattle.program_desc.specs.declared.key_set.KeySet.TheVariants as keys
 
 -- ---- what is an array
 
@@ -56,6 +57,11 @@ counted KindName d ds ok is = absurd ok
 counted ProtocolName d ds ok is = absurd ok
 counted HexText d ds ok is = absurd ok
 counted CopyText d ds ok is = absurd ok
+counted Word d ds ok is = absurd ok
+counted OneTable d ds ok is = absurd ok
+counted rules.EfiBits d ds ok is = absurd ok
+counted rules.SecureBoot d ds ok is = absurd ok
+counted Color d ds ok is = absurd ok
 
 pub no_array : (allowed : Allowed) (d : Data) → AllowsArrays allowed → as_array d ≡ None
     → allows allowed d ≡ false
@@ -73,6 +79,11 @@ no_array KindName d ok is = absurd ok
 no_array ProtocolName d ok is = absurd ok
 no_array HexText d ok is = absurd ok
 no_array CopyText d ok is = absurd ok
+no_array Word d ok is = absurd ok
+no_array OneTable d ok is = absurd ok
+no_array rules.EfiBits d ok is = absurd ok
+no_array rules.SecureBoot d ok is = absurd ok
+no_array Color d ok is = absurd ok
 
 is_array : (allowed : Allowed) (d : Data) → AllowsArrays allowed → allows allowed d ≡ true
     → (ds : Items) × (d ≡ array ds)
@@ -329,14 +340,16 @@ with_items-broken rule allowed ms none place bad h = (h.0, of_fault bad.fault h.
     of_fault (BadItem key index value told) f =
         let other : None ≡ Some told = sym none ∙ f.1 in absurd (cc other)
 
--- a bad region
-pub at_region : (rule : KeyRule) (ms : Members) (ds : Items) → rule.key ≡ codes "region"
-    → array_by rule ms ≡ Some ds → (bad : BadKey)
-    → HasBadItem (IsBadTable places.Region keys.Region) ds bad → IsBadKey ms bad
-at_region rule ms ds named is bad h =
-    let t = bad_table places.Region keys.Region h.0 bad (get_item h.0 ds) h.1 in
-    let there = rw (given_item rule ms ds h.0 is, named) at t.1 in
-    rw t.0 there
+-- a bad table, of those in the array at a key, where its faults are faults of the whole
+pub at_table : (IsFault : TablePlace → KeyFault → Type 0) (place_of : ℕ → TablePlace) (set : KeySet)
+    (rule : KeyRule) (ms : Members) (ds : Items)
+    → ((i : ℕ) (fault : KeyFault) → IsSomeAnd (get_member rule.key ms >>= at i)
+    (λ d. IsItemFault set d fault) → IsFault (place_of i) fault)
+    → array_by rule ms ≡ Some ds → (bad : BadKey) → HasBadItem (IsBadTable place_of set) ds bad
+    → IsFault bad.table bad.fault
+at_table IsFault place_of set rule ms ds stands is bad h =
+    let t = bad_table place_of set h.0 bad (get_item h.0 ds) h.1 in
+    rw t.0 (stands h.0 bad.fault (rw (given_item rule ms ds h.0 is) at t.1))
 
 -- ---- the pool
 

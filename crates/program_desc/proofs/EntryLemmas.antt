@@ -8,7 +8,7 @@ use Rattle.std.proofs.lemmas.Bool.Decides.{nat_tests}
 use Rattle.std.proofs.lemmas.List.{length-map}
 use Rattle.std.proofs.lemmas.List.Elements.{All-nil, All-cons}
 use Rattle.toml.specs.Data.{Data, string, integer, float, boolean, datetime, array, table, Items}
-use Rattle.toml.specs.Data.{no_items, item, Members, get_item, get_member, as_array, as_table}
+use Rattle.toml.specs.Data.{no_items, item, Members, get_member, as_array, as_table}
 use Rattle.bl_plan.specs.MenuLimits.{max_entries, max_modules}
 use Rattle.bl_plan.specs.declared.protocol.Protocol.{Protocol}
 use Rattle.bl_plan.specs.declared.protocol.Protocol.TheVariants.{Multiboot2, Linux, Linux64}
@@ -42,7 +42,7 @@ use Rattle.program_desc.specs.declared.key_set.KeySet.{KeySet}
 use Rattle.program_desc.specs.declared.key_set.KeySet.TheVariants as keys
 use Rattle.program_desc.specs.declared.table_fault.TableFault.{TableFault}
 use Rattle.program_desc.specs.declared.table_fault.TableFault.TheVariants as faults
-use Rattle.program_desc.proofs.ArrayLemmas.{bad_table, each_counted, given_item, items_allowed}
+use Rattle.program_desc.proofs.ArrayLemmas.{at_table, each_counted, given_item, items_allowed}
 use Rattle.program_desc.proofs.ArrayLemmas.{optional_items, required_items, tested_items}
 use Rattle.program_desc.proofs.FaultLemmas.{at_rule, must_stand, read_as}
 use Rattle.program_desc.proofs.ItemLemmas.{is_table, table_fault}
@@ -86,9 +86,8 @@ pub at_module : (i : ℕ) (rule : KeyRule) (ms : Members) (ds : Items) → rule.
     → HasBadItem (IsBadTable (places.Module i) keys.Module) ds bad
     → IsEntryBad keys.Multiboot2Entry i ms bad
 at_module i rule ms ds named is bad h =
-    let t = bad_table (places.Module i) keys.Module h.0 bad (get_item h.0 ds) h.1 in
-    let there = rw (given_item rule ms ds h.0 is, named) at t.1 in
-    rw t.0 (refl, there)
+    at_table (IsEntryFaultAt keys.Multiboot2Entry i ms) (places.Module i) keys.Module rule ms ds
+    (λ j fault f. (refl, rw named at f)) is bad h
 
 -- an entry's fault is one of the value that it is
 entry_fault : (i : ℕ) (ms : Members) (place : TablePlace) (fault : KeyFault)
@@ -96,6 +95,11 @@ entry_fault : (i : ℕ) (ms : Members) (place : TablePlace) (fault : KeyFault)
     → IsEntryItemFaultAt i (table ms) place fault
 entry_fault i ms places.Description fault h = h
 entry_fault i ms (places.Region k) fault h = h
+entry_fault i ms places.Firmware fault h = h
+entry_fault i ms places.Screen fault h = h
+entry_fault i ms places.Efi fault h = h
+entry_fault i ms places.Smbios fault h = h
+entry_fault i ms (places.Avoided k) fault h = h
 entry_fault i ms (places.File k) fault h = h
 entry_fault i ms (places.Entry k) fault h = (h.0, table_fault (entry_set_in ms) ms fault h.1)
 entry_fault i ms (places.Module k j) fault h = h
@@ -120,6 +124,11 @@ menu_at : (ms : Members) (i : ℕ) (place : TablePlace) (fault : KeyFault) (o : 
 menu_at ms i place fault None is h = absurd h
 menu_at ms i places.Description fault (Some d) is h = absurd h
 menu_at ms i (places.Region k) fault (Some d) is h = absurd h
+menu_at ms i places.Firmware fault (Some d) is h = absurd h
+menu_at ms i places.Screen fault (Some d) is h = absurd h
+menu_at ms i places.Efi fault (Some d) is h = absurd h
+menu_at ms i places.Smbios fault (Some d) is h = absurd h
+menu_at ms i (places.Avoided k) fault (Some d) is h = absurd h
 menu_at ms i (places.File k) fault (Some d) is h = absurd h
 menu_at ms i (places.Entry k) fault (Some d) is h = rw (h.0, is) h.1
 menu_at ms i (places.Module k j) fault (Some d) is h = rw (h.0, is) h.1

@@ -7,3 +7,4 @@ pub mod NameLemmas
 pub mod SameNameLemmas
 pub mod KeyLemmas
 pub mod DescribedLemmas
+pub mod FirmwareLemmas

@@ -21,7 +21,8 @@ use Rattle.program_desc.specs.declared.key_set.KeySet.TheVariants as keys
 use Rattle.program_desc.specs.declared.bad_key.TablePlace.{TablePlace}
 use Rattle.program_desc.specs.declared.bad_key.TablePlace.TheVariants.{Description, Region, File}
 use Rattle.program_desc.specs.declared.bad_key.TablePlace.TheVariants.{Entry}
-use Rattle.program_desc.specs.declared.bad_key.TablePlace.TheVariants.{Module}
+use Rattle.program_desc.specs.declared.bad_key.TablePlace.TheVariants.{Module, Firmware, Screen}
+use Rattle.program_desc.specs.declared.bad_key.TablePlace.TheVariants.{Efi, Smbios, Avoided}
 
 -- ---- in one table
 
@@ -85,6 +86,19 @@ IsFaultAt ms Description fault =
     IsKeyFault (count_at (codes "entry") ms) keys.Description ms fault
 IsFaultAt ms (Region i) fault =
     IsSomeAnd (item_at (codes "region") i ms) (λ d. IsItemFault keys.Region d fault)
+IsFaultAt ms Firmware fault =
+    IsSomeAnd (get_member (codes "firmware") ms) (λ d. IsItemFault keys.Firmware d fault)
+IsFaultAt ms Screen fault =
+    IsSomeAnd (get_member (codes "firmware") ms >>= get (codes "screen"))
+    (λ d. IsItemFault keys.Screen d fault)
+IsFaultAt ms Efi fault =
+    IsSomeAnd (get_member (codes "firmware") ms >>= get (codes "efi"))
+    (λ d. IsItemFault keys.Efi d fault)
+IsFaultAt ms Smbios fault =
+    IsSomeAnd (get_member (codes "firmware") ms >>= get (codes "smbios"))
+    (λ d. IsItemFault keys.Smbios d fault)
+IsFaultAt ms (Avoided i) fault =
+    IsSomeAnd (item_at (codes "avoid") i ms) (λ d. IsItemFault keys.Avoided d fault)
 IsFaultAt ms (File i) (SameName value) =
     (name : List ℕ) × (view value.now ≡ string name) × (file_name_at i ms ≡ Some name)
     × ((j : ℕ) × (j ≢ i) × (file_name_at j ms ≡ Some name))

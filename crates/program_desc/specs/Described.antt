@@ -7,11 +7,13 @@ use Rattle.std.specs.List.{list_any}
 use Rattle.std.specs.declared.ops.Range.{Range}
 use Rattle.toml.specs.Data.{Data, Members}
 use Rattle.toml.specs.Parse.{parse_document}
+use Rattle.bl_map.specs.Firmware.{FirmwareFacts}
 use Rattle.bl_map.specs.declared.region.Region.{Region}
 use Rattle.program_desc.specs.TomlValues.{◌>>=◌, some_when, toml_number, toml_byte, toml_text}
 use Rattle.program_desc.specs.TomlValues.{toml_bytes, toml_kind}
 use Rattle.program_desc.specs.TomlValues.{toml_range, toml_index, toml_indices, has_only, at_key}
-use Rattle.program_desc.specs.TomlValues.{at_key_or, in_tables}
+use Rattle.program_desc.specs.TomlValues.{at_key_or, in_table, in_tables}
+use Rattle.program_desc.specs.DescribedFirmware.{toml_avoided, described_firmware, only_avoided}
 use Rattle.program_desc.specs.KeyRules.{keys_of_set}
 use Rattle.program_desc.specs.Entries.{Entry, form_view, toml_entries}
 use Rattle.program_desc.specs.declared.desc.Description.{Description}
@@ -35,6 +37,7 @@ pub record DescriptionFacts : Type 0 where
   pub pool : Range ℕ
   pub fill : ℕ
   pub regions : List Region
+  pub firmware : FirmwareFacts
   pub files : List InlineFile
   pub entries : List Entry
   pub default : ℕ
@@ -53,6 +56,7 @@ view d = record {
   pool = d.pool;
   fill = d.fill;
   regions = d.regions.items;
+  firmware = d.firmware;
   files = map file_view d.files.items;
   entries = map entry_view d.entries.items;
   default = d.default;
@@ -104,6 +108,9 @@ described_in ms =
       pool ← at_key toml_range (codes "pool") ms
       fill ← at_key_or 0 toml_byte (codes "fill") ms
       regions ← at_key_or [] toml_regions (codes "region") ms
+      avoided ← at_key_or [] toml_avoided (codes "avoid") ms
+      firmware ← at_key_or (only_avoided avoided) (in_table (described_firmware avoided))
+          (codes "firmware") ms
       files ← at_key_or [] toml_files (codes "file") ms
       entries ← at_key toml_entries (codes "entry") ms
       default ← at_key_or 0 (toml_index (length entries)) (codes "default") ms
@@ -113,6 +120,7 @@ described_in ms =
         pool = pool;
         fill = fill;
         regions = regions;
+        firmware = firmware;
         files = files;
         entries = entries;
         default = default;

@@ -9,11 +9,14 @@ use Rattle.program_desc.specs.declared.allowed.Allowed.TheVariants.{TwoNumbers, 
 use Rattle.program_desc.specs.declared.allowed.Allowed.TheVariants.{EntryTables, ModuleTables}
 use Rattle.program_desc.specs.declared.allowed.Allowed.TheVariants.{AnyText}
 use Rattle.program_desc.specs.declared.allowed.Allowed.TheVariants.{Title, KindName, ProtocolName}
-use Rattle.program_desc.specs.declared.allowed.Allowed.TheVariants.{HexText, CopyText}
+use Rattle.program_desc.specs.declared.allowed.Allowed.TheVariants.{HexText, CopyText, Word}
+use Rattle.program_desc.specs.declared.allowed.Allowed.TheVariants.{OneTable, Color}
+use Rattle.program_desc.specs.declared.allowed.Allowed.TheVariants as allowed
 use Rattle.program_desc.specs.declared.key_set.KeySet.{KeySet}
 use Rattle.program_desc.specs.declared.key_set.KeySet.TheVariants.{Description, Region, File, Entry}
 use Rattle.program_desc.specs.declared.key_set.KeySet.TheVariants.{Multiboot2Entry, LinuxEntry}
-use Rattle.program_desc.specs.declared.key_set.KeySet.TheVariants.{Module}
+use Rattle.program_desc.specs.declared.key_set.KeySet.TheVariants.{Module, Firmware, Screen, Efi}
+use Rattle.program_desc.specs.declared.key_set.KeySet.TheVariants.{Smbios, Avoided}
 
 -- a key of a table: whether it must stand, what it may hold, and what each item of an array may,
 -- where an item is no table
@@ -64,10 +67,44 @@ key_rules count Description =
     ∷ optional_key (codes "region") Tables
     ∷ optional_key (codes "file") Tables
     ∷ required_key (codes "entry") EntryTables
+    ∷ optional_key (codes "firmware") OneTable
+    ∷ optional_key (codes "avoid") Tables
     ∷ []
 key_rules count Region =
     required_key (codes "base") Number ∷ required_key (codes "length") Number
     ∷ required_key (codes "kind") KindName ∷ []
+key_rules count Firmware =
+    optional_key (codes "rsdp") Number
+    ∷ optional_key (codes "screen") OneTable
+    ∷ optional_key (codes "efi") OneTable
+    ∷ optional_key (codes "smbios") OneTable
+    ∷ []
+key_rules count Screen =
+    required_key (codes "base") Number
+    ∷ required_key (codes "pitch") Word
+    ∷ required_key (codes "width") Word
+    ∷ required_key (codes "height") Word
+    ∷ required_key (codes "depth") Byte
+    ∷ required_key (codes "red") Color
+    ∷ required_key (codes "green") Color
+    ∷ required_key (codes "blue") Color
+    ∷ []
+key_rules count Efi =
+    required_key (codes "bits") allowed.EfiBits
+    ∷ required_key (codes "system_table") Number
+    ∷ required_key (codes "map") HexText
+    ∷ required_key (codes "map_address") Number
+    ∷ required_key (codes "descriptor_size") Word
+    ∷ required_key (codes "descriptor_version") Word
+    ∷ optional_key (codes "secure_boot") allowed.SecureBoot
+    ∷ []
+key_rules count Smbios =
+    required_key (codes "major") Byte
+    ∷ required_key (codes "minor") Byte
+    ∷ required_key (codes "tables") HexText
+    ∷ []
+key_rules count Avoided =
+    required_key (codes "base") Number ∷ required_key (codes "length") Number ∷ []
 key_rules count File = required_key (codes "name") AnyText ∷ required_key (codes "hex") HexText ∷ []
 key_rules count Entry = common_entry_rules ++ multiboot2_rules ++ linux_rules
 key_rules count Multiboot2Entry = common_entry_rules ++ multiboot2_rules

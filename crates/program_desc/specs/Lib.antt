@@ -2,6 +2,7 @@ pub mod TomlValues
 pub mod KeyRules
 pub mod Entries
 pub mod EntryNames
+pub mod DescribedFirmware
 pub mod Described
 pub mod Views
 pub mod Allowed

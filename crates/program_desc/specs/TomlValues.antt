@@ -1,5 +1,5 @@
 -- What the values of a description's TOML tree mean, one by one. Own.
-use Rattle.std.specs.Prelude.{ℕ, pos, Bool, true, ◌&&◌, if◌then◌else◌, nat_lt, List, [], ◌∷◌}
+use Rattle.std.specs.Prelude.{ℕ, pos, ◌^◌, Bool, true, ◌&&◌, if◌then◌else◌, nat_lt, List, [], ◌∷◌}
 use Rattle.std.specs.Prelude.{Option, Some, None, Result, Ok, Err}
 use Rattle.std.specs.Str.{bytes_eq}
 use Rattle.std.specs.List.{list_any}
@@ -28,6 +28,10 @@ toml_number _ = None
 
 abbrev pub toml_byte : Data → Option ℕ
 toml_byte d = toml_number d >>= some_when (λ n. nat_lt n 256)
+
+-- a number of 32 bits
+abbrev pub toml_word : Data → Option ℕ
+toml_word d = toml_number d >>= some_when (λ n. nat_lt n (2 ^ 32))
 
 abbrev pub toml_text : Data → Option (List ℕ)
 toml_text (string s) = Some s

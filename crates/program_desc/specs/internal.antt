@@ -1,2 +1,3 @@
 pub mod TableReading
 pub mod EntryReading
+pub mod FirmwareReading

@@ -10,6 +10,16 @@ pub enum TablePlace {
     Description,
     /// The region of this index.
     Region(usize),
+    /// What firmware tells.
+    Firmware,
+    /// The screen of it.
+    Screen,
+    /// What it tells of UEFI.
+    Efi,
+    /// What it tells of SMBIOS.
+    Smbios,
+    /// The range of this index in which nothing is placed.
+    Avoided(usize),
     /// The file of this index.
     File(usize),
     /// The entry of this index.

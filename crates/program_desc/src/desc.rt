@@ -12,13 +12,14 @@ use crate::entries::{count_of, entries_at};
 use crate::entry_row::EntryRow;
 use crate::file_row::FileRow;
 use crate::files::files_at;
+use crate::firmware::{avoided_at, firmware_at};
 use crate::key_set::KeySet;
 use crate::key_table::{FILL, SIZE};
 use crate::keys::{byte_or_zero, check_keys, number_at};
 use crate::pool::pool_at;
 use crate::regions::regions_at;
 use crate::table_fault::TableFault;
-use bl_map::Region;
+use bl_map::{OwnedFirmware, Region};
 use std::alloc::{Allocator, Global};
 use std::ops::Range;
 use toml::Table;
@@ -26,15 +27,16 @@ use toml::Table;
 /// What a description says: the machine, files and the menu, which has 1 to 32 entries.
 ///
 /// `size` is in bytes, `fill` is what each byte of memory holds before the boot, and the regions
-/// may come in any order. Whether they make a machine is not asked here. No two files have one
-/// name. `default` and each of `fallbacks`, in which one may repeat, is the index of an entry,
-/// counted from 0.
+/// may come in any order. Whether they, and what firmware tells, make a machine is not asked here.
+/// No two files have one name. `default` and each of `fallbacks`, in which one may repeat, is the
+/// index of an entry, counted from 0.
 #[derive(Drop)]
 pub struct Description<A: Allocator> {
     pub size: u64,
     pub pool: Range<u64>,
     pub fill: u8,
     pub regions: Vec<Region, A>,
+    pub firmware: OwnedFirmware<A>,
     pub files: Vec<FileRow<A>, A>,
     pub entries: Vec<EntryRow<A>, A>,
     pub default: u32,
@@ -83,6 +85,8 @@ pub fn described_in<'a, A: Allocator + Copy>(
     let pool = pool_at(table)?;
     let fill = byte_or_zero(table, TablePlace::Description, &FILL)?;
     let regions = regions_at(alloc, table)?;
+    let avoided = avoided_at(alloc, table)?;
+    let firmware = firmware_at(alloc, table, avoided)?;
     let files = files_at(alloc, global, table)?;
     let entries = entries_at(alloc, table)?;
     let count = count_of(&entries);
@@ -93,6 +97,7 @@ pub fn described_in<'a, A: Allocator + Copy>(
         pool,
         fill,
         regions,
+        firmware,
         files,
         entries,
         default,

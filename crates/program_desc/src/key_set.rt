@@ -5,6 +5,11 @@
 pub enum KeySet {
     Description,
     Region,
+    Firmware,
+    Screen,
+    Efi,
+    Smbios,
+    Avoided,
     File,
     /// Those of an entry that has no protocol.
     Entry,

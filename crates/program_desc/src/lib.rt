@@ -12,6 +12,7 @@ mod entry_row;
 mod fault;
 mod file_row;
 mod files;
+mod firmware;
 mod index_of_name;
 mod key_set;
 mod key_table;

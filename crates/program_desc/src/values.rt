@@ -1,5 +1,5 @@
 //! Single values of a description.
-ghost use Rattle.std.specs.Prelude.{◌≡◌, IfOk};
+ghost use Rattle.std.specs.Prelude.{◌≡◌, ◌<◌, ◌^◌, IfOk, IfSome};
 ghost use Rattle.toml.specs.View.{view};
 ghost use Rattle.program_desc.specs.TomlValues as spec;
 
@@ -9,7 +9,8 @@ use toml::Value;
 
 /// The number that a value is, if it is one of 0 or more.
 pub fn toml_number(value: &Value) -> Option<u64>
-    ensures { result ≡ spec.toml_number (view value.now) }
+    ensures value { result ≡ spec.toml_number (view value.now) }
+    ensures short { IfSome result (λ n. n < 2 ^ 63) }
 {
     match value.as_integer() {
         Some(n) if n >= 0 => Some(n as u64),
@@ -23,6 +24,16 @@ pub fn toml_byte(value: &Value) -> Option<u8>
 {
     match toml_number(value) {
         Some(n) if n < 256 => Some(n as u8),
+        _ => None,
+    }
+}
+
+/// The number of 32 bits that a value is, if it is one.
+pub fn toml_word(value: &Value) -> Option<u32>
+    ensures { result ≡ spec.toml_word (view value.now) }
+{
+    match toml_number(value) {
+        Some(n) if n < 0x1_0000_0000 => Some(n as u32),
         _ => None,
     }
 }

@@ -1,5 +1,6 @@
 pub mod blame
 pub mod BootAndMapLines
+pub mod FirmwareLines
 pub mod WalkLines
 pub mod Sought
 pub mod Frames

@@ -12,6 +12,7 @@ use Rattle.bl_walk.specs.SeenFacts.{SeenModuleFacts, SeenFileFacts, SeenFacts}
 use Rattle.bl_walk.specs.declared.seen.SeenPart.{SeenPart}
 use Rattle.program_say.specs.blame.Addresses.{hex8}
 use Rattle.program_say.specs.BootAndMapLines.{hex16}
+use Rattle.program_say.specs.FirmwareLines.{firmware_lines}
 
 -- a text: how many bytes it has, and after a space its bytes in hexadecimal digits, if there are
 -- any
@@ -77,3 +78,4 @@ walk_lines seen =
     ++ initrd_line seen.initrd ++ flat_map seen_run_line seen.map
     ++ rsdp_copy_line (codes "rsdp-old ") seen.rsdp_old
     ++ rsdp_copy_line (codes "rsdp-new ") seen.rsdp_new
+    ++ firmware_lines seen.firmware

@@ -4,6 +4,7 @@ mod bad_key;
 mod blame_lines;
 mod edit_distance;
 mod key_values;
+mod map_faults;
 mod pool_lines;
 mod radix_hints;
 mod region_hints;

@@ -1,5 +1,5 @@
 -- What the code's own functions plan.
-use Rattle.std.specs.Prelude.{map}
+use Rattle.std.specs.Prelude.{ℕ, List, map}
 use Rattle.bl_map.specs.MachineFacts.{MachineFacts}
 use Rattle.bl_mem.specs.declared.byte_view.ByteView.{Ghosts}
 use Rattle.bl_load.specs.declared.checked_entry.CheckedEntry.{CheckedEntry}
@@ -14,13 +14,13 @@ use Rattle.bl_load.specs.PlanContents.{handover_by}
 use Rattle.bl_load.specs.internal.CheckedEntries.{texts_in, value_of_files}
 use Rattle.bl_load.specs.internal.Placing.{IsPlacedHandover}
 
--- what is loaded for an entry of this value
-pub record IsPlanOfValue {A : Type 0} (facts : MachineFacts) (value : EntryValue) (plan : Plan A)
-    : Type 0 where
+-- what is loaded for an entry of this value, whose files hold these texts
+pub record IsPlanOfValue {A : Type 0} (facts : MachineFacts) (texts : List (List ℕ))
+    (value : EntryValue) (plan : Plan A) : Type 0 where
   -- it loads what the definition hands over
-  pub handover : IsHandover facts value (handover_by value.files plan)
-  -- it can be loaded out of the value's files into memory of the machine's size
-  pub loadable : IsLoadable (lengths_of value.files) facts.size plan
+  pub handover : IsHandover facts value (handover_by texts plan)
+  -- it can be loaded out of the files into memory of the machine's size
+  pub loadable : IsLoadable (lengths_of texts) facts.size plan
   -- it holds none of the files' bytes
   pub lean : IsLean plan.parts.items
   -- its bytes come from where the definition has them from

@@ -1,6 +1,7 @@
 -- What the code keeps of what was read of an entry's kernel.
 use Rattle.std.specs.Prelude.{◌≡◌, ◌+◌, ◌<◌, ◌≤◌, ◌^◌, ◌%◌, ℕ, true, List, length}
 use Rattle.bl_map.specs.Limits.{frame_size}
+use Rattle.bl_map.specs.MachineFacts.{MachineFacts}
 use Rattle.bl_map.specs.declared.region.Region.{Region}
 use Rattle.bl_plan.specs.declared.part.Place.{Place}
 use Rattle.bl_plan.specs.declared.protocol.Protocol.{Protocol}
@@ -16,7 +17,7 @@ use Rattle.bl_load.specs.Parts.{entered_at}
 use Rattle.bl_load.specs.Protocols.{has_params}
 use Rattle.bl_load.specs.internal.Placing.{ModulesEndLow}
 use Rattle.bl_mem.specs.FileSet.{nth_file}
-use Rattle.bl_load.specs.KernelReading.{KernelReading, multiboot2, linux}
+use Rattle.bl_load.specs.KernelReading.{KernelReading, multiboot2, linux, HasKernelFileFault}
 use Rattle.bl_load.specs.EntryValue.{EntryValue, initrd_file}
 use Rattle.bl_params.specs.SizesAndOffsets.{page_tables_size}
 
@@ -53,6 +54,11 @@ EntryPointFits32Bits (multiboot2 kernel) places =
     × (entered_at kernel.entry kernel.segments kernel.relocation (address_of role.Kernel 0 places)
     < 2 ^ 32)
 EntryPointFits32Bits (linux setup) places = Unit {0}
+
+-- a fault of an entry's kernel as one of preparing: it stands, or memory ran out
+abbrev pub IsKernelFault : MachineFacts → EntryValue → PrepFault → Type 0
+IsKernelFault facts value (prep_fault.Refused refused) = HasKernelFileFault facts value refused
+IsKernelFault facts value prep_fault.NoMemory = Unit {0}
 
 -- a Linux kernel's fault as one of preparing: it stands, or memory ran out
 abbrev pub IsLinuxFault : Protocol → List Region → List ℕ → List ℕ → PrepFault → Type 0

@@ -1,5 +1,5 @@
 -- What the code keeps of a kernel's file.
-use Rattle.std.specs.Prelude.{◌≡◌, ◌+◌, ◌<◌, ◌≤◌, ◌^◌, ℕ, length, All, AllPairs, List, Option, Some}
+use Rattle.std.specs.Prelude.{◌≡◌, ◌+◌, ◌<◌, ◌≤◌, ◌^◌, ℕ, Bool, length, All, AllPairs, List, Option, Some}
 use Rattle.std.specs.Prelude.{None}
 use Rattle.bl_mem.specs.declared.segment.Segment.{Segment}
 use Rattle.bl_elf.specs.Elf.{ElfFacts, AreApartSegments}
@@ -37,9 +37,10 @@ abbrev pub IsElfRefusal : List ℕ → Option Segment → PrepFault → Type 0
 IsElfRefusal file segment (prep_fault.Refused refused) = HasElfRefusal file segment refused
 IsElfRefusal file segment prep_fault.NoMemory = Unit {0}
 
-abbrev pub IsMultiboot2Fault : List ℕ → PrepFault → Type 0
-IsMultiboot2Fault file (prep_fault.Refused refused) = HasMultiboot2Fault file refused
-IsMultiboot2Fault file prep_fault.NoMemory = Unit {0}
+abbrev pub IsMultiboot2Fault : Bool → List ℕ → PrepFault → Type 0
+IsMultiboot2Fault has_screen file (prep_fault.Refused refused) =
+    HasMultiboot2Fault has_screen file refused
+IsMultiboot2Fault has_screen file prep_fault.NoMemory = Unit {0}
 
 -- own: a kernel has at most so many segments
 abbrev pub max_segments : ℕ
@@ -60,6 +61,7 @@ pub record AreLoadable (file : List ℕ) (segments : List Segment) : Type 0 wher
   pub span : span_of segments < 2 ^ 64
 
 -- this is what was read of a kernel's file, which can be loaded
-pub record IsKernelOf (file : List ℕ) (kernel : Multiboot2KernelFacts) : Type 0 where
-  pub is : IsMultiboot2Kernel file kernel
+pub record IsKernelOf (has_screen : Bool) (file : List ℕ) (kernel : Multiboot2KernelFacts)
+    : Type 0 where
+  pub is : IsMultiboot2Kernel has_screen file kernel
   pub loadable : AreLoadable file kernel.segments

@@ -1,8 +1,8 @@
 -- What the code tells a kernel, spelled from what its own functions are given.
-use Rattle.std.specs.Prelude.{◌≡◌, ℕ, ◌+◌, List, Option, All, length}
+use Rattle.std.specs.Prelude.{◌≡◌, ℕ, ◌+◌, List, Option, option_map, All, length}
 use Rattle.bl_map.specs.NormalMap.{low_kib, high_kib}
 use Rattle.bl_mem.specs.declared.byte_view.ByteView.{Ghosts}
-use Rattle.bl_mbi.specs.InfoToWriteFacts.{InfoToWriteFacts, ModuleInfo}
+use Rattle.bl_mbi.specs.InfoToWriteFacts.{InfoToWriteFacts, ModuleInfo, efi_tables}
 use Rattle.bl_plan.specs.declared.part.Place.{Place}
 use Rattle.bl_plan.specs.declared.part.Role.TheVariants.{Module}
 use Rattle.bl_load.specs.declared.checked_entry.CheckedEntry.{CheckedEntry}
@@ -27,6 +27,9 @@ info_with entry modules load_base = record {
   mem_lower = low_kib entry.machine.now.runs;
   mem_upper = high_kib entry.machine.now.runs;
   runs = entry.machine.now.runs;
+  screen = entry.machine.now.firmware.screen;
+  efi = option_map efi_tables entry.machine.now.firmware.efi;
+  smbios = entry.machine.now.firmware.smbios;
   rsdp_old = entry.rsdp_old.now;
   rsdp_new = entry.rsdp_new.now;
   load_base = load_base;

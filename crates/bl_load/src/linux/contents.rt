@@ -1,5 +1,7 @@
 //! The contents of a Linux entry's parts, at their places.
-ghost use Rattle.std.specs.Prelude.{◌≡◌, ◌≤◌, ◌<◌, ◌^◌, [], All, IfOk, length, map, unwrap_or};
+ghost use Rattle.std.specs.Prelude.{◌≡◌, ◌≤◌, ◌<◌, ◌^◌, [], All, IfOk, length, map};
+ghost use Rattle.std.specs.Prelude.{option_map, unwrap_or};
+ghost use Rattle.bl_map.specs.Firmware as firmware;
 ghost use Rattle.bl_params.specs.BootParams as params;
 ghost use Rattle.bl_params.specs.Paging.{paging};
 ghost use Rattle.bl_plan.specs.declared.part.Role.TheVariants as role;
@@ -20,11 +22,21 @@ use crate::linux::rows::initrd_size;
 use crate::plan::Content;
 use crate::segment_descriptors::descriptors_of;
 use bl_bzimage::Setup;
-use bl_map::FRAME_SIZE;
+use bl_map::{Efi, EfiInfo, FRAME_SIZE};
 use bl_mem::{ByteView, Bytes};
 use bl_params::{ParamsToWrite, page_tables, write_params};
 use bl_plan::{Place, Protocol, Role};
 use std::alloc::{AllocError, Allocator};
+
+/// What is told of UEFI: its memory map stays where it lies.
+fn efi_info(efi: &Option<Efi<'_>>) -> Option<EfiInfo>
+    ensures { result ≡ option_map firmware.efi_info efi.now }
+{
+    match efi {
+        Some(efi) => Some(efi.info()),
+        None => None,
+    }
+}
 
 /// The boot parameters, where the parts have these places. Never inlined, as `page_tables_at`: each
 /// has 4096 bytes on the stack.
@@ -41,12 +53,16 @@ fn boot_params<A: Allocator, V: ByteView>(
     ensures { IfOk result (λ bytes. bytes ≡ params.boot_params setup.now.header
         (table.boot_params_facts entry.now.machine.now (value_of_files entry.now) places.now)) }
 {
+    let firmware = entry.machine.firmware();
     let facts = ParamsToWrite {
         code32_start: address_of(Role::Kernel, 0, places),
         ramdisk_image: address_of(Role::Initrd, 0, places),
         ramdisk_size: initrd_size(entry.files) as u32,
         cmd_line_ptr: address_of(Role::CommandLine, 0, places),
         runs: entry.machine.normal(),
+        screen: firmware.screen,
+        rsdp: firmware.rsdp,
+        efi: efi_info(&firmware.efi),
     };
     let mut bytes = [0u8; 4096];
     write_params(setup, &facts, &mut bytes);

@@ -16,6 +16,7 @@ ghost use Rattle.bl_map.specs.Limits.{usable_limit};
 
 use crate::addresses;
 use crate::checked_entry::CheckedEntry;
+use bl_map::{Efi, Firmware, Screen, Smbios};
 use bl_mb2head::Relocation;
 use bl_mbi::{InfoToWrite, ModuleToWrite, write_info};
 use bl_mem::{ByteView, Bytes};
@@ -84,11 +85,17 @@ fn bytes_of<A: Allocator>(copy: &Option<Bytes<A>>) -> Option<&[u8]>
 }
 
 /// What the information tells, with these modules.
-fn facts_of<'a, A: Allocator, V: ByteView>(
+fn facts_of<'a, 'f, A: Allocator, V: ByteView>(
     entry: &'a CheckedEntry<'_, A, V>,
     modules: &'a [ModuleToWrite<'a>],
+    screen: Option<Screen>,
+    efi: Option<&'a Efi<'f>>,
+    smbios: Option<&'a Smbios<'f>>,
     load_base: Option<u32>,
-) -> InfoToWrite<'a>
+) -> InfoToWrite<'a, 'f>
+    requires screen { screen ≡ entry.now.machine.now.firmware.screen }
+    requires efi { option_copied efi ≡ entry.now.machine.now.firmware.efi }
+    requires smbios { option_copied smbios ≡ entry.now.machine.now.firmware.smbios }
     requires modules { All IsModule modules.now }
     requires small { sum_by (λ n. tag_size (n + 9)) (map (λ m. length m.line) modules.now)
         < 2 ^ 20 }
@@ -101,6 +108,9 @@ fn facts_of<'a, A: Allocator, V: ByteView>(
         mem_lower: entry.machine.low_kib() as u32,
         mem_upper: entry.machine.high_kib() as u32,
         runs: entry.machine.normal(),
+        screen,
+        efi,
+        smbios,
         rsdp_old: bytes_of(entry.rsdp_old),
         rsdp_new: bytes_of(entry.rsdp_new),
         load_base,
@@ -133,7 +143,21 @@ pub fn information<A: Allocator + Copy, V: ByteView>(
     let base = addresses::address_of(Role::Kernel, 0, places);
     let load_base = load_base_of(relocation, base);
     let told = modules_at(alloc, entry, places)?;
-    let facts = facts_of(entry, told.as_slice(), load_base);
+    let Firmware {
+        screen,
+        efi,
+        smbios,
+        ..
+    } = entry.machine.firmware();
+    let told = told.as_slice();
+    let facts = facts_of(
+        entry,
+        told,
+        screen,
+        efi.as_ref(),
+        smbios.as_ref(),
+        load_base,
+    );
     let mut out = Vec::new(alloc);
     write_info(&facts, &mut out)?;
     Ok(Bytes::from(out))

@@ -12,7 +12,7 @@ ghost use Rattle.bl_load.specs.declared.refusal.PrepFault.TheVariants.{Refused};
 
 use crate::refusal::{PrepFault, Refusal};
 use bl_elf::{Elf, ElfFault, read_elf};
-use bl_mb2head::{HeadFault, Relocation, find_header};
+use bl_mb2head::{HeadFault, Relocation, find_header_for};
 use bl_mem::{ByteView, Segment};
 use std::alloc::Allocator;
 
@@ -134,17 +134,19 @@ fn check_entry_point(segments: &[Segment], entry: Option<u64>) -> Result<u64, Re
     }
 }
 
-/// What is read of a kernel's file, or its first fault.
+/// What is read of a kernel's file, or its first fault, on a machine that has a screen or none.
 pub fn read_kernel<A: Allocator + Copy, V: ByteView>(
     alloc: A,
     file: &V,
+    has_screen: bool,
 ) -> Result<Kernel<A>, PrepFault>
-    ensures ok { IfOk result (λ kernel. IsKernelOf (V.bytes file.now) (kernel_by kernel)) }
-    ensures fault { IfErr result (IsMultiboot2Fault (V.bytes file.now)) }
+    ensures ok { IfOk result (λ kernel. IsKernelOf has_screen (V.bytes file.now)
+        (kernel_by kernel)) }
+    ensures fault { IfErr result (IsMultiboot2Fault has_screen (V.bytes file.now)) }
 {
     // For the proof: the file's length, and so that of the tag's segment, is below 2^64.
     let _len = file.len();
-    let header = find_header(file)?;
+    let header = find_header_for(file, has_screen)?;
     let executable = read_executable(alloc, file, header.segment)?;
     let counted = header.entry.or(executable.entry());
     let entry = check_entry_point(executable.segments(), counted)?;

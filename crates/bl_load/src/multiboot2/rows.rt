@@ -14,7 +14,7 @@ use crate::checked_entry::CheckedEntry;
 use crate::entry::Module;
 use crate::multiboot2::kernel::Kernel;
 use crate::multiboot2::rows::kernel::push_kernel_rows;
-use bl_map::{FIRST_USABLE, FRAME_SIZE, HIGH_START, MAX_SIZE, round_up_to_frames};
+use bl_map::{Efi, FIRST_USABLE, FRAME_SIZE, HIGH_START, MAX_SIZE, Smbios, round_up_to_frames};
 use bl_mbi::{module_size, size_by_lengths};
 use bl_mem::{ByteView, Bytes};
 use bl_plan::{Choice, Role, Row};
@@ -75,6 +75,26 @@ fn length_of<A: Allocator>(copy: &Option<Bytes<A>>) -> Option<u64>
     }
 }
 
+/// How many bytes the memory map of UEFI has, if one is told.
+fn efi_map_size(efi: &Option<Efi<'_>>) -> Option<u64>
+    ensures { result ≡ option_map (λ told. length told.map) efi.now }
+{
+    match efi {
+        Some(efi) => Some(efi.map.len() as u64),
+        None => None,
+    }
+}
+
+/// How many bytes the tables of SMBIOS have, if they are told.
+fn smbios_size(smbios: &Option<Smbios<'_>>) -> Option<u64>
+    ensures { result ≡ option_map (λ told. length told.tables) smbios.now }
+{
+    match smbios {
+        Some(smbios) => Some(smbios.tables.len() as u64),
+        None => None,
+    }
+}
+
 /// The row of the information.
 fn information_row<A: Allocator, B: Allocator, V: ByteView>(
     entry: &CheckedEntry<'_, A, V>,
@@ -83,6 +103,7 @@ fn information_row<A: Allocator, B: Allocator, V: ByteView>(
     ensures { result ≡ table.information_row entry.now.machine.now (value_of_files entry.now)
         kernel.now.relocation }
 {
+    let firmware = entry.machine.firmware();
     let length = size_by_lengths(
         entry.line.len() as u64,
         module_tags_size(entry.modules),
@@ -90,6 +111,9 @@ fn information_row<A: Allocator, B: Allocator, V: ByteView>(
         length_of(entry.rsdp_old),
         length_of(entry.rsdp_new),
         kernel.relocation.is_some(),
+        firmware.screen.is_some(),
+        efi_map_size(&firmware.efi),
+        smbios_size(&firmware.smbios),
     );
     Row {
         role: Role::Information,

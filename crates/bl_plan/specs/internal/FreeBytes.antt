@@ -7,9 +7,13 @@ use Rattle.bl_plan.specs.declared.part.Window.{Window}
 use Rattle.bl_plan.specs.Permitted.{IsPermitted}
 use Rattle.bl_plan.specs.PlannerFacts.{AreApartRanges}
 
+-- the address lies in none of these ranges
+abbrev pub IsInNone : List (Range ℕ) → ℕ → Type 0
+IsInNone ranges a = All (λ range. ¬ IsIn range a) ranges
+
 -- a byte that a part may have, beside the ranges that are taken
 abbrev pub IsFree : MachineFacts → List (Range ℕ) → ℕ → Type 0
-IsFree facts taken a = IsUsable facts a × All (λ range. ¬ IsIn range a) taken
+IsFree facts taken a = IsUsable facts a × IsInNone facts.firmware.avoided a × IsInNone taken a
 
 -- an address that is permitted for so many bytes in a window
 abbrev pub IsPermittedIn : MachineFacts → List (Range ℕ) → ℕ → Window → ℕ → Type 0

@@ -17,8 +17,8 @@ impl<'m, A: Allocator> Planner<'m, A> {
     /// answers that address.
     ///
     /// An address is permitted where it is a multiple of `align` (any number from 1 on), is not
-    /// below `low`, and the bytes from there on end at most at `high`, are usable and are not
-    /// taken. All numbers are in bytes.
+    /// below `low`, and the bytes from there on end at most at `high`, are usable, are not avoided
+    /// and are not taken. All numbers are in bytes.
     ///
     /// One of these faults refuses it, and the planner stays as it was:
     /// - `NoRoom`: no address is permitted.

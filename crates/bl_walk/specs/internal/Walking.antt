@@ -11,7 +11,7 @@ use Rattle.bl_load.specs.Handover.{Part, Handover}
 use Rattle.bl_load.specs.Registers.{entry_in}
 use Rattle.bl_walk.specs.Faults.{IsFollowed, HasWalkFault}
 use Rattle.bl_walk.specs.Seen.{kernel_in}
-use Rattle.bl_walk.specs.SeenFacts.{SeenFacts}
+use Rattle.bl_walk.specs.SeenFacts.{SeenFirmwareFacts, SeenFacts}
 use Rattle.bl_walk.specs.declared.fault.WalkFault.{WalkFault}
 use Rattle.bl_walk.specs.declared.fault.WalkFault.TheVariants.{BadInfo, NoMemory}
 
@@ -29,10 +29,10 @@ IsModuleFollowed h m = IsFollowed h m.mod_start (m.mod_end - m.mod_start)
 abbrev pub begins_upto : ℕ → Part → Bool
 begins_upto address part = nat_le part.address address
 
--- what a kernel sees that is told this line and these runs, and of no file and no copy of an RSDP
--- beside them
-abbrev pub seen_without_files : Handover → List ℕ → List Region → SeenFacts
-seen_without_files h line runs = record {
+-- what a kernel sees that is told this line, these runs and this of firmware, and of no file and no
+-- copy of an RSDP beside them
+abbrev pub seen_without_files : Handover → List ℕ → List Region → SeenFirmwareFacts → SeenFacts
+seen_without_files h line runs firmware = record {
   protocol = h.protocol;
   entry = entry_in h.registers;
   line = line;
@@ -42,6 +42,7 @@ seen_without_files h line runs = record {
   map = runs;
   rsdp_old = None;
   rsdp_new = None;
+  firmware = firmware;
 }
 
 -- how a fault of the information, or of the boot parameters, is answered

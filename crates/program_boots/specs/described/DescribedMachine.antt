@@ -1,7 +1,8 @@
 -- The machine that a description describes, and descriptions that describe none. Own.
 use Rattle.std.specs.Prelude.{◌≡◌, ◌≢◌, ◌⊎◌, ℕ, List, None, Some}
-use Rattle.bl_map.specs.MachineFacts.{MachineFacts}
-use Rattle.bl_map.specs.Faults.{HasFirstMapFault, IsAccepted}
+use Rattle.bl_map.specs.MachineFacts.{MachineFacts, IsFirmware}
+use Rattle.bl_map.specs.Faults.{IsAccepted}
+use Rattle.bl_map.specs.FirmwareFaults.{HasFirstMachineFault}
 use Rattle.bl_map.specs.NormalMap.{IsNormalMap}
 use Rattle.bl_map.specs.declared.fault.MapFault.{MapFault}
 use Rattle.bl_map.specs.declared.fault.MapFault.TheVariants as map_fault
@@ -12,15 +13,20 @@ use Rattle.program_desc.specs.declared.fault.DescFault.TheVariants.{BadDescripti
 -- these are the facts of the machine that is described
 pub record IsMachineOf (description : DescriptionFacts) (facts : MachineFacts) : Type 0 where
   pub accepted : IsAccepted description.size description.regions description.pool
+  pub told :
+      IsFirmware description.regions description.size description.pool description.firmware
   pub size : facts.size ≡ description.size
   pub runs : IsNormalMap description.regions facts.runs
   pub pool : facts.pool ≡ description.pool
+  pub firmware : facts.firmware ≡ description.firmware
 
 -- a rule of machines is broken, and memory did not just run out
 pub record IsBadMachine (description : DescriptionFacts) : Type 0 where
   pub fault : MapFault
   pub named : fault ≢ map_fault.NoMemory
-  pub first : HasFirstMapFault description.size description.regions description.pool fault
+  pub first :
+      HasFirstMachineFault description.size description.regions description.pool
+      description.firmware fault
 
 -- why there is no such machine: a rule is broken, or memory ran out
 abbrev pub IsMachineFault : DescriptionFacts → DescFault → Type 0

@@ -15,6 +15,7 @@ use Rattle.bl_session.specs.session.BootSteps.{out_of_memory}
 use Rattle.program_desc.specs.Described.{DescriptionFacts}
 use Rattle.program_desc.specs.Entries.{Entry}
 use Rattle.program_boots.specs.described.DescribedMenu.{described_entry, attempted_file_names}
+use Rattle.program_say.specs.FirmwareLines.{machine_firmware_lines}
 use Rattle.program_say.specs.Frames.{names_at, sought_frames_line}
 use Rattle.program_say.specs.HandoffLines.{handoff_lines, handover_lines}
 use Rattle.program_say.specs.Hints.{hint_lines}
@@ -46,11 +47,13 @@ entry_handoff_lines entries sought steps pool entry handoff =
     handoff_lines (source_words steps) handoff
     ++ sought_frames_line sought (names_at entries entry) pool (map place_range handoff.places)
 
--- each entry that was attempted was refused, and this is told of the refusals
+-- each entry that was attempted was refused, and this is told of the refusals; what the machine's
+-- firmware tells comes first, as of each boot
 abbrev pub none_left_lines :
     DescriptionFacts → MachineFacts → SoughtFacts → List ToldRefusal → List RefusedEntry → List ℕ
 none_left_lines description facts sought told refused =
-    flat_map (refused_attempt_lines description.entries facts sought) told
+    machine_firmware_lines facts.firmware
+    ++ flat_map (refused_attempt_lines description.entries facts sought) told
     ++ no_entry_line ++ hint_lines description sought refused None
 
 -- an entry is handed over after these refusals, with these lines of what is handed over
@@ -58,7 +61,8 @@ abbrev pub booted_lines :
     DescriptionFacts → MachineFacts → SoughtFacts → ℕ → List ToldRefusal → List RefusedEntry
     → (handed : List ℕ) → List ℕ
 booted_lines description facts sought entry told earlier handed =
-    flat_map (refused_attempt_lines description.entries facts sought) told
+    machine_firmware_lines facts.firmware
+    ++ flat_map (refused_attempt_lines description.entries facts sought) told
     ++ attempt_lines description.entries sought entry
     ++ booted_line entry (described_entry description entry).title ++ handed
     ++ hint_lines description sought earlier (Some entry)

@@ -13,7 +13,7 @@ use bl_load::Step;
 use bl_session::{Outcome, RefusedEntry};
 use program_say::{
     Sought, ToldRefusal, say_attempt, say_booted, say_handoff, say_handoff_frames, say_hints,
-    say_no_entry_left, say_refused_attempts,
+    say_machine_firmware, say_no_entry_left, say_refused_attempts,
 };
 use std::alloc::{AllocError, Allocator};
 
@@ -34,6 +34,7 @@ pub fn tell_none_left<A: Allocator + Copy, B: Allocator>(
     ensures err { OnErr result (say.new.items ≡ say.old.items) }
 {
     let mut lines = Vec::new(alloc);
+    say_machine_firmware(&mut lines, &boot.machine.firmware())?;
     say_refused_attempts(&mut lines, boot.machine, boot.description, sought, told)?;
     say_no_entry_left(&mut lines)?;
     say_hints(&mut lines, boot.description, sought, refused, None)?;
@@ -91,6 +92,7 @@ pub fn tell_booted<A: Allocator + Copy, B: Allocator>(
     ensures err { OnErr result (say.new.items ≡ say.old.items) }
 {
     let mut lines = Vec::new(alloc);
+    say_machine_firmware(&mut lines, &boot.machine.firmware())?;
     say_refused_attempts(&mut lines, boot.machine, boot.description, sought, told)?;
     say_attempt(&mut lines, boot.description, sought, outcome.entry)?;
     say_outcome(&mut lines, boot, sought, steps, outcome)?;

@@ -3,7 +3,7 @@ use Rattle.std.specs.Prelude.{◌≡◌, ◌≢◌, ◌≤◌, ℕ, true, false,
 use Rattle.std.specs.Str.{is_utf8}
 use Rattle.toml.specs.Data.{Members}
 use Rattle.toml.specs.Parse.{parse_document}
-use Rattle.bl_map.specs.Faults.{HasFirstMapFault}
+use Rattle.bl_map.specs.FirmwareFaults.{HasFirstMachineFault}
 use Rattle.bl_map.specs.declared.fault.MapFault.{MapFault}
 use Rattle.bl_map.specs.declared.fault.MapFault.TheVariants.{NoMemory}
 use Rattle.program_desc.specs.Described.{DescriptionFacts, described, described_in}
@@ -36,7 +36,9 @@ pub record HasBadMachine (desc : List ℕ) (fault : MapFault) : Type 0 where
   pub description : DescriptionFacts
   pub is_described : described desc ≡ Some description
   pub named : fault ≢ NoMemory
-  pub first : HasFirstMapFault description.size description.regions description.pool fault
+  pub first :
+      HasFirstMachineFault description.size description.regions description.pool
+      description.firmware fault
 
 abbrev pub HasBlame : List ℕ → Blame → Type 0
 HasBlame desc blames.NotUtf8 = is_utf8 desc ≡ false

@@ -1,6 +1,6 @@
 -- What the code keeps of a description that is read, with its machine, or of why it is not. Own.
 use Rattle.std.specs.Prelude.{◌≡◌, ◌≢◌, ℕ, ◌++◌, List, Result, Ok, Err, Some}
-use Rattle.bl_map.specs.Faults.{HasFirstMapFault}
+use Rattle.bl_map.specs.FirmwareFaults.{HasFirstMachineFault}
 use Rattle.bl_map.specs.MachineFacts.{MachineFacts}
 use Rattle.bl_map.specs.declared.fault.MapFault.{MapFault}
 use Rattle.bl_map.specs.declared.fault.MapFault.TheVariants as map_fault
@@ -53,7 +53,8 @@ IsReadOrBlamed desc old new (Err fault) = IsReadBlame desc old new fault
 abbrev pub IsMachineBlame : DescriptionFacts → (old new : List ℕ) → DescFault → Type 0
 IsMachineBlame description old new BadDescription =
     (fault : MapFault) × (fault ≢ map_fault.NoMemory)
-    × HasFirstMapFault description.size description.regions description.pool fault
+    × HasFirstMachineFault description.size description.regions description.pool
+    description.firmware fault
     × (new ≡ old ++ blame_lines (BadMachine fault) (Some description))
 IsMachineBlame description old new NoMemory = new ≡ old
 

@@ -19,15 +19,11 @@ pub fn machine_of<A: Allocator + Copy>(
 {
     let pool = description.pool.start..description.pool.end;
     let regions = description.regions.as_slice();
-    match Machine::new(alloc, description.size, regions, pool) {
+    let firmware = description.firmware.lend();
+    match Machine::with_firmware(alloc, description.size, regions, pool, &firmware) {
         Ok(machine) => Ok(machine),
-        Err(
-            MapFault::BadSize
-            | MapFault::BadRegion(_)
-            | MapFault::TooManyRegions
-            | MapFault::BadPool,
-        ) => Err(DescFault::BadDescription),
         Err(MapFault::NoMemory) => Err(DescFault::NoMemory),
+        Err(_) => Err(DescFault::BadDescription),
     }
 }
 

@@ -36,7 +36,8 @@ pub fn machine_or_blame<A: Allocator + Copy, B: Allocator>(
 {
     let pool = description.pool.start..description.pool.end;
     let regions = description.regions.as_slice();
-    match Machine::new(alloc, description.size, regions, pool) {
+    let firmware = description.firmware.lend();
+    match Machine::with_firmware(alloc, description.size, regions, pool, &firmware) {
         Ok(machine) => Ok(machine),
         Err(MapFault::NoMemory) => Err(DescFault::NoMemory),
         Err(fault) => Err(blamed(alloc, &Blame::BadMachine(fault), Some(description), say)),

@@ -16,6 +16,20 @@ map_fault_name (faults.BadRegion i) = codes "BadRegion"
 map_fault_name faults.TooManyRegions = codes "TooManyRegions"
 map_fault_name faults.BadPool = codes "BadPool"
 map_fault_name faults.NoMemory = codes "NoMemory"
+map_fault_name faults.BadScreenSize = codes "BadScreenSize"
+map_fault_name faults.BadScreenDepth = codes "BadScreenDepth"
+map_fault_name faults.BadScreenColor = codes "BadScreenColor"
+map_fault_name faults.BadScreenPitch = codes "BadScreenPitch"
+map_fault_name faults.BadScreenPlace = codes "BadScreenPlace"
+map_fault_name faults.BadRsdp = codes "BadRsdp"
+map_fault_name faults.BadSystemTable = codes "BadSystemTable"
+map_fault_name faults.BadDescriptors = codes "BadDescriptors"
+map_fault_name faults.BadEfiMapSize = codes "BadEfiMapSize"
+map_fault_name faults.BadEfiMapPlace = codes "BadEfiMapPlace"
+map_fault_name faults.BadSmbiosSize = codes "BadSmbiosSize"
+map_fault_name faults.TooManyAvoided = codes "TooManyAvoided"
+map_fault_name (faults.BadAvoided i) = codes "BadAvoided"
+map_fault_name faults.PoolAvoided = codes "PoolAvoided"
 
 -- <<<
 
@@ -27,12 +41,40 @@ map_fault_meaning faults.TooManyRegions = codes "more than 128 regions"
 map_fault_meaning faults.BadPool =
     codes "a bad pool: not whole frames, or with a byte that is not usable"
 map_fault_meaning faults.NoMemory = codes "out of memory while a machine was made"
+map_fault_meaning faults.BadScreenSize =
+    codes "a bad size of the screen: its width, its height or its pitch is not 1 to 65535"
+map_fault_meaning faults.BadScreenDepth =
+    codes "a bad depth of the screen: not 15, 16, 24 or 32 bits"
+map_fault_meaning faults.BadScreenColor =
+    codes "a bad colour of the screen: its bits do not lie in the pixel"
+map_fault_meaning faults.BadScreenPitch =
+    codes "a bad pitch of the screen: a line's pixels do not fit into its bytes"
+map_fault_meaning faults.BadScreenPlace =
+    codes "a bad place of the screen: at 0, with an end above 2^52, or over a usable byte"
+map_fault_meaning faults.BadRsdp =
+    codes "a bad address of the RSDP: 0, or its 36 bytes are over a usable one"
+map_fault_meaning faults.BadSystemTable =
+    codes "a bad address of the UEFI system table: 0, or with 32 bits at 4 GiB or above"
+map_fault_meaning faults.BadDescriptors =
+    codes "bad descriptors of the UEFI memory map: another version than 1, or a size below 40 or "
+    ++ codes "no multiple of 8"
+map_fault_meaning faults.BadEfiMapSize =
+    codes "a bad size of the UEFI memory map: no descriptor, a part of one, or more than 64 KiB"
+map_fault_meaning faults.BadEfiMapPlace =
+    codes "a bad place of the UEFI memory map: at 0, at no multiple of 8, with an end above 4 GiB, "
+    ++ codes "or over a usable byte"
+map_fault_meaning faults.BadSmbiosSize = codes "bad tables of SMBIOS: no byte, or more than 64 KiB"
+map_fault_meaning faults.TooManyAvoided = codes "more than 128 ranges to avoid"
+map_fault_meaning (faults.BadAvoided i) =
+    codes "the range to avoid with this index ends above 2^52, or before it begins"
+map_fault_meaning faults.PoolAvoided = codes "a range to avoid meets the pool"
 
 -- <<<
 
--- the index of a region, in brackets
+-- the index of a region, of a range to avoid, in brackets
 abbrev pub map_fault_told : MapFault → List ℕ
 map_fault_told (faults.BadRegion i) = number_told i
+map_fault_told (faults.BadAvoided i) = number_told i
 map_fault_told _ = []
 
 -- a machine's fault: its number, its name with what it tells, its meaning

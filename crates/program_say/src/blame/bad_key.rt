@@ -15,6 +15,11 @@ fn say_table<A: Allocator + Copy>(out: &mut Vec<u8, A>, table: TablePlace) -> Re
     match table {
         TablePlace::Description => Ok(()),
         TablePlace::Region(i) => say!(out, "region[{i}]"),
+        TablePlace::Firmware => say!(out, "firmware"),
+        TablePlace::Screen => say!(out, "firmware.screen"),
+        TablePlace::Efi => say!(out, "firmware.efi"),
+        TablePlace::Smbios => say!(out, "firmware.smbios"),
+        TablePlace::Avoided(i) => say!(out, "avoid[{i}]"),
         TablePlace::File(i) => say!(out, "file[{i}]"),
         TablePlace::Entry(i) => say!(out, "entry[{i}]"),
         TablePlace::Module(i, j) => say!(out, "entry[{i}].module[{j}]"),

@@ -5,6 +5,7 @@ ghost use Rattle.program_say.specs.blame.BlameLines as hints;
 ghost use Rattle.program_say.specs.blame.BlameLine as blames;
 
 use crate::blame::bad_key::say_bad_key;
+use crate::blame::map_faults::say_map_fault;
 use crate::blame::pool_lines::say_pool_lines;
 use crate::blame::radix_hints::{say_pool_hints, say_size_hint};
 use crate::blame::word_hints::say_key_hint;
@@ -13,61 +14,6 @@ use crate::subjects::{Blame, TextPlace};
 use bl_map::MapFault;
 use program_desc::Description;
 use std::alloc::{AllocError, Allocator};
-
-/// The name of a machine's fault.
-fn map_fault_name(fault: MapFault) -> &'static str
-    ensures { result.now ≡ blames.map_fault_name fault }
-{
-    match fault {
-        // >>> tools/refusals: names of MapFault
-        MapFault::BadSize => "BadSize",
-        MapFault::BadRegion(_) => "BadRegion",
-        MapFault::TooManyRegions => "TooManyRegions",
-        MapFault::BadPool => "BadPool",
-        MapFault::NoMemory => "NoMemory",
-        // <<<
-    }
-}
-
-/// What a machine's fault means.
-fn map_fault_meaning(fault: MapFault) -> &'static str
-    ensures { result.now ≡ blames.map_fault_meaning fault }
-{
-    match fault {
-        // >>> tools/refusals: meanings of MapFault
-        MapFault::BadSize => "a bad size: not 1 MiB to 4 GiB in whole frames",
-        MapFault::BadRegion(_) => "the region with this index ends above 2^52",
-        MapFault::TooManyRegions => "more than 128 regions",
-        MapFault::BadPool => "a bad pool: not whole frames, or with a byte that is not usable",
-        MapFault::NoMemory => "out of memory while a machine was made",
-        // <<<
-    }
-}
-
-/// Appends what a machine's fault carries, in brackets: the index of a region.
-fn say_region_index<A: Allocator + Copy>(
-    out: &mut Vec<u8, A>,
-    fault: MapFault,
-) -> Result<(), AllocError>
-    ensures { OnOk result (out.new.items ≡ out.old.items ++ blames.map_fault_told fault) }
-{
-    match fault {
-        MapFault::BadRegion(index) => say!(out, "({index})"),
-        _ => Ok(()),
-    }
-}
-
-/// Appends a machine's fault: its number, its name with what it tells, its meaning.
-fn say_map_fault<A: Allocator + Copy>(
-    out: &mut Vec<u8, A>,
-    fault: MapFault,
-) -> Result<(), AllocError>
-    ensures { OnOk result (out.new.items ≡ out.old.items ++ blames.map_fault_words fault) }
-{
-    say!(out, "{} {}", fault.number(), map_fault_name(fault))?;
-    say_region_index(out, fault)?;
-    say!(out, ": {}", map_fault_meaning(fault))
-}
 
 /// Appends where a text is not TOML.
 fn say_place<A: Allocator + Copy>(out: &mut Vec<u8, A>, place: &TextPlace) -> Result<(), AllocError>

@@ -52,9 +52,11 @@ fn allowed_front(allowed: Allowed) -> &'static str
     match allowed {
         Allowed::Number => "a number of 0 or more",
         Allowed::Byte => "a number from 0 to 255",
+        Allowed::Word => "a number from 0 to 4294967295",
         Allowed::IndexBelow(_) => "the index of an entry, below ",
         Allowed::TwoNumbers => "an array of two numbers",
         Allowed::Indices => "an array of numbers",
+        Allowed::OneTable => "a table",
         Allowed::Tables => "an array of tables",
         Allowed::EntryTables => "an array of 1 to 32 tables",
         Allowed::ModuleTables => "an array of at most 64 tables",
@@ -62,6 +64,9 @@ fn allowed_front(allowed: Allowed) -> &'static str
         Allowed::Title => "a text of 1 to 64 printable characters of ASCII",
         Allowed::KindName => "\"usable\", \"reserved\", \"acpi\", \"nvs\" or \"bad\"",
         Allowed::ProtocolName => "\"multiboot2\", \"linux\" or \"linux64\"",
+        Allowed::EfiBits => "32 or 64",
+        Allowed::SecureBoot => "a number from 0 to 3",
+        Allowed::Color => "an array of two numbers from 0 to 255",
         Allowed::HexText => "a text of hexadecimal digits, an even number",
         Allowed::CopyText => "a text of hexadecimal digits, for 1 to 256 bytes",
     }

@@ -6,10 +6,12 @@ ghost use Rattle.std.specs.List.{flat_map};
 ghost use Rattle.bl_map.specs.NormalMap.{region_end};
 ghost use Rattle.bl_map.specs.Limits.{max_region_end};
 ghost use Rattle.bl_walk.specs.EntryShown.{RunsEndLow};
+ghost use Rattle.program_say.specs.FirmwareLines.{firmware_lines};
 ghost use Rattle.program_say.specs.WalkLines as says;
 ghost use Rattle.program_say.specs.WalkLines.{kernel_line, module_line, seen_run_line};
 
 use crate::blame::say_address;
+use crate::lines::firmware::say_firmware;
 use crate::lines::hex16::say_hex16;
 use crate::say;
 use bl_load::Protocol;
@@ -157,7 +159,7 @@ fn say_entry<A: Allocator + Copy, B: Allocator>(
 }
 
 /// Appends the lines of what a kernel is told of: the modules, the initial ramdisk, the memory map,
-/// the copies of the RSDP.
+/// the copies of the RSDP, what firmware tells.
 fn say_told<A: Allocator + Copy, B: Allocator>(
     out: &mut Vec<u8, A>,
     seen: &Seen<'_, B>,
@@ -166,18 +168,20 @@ fn say_told<A: Allocator + Copy, B: Allocator>(
     ensures { OnOk result (out.new.items ≡ out.old.items ++ flat_map module_line seen.now.modules
         ++ says.initrd_line seen.now.initrd ++ flat_map seen_run_line seen.now.map
         ++ says.rsdp_copy_line (codes "rsdp-old ") seen.now.rsdp_old
-        ++ says.rsdp_copy_line (codes "rsdp-new ") seen.now.rsdp_new) }
+        ++ says.rsdp_copy_line (codes "rsdp-new ") seen.now.rsdp_new
+        ++ firmware_lines seen.now.firmware) }
 {
     say_modules(out, seen.modules.as_slice())?;
     say_initrd(out, &seen.initrd)?;
     say_runs(out, seen.map.as_slice())?;
     say_copy(out, b"rsdp-old ", &seen.rsdp_old)?;
-    say_copy(out, b"rsdp-new ", &seen.rsdp_new)
+    say_copy(out, b"rsdp-new ", &seen.rsdp_new)?;
+    say_firmware(out, &seen.firmware)
 }
 
 /// Appends the lines of what a kernel sees: its protocol, where it is entered, its line, its parts,
-/// the modules, the initial ramdisk, the memory map, the copies of the RSDP. They are formed in
-/// `alloc` first, so that an error leaves the text as it was.
+/// the modules, the initial ramdisk, the memory map, the copies of the RSDP, what firmware tells.
+/// They are formed in `alloc` first, so that an error leaves the text as it was.
 pub fn say_walk<A: Allocator + Copy, B: Allocator, C: Allocator>(
     alloc: A,
     seen: &Seen<'_, B>,

@@ -9,7 +9,7 @@ abbrev pub invariant-loop-tag : goal.invariant-loop-tag
 invariant-loop-tag g l = record {
   in_reach : l.at ≤ l.end + 8;
   fits : LieBefore l.end l.last;
-  before : (ts : List Tag) × AreTags (g.V.ByteView.bytes l.view) l.end l.start l.at ts
+  before : (ts : List Tag) × AreTags l.has_console (g.V.ByteView.bytes l.view) l.end l.start l.at ts
       × (l.last ≡ last_tags ts);
 }
 

@@ -2,7 +2,7 @@ use Rattle.std.proofs.lemmas.Grind.{common_steps}
 use Rattle.std.proofs.Common.{arith, inl, inr, ◌+◌}
 use Rattle.std.proofs.lemmas.Bool.{cases_lt}
 use Rattle.bl_plan.proofs.BlockLemmas.{none_down_to_start}
-use Rattle.bl_plan.proofs.SearchLemmas.{ends_in_room}
+use Rattle.bl_plan.proofs.SearchLemmas.{ends_in_room, starts_in_room}
 use Rattle.bl_plan.proofs.search.greatest_place.Goals as goal
 
 pub returns-then-end-length : goal.returns-then-end-length
@@ -73,4 +73,6 @@ pub returns-in_default : goal.returns-in_default
 returns-in_default g c = grind (arith, common_steps)
 
 pub returns : goal.returns
-returns g c = grind (arith, common_steps)
+returns g c = λ a p.
+    let start = starts_in_room _ _ _ _ _ _ a c.requires.filled p in
+    omega (arith, c.loop-at.invariant.none a p, c.loop-at-test.false, p.above, start)

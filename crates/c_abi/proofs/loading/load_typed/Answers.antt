@@ -28,6 +28,9 @@ returns-in-Err g c =
       unchanged = refl;
     }
 
+pub begin_below-requires : goal.begin_below-requires
+begin_below-requires g c = rw c.as_slice.ensures.value c.in-Ok.ensures.loadable.kept.ascending
+
 pub returns-then-begin_below : goal.returns-then-begin_below
 returns-then-begin_below g c =
     let texts = map (λ (f : SliceView). f.bytes.now) c.args.files.now in

@@ -49,6 +49,13 @@ returns-in_err-rsdp_new g c =
     c.from_residual-in_err-rsdp_new.ensures.1 in
     rw end.1 tt
 
+pub returns-in_err-firmware : goal.returns-in_err-firmware
+returns-in_err-firmware g c =
+    let end =
+    err_from_is_err_and c.from_residual-in_err-firmware.result
+    c.from_residual-in_err-firmware.ensures.1 in
+    rw end.1 tt
+
 pub returns-in_err-parts_told : goal.returns-in_err-parts_told
 returns-in_err-parts_told g c =
     let end =

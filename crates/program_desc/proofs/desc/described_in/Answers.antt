@@ -34,7 +34,7 @@ returns-in_err-size-clause-given g c =
       p.2,
       c.in_ok-check_keys.ensures.ok,
     )
-    (fails_as _ _ _ _ _ (of_whole 0 _ ms _ refl refl) c.in_err-size.ensures)
+    (fails_as _ _ _ _ _ (of_whole 0 _ ms _ refl refl) c.in_err-size.ensures.value)
 
 pub returns-in_err-pool-clause-given : goal.returns-in_err-pool-clause-given
 unfolding spec.described_in
@@ -45,7 +45,7 @@ returns-in_err-pool-clause-given g c =
       p.1,
       p.2,
       c.in_ok-check_keys.ensures.ok,
-      c.in_ok-size.ensures,
+      c.in_ok-size.ensures.value,
     )
     (fails_as _ _ _ _ _ (λ bad h. h) c.in_err-pool.ensures)
 
@@ -58,7 +58,7 @@ returns-in_err-fill-clause-given g c =
       p.1,
       p.2,
       c.in_ok-check_keys.ensures.ok,
-      c.in_ok-size.ensures,
+      c.in_ok-size.ensures.value,
       c.in_ok-pool.ensures,
     )
     (fails_as _ _ _ _ _ (of_whole 2 _ ms _ refl refl) c.in_err-fill.ensures)
@@ -72,11 +72,44 @@ returns-in_err-regions-clause-given g c =
       p.1,
       p.2,
       c.in_ok-check_keys.ensures.ok,
-      c.in_ok-size.ensures,
+      c.in_ok-size.ensures.value,
       c.in_ok-pool.ensures,
       c.in_ok-fill.ensures,
     )
     (fails_as _ _ _ _ _ (λ bad h. h) c.in_err-regions.ensures)
+
+pub returns-in_err-avoided-clause-given : goal.returns-in_err-avoided-clause-given
+unfolding spec.described_in
+returns-in_err-avoided-clause-given g c =
+    let ms = table_view c.args.table.now in
+    let p = err_from_is_err_and c.from_residual-in_err-avoided.result c.from_residual-in_err-avoided.ensures.1 in
+    rw (
+      p.1,
+      p.2,
+      c.in_ok-check_keys.ensures.ok,
+      c.in_ok-size.ensures.value,
+      c.in_ok-pool.ensures,
+      c.in_ok-fill.ensures,
+      c.in_ok-regions.ensures,
+    )
+    (fails_as _ _ _ _ _ (λ bad h. h) c.in_err-avoided.ensures)
+
+pub returns-in_err-firmware-clause-given : goal.returns-in_err-firmware-clause-given
+unfolding spec.described_in
+returns-in_err-firmware-clause-given g c =
+    let ms = table_view c.args.table.now in
+    let p = err_from_is_err_and c.from_residual-in_err-firmware.result c.from_residual-in_err-firmware.ensures.1 in
+    rw (
+      p.1,
+      p.2,
+      c.in_ok-check_keys.ensures.ok,
+      c.in_ok-size.ensures.value,
+      c.in_ok-pool.ensures,
+      c.in_ok-fill.ensures,
+      c.in_ok-regions.ensures,
+      c.in_ok-avoided.ensures,
+    )
+    (fails_as _ _ _ _ _ (λ bad h. h) c.in_err-firmware.ensures)
 
 pub returns-in_err-files-clause-given : goal.returns-in_err-files-clause-given
 unfolding spec.described_in
@@ -87,10 +120,12 @@ returns-in_err-files-clause-given g c =
       p.1,
       p.2,
       c.in_ok-check_keys.ensures.ok,
-      c.in_ok-size.ensures,
+      c.in_ok-size.ensures.value,
       c.in_ok-pool.ensures,
       c.in_ok-fill.ensures,
       c.in_ok-regions.ensures,
+      c.in_ok-avoided.ensures,
+      c.in_ok-firmware.ensures,
     )
     (fails_as _ _ _ _ _ (λ bad h. h) c.in_err-files.ensures)
 
@@ -103,10 +138,12 @@ returns-in_err-entries-clause-given g c =
       p.1,
       p.2,
       c.in_ok-check_keys.ensures.ok,
-      c.in_ok-size.ensures,
+      c.in_ok-size.ensures.value,
       c.in_ok-pool.ensures,
       c.in_ok-fill.ensures,
       c.in_ok-regions.ensures,
+      c.in_ok-avoided.ensures,
+      c.in_ok-firmware.ensures,
       c.in_ok-files.ensures,
     )
     (fails_as _ _ _ _ _ (λ bad h. h) c.in_err-entries.ensures)
@@ -122,10 +159,12 @@ returns-in_err-default-clause-given g c =
       p.1,
       p.2,
       c.in_ok-check_keys.ensures.ok,
-      c.in_ok-size.ensures,
+      c.in_ok-size.ensures.value,
       c.in_ok-pool.ensures,
       c.in_ok-fill.ensures,
       c.in_ok-regions.ensures,
+      c.in_ok-avoided.ensures,
+      c.in_ok-firmware.ensures,
       c.in_ok-files.ensures,
       c.in_ok-entries.ensures,
     )
@@ -143,10 +182,12 @@ returns-in_err-fallbacks-clause-given g c =
       p.1,
       p.2,
       c.in_ok-check_keys.ensures.ok,
-      c.in_ok-size.ensures,
+      c.in_ok-size.ensures.value,
       c.in_ok-pool.ensures,
       c.in_ok-fill.ensures,
       c.in_ok-regions.ensures,
+      c.in_ok-avoided.ensures,
+      c.in_ok-firmware.ensures,
       c.in_ok-files.ensures,
       c.in_ok-entries.ensures,
       default,
@@ -160,10 +201,12 @@ returns-clause-given g c =
     let fallbacks = rw (c.count_of-count.ensures, c.deref.ensures.value) at c.in_ok-fallbacks.ensures in
     rw (
       c.in_ok-check_keys.ensures.ok,
-      c.in_ok-size.ensures,
+      c.in_ok-size.ensures.value,
       c.in_ok-pool.ensures,
       c.in_ok-fill.ensures,
       c.in_ok-regions.ensures,
+      c.in_ok-avoided.ensures,
+      c.in_ok-firmware.ensures,
       c.in_ok-files.ensures,
       c.in_ok-entries.ensures,
       default,

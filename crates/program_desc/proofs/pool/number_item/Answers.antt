@@ -13,4 +13,4 @@ returns c =
     item_here c.args.items.now c.args.i c.index-items-i.result c.requires c.index-items-i.is in
     rw (c.ok_or.ensures.value, c.bad_item.ensures, here)
     (item_reads c.toml_number.result (toml_number (view c.index-items-i.result)) _ c.args.i _ Number
-    ds here c.toml_number.ensures refl)
+    ds here c.toml_number.ensures.value refl)

@@ -17,18 +17,18 @@ unfolding region_in
 returns-in_err-base c =
     let p = err_from_is_err_and c.from_residual-in_err-base.result c.from_residual-in_err-base.ensures.1 in
     rw (p.1, p.2, c.in_ok-check_keys.ensures.ok)
-    (fails_as _ _ _ _ _ (at_rule keys.Region 0 _ c.args.place _ refl) c.in_err-base.ensures)
+    (fails_as _ _ _ _ _ (at_rule keys.Region 0 _ c.args.place _ refl) c.in_err-base.ensures.value)
 
 pub returns-in_err-length : goal.returns-in_err-length
 unfolding region_in
 returns-in_err-length c =
     let p = err_from_is_err_and c.from_residual-in_err-length.result c.from_residual-in_err-length.ensures.1 in
-    rw (p.1, p.2, c.in_ok-check_keys.ensures.ok, c.in_ok-base.ensures)
-    (fails_as _ _ _ _ _ (at_rule keys.Region 1 _ c.args.place _ refl) c.in_err-length.ensures)
+    rw (p.1, p.2, c.in_ok-check_keys.ensures.ok, c.in_ok-base.ensures.value)
+    (fails_as _ _ _ _ _ (at_rule keys.Region 1 _ c.args.place _ refl) c.in_err-length.ensures.value)
 
 pub returns-in_err-kind : goal.returns-in_err-kind
 unfolding region_in
 returns-in_err-kind c =
     let p = err_from_is_err_and c.from_residual-in_err-kind.result c.from_residual-in_err-kind.ensures.1 in
-    rw (p.1, p.2, c.in_ok-check_keys.ensures.ok, c.in_ok-base.ensures, c.in_ok-length.ensures)
+    rw (p.1, p.2, c.in_ok-check_keys.ensures.ok, c.in_ok-base.ensures.value, c.in_ok-length.ensures.value)
     (fails_as _ _ _ _ _ (at_rule keys.Region 2 _ c.args.place _ refl) c.in_err-kind.ensures)

@@ -6,7 +6,10 @@ use Rattle.program_desc.specs.TomlValues.{each_item, in_table}
 use Rattle.program_desc.specs.Described.{region_in, toml_regions}
 use Rattle.program_desc.specs.KeyRules.{optional_key}
 use Rattle.program_desc.specs.declared.allowed.Allowed.TheVariants.{Tables}
-use Rattle.program_desc.proofs.ArrayLemmas.{at_region, no_list, optional_items, optional_none}
+use Rattle.program_desc.specs.BadKeys.{IsFaultAt}
+use Rattle.program_desc.specs.declared.bad_key.TablePlace.TheVariants as places
+use Rattle.program_desc.specs.declared.key_set.KeySet.TheVariants as keys
+use Rattle.program_desc.proofs.ArrayLemmas.{at_table, no_list, optional_items, optional_none}
 use Rattle.program_desc.proofs.FaultLemmas.{fault_as, of_whole, read_as}
 use Rattle.program_desc.proofs.regions.regions_at.Goals as goal
 
@@ -27,4 +30,4 @@ returns g c =
     read_as _ _ _ c.regions_in.result _ _
     (optional_items (optional_key (codes "region") Tables) ms (items_view items) toml_regions (each_item (in_table region_in)) _
     tt refl (λ ds. refl) refl c.in_ok-items.ensures)
-    (at_region (optional_key (codes "region") Tables) ms _ refl c.in_ok-items.ensures) c.regions_in.ensures
+    (at_table (IsFaultAt ms) places.Region keys.Region (optional_key (codes "region") Tables) ms _ (λ i fault h. h) c.in_ok-items.ensures) c.regions_in.ensures

@@ -19,4 +19,4 @@ facts_of-facts-requires-clause-small g c =
     let count = length-map modules (λ m. m.line) in
     let few = entry.few in
     let is = tags_size_is files c.args.places.now 0 (lines_of_modules modules) in
-    rw (c.as_slice.ensures.value, c.in_ok-told.ensures.told) (omega (arith, small, count, few, is))
+    rw (c.as_slice-told.ensures.value, c.in_ok-told.ensures.told) (omega (arith, small, count, few, is))
