@@ -1,5 +1,6 @@
 -- The lines of a refusal's detail. Own.
-use Rattle.std.specs.Prelude.{ℕ, List, [], ◌++◌, codes, decimal, Option, Some, None}
+use Rattle.std.specs.Prelude.{ℕ, if◌then◌else◌, ◌==◌, List, [], ◌++◌, length, codes, decimal}
+use Rattle.std.specs.Prelude.{Option, Some, None}
 use Rattle.bl_map.specs.Kinds.{kind_of}
 use Rattle.bl_map.specs.NormalMap.{kind_at}
 use Rattle.bl_map.specs.MachineFacts.{MachineFacts}
@@ -9,7 +10,7 @@ use Rattle.bl_plan.specs.declared.part.Choice.TheVariants.{Fixed, Lowest, Highes
 use Rattle.bl_plan.specs.declared.part.Row.{Row}
 use Rattle.program_desc.specs.Entries.{Entry}
 use Rattle.program_say.specs.blame.Addresses.{hex8}
-use Rattle.program_say.specs.blame.UnusableAddress.{unusable_line}
+use Rattle.program_say.specs.blame.UnusableAddress.{unplaceable_line}
 use Rattle.program_say.specs.Frames.{number_between, frames_line, frames_wanted, names_at}
 use Rattle.program_say.specs.PartNames.{part_name}
 use Rattle.program_say.specs.Sought.{SoughtFacts}
@@ -38,11 +39,18 @@ no_place_line row =
     codes "no place " ++ part_name row.role ++ codes " " ++ decimal row.index ++ codes " "
     ++ decimal row.length ++ codes " " ++ choice_words row.choice ++ codes "\n"
 
--- ---- its first byte that is not usable
+-- how many ranges the machine has to avoid, if there are any
+abbrev pub avoided_count_line : MachineFacts → List ℕ
+avoided_count_line facts =
+    if length facts.firmware.avoided == 0 then [] else
+    codes "ranges " ++ decimal (length facts.firmware.avoided) ++ codes " avoided\n"
 
-abbrev pub unusable_lines : MachineFacts → Option ℕ → List ℕ
-unusable_lines facts None = []
-unusable_lines facts (Some a) = unusable_line facts.size a (kind_of (kind_at facts.runs a))
+-- why it finds none: at a fixed address by its first byte on which no part may lie; where its
+-- address is chosen no byte is told, but that there are ranges to avoid
+abbrev pub unplaceable_lines : MachineFacts → Option ℕ → List ℕ
+unplaceable_lines facts None = avoided_count_line facts
+unplaceable_lines facts (Some a) =
+    unplaceable_line facts.size a (kind_of (kind_at facts.runs a))
 
 -- ---- frames of the pool
 
@@ -57,7 +65,7 @@ pool_frames_line wanted all None =
 
 abbrev pub detail_lines : List Entry → MachineFacts → SoughtFacts → ℕ → RefusalDetail → List ℕ
 detail_lines entries facts sought index details.Nothing = []
-detail_lines entries facts sought index (details.NoPlace row unusable) =
-    no_place_line row ++ unusable_lines facts unusable
+detail_lines entries facts sought index (details.NoPlace row unplaceable) =
+    no_place_line row ++ unplaceable_lines facts unplaceable
 detail_lines entries facts sought index (details.Frames beside) =
     pool_frames_line (frames_wanted sought (names_at entries index)) (frames_in facts.pool) beside

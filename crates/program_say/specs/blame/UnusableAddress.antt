@@ -1,8 +1,8 @@
 -- A byte on which no part may lie, told for a person. Own.
-use Rattle.std.specs.Prelude.{ℕ, if◌then◌else◌, nat_le, nat_lt, List, ◌++◌, codes}
+use Rattle.std.specs.Prelude.{ℕ, Bool, ◌&&◌, if◌then◌else◌, nat_le, nat_lt, List, ◌++◌, codes}
 use Rattle.std.specs.Prelude.{Option, Some, None}
 use Rattle.bl_map.specs.Kinds.{kind_name}
-use Rattle.bl_map.specs.Limits.{first_usable}
+use Rattle.bl_map.specs.Limits.{first_usable, usable_limit}
 use Rattle.bl_map.specs.declared.kind.Kind.{Kind}
 use Rattle.bl_map.specs.declared.kind.Kind.TheVariants.{Usable, Reserved, Acpi, Nvs, Bad}
 use Rattle.program_say.specs.blame.Addresses.{hex8}
@@ -30,3 +30,18 @@ unusable_words size a (Some Bad) = kind_name Bad
 abbrev pub unusable_line : (size a : ℕ) → Option Kind → List ℕ
 unusable_line size a kind =
     address_words (codes "not usable ") a (codes " ") ++ unusable_words size a kind ++ codes "\n"
+
+-- whether a byte of kind usable is usable: it lies where usable memory may lie
+abbrev pub is_within_limits : (size a : ℕ) → Bool
+is_within_limits size a = nat_le first_usable a && nat_lt a size && nat_lt a usable_limit
+
+-- the byte on which no part may lie: one that is usable is avoided
+abbrev pub unplaceable_line : (size a : ℕ) → Option Kind → List ℕ
+unplaceable_line size a None = unusable_line size a None
+unplaceable_line size a (Some Usable) =
+    if is_within_limits size a then address_words (codes "avoided ") a (codes "\n") else
+    unusable_line size a (Some Usable)
+unplaceable_line size a (Some Reserved) = unusable_line size a (Some Reserved)
+unplaceable_line size a (Some Acpi) = unusable_line size a (Some Acpi)
+unplaceable_line size a (Some Nvs) = unusable_line size a (Some Nvs)
+unplaceable_line size a (Some Bad) = unusable_line size a (Some Bad)

@@ -3,7 +3,7 @@ ghost use Rattle.std.specs.Prelude.{◌≡◌, ◌++◌, OnOk};
 ghost use Rattle.program_say.specs.blame.UnusableAddress as words;
 
 use crate::say;
-use bl_map::{FIRST_USABLE, Kind};
+use bl_map::{FIRST_USABLE, Kind, USABLE_LIMIT};
 use std::alloc::{AllocError, Allocator};
 
 /// Appends an address between two texts.
@@ -55,4 +55,34 @@ pub fn say_unusable<A: Allocator + Copy>(
     say_address(out, "not usable ", address, " ")?;
     out.extend_from_slice(unusable_words(size, address, kind).as_bytes())?;
     out.extend_from_slice(b"\n")
+}
+
+/// Whether a byte of kind usable is usable.
+fn is_within_limits(size: u64, address: u64) -> bool
+    ensures { result ≡ words.is_within_limits size address }
+{
+    FIRST_USABLE <= address && address < size && address < USABLE_LIMIT
+}
+
+/// Appends the line of a byte on which no part may lie, of a machine of this size, by its kind: one
+/// that is usable is avoided.
+pub fn say_unplaceable<A: Allocator + Copy>(
+    out: &mut Vec<u8, A>,
+    size: u64,
+    address: u64,
+    kind: Option<Kind>,
+) -> Result<(), AllocError>
+    ensures { OnOk result (out.new.items
+        ≡ out.old.items ++ words.unplaceable_line size address kind) }
+{
+    match kind {
+        Some(Kind::Usable) => {
+            if is_within_limits(size, address) {
+                say_address(out, "avoided ", address, "\n")
+            } else {
+                say_unusable(out, size, address, kind)
+            }
+        }
+        kind => say_unusable(out, size, address, kind),
+    }
 }

@@ -5,7 +5,7 @@ ghost use Rattle.bl_map.specs.NormalMap.{kind_at};
 ghost use Rattle.program_say.specs.DetailLines as words;
 ghost use Rattle.program_desc.specs.Views.{view};
 
-use crate::blame::{say_address, say_unusable};
+use crate::blame::{say_address, say_unplaceable};
 use crate::lines::frames::{frames_at, say_counted, say_frames};
 use crate::lines::part_names::part_name;
 use crate::say;
@@ -80,21 +80,35 @@ fn kind_of_byte<B: Allocator>(machine: &Machine<B>, address: u64) -> Option<Kind
     machine.kind_at(address)
 }
 
-/// Appends the line of a byte that is not usable, if there is one.
-fn say_unusable_if<A: Allocator + Copy, B: Allocator>(
+/// Appends how many ranges the machine has to avoid, if there are any.
+fn say_avoided_count<A: Allocator + Copy, B: Allocator>(
     out: &mut Vec<u8, A>,
     machine: &Machine<B>,
-    unusable: Option<u64>,
 ) -> Result<(), AllocError>
     ensures { OnOk result (out.new.items ≡ out.old.items
-        ++ words.unusable_lines machine.now unusable) }
+        ++ words.avoided_count_line machine.now) }
 {
-    match unusable {
+    match machine.avoided().len() {
+        0 => Ok(()),
+        count => say!(out, "ranges {count} avoided\n"),
+    }
+}
+
+/// Appends why a part finds no place, by its byte on which no part may lie if there is one.
+fn say_unplaceable_if<A: Allocator + Copy, B: Allocator>(
+    out: &mut Vec<u8, A>,
+    machine: &Machine<B>,
+    unplaceable: Option<u64>,
+) -> Result<(), AllocError>
+    ensures { OnOk result (out.new.items ≡ out.old.items
+        ++ words.unplaceable_lines machine.now unplaceable) }
+{
+    match unplaceable {
         Some(address) => {
             let kind = kind_of_byte(machine, address);
-            say_unusable(out, machine.size(), address, kind)
+            say_unplaceable(out, machine.size(), address, kind)
         }
-        None => Ok(()),
+        None => say_avoided_count(out, machine),
     }
 }
 
@@ -131,9 +145,9 @@ pub fn say_detail<A: Allocator + Copy, B: Allocator>(
 {
     match detail {
         RefusalDetail::Nothing => Ok(()),
-        RefusalDetail::NoPlace { row, unusable } => {
+        RefusalDetail::NoPlace { row, unplaceable } => {
             say_no_place(out, &row)?;
-            say_unusable_if(out, machine, unusable)
+            say_unplaceable_if(out, machine, unplaceable)
         }
         RefusalDetail::Frames { beside } => {
             let wanted = frames_at(description, sought, entry);

@@ -7,8 +7,8 @@ pub enum RefusalDetail {
     Nothing,
 
     /// The first part that finds no place. If its address is fixed, the first of its bytes that is
-    /// not usable.
-    NoPlace { row: Row, unusable: Option<u64> },
+    /// not usable, or is avoided.
+    NoPlace { row: Row, unplaceable: Option<u64> },
 
     /// How many frames of the pool meet no part, if the parts have their places.
     Frames { beside: Option<u64> },
