@@ -84,7 +84,7 @@ class Misuses(CoreChecks):
         driver = self.driver("orders", *self.sanitizers())
         if driver is not None:
             ran = run(driver, timeout=600)
-            self.ends("of each two misuses of a call from C the first is told, and nothing is changed", ran, 0, "6296 tried, 0 wrong\n")
+            self.ends("of each two misuses of a call from C the first is told, and nothing is changed", ran, 0, "8739 tried, 0 wrong\n")
 
 
 class Needs(CoreChecks):

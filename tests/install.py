@@ -79,7 +79,7 @@ class Installed(ProgramChecks):
         ran = run(self.room / "guest", *words, cwd=self.room)
         self.ends("a guest loader that is built on what is installed loads its guest", ran, 0, GUEST)
         ran = run(self.room / "statuses")
-        self.ends("each misuse has its status, by way of the installed library", ran, 0, "535 tried, 0 wrong\n")
+        self.ends("each misuse has its status, by way of the installed library", ran, 0, "570 tried, 0 wrong\n")
         env = {"PKG_CONFIG_PATH": str(self.prefix / "lib/pkgconfig")}
         for name in ("bootcore", "bootcore-freestanding"):
             self.ends(f"pkg-config finds version 1.0.0 of {name}, or a later one", run("pkg-config", "--atleast-version=1.0.0", name, env=env))

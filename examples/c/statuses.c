@@ -231,6 +231,7 @@ static void try_firmware(void) {
     static const bootcore_avoided apart[BOOTCORE_MAX_AVOIDED + 1] = {{0x180000, 4096}};
     static const bootcore_avoided high_range[] = {{0, 0}, {(uint64_t)1 << 52, 1}};
     static const bootcore_avoided highest[] = {{UINT64_MAX, UINT64_MAX}};
+    static const bootcore_avoided all[] = {{0, SIZE}};
     const bootcore_firmware sound = {
         .screen = {0xE0000000, 4096, 1024, 768, 32, 0, {16, 8}, {8, 8}, {0, 8}, 0},
         .rsdp = SIZE,
@@ -239,6 +240,8 @@ static void try_firmware(void) {
         .avoided = apart,
         .avoided_count = 1,
     };
+    const bootcore_efi no_efi = {0, {NULL, 0}, 0, 0, 0, 0, 0};
+    const bootcore_smbios no_smbios = {{NULL, 0}, 0, 0, 0, 0};
     bootcore_firmware firmware;
 #define TELLS(wanted, change)                              \
     do {                                                   \
@@ -250,6 +253,11 @@ static void try_firmware(void) {
     TELLS(BOOTCORE_STATUS_DONE, firmware.screen.base = 0; firmware.screen.depth = 8);
     TELLS(BOOTCORE_STATUS_DONE, firmware.efi.system_table = 0; firmware.efi.bits = 16; firmware.efi.secure_boot = 4);
     TELLS(BOOTCORE_STATUS_DONE, firmware.smbios.tables.length = 0; firmware.rsdp = 0; firmware.avoided_count = 0);
+    TELLS(BOOTCORE_STATUS_DONE, firmware.efi = no_efi; firmware.smbios = no_smbios);
+    TELLS(BOOTCORE_STATUS_DONE, firmware.rsdp = UINT64_MAX);
+    TELLS(BOOTCORE_STATUS_DONE, firmware.avoided_count = BOOTCORE_MAX_AVOIDED);
+    TELLS(BOOTCORE_STATUS_REFUSED, firmware.avoided = all);
+    TELLS(BOOTCORE_STATUS_NULL, firmware.efi.map.bytes = NULL; firmware.efi.system_table = 0);
     TELLS(BOOTCORE_STATUS_NULL, firmware.efi.map.bytes = NULL);
     TELLS(BOOTCORE_STATUS_NULL, firmware.smbios.tables.bytes = NULL);
     TELLS(BOOTCORE_STATUS_NULL, firmware.avoided = NULL);
@@ -257,6 +265,7 @@ static void try_firmware(void) {
     TELLS(BOOTCORE_STATUS_BAD_RESERVED, firmware.screen.reserved32 = 1);
     TELLS(BOOTCORE_STATUS_BAD_RESERVED, firmware.smbios.reserved16 = 1);
     TELLS(BOOTCORE_STATUS_BAD_RESERVED, firmware.smbios.reserved32 = 1);
+    TELLS(BOOTCORE_STATUS_BAD_RESERVED, firmware.reserved[0] = 1);
     TELLS(BOOTCORE_STATUS_BAD_RESERVED, firmware.reserved[5] = 1);
     TELLS(BOOTCORE_STATUS_BAD_EFI_BITS, firmware.efi.bits = 16; firmware.efi.secure_boot = 4; c.machine.size = 1);
     TELLS(BOOTCORE_STATUS_BAD_SECURE_BOOT, firmware.efi.secure_boot = 4; c.machine.size = 1);
@@ -265,16 +274,21 @@ static void try_firmware(void) {
     TELLS(BOOTCORE_STATUS_BAD_SCREEN_SIZE, firmware.screen.pitch = 0x10000);
     TELLS(BOOTCORE_STATUS_BAD_SCREEN_DEPTH, firmware.screen.depth = 8);
     TELLS(BOOTCORE_STATUS_BAD_SCREEN_COLOR, firmware.screen.red.size = 17);
+    TELLS(BOOTCORE_STATUS_BAD_SCREEN_COLOR, firmware.screen.blue = ((bootcore_color){255, 255}));
     TELLS(BOOTCORE_STATUS_BAD_SCREEN_PITCH, firmware.screen.pitch = 4095);
     TELLS(BOOTCORE_STATUS_BAD_SCREEN_PLACE, firmware.screen.base = SIZE - 1);
     TELLS(BOOTCORE_STATUS_BAD_SCREEN_PLACE, firmware.screen.base = UINT64_MAX);
     TELLS(BOOTCORE_STATUS_BAD_RSDP, firmware.rsdp = SIZE - 1);
     TELLS(BOOTCORE_STATUS_BAD_SYSTEM_TABLE, firmware.efi.system_table = (uint64_t)1 << 32; firmware.efi.bits = 32);
+    TELLS(BOOTCORE_STATUS_BAD_DESCRIPTORS, firmware.efi.descriptor_size = 0);
     TELLS(BOOTCORE_STATUS_BAD_DESCRIPTORS, firmware.efi.descriptor_size = 44);
     TELLS(BOOTCORE_STATUS_BAD_DESCRIPTORS, firmware.efi.descriptor_version = 2);
     TELLS(BOOTCORE_STATUS_BAD_EFI_MAP_SIZE, firmware.efi.map.length = 95);
+    TELLS(BOOTCORE_STATUS_BAD_EFI_MAP_SIZE, firmware.efi.map = ((bootcore_bytes){NULL, 0}));
+    TELLS(BOOTCORE_STATUS_BAD_EFI_MAP_SIZE, firmware.efi.map = ((bootcore_bytes){loaded, 0x10020})); /* 1366 descriptors */
     TELLS(BOOTCORE_STATUS_BAD_EFI_MAP_PLACE, firmware.efi.map_address = 0x400004);
     TELLS(BOOTCORE_STATUS_BAD_EFI_MAP_PLACE, firmware.efi.map_address = SIZE - 8);
+    TELLS(BOOTCORE_STATUS_BAD_EFI_MAP_PLACE, firmware.efi.map_address = UINT64_MAX - 7);
     TELLS(BOOTCORE_STATUS_BAD_SMBIOS_SIZE, firmware.smbios.tables = ((bootcore_bytes){loaded, 0x10001}));
     TELLS(BOOTCORE_STATUS_TOO_MANY_AVOIDED, firmware.avoided_count = BOOTCORE_MAX_AVOIDED + 1);
     TELLS(BOOTCORE_STATUS_TOO_MANY_AVOIDED, firmware.avoided_count = SIZE_MAX); /* those behind are not looked at */
@@ -282,6 +296,21 @@ static void try_firmware(void) {
     TELLS(BOOTCORE_STATUS_BAD_AVOIDED, firmware.avoided = highest);
     TELLS(BOOTCORE_STATUS_POOL_AVOIDED, c.machine.pool_base = 0x180000; c.machine.pool_length = 4096);
 #undef TELLS
+}
+
+/* A null pointer to it, and what is all 0, leave the same bytes. */
+static void try_no_firmware(void) {
+    static const bootcore_firmware nothing;
+    call c = right(), d = right();
+    told = before;
+    uint32_t status = bootcore_load(&c.memory, &c.machine, &c.entry, &c.outcome);
+    count("load", "no firmware", status, BOOTCORE_STATUS_DONE, true);
+    memcpy(loaded, told.memory, SIZE);
+    told = before;
+    d.machine.firmware = &nothing;
+    status = bootcore_load(&d.memory, &d.machine, &d.entry, &d.outcome);
+    count("load", "firmware that tells nothing", status, BOOTCORE_STATUS_DONE,
+          !memcmp(told.memory, loaded, SIZE) && !memcmp(&c.outcome, &d.outcome, sizeof c.outcome));
 }
 
 /* A line is refused for a zero byte, wherever it stands, or else for its length. */
@@ -466,6 +495,7 @@ int main(void) {
     }
     try_changes();
     try_firmware();
+    try_no_firmware();
     try_lines();
     try_no_pointers();
     try_unplaced();

@@ -1,5 +1,6 @@
 /*
- * What a kernel sees in an image, line by line, as `bootcore walk` says it.
+ * What a kernel sees in an image, line by line, as `bootcore walk` says it; but of UEFI's memory map and
+ * SMBIOS's tables, which a Multiboot2 kernel has as copies, it prints the bytes in place of a SHA-256.
  *
  *     walked IMAGE
  *
@@ -35,7 +36,8 @@ static uint8_t *read_file(const char *path, size_t *length) {
 
 /* Arrays with room for all that is seen; one that there is no memory for stays null. */
 static bootcore_seen_arrays arrays_for(const bootcore_seen *seen) {
-    bootcore_seen_arrays arrays = {.text = NULL};
+    static bootcore_seen_firmware firmware;
+    bootcore_seen_arrays arrays = {.firmware = &firmware};
     arrays.kernel_parts = calloc(seen->kernel_part_count, sizeof *arrays.kernel_parts);
     arrays.kernel_part_room = seen->kernel_part_count;
     arrays.modules = calloc(seen->module_count, sizeof *arrays.modules);
@@ -47,19 +49,64 @@ static bootcore_seen_arrays arrays_for(const bootcore_seen *seen) {
     return arrays;
 }
 
-/* How many bytes a text has, and the bytes in hexadecimal digits. */
-static void print_text(const uint8_t *text, bootcore_range range) {
-    printf(range.length ? "%" PRIu64 " " : "%" PRIu64, range.length);
+static void print_digits(const uint8_t *text, bootcore_range range) {
     for (uint64_t i = 0; i < range.length; i++) {
         printf("%02x", text[range.offset + i]);
     }
     printf("\n");
 }
 
+/* How many bytes a text has, and the bytes in hexadecimal digits. */
+static void print_text(const uint8_t *text, bootcore_range range) {
+    printf(range.length ? "%" PRIu64 " " : "%" PRIu64, range.length);
+    print_digits(text, range);
+}
+
 static void print_copy(const char *name, const uint8_t *text, bootcore_range range) {
     if (range.offset != BOOTCORE_ABSENT) {
         printf("%s ", name);
         print_text(text, range);
+    }
+}
+
+static void print_screen(const bootcore_screen *screen) {
+    printf("screen %016" PRIx64 " %" PRIu32 " %" PRIu32 " %" PRIu32 " %d", screen->base, screen->pitch,
+           screen->width, screen->height, screen->depth);
+    printf(" %d+%d %d+%d %d+%d\n", screen->red.position, screen->red.size, screen->green.position,
+           screen->green.size, screen->blue.position, screen->blue.size);
+}
+
+/* Linux is told where UEFI's memory map lies, and the state of secure boot; a Multiboot2 kernel has a copy. */
+static void print_efi(const uint8_t *text, const bootcore_seen_efi *efi) {
+    bool is_copied = efi->map.offset != BOOTCORE_ABSENT;
+    printf("efi %" PRIu32 " %016" PRIx64 "\nefi-map ", efi->bits, efi->system_table);
+    if (!is_copied) {
+        printf("%016" PRIx64, efi->map_address);
+    }
+    printf("%s %" PRIu64 " %" PRIu32 " %" PRIu32 " ", is_copied ? "-" : "", efi->map_length, efi->descriptor_size,
+           efi->descriptor_version);
+    if (is_copied) {
+        print_digits(text, efi->map);
+    } else {
+        printf("-\nsecure-boot %" PRIu32 "\n", efi->secure_boot);
+    }
+}
+
+/* What is not told is 0, of the tables of SMBIOS their offset BOOTCORE_ABSENT. */
+static void print_firmware(const uint8_t *text, const bootcore_seen_firmware *firmware) {
+    const bootcore_seen_smbios *smbios = &firmware->smbios;
+    if (firmware->screen.base) {
+        print_screen(&firmware->screen);
+    }
+    if (firmware->rsdp) {
+        printf("rsdp %016" PRIx64 "\n", firmware->rsdp);
+    }
+    if (firmware->efi.system_table) {
+        print_efi(text, &firmware->efi);
+    }
+    if (smbios->tables.offset != BOOTCORE_ABSENT) {
+        printf("smbios %d %d %" PRIu64 " ", smbios->major, smbios->minor, smbios->tables.length);
+        print_digits(text, smbios->tables);
     }
 }
 
@@ -86,6 +133,7 @@ static void print_seen(const bootcore_seen *seen, const bootcore_seen_arrays *ar
     }
     print_copy("rsdp-old", arrays->text, seen->rsdp_old);
     print_copy("rsdp-new", arrays->text, seen->rsdp_new);
+    print_firmware(arrays->text, arrays->firmware);
 }
 
 /* Prints what is seen, or why nothing is; the status that the program ends with. */

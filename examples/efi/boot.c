@@ -5,18 +5,19 @@ struct boot_state boot;
 
 static void *arena;
 
-/* A kernel of 128 segments, the zeros between them and 64 modules take fewer steps. And a plan has
-   few bytes of its own beside the menu's text: a memory map, page tables. */
-enum { max_steps = 1024, max_own = 2 * max_text };
+/* Whole pages with room for so many bytes. */
+static void *take_room(uint64_t length) { return take_low_pages((length + page - 1) / page); }
 
+/* As much as any plan may want: what it wants is known only once the firmware is asked for nothing
+   more than its map. */
 int take_plan_room(void) {
     static bootcore_place places[BOOTCORE_MAX_PLACES];
     boot.layout.places = places;
     boot.layout.place_room = BOOTCORE_MAX_PLACES;
-    boot.layout.steps = take_low_pages(max_steps * sizeof(bootcore_step) / page);
-    boot.layout.step_room = max_steps;
-    boot.layout.own = take_low_pages(max_own / page);
-    boot.layout.own_room = max_own;
+    boot.layout.steps = take_room(BOOTCORE_MAX_STEPS * sizeof(bootcore_step));
+    boot.layout.step_room = BOOTCORE_MAX_STEPS;
+    boot.layout.own = take_room(BOOTCORE_MAX_OWN);
+    boot.layout.own_room = BOOTCORE_MAX_OWN;
     arena = take_low_pages(menu.arena / page + 1);
     return boot.layout.steps != NULL && boot.layout.own != NULL && arena != NULL;
 }

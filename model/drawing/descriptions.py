@@ -25,9 +25,8 @@ class Menu(NamedTuple):
     entries: List[list]  # pairs of key and value, in order
 
 
-def draw(rng: Random, tells: bool = True) -> Drawn:
-    """Firmware tells something of the machine only if it may."""
-    machine = machines.draw(rng, tells)
+def draw(rng: Random) -> Drawn:
+    machine = machines.draw(rng)
     menu = draw_menu(rng)
     paths = {}
     for name in list(menu.files):

@@ -12,17 +12,15 @@ from .chances import chance, number
 MIB = 1 << 20
 
 
-def draw(rng: Random, tells: bool) -> Machine:
-    """A machine without fault, in nineteen of twenty. Of half of those that may tell it, firmware
-    tells something."""
+def draw(rng: Random) -> Machine:
+    """A machine without fault, in nineteen of twenty. Of half of them firmware tells something."""
     size = MIB * rng.choice([1, 2, 2, 3, 4, 4, 4, 8, 16, 16, 64, 4096])
     if chance(rng, 20):
         size = min(size + FRAME * rng.randrange(256), 4096 * MIB)
     regions = draw_regions(rng, size)
     pool = draw_pool(rng, Machine(size, regions, (0, 0)))
     machine = Machine(size, regions, pool)
-    if tells:
-        machine = machine._replace(firmware=firmware.draw(rng, machine))
+    machine = machine._replace(firmware=firmware.draw(rng, machine))
     return broken(rng, machine) if chance(rng, 5) else machine
 
 

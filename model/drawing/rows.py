@@ -24,7 +24,7 @@ def draw(rng: Random, count: int) -> List[str]:
 
 
 def machine(rng: Random) -> str:
-    drawn = machines.draw(rng, True)
+    drawn = machines.draw(rng)
     regions = [f" region={r.base:x}+{r.length:x}:{KIND_NAMES[r.kind]}" for r in drawn.regions]
     start, end = drawn.pool
     told = [" " + word for word in firmware_words(drawn.firmware)]

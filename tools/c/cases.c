@@ -7,7 +7,7 @@
  * CASE is as case.h says. It prints `refused ENTRY NUMBER FIRST SECOND` for each entry that is refused, and then `done ENTRY`,
  * `no entry left` or `status NUMBER`. If an entry is handed over, its image is written, and walked by bootcore_walk_all. What goes
  * another way than it should is one line more:
- * - a walk that does not see the handoff;
+ * - a walk that does not see the handoff, or not just what firmware tells and the entry's protocol hands on;
  * - segment registers that are not the descriptors that their selectors pick, but for the accessed bit;
  * - of a load: a preparation or a plan that tells anything else; a plan that is carried out over one mapping, over frames in reversed
  *   order, or by pread from files, and does not leave all of memory as the load does;
@@ -22,6 +22,7 @@
 #define _XOPEN_SOURCE 700
 #include "case.h"
 #include "sha256.h"
+#include "told.h"
 #ifdef ARENA
 #include "bootcore_arena.h"
 #endif
@@ -129,14 +130,15 @@ static struct {
     bootcore_seen_part parts[BOOTCORE_MAX_PLACES];
     bootcore_seen_module modules[BOOTCORE_MAX_MODULES];
     bootcore_region runs[512];
+    bootcore_seen_firmware firmware;
 } told, before;
-static uint8_t text[0x50000];
+static uint8_t text[0x80000];
 
 /* Walks an image, with so many requests granted. */
 static uint32_t walk(const uint8_t *image, size_t length, size_t grants) {
     const bootcore_seen_arrays arrays = {told.parts, BOOTCORE_MAX_PLACES, told.modules, BOOTCORE_MAX_MODULES,
                                          told.runs,  512,                 text,         sizeof text,
-                                         NULL,       {0, 0, 0}};
+                                         &told.firmware, {0, 0, 0}};
     bootcore_refusal fault;
     uint32_t status;
     memset(&told, 0xA5, sizeof told);
@@ -189,7 +191,8 @@ static int is_walked(const char *path) {
         }
     }
     is_told = walk(whole, length, SIZE_MAX) == BOOTCORE_STATUS_DONE && told.seen.protocol == outcome.handoff.protocol &&
-              told.seen.entry_address == outcome.handoff.registers.rip && are_seen();
+              told.seen.entry_address == outcome.handoff.registers.rip && are_seen() &&
+              is_firmware_seen(machine.firmware, &told.seen, &told.firmware, text);
     free(whole);
     return is_told;
 }

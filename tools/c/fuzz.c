@@ -1,11 +1,11 @@
 /*
  * Machines, entries and files at random, by way of C. What a load does is compared with itself, with a preparation and with a plan:
- * - after DONE each part lies at usable addresses, parts ascend and don't meet, and each byte outside them is as before; after any
- *   other answer all of memory is;
+ * - after DONE each part lies at usable addresses that are not avoided, parts ascend and don't meet, and each byte outside them is as
+ *   before; after any other answer all of memory is;
  * - a preparation and a plan answer the same, and tell the same;
  * - the plan's steps, carried out over memory with other bytes, and over two pieces that meet anywhere, leave what the load leaves
  *   in the parts, and each other byte as before;
- * - the image of what is handed over is walked;
+ * - the image of what is handed over is walked, and the walk sees what firmware tells;
  * - digests, at once and fed in two pieces a range, are those of this image and its parts, or end as the load does.
  *
  *     fuzz SECONDS SEED FILE..       changes the files, which are kernels, at random from this seed on
@@ -16,6 +16,7 @@
 #define _XOPEN_SOURCE 700
 #include "bootcore.h"
 #include "sha256.h"
+#include "told.h"
 
 #include <inttypes.h>
 #include <stdio.h>
@@ -23,7 +24,7 @@
 #include <string.h>
 #include <time.h>
 
-enum { MOST = 1 << 21, INPUT = 1 << 16, STEP_ROOM = 4096, OWN_ROOM = 1 << 19, HEAD = 64, MOST_KERNELS = 1024 };
+enum { MOST = 1 << 21, INPUT = 1 << 16, STEP_ROOM = 4096, OWN_ROOM = 1 << 19, HEAD = 96, MOST_KERNELS = 1024 };
 
 static uint8_t memory[MOST], planned[MOST];
 static bootcore_place places[BOOTCORE_MAX_PLACES], planned_places[BOOTCORE_MAX_PLACES];
@@ -57,6 +58,8 @@ static uint64_t take(size_t count) {
 }
 
 static bootcore_region regions[6];
+static bootcore_firmware firmware;
+static bootcore_avoided avoided[4];
 static bootcore_module modules[4];
 static bootcore_machine machine;
 static bootcore_entry entry;
@@ -73,6 +76,63 @@ static bootcore_bytes some(size_t from, size_t count_bytes) {
     bytes.bytes = input + from;
     bytes.length = length < input_length - from ? length : input_length - from;
     return bytes;
+}
+
+static bootcore_color color(void) {
+    bootcore_color bits;
+    bits.position = (uint8_t)(take(1) % 8);
+    bits.size = (uint8_t)(take(1) % 9);
+    return bits;
+}
+
+/* What firmware tells, nothing where the head has zeros. It lies above memory, so that most of it may be told. */
+static void read_firmware(void) {
+    static const uint8_t depths[] = {32, 24, 16, 15, 33};
+    unsigned which = (unsigned)take(1);
+    size_t i;
+    memset(&firmware, 0, sizeof firmware);
+    machine.firmware = which ? &firmware : NULL;
+    if (which & 1) {
+        firmware.screen.base = MOST + take(5);
+        firmware.screen.pitch = 4096;
+        firmware.screen.width = (uint32_t)(1024 - take(1) + take(1) / 8);
+        firmware.screen.height = (uint32_t)(1 + take(2));
+        firmware.screen.depth = depths[take(1) % sizeof depths];
+        firmware.screen.red = color();
+        firmware.screen.green = color();
+        firmware.screen.blue = color();
+    }
+    if (which & 2) {
+        firmware.rsdp = MOST + take(4);
+    }
+    if (which & 4) {
+        firmware.efi.descriptor_size = (uint32_t)(40 + take(1) % 24);
+        firmware.efi.descriptor_size -= firmware.efi.descriptor_size % 8;
+        firmware.efi.map = some(HEAD + (size_t)take(1), 2);
+        if (firmware.efi.map.length < firmware.efi.descriptor_size && input_length >= HEAD) { /* one descriptor, of the head */
+            firmware.efi.map.bytes = input;
+            firmware.efi.map.length = firmware.efi.descriptor_size;
+        }
+        firmware.efi.map.length -= firmware.efi.map.length % firmware.efi.descriptor_size;
+        firmware.efi.map_address = MOST + 8 * take(2);
+        firmware.efi.system_table = 1 + take(4);
+        firmware.efi.bits = take(1) % 2 ? 32 : 64;
+        firmware.efi.descriptor_version = 1;
+        firmware.efi.secure_boot = (uint32_t)(take(1) % 4);
+    }
+    if (which & 8) {
+        firmware.smbios.tables = some(HEAD + (size_t)take(1), 2);
+        firmware.smbios.major = (uint8_t)take(1);
+        firmware.smbios.minor = (uint8_t)take(1);
+    }
+    if (which & 16) {
+        firmware.avoided = avoided;
+        firmware.avoided_count = 1 + take(1) % 4;
+        for (i = 0; i < firmware.avoided_count; i++) {
+            avoided[i].base = take(3);
+            avoided[i].length = take(2);
+        }
+    }
 }
 
 static void read_input(void) {
@@ -113,6 +173,7 @@ static void read_input(void) {
     for (i = 0; i < 4 && (entry.protocol == BOOTCORE_PROTOCOL_MULTIBOOT2 ? i < entry.module_count : i < 1); i++) {
         files[file_count++] = modules[i].file;
     }
+    read_firmware();
 }
 
 /* ---- what is wanted of a load */
@@ -126,6 +187,17 @@ static uint32_t kind_of(uint64_t address) {
         }
     }
     return kind;
+}
+
+static int is_avoided(const bootcore_place *place) {
+    size_t i;
+    for (i = 0; i < firmware.avoided_count; i++) {
+        uint64_t begins = avoided[i].base, ends = begins + avoided[i].length;
+        if (begins < ends && begins < place->address + place->length && place->address < ends) {
+            return 1;
+        }
+    }
+    return 0;
 }
 
 /* A kind changes only where a region begins or ends. */
@@ -169,8 +241,8 @@ static void check_places(const bootcore_outcome *outcome) {
         found("the handoff is none of the entry");
     }
     for (i = 0; i < outcome->handoff.place_count; i++) {
-        if (places[i].address < end || !is_usable(&places[i])) {
-            found("a part is not usable, or meets another");
+        if (places[i].address < end || !is_usable(&places[i]) || is_avoided(&places[i])) {
+            found("a part is not usable, or is avoided, or meets another");
         }
         end = places[i].address + places[i].length;
     }
@@ -354,12 +426,23 @@ static void check_changed_head(size_t length, uint32_t walked, const bootcore_re
 }
 
 static void check_walk(const bootcore_outcome *outcome) {
+    static bootcore_seen_part parts[BOOTCORE_MAX_PLACES];
+    static bootcore_seen_module seen_modules[4];
+    static bootcore_region runs[16];
+    static uint8_t text[4 * INPUT];
+    static bootcore_seen_firmware told;
+    const bootcore_seen_arrays arrays = {parts, BOOTCORE_MAX_PLACES, seen_modules, 4,    runs,     16,
+                                         text,  sizeof text,         &told,        {0, 0, 0}};
     size_t length = make_image(outcome);
     bootcore_seen seen;
     bootcore_refusal fault;
     uint32_t status;
     if (bootcore_walk(image, length, &seen, &fault) != BOOTCORE_STATUS_DONE || seen.entry_address != outcome->handoff.registers.rip) {
         found("a walk does not see what is handed over");
+    }
+    if (bootcore_walk_all(image, length, &seen, &arrays, &fault) != BOOTCORE_STATUS_DONE ||
+        !is_firmware_seen(machine.firmware, &seen, &told, text)) {
+        found("a walk does not see what firmware tells");
     }
     check_head(outcome, length);
     /* and with a byte changed it ends, whatever it answers */

@@ -128,9 +128,10 @@ static uint32_t walk_all(void) {
     static bootcore_seen_part parts[BOOTCORE_MAX_PLACES];
     static bootcore_seen_module modules[BOOTCORE_MAX_MODULES];
     static bootcore_region runs[512];
-    static uint8_t text[0x50000];
+    static uint8_t text[0x80000];
+    static bootcore_seen_firmware told;
     static const bootcore_seen_arrays arrays = {parts, BOOTCORE_MAX_PLACES, modules, BOOTCORE_MAX_MODULES, runs, 512, text, sizeof text,
-                                                NULL, {0, 0, 0}};
+                                                &told, {0, 0, 0}};
     return bootcore_walk_all(image, image_length, &seen, &arrays, &fault);
 }
 static uint32_t image_head(void) { return (uint32_t)bootcore_image_head(&outcome.handoff, places, image, image_length); }

@@ -181,9 +181,16 @@ static void bad_pool(void) { machine.pool_length++; }
 static void bad_efi_bits(void) { firmware.efi.bits = 16; }
 static void bad_secure_boot(void) { firmware.efi.secure_boot = 4; }
 static void bad_screen(void) { firmware.screen.width = 0; }
+static void bad_depth(void) { firmware.screen.depth = 14; }
+static void bad_color(void) { firmware.screen.blue.size = 255, firmware.screen.blue.position = 255; }
+static void bad_pitch(void) { firmware.screen.pitch = 1; }
+static void bad_screen_place(void) { firmware.screen.base = MEMORY - 1; }
 static void bad_rsdp(void) { firmware.rsdp = MEMORY - 36; }
 static void bad_table(void) { firmware.efi.bits = 32, firmware.efi.system_table = UINT64_MAX; }
 static void bad_map(void) { firmware.efi.map.length--; }
+static void bad_descriptors(void) { firmware.efi.descriptor_version = 2; }
+static void bad_map_place(void) { firmware.efi.map_address = 4; }
+static void bad_smbios(void) { firmware.smbios.tables.length = 0x10001; }
 static void many_avoided(void) { firmware.avoided_count = BOOTCORE_MAX_AVOIDED + 9; }
 static void bad_avoided(void) { avoided[1].base = UINT64_MAX; }
 static void avoided_pool(void) {
@@ -224,6 +231,13 @@ typedef struct change {
 } change;
 
 #define CHANGE(make, status) {#make, make, BOOTCORE_STATUS_##status}
+/* in each table that has a machine, behind its own misuses */
+#define OF_FIRMWARE                                                                                                                 \
+    CHANGE(bad_screen, BAD_SCREEN_SIZE), CHANGE(bad_depth, BAD_SCREEN_DEPTH), CHANGE(bad_color, BAD_SCREEN_COLOR),                  \
+        CHANGE(bad_pitch, BAD_SCREEN_PITCH), CHANGE(bad_screen_place, BAD_SCREEN_PLACE), CHANGE(bad_rsdp, BAD_RSDP),                \
+        CHANGE(bad_table, BAD_SYSTEM_TABLE), CHANGE(bad_descriptors, BAD_DESCRIPTORS), CHANGE(bad_map, BAD_EFI_MAP_SIZE),           \
+        CHANGE(bad_map_place, BAD_EFI_MAP_PLACE), CHANGE(bad_smbios, BAD_SMBIOS_SIZE), CHANGE(many_avoided, TOO_MANY_AVOIDED),      \
+        CHANGE(bad_avoided, BAD_AVOIDED), CHANGE(avoided_pool, POOL_AVOIDED)
 
 static const change of_load[] = {
     CHANGE(null_memory, NULL), CHANGE(null_regions, NULL), CHANGE(null_map, NULL), CHANGE(null_avoided, NULL), CHANGE(null_line, NULL),
@@ -233,9 +247,7 @@ static const change of_load[] = {
     CHANGE(set_outcome, BAD_RESERVED), CHANGE(set_entry, BAD_RESERVED), CHANGE(unreadable_kernel, BAD_FILE),
     CHANGE(unreadable_module, BAD_FILE), CHANGE(few_places, SMALL_ROOM), CHANGE(bad_kind, BAD_KIND), CHANGE(bad_efi_bits, BAD_EFI_BITS),
     CHANGE(bad_secure_boot, BAD_SECURE_BOOT), CHANGE(bad_size, BAD_SIZE), CHANGE(many_regions, TOO_MANY_REGIONS),
-    CHANGE(bad_region, BAD_REGION), CHANGE(bad_pool, BAD_POOL), CHANGE(bad_screen, BAD_SCREEN_SIZE), CHANGE(bad_rsdp, BAD_RSDP),
-    CHANGE(bad_table, BAD_SYSTEM_TABLE), CHANGE(bad_map, BAD_EFI_MAP_SIZE), CHANGE(many_avoided, TOO_MANY_AVOIDED),
-    CHANGE(bad_avoided, BAD_AVOIDED), CHANGE(avoided_pool, POOL_AVOIDED), CHANGE(short_memory, BAD_MEMORY),
+    CHANGE(bad_region, BAD_REGION), CHANGE(bad_pool, BAD_POOL), OF_FIRMWARE, CHANGE(short_memory, BAD_MEMORY),
     CHANGE(high_memory, BAD_MEMORY), CHANGE(bad_protocol, BAD_PROTOCOL), CHANGE(many_modules, TOO_MANY_MODULES),
     CHANGE(more_modules, TOO_MANY_MODULES), CHANGE(long_rsdp, LONG_RSDP), CHANGE(no_kernel, REFUSED), CHANGE(nothing, DONE)};
 /* the same, but for memory and bytes beside the kernel's, which are not looked at; the room is looked at last */
@@ -247,9 +259,7 @@ static const change of_plan[] = {
     CHANGE(unreadable_kernel, BAD_FILE), CHANGE(unreadable_module, BAD_FILE), CHANGE(bad_kind, BAD_KIND),
     CHANGE(bad_efi_bits, BAD_EFI_BITS), CHANGE(bad_secure_boot, BAD_SECURE_BOOT), CHANGE(bad_size, BAD_SIZE),
     CHANGE(many_regions, TOO_MANY_REGIONS), CHANGE(bad_region, BAD_REGION), CHANGE(bad_pool, BAD_POOL),
-    CHANGE(bad_screen, BAD_SCREEN_SIZE), CHANGE(bad_rsdp, BAD_RSDP), CHANGE(bad_table, BAD_SYSTEM_TABLE),
-    CHANGE(bad_map, BAD_EFI_MAP_SIZE), CHANGE(many_avoided, TOO_MANY_AVOIDED), CHANGE(bad_avoided, BAD_AVOIDED),
-    CHANGE(avoided_pool, POOL_AVOIDED), CHANGE(bad_protocol, BAD_PROTOCOL), CHANGE(many_modules, TOO_MANY_MODULES),
+    OF_FIRMWARE, CHANGE(bad_protocol, BAD_PROTOCOL), CHANGE(many_modules, TOO_MANY_MODULES),
     CHANGE(more_modules, TOO_MANY_MODULES), CHANGE(long_rsdp, LONG_RSDP), CHANGE(no_kernel, REFUSED),
     CHANGE(few_plan_places, SMALL_ROOM), CHANGE(few_steps, SMALL_ROOM), CHANGE(few_bytes, SMALL_ROOM), CHANGE(nothing, DONE)};
 static const change of_boot[] = {
@@ -261,9 +271,7 @@ static const change of_boot[] = {
     CHANGE(set_menu, BAD_RESERVED), CHANGE(set_last_entry, BAD_RESERVED), CHANGE(few_places, SMALL_ROOM), CHANGE(bad_kind, BAD_KIND),
     CHANGE(bad_efi_bits, BAD_EFI_BITS), CHANGE(bad_secure_boot, BAD_SECURE_BOOT), CHANGE(bad_size, BAD_SIZE),
     CHANGE(many_regions, TOO_MANY_REGIONS), CHANGE(bad_region, BAD_REGION), CHANGE(bad_pool, BAD_POOL),
-    CHANGE(bad_screen, BAD_SCREEN_SIZE), CHANGE(bad_rsdp, BAD_RSDP), CHANGE(bad_table, BAD_SYSTEM_TABLE),
-    CHANGE(bad_map, BAD_EFI_MAP_SIZE), CHANGE(many_avoided, TOO_MANY_AVOIDED), CHANGE(bad_avoided, BAD_AVOIDED),
-    CHANGE(avoided_pool, POOL_AVOIDED), CHANGE(short_memory, BAD_MEMORY), CHANGE(high_memory, BAD_MEMORY),
+    OF_FIRMWARE, CHANGE(short_memory, BAD_MEMORY), CHANGE(high_memory, BAD_MEMORY),
     CHANGE(bad_protocol, BAD_PROTOCOL), CHANGE(bad_last_protocol, BAD_PROTOCOL), CHANGE(many_entries, TOO_MANY_ENTRIES),
     CHANGE(many_modules, TOO_MANY_MODULES), CHANGE(more_modules, TOO_MANY_MODULES), CHANGE(long_rsdp, LONG_RSDP),
     CHANGE(bad_first, BAD_INDEX), CHANGE(bad_fallback, BAD_INDEX), CHANGE(low_pool, LOW_POOL), CHANGE(no_kernel, REFUSED),
@@ -275,9 +283,7 @@ static const change of_make[] = {
     CHANGE(set_menu_word, BAD_RESERVED), CHANGE(set_menu, BAD_RESERVED), CHANGE(set_last_entry, BAD_RESERVED),
     CHANGE(bad_kind, BAD_KIND), CHANGE(bad_efi_bits, BAD_EFI_BITS), CHANGE(bad_secure_boot, BAD_SECURE_BOOT),
     CHANGE(bad_size, BAD_SIZE), CHANGE(many_regions, TOO_MANY_REGIONS), CHANGE(bad_region, BAD_REGION), CHANGE(bad_pool, BAD_POOL),
-    CHANGE(bad_screen, BAD_SCREEN_SIZE), CHANGE(bad_rsdp, BAD_RSDP), CHANGE(bad_table, BAD_SYSTEM_TABLE),
-    CHANGE(bad_map, BAD_EFI_MAP_SIZE), CHANGE(many_avoided, TOO_MANY_AVOIDED), CHANGE(bad_avoided, BAD_AVOIDED),
-    CHANGE(avoided_pool, POOL_AVOIDED), CHANGE(bad_protocol, BAD_PROTOCOL), CHANGE(bad_last_protocol, BAD_PROTOCOL),
+    OF_FIRMWARE, CHANGE(bad_protocol, BAD_PROTOCOL), CHANGE(bad_last_protocol, BAD_PROTOCOL),
     CHANGE(many_entries, TOO_MANY_ENTRIES), CHANGE(many_modules, TOO_MANY_MODULES), CHANGE(more_modules, TOO_MANY_MODULES),
     CHANGE(long_rsdp, LONG_RSDP), CHANGE(bad_first, BAD_INDEX), CHANGE(bad_fallback, BAD_INDEX), CHANGE(null_kernel, DONE),
     CHANGE(null_module, DONE), CHANGE(unreadable_kernel, DONE), CHANGE(nothing, DONE)};
@@ -307,9 +313,7 @@ static const change of_digest_make[] = {
     CHANGE(set_entry, BAD_RESERVED), CHANGE(unreadable_kernel, BAD_FILE), CHANGE(unreadable_module, BAD_FILE),
     CHANGE(bad_kind, BAD_KIND), CHANGE(bad_efi_bits, BAD_EFI_BITS), CHANGE(bad_secure_boot, BAD_SECURE_BOOT),
     CHANGE(bad_size, BAD_SIZE), CHANGE(many_regions, TOO_MANY_REGIONS), CHANGE(bad_region, BAD_REGION), CHANGE(bad_pool, BAD_POOL),
-    CHANGE(bad_screen, BAD_SCREEN_SIZE), CHANGE(bad_rsdp, BAD_RSDP), CHANGE(bad_table, BAD_SYSTEM_TABLE),
-    CHANGE(bad_map, BAD_EFI_MAP_SIZE), CHANGE(many_avoided, TOO_MANY_AVOIDED), CHANGE(bad_avoided, BAD_AVOIDED),
-    CHANGE(avoided_pool, POOL_AVOIDED), CHANGE(bad_protocol, BAD_PROTOCOL), CHANGE(many_modules, TOO_MANY_MODULES),
+    OF_FIRMWARE, CHANGE(bad_protocol, BAD_PROTOCOL), CHANGE(many_modules, TOO_MANY_MODULES),
     CHANGE(more_modules, TOO_MANY_MODULES), CHANGE(long_rsdp, LONG_RSDP), CHANGE(no_kernel, REFUSED), CHANGE(null_module, DONE),
     CHANGE(nothing, DONE)};
 static const change of_digest_entry[] = {
@@ -320,9 +324,7 @@ static const change of_digest_entry[] = {
     CHANGE(unreadable_kernel, BAD_FILE), CHANGE(unreadable_module, BAD_FILE), CHANGE(bad_kind, BAD_KIND),
     CHANGE(bad_efi_bits, BAD_EFI_BITS), CHANGE(bad_secure_boot, BAD_SECURE_BOOT), CHANGE(bad_size, BAD_SIZE),
     CHANGE(many_regions, TOO_MANY_REGIONS), CHANGE(bad_region, BAD_REGION), CHANGE(bad_pool, BAD_POOL),
-    CHANGE(bad_screen, BAD_SCREEN_SIZE), CHANGE(bad_rsdp, BAD_RSDP), CHANGE(bad_table, BAD_SYSTEM_TABLE),
-    CHANGE(bad_map, BAD_EFI_MAP_SIZE), CHANGE(many_avoided, TOO_MANY_AVOIDED), CHANGE(bad_avoided, BAD_AVOIDED),
-    CHANGE(avoided_pool, POOL_AVOIDED), CHANGE(bad_protocol, BAD_PROTOCOL), CHANGE(many_modules, TOO_MANY_MODULES),
+    OF_FIRMWARE, CHANGE(bad_protocol, BAD_PROTOCOL), CHANGE(many_modules, TOO_MANY_MODULES),
     CHANGE(more_modules, TOO_MANY_MODULES), CHANGE(long_rsdp, LONG_RSDP), CHANGE(no_kernel, REFUSED), CHANGE(nothing, DONE)};
 /* a struct that keeps no digest, and one that does */
 static const change of_no_feed[] = {

@@ -8,6 +8,7 @@ import sys
 TOP = os.path.dirname(os.path.dirname(os.path.dirname(os.path.abspath(__file__))))
 sys.path.insert(0, os.path.join(TOP, "model"))
 from rules import booting, description  # noqa: E402
+from rules.firmware import NO_FIRMWARE  # noqa: E402
 
 NO_FILE = 0xFFFFFFFFFFFFFFFF
 MISSING = struct.pack("<QQ", 0xFFFFFFFFFFFFFFFF, 0)
@@ -52,8 +53,22 @@ def spelled(described, path_named=booting.paths_from(TOP)):
         modules += [struct.pack("<Q", file_of(name)) + range_of(line) for name, line in entry.modules]
     machine = described.machine
     regions = [struct.pack("<QQII", region.base, region.length, region.kind, 0) for region in machine.regions]
+    avoided = [struct.pack("<QQ", start, end - start) for start, end in machine.firmware.avoided]
+    told = [] if machine.firmware == NO_FIRMWARE else [spelled_firmware(machine.firmware, range_of)]
     start, end = machine.pool
-    numbers = struct.pack("<10Q", machine.size, start, end - start, described.fill, len(regions), len(files), len(entries),
-                          described.default, len(described.fallbacks), len(contents))
+    numbers = struct.pack("<12Q", machine.size, start, end - start, described.fill, len(regions), len(avoided), len(told), len(files),
+                          len(entries), described.default, len(described.fallbacks), len(contents))
     fallbacks = struct.pack(f"<{len(described.fallbacks)}I", *described.fallbacks)
-    return numbers + b"".join(regions + files + entries) + contents + b"".join(modules) + fallbacks
+    return numbers + b"".join(regions + avoided + told + files + entries) + contents + b"".join(modules) + fallbacks
+
+
+def spelled_firmware(told, range_of):
+    """What firmware tells, but for the ranges to avoid; what it does not tell is 0."""
+    screen, efi, smbios = told.screen, told.efi, told.smbios
+    colors = [] if screen is None else [number for color in screen[5:] for number in color]
+    pixels = bytes(32) if screen is None else struct.pack("<QIIIBB6BI", *screen[:5], 0, *colors, 0)
+    numbers = [0] * 6 if efi is None else [efi.system_table, efi.map_address, efi.bits, efi.descriptor_size, efi.descriptor_version,
+                                           efi.secure_boot]
+    numbers += [0] * 2 if smbios is None else [smbios.major, smbios.minor]
+    tables = range_of(b"" if efi is None else efi.map) + range_of(b"" if smbios is None else smbios.tables)
+    return pixels + struct.pack("<9Q", told.rsdp or 0, *numbers) + tables

@@ -103,6 +103,8 @@ pub const MAX_MODULES: usize = 64;
 pub const MAX_LINE: usize = 4095;
 /// A copy of an RSDP has no more bytes.
 pub const MAX_RSDP: usize = 256;
+/// A machine has no more ranges to avoid.
+pub const MAX_AVOIDED: usize = 128;
 /// How long each piece of a file is that a [`Session`] awaits, but for the last one.
 pub const PIECE: usize = 4096;
 

@@ -359,9 +359,9 @@ fn file_of(file: &File<'_>) -> Bytes {
 }
 
 /// What a machine points to.
-struct Regions {
+struct Pointed {
     regions: Vec<Region>,
-    _avoided: Vec<Avoided>,
+    _avoided: Vec<Avoided>, // to which `firmware` points
     firmware: Firmware,
 }
 
@@ -397,7 +397,7 @@ fn smbios_of(smbios: &crate::Smbios) -> Smbios {
     Smbios { tables: bytes_of(&smbios.tables), major: smbios.major, minor: smbios.minor, reserved16: 0, reserved32: 0 }
 }
 
-fn regions_of(machine: &crate::Machine) -> Regions {
+fn pointed_by(machine: &crate::Machine) -> Pointed {
     let region =
         |region: &crate::Region| Region { base: region.base, length: region.length, kind: region.kind.number(), reserved: 0 };
     // of a range that goes backwards the end is one that no range may have
@@ -416,18 +416,18 @@ fn regions_of(machine: &crate::Machine) -> Regions {
         avoided_count: avoided.len(),
         reserved: [0; 6],
     };
-    Regions { regions: machine.regions.iter().map(region).collect(), _avoided: avoided, firmware }
+    Pointed { regions: machine.regions.iter().map(region).collect(), _avoided: avoided, firmware }
 }
 
 /// A machine over its regions and what firmware tells, as long as these stand.
-fn machine_of(machine: &crate::Machine, regions: &Regions) -> Machine {
+fn machine_of(machine: &crate::Machine, pointed: &Pointed) -> Machine {
     Machine {
         size: machine.size,
         pool_base: machine.pool_base,
         pool_length: machine.pool_length,
-        regions: regions.regions.as_ptr(),
-        region_count: regions.regions.len(),
-        firmware: &regions.firmware,
+        regions: pointed.regions.as_ptr(),
+        region_count: pointed.regions.len(),
+        firmware: &pointed.firmware,
         reserved: [0; 3],
     }
 }
@@ -687,8 +687,8 @@ pub(crate) fn segments(registers: &Registers) -> [Segment; 6] {
 
 pub(crate) fn load(memory: &mut crate::Memory<'_>, machine: &crate::Machine, entry: &crate::Entry<'_>) -> Result<Told, Error> {
     let _turn = enter()?;
-    let (regions, modules) = (regions_of(machine), modules_of(entry));
-    let (memory, machine, entry) = (memory_of(memory), machine_of(machine, &regions), entry_of(entry, &modules));
+    let (pointed, modules) = (pointed_by(machine), modules_of(entry));
+    let (memory, machine, entry) = (memory_of(memory), machine_of(machine, &pointed), entry_of(entry, &modules));
     // SAFETY: each pointer is that of a slice or a vector that stands during the call, with its length, or null; the memory
     // is borrowed by `&mut`, or `Memory::from_raw` says the same of it, and the outcome's arrays are this call's own, so that
     // they overlap nothing else
@@ -697,16 +697,16 @@ pub(crate) fn load(memory: &mut crate::Memory<'_>, machine: &crate::Machine, ent
 
 pub(crate) fn prepare(machine: &crate::Machine, entry: &crate::Entry<'_>) -> Result<Told, Error> {
     let _turn = enter()?;
-    let (regions, modules) = (regions_of(machine), modules_of(entry));
-    let (machine, entry) = (machine_of(machine, &regions), entry_of(entry, &modules));
+    let (pointed, modules) = (pointed_by(machine), modules_of(entry));
+    let (machine, entry) = (machine_of(machine, &pointed), entry_of(entry, &modules));
     // SAFETY: as for `load`, without memory; no byte of a file whose pointer is null is read
     Ok(Told::by(|outcome| unsafe { bootcore_prepare(&machine, &entry, outcome) }))
 }
 
 pub(crate) fn plan(machine: &crate::Machine, entry: &crate::Entry<'_>) -> Result<crate::Plan, Error> {
     let _turn = enter()?;
-    let (regions, modules) = (regions_of(machine), modules_of(entry));
-    let (machine, entry) = (machine_of(machine, &regions), entry_of(entry, &modules));
+    let (pointed, modules) = (pointed_by(machine), modules_of(entry));
+    let (machine, entry) = (machine_of(machine, &pointed), entry_of(entry, &modules));
     let (mut places, mut steps, mut own) = (Vec::<Place>::new(), Vec::<Step>::new(), Vec::<u8>::new());
     let mut layout = Layout {
         places: places.as_mut_ptr(),
@@ -754,8 +754,8 @@ pub(crate) fn plan(machine: &crate::Machine, entry: &crate::Entry<'_>) -> Result
 
 pub(crate) fn unplaced(machine: &crate::Machine, entry: &crate::Entry<'_>) -> Result<Option<crate::Unplaced>, Error> {
     let _turn = enter()?;
-    let (regions, modules) = (regions_of(machine), modules_of(entry));
-    let (machine, entry) = (machine_of(machine, &regions), entry_of(entry, &modules));
+    let (pointed, modules) = (pointed_by(machine), modules_of(entry));
+    let (machine, entry) = (machine_of(machine, &pointed), entry_of(entry, &modules));
     let (mut part, mut refusal) = (UnplacedPart::default(), Refusal::default());
     // SAFETY: as for `prepare`, with a part and a refusal of this call's own
     match unsafe { bootcore_unplaced(&machine, &entry, &mut part, &mut refusal) } {
@@ -797,9 +797,9 @@ pub(crate) fn carry_out(plan: &crate::Plan, files: &[&[u8]], memory: &mut [crate
 
 pub(crate) fn boot(memory: &mut crate::Memory<'_>, machine: &crate::Machine, menu: &crate::Menu<'_>) -> Result<Told, Error> {
     let _turn = enter()?;
-    let regions = regions_of(machine);
+    let pointed = pointed_by(machine);
     let (entries, _modules) = entries_of(menu);
-    let (memory, machine, menu) = (memory_of(memory), machine_of(machine, &regions), menu_of(menu, &entries));
+    let (memory, machine, menu) = (memory_of(memory), machine_of(machine, &pointed), menu_of(menu, &entries));
     // SAFETY: as for `load`; the modules of the entries stand until this function ends
     Ok(Told::by(|outcome| unsafe { bootcore_boot(&memory, &machine, &menu, outcome) }))
 }
@@ -820,9 +820,9 @@ impl<'m> KeptSession<'m> {
         menu: &crate::Menu<'_>,
     ) -> Result<KeptSession<'m>, Error> {
         check()?;
-        let regions = regions_of(machine);
+        let pointed = pointed_by(machine);
         let (entries, _modules) = entries_of(menu);
-        let (machine, menu) = (machine_of(machine, &regions), menu_of(menu, &entries));
+        let (machine, menu) = (machine_of(machine, &pointed), menu_of(menu, &entries));
         let mut session = KeptSession { session: Session { kept: ptr::null_mut() }, memory };
         // SAFETY: each pointer is that of a slice or a vector that stands during the call, with its length, or null; of files
         // the lengths alone are read; the struct keeps nothing yet
@@ -931,8 +931,8 @@ unsafe impl Sync for KeptDigest {}
 impl KeptDigest {
     pub(crate) fn make(machine: &crate::Machine, entry: &crate::Entry<'_>) -> Result<KeptDigest, Error> {
         check()?;
-        let (regions, modules) = (regions_of(machine), modules_of(entry));
-        let (machine, entry) = (machine_of(machine, &regions), entry_of(entry, &modules));
+        let (pointed, modules) = (pointed_by(machine), modules_of(entry));
+        let (machine, entry) = (machine_of(machine, &pointed), entry_of(entry, &modules));
         let mut kept = KeptDigest { digest: Digest { kept: ptr::null_mut() } };
         let mut refusal = Refusal::default();
         // SAFETY: each pointer is that of a slice or a vector that stands during the call, with its length, or null; no byte
@@ -1005,8 +1005,8 @@ pub(crate) fn arena_peak() -> usize {
 
 pub(crate) fn digest(machine: &crate::Machine, entry: &crate::Entry<'_>) -> Result<crate::Digests, Error> {
     let _turn = enter()?;
-    let (regions, modules) = (regions_of(machine), modules_of(entry));
-    let (machine, entry) = (machine_of(machine, &regions), entry_of(entry, &modules));
+    let (pointed, modules) = (pointed_by(machine), modules_of(entry));
+    let (machine, entry) = (machine_of(machine, &pointed), entry_of(entry, &modules));
     let mut refusal = Refusal::default();
     // SAFETY: each pointer is that of a slice or a vector that stands during the call, with its length, or null, which the
     // call tests; there is room for as many parts as are told
@@ -1063,10 +1063,10 @@ pub(crate) fn image_head_read(head: &[u8]) -> Result<crate::Handoff, Error> {
 
 pub(crate) fn bad_region(machine: &crate::Machine) -> Result<Option<usize>, Error> {
     check()?;
-    let regions = regions_of(machine);
+    let pointed = pointed_by(machine);
     // SAFETY: the machine and its regions stand during the call
-    let index = unsafe { bootcore_bad_region(&machine_of(machine, &regions)) };
-    Ok((index < regions.regions.len()).then_some(index))
+    let index = unsafe { bootcore_bad_region(&machine_of(machine, &pointed)) };
+    Ok((index < pointed.regions.len()).then_some(index))
 }
 
 pub(crate) fn walk(image: &[u8]) -> Result<image::Seen, Error> {

@@ -91,7 +91,9 @@ fn of_firmware() {
     all(Misuse::BadSmbiosSize, &told(|firmware| firmware.smbios = Some(tables.clone())), right);
     all(Misuse::TooManyAvoided, &told(|firmware| firmware.avoided = vec![0..0; 129]), right);
     all(Misuse::BadAvoided, &told(|firmware| firmware.avoided.push(1 << 52..(1 << 52) + 1)), right);
-    all(Misuse::BadAvoided, &told(|firmware| firmware.avoided.push(1..0)), right);
+    let backwards = std::ops::Range { start: 1, end: 0 };
+    all(Misuse::BadAvoided, &told(|firmware| firmware.avoided.push(backwards.clone())), right);
+    all(Misuse::PoolAvoided, &told(|firmware| firmware.avoided.push(POOL as u64..POOL as u64 + 1)), right);
 }
 
 #[test]
