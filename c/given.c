@@ -204,20 +204,33 @@ bootcore_given_memory bootcore_memory_crossing(const bootcore_memory *memory) {
     return given;
 }
 
-/* All that is told of a machine crosses as it is, but an array that is null crosses as one of none, too many
- * elements cross as one more than there may be, and a null pointer crosses as one to what tells nothing. */
-void bootcore_machine_crossing(const bootcore_machine *machine, bootcore_given_machine *given) {
+/* All that firmware tells crosses as it is, but an array that is null crosses as one of none, and too many elements
+ * cross as one more than there may be; and a null pointer crosses as one to what tells nothing. Field by field: of a
+ * copy of the whole, clang would make a call of memcpy. */
+static void cross_firmware(const bootcore_firmware *told, bootcore_firmware *given) {
     static const bootcore_firmware nothing;
+    const bootcore_firmware *from = told ? told : &nothing;
+    size_t i;
+    given->screen = from->screen;
+    given->rsdp = from->rsdp;
+    given->efi = from->efi;
+    given->efi.map.bytes = bootcore_given_array(from->efi.map.bytes);
+    given->smbios = from->smbios;
+    given->smbios.tables.bytes = bootcore_given_array(from->smbios.tables.bytes);
+    given->avoided = bootcore_given_array(from->avoided);
+    given->avoided_count = at_most_one_more(from->avoided_count, BOOTCORE_MAX_AVOIDED);
+    for (i = 0; i < sizeof given->reserved / sizeof *given->reserved; i++) {
+        given->reserved[i] = 0;
+    }
+}
+
+/* Of a machine so do its regions. */
+void bootcore_machine_crossing(const bootcore_machine *machine, bootcore_given_machine *given) {
     given->machine = *machine;
     given->machine.regions = bootcore_given_array(machine->regions);
     given->machine.region_count = count_regions(machine);
     given->machine.firmware = &given->firmware;
-    given->firmware = machine->firmware ? *machine->firmware : nothing;
-    given->firmware.efi.map.bytes = bootcore_given_array(given->firmware.efi.map.bytes);
-    given->firmware.smbios.tables.bytes = bootcore_given_array(given->firmware.smbios.tables.bytes);
-    given->firmware.avoided = bootcore_given_array(given->firmware.avoided);
-    given->firmware.avoided_count =
-        at_most_one_more(given->firmware.avoided_count, BOOTCORE_MAX_AVOIDED);
+    cross_firmware(machine->firmware, &given->firmware);
 }
 
 static bootcore_slice slice_of(const void *array, size_t count) {

@@ -144,7 +144,7 @@ typedef struct bootcore_region { uint64_t base, length; uint32_t kind, reserved;
 
 /* A screen with pixels of direct colour. Its memory begins at `base`, and ends at 2^52 at most. The
  * pitch, in bytes, the width and the height are 1 to 65535, and a line's pixels fit into the pitch.
- * A pixel has 15, 16, 24 or 32 bits; a colour in it so many, from that position on. */
+ * A pixel has 15, 16, 24 or 32 bits, a colour `size` of them from bit `position` on. */
 typedef struct bootcore_color { uint8_t position, size; } bootcore_color;
 typedef struct bootcore_screen {
     uint64_t base; /* 0: no screen is told */
@@ -160,7 +160,7 @@ typedef struct bootcore_screen {
 typedef struct bootcore_efi {
     uint64_t system_table; /* its address; 0: no UEFI is told */
     bootcore_bytes map;
-    uint64_t map_address;
+    uint64_t map_address; /* where it lies, whatever the protocol */
     uint32_t bits; /* 32 or 64 */
     uint32_t descriptor_size, descriptor_version;
     uint32_t secure_boot; /* 0 not told, 1 not known, 2 disabled, 3 enabled */
@@ -178,7 +178,8 @@ typedef struct bootcore_avoided { uint64_t base, length; } bootcore_avoided;
 /* What firmware tells beside memory, and the kernel is told in its protocol's form: the screen and
  * UEFI by each, the RSDP's address and secure boot by Linux's, SMBIOS by Multiboot2's. No byte of
  * the screen, of the RSDP's 36 or of the map where it lies may be usable: else a part could lie
- * there. What is avoided is told as what it is, and misses the pool. All 0: it tells nothing. */
+ * there. What is avoided is told as what it is, and misses the pool. Of what is not told pointers
+ * and reserved words alone are looked at. All 0: it tells nothing. */
 typedef struct bootcore_firmware {
     bootcore_screen screen;
     uint64_t rsdp; /* 0: it is not told */

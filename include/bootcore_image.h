@@ -36,7 +36,7 @@ BOOTCORE_CALL size_t bootcore_image_head(const bootcore_handoff *handoff,
 BOOTCORE_CHECKED uint32_t bootcore_image_head_read(const void *head, size_t length,
     bootcore_handoff *handoff, bootcore_place *places, size_t place_room, bootcore_refusal *fault);
 
-/* The offset of a copy of an RSDP that is not there. */
+/* The offset of a copy that is not there. */
 #define BOOTCORE_ABSENT (~(uint64_t)0)
 
 /* Bytes of what a walk tells as text. */
@@ -79,14 +79,14 @@ typedef struct bootcore_seen_module {
     uint64_t reserved;
 } bootcore_seen_module;
 
-/* UEFI as it is told to a kernel that is seen: to Linux where its memory map lies; to Multiboot2 the
- * map's bytes, of the text, and nothing of secure boot. */
+/* UEFI as it is told to a kernel that is seen: to Linux where its memory map lies; to Multiboot2
+ * the map's bytes, of the text, and nothing of secure boot. */
 typedef struct bootcore_seen_efi {
     uint64_t system_table; /* 0: no UEFI is told */
     uint64_t map_address;  /* Multiboot2: 0 */
     uint64_t map_length;
     uint32_t bits, descriptor_size, descriptor_version, secure_boot;
-    bootcore_range map; /* Linux: its offset is BOOTCORE_ABSENT */
+    bootcore_range map; /* Linux, or no UEFI: its offset is BOOTCORE_ABSENT */
 } bootcore_seen_efi;
 
 /* The tables of SMBIOS as they are told: of the text; without any the offset is BOOTCORE_ABSENT. */

@@ -219,7 +219,7 @@ class Statuses(CoreChecks):
             ("each answer of a load, a preparation and a plan from C has its status, and each status its words", self.example("statuses"), 570),
             ("each end of a boot from C has its status", self.example("menu", self.kernel), 33),
             ("each answer of a session's calls from C has its status", self.example("sessions"), 138),
-            ("each end of a walk from C has its status", self.example("walks", self.images["first.2"]), 22),
+            ("each end of a walk from C has its status", self.example("walks", self.images["first.2"]), 23),
         ]:
             self.ends(sentence, ran, 0, f"{tried} tried, 0 wrong\n")
 

@@ -59,6 +59,9 @@ static int tried, wrong;
 static void expect(const char *name, call c, uint32_t wanted) {
     uint32_t status = walk_all(c);
     telling after = wanted == BOOTCORE_STATUS_DONE ? all : before;
+    if (!c.arrays.firmware) { /* it is not told */
+        after.firmware = before.firmware;
+    }
     if (wanted == BOOTCORE_STATUS_SMALL_ROOM) {
         after.seen = all.seen;
     }
@@ -112,6 +115,7 @@ int main(int argc, char **argv) {
     CHANGED(BOOTCORE_STATUS_DONE, c.arrays.module_room = seen.module_count);
     CHANGED(BOOTCORE_STATUS_DONE, c.arrays.run_room = seen.run_count);
     CHANGED(BOOTCORE_STATUS_DONE, c.arrays.text_room = seen.text_length);
+    CHANGED(BOOTCORE_STATUS_DONE, c.arrays.firmware = NULL);
     CHANGED(BOOTCORE_STATUS_NULL, c.image = NULL);
     CHANGED(BOOTCORE_STATUS_NULL, c.seen = NULL);
     CHANGED(BOOTCORE_STATUS_NULL, c.has_arrays = 0);
