@@ -23,7 +23,8 @@ struct Machine {
     pool_length: u64,
     regions: *const Region,
     region_count: usize,
-    reserved: [u64; 4],
+    firmware: *const c_void, // null: it tells nothing
+    reserved: [u64; 3],
 }
 
 #[repr(C)]
@@ -142,8 +143,15 @@ fn main() {
     let mut places = vec![Place::default(); 256];
     let regions = [Region { base: 0, length: SIZE as u64, kind: 1, reserved: 0 }];
     let memory = Memory { address: 0, bytes: bytes.as_mut_ptr().cast(), length: SIZE, reserved: 0 };
-    let machine =
-        Machine { size: SIZE as u64, pool_base: 0, pool_length: 0, regions: regions.as_ptr(), region_count: 1, reserved: [0; 4] };
+    let machine = Machine {
+        size: SIZE as u64,
+        pool_base: 0,
+        pool_length: 0,
+        regions: regions.as_ptr(),
+        region_count: 1,
+        firmware: std::ptr::null(),
+        reserved: [0; 3],
+    };
     let modules = [Module { file: of(b"hello"), line: of(b"m"), reserved: [0; 2] }];
     let entry = Entry {
         protocol: 1,
