@@ -4,7 +4,7 @@
   crate's page sources, definitions and proofs are those of the crate. `*`, `..` and NAME stand for anything; what .gitignore lists
   is made, and passes
 - `call.clause`: a function of that name has such a clause, or a record such a field; in a crate's page one of the crate if it has
-  a function of that name. `Type::call.clause`: a call of that type
+  a function of that name. `Type::call.clause`: a call of that type. `table.key`: such a table of a description may have this key
 - `Type::call`: a call or a variant of that type; of a type or module that is not declared here, a source says it so
 - `snake_case`, `CamelCase`, `IN_CAPITALS`, and a word that stands alone: a word of a source outside of comments, or an edit's name;
   `is_..`: the beginning of one
@@ -47,6 +47,7 @@ ALONE = re.compile(r"[a-z][a-z0-9]+")
 STATUS = re.compile(r"\bstatus(?:es)? (\d+(?:(?:, | and | or )\d+)*)")
 BLOCK = re.compile(r"^( *)```\n(.*?)^ *```", re.M | re.S)
 COMMAND = re.compile(r"(?<![\w/.-])(?:(?:\.\.?/)*bootcore (?P<bootcore>[^|&;><#()`]*)|\./test (?P<test>[a-z_ ]+))")
+KEYS = re.compile(r"^key_rules count (\w+) =(.*?)^(?=key_rules |\n)", re.M | re.S)  # of a table of the description
 USAGE = re.compile(r"^(?:usage:)? +bootcore ([a-z]+)(.*)$", re.M)
 SPAN = re.compile(r"(?<!`)(`+)(?!`)((?:(?!\n\n).)+?)(?<!`)\1(?!`)", re.S)
 LINK = re.compile(r"\[`?([\w./-]+)`?\]\(([^)#\s:]+)[^)]*\)")
@@ -105,6 +106,8 @@ class Names:
         self.subcommands = collections.defaultdict(set)  # each with its options
         for name, rest in USAGE.findall((TOP / "crates/bootcore/src/program.rt").read_text()):
             self.subcommands[name].update(OPTION.findall(rest))
+        rules = (TOP / "crates/program_desc/specs/KeyRules.antt").read_text()
+        self.keys = {(table.lower(), key) for table, keys in KEYS.findall(rules) for key in re.findall(r'codes "(\w+)"', keys)}
         manual = (TOP / "docs/bootcore.1").read_text().split(".SH EXIT STATUS\n")[1].split("\n.SH")[0]
         self.statuses = set(re.findall(r"^\.B (\d+)$", manual, re.M))
         self.parts = {path[6:-3] for path in self.files if re.match(r"tests/\w+\.py$", path)}
@@ -203,7 +206,8 @@ class Names:
         """The names of a text that do not exist."""
         clause = CLAUSE.fullmatch(text)
         if clause and not FILE_NAME.fullmatch(text):
-            return [] if PLACEHOLDER.match(text) or self.has_clause(page, *clause.groups()) else [text]
+            is_one = PLACEHOLDER.match(text) or clause.groups() in self.keys or self.has_clause(page, *clause.groups())
+            return [] if is_one else [text]
         if ALONE.fullmatch(text):
             return [] if text in self.words else [text]
         found = list(self.missing_commands(text))
