@@ -144,7 +144,7 @@ class Examples(DigestChecks):
 
     def test_script(self) -> None:
         kernels = sorted((EXAMPLES / "kernels").glob("*.toml"))
-        for description in (FIRST, SECOND, EXAMPLES / "menu.toml", *kernels):
+        for description in (FIRST, SECOND, EXAMPLES / "menu.toml", EXAMPLES / "firmware.toml", *kernels):
             name = description.stem
             image = self.room / f"{name}.image"
             booted = self.boot(description, image)

@@ -8,6 +8,7 @@ from tests.support import TOP
 EXAMPLES = TOP / "examples"
 FIRST = EXAMPLES / "first.toml"
 SECOND = EXAMPLES / "second.toml"
+FIRMWARE = EXAMPLES / "firmware.toml"
 
 # An image's bytes and its SHA-256. That is the one of the image that the model, written from docs/BOOT-RULES.md and
 # docs/FORMATS.md alone, computes from the same files.
@@ -21,6 +22,10 @@ LINUX_IMAGE = (20872, "557f19275ac46a52f02c990e2e3c8871ae167067ef497266bac72b996
 LINUX64_IMAGE = (45472, "430a74df792c8ed0ac837d682d44ce7d249178c25374c9d24a16ff66711bb5b6")
 # 272 bytes of head, 4 records of 24, and 1 frame of information, 80 bytes, 1 frame and 1 frame
 XEN_IMAGE = (12736, "e7555c1fcc91785c3e2cd5be9beac539fb602581ae01d8f73d84c9dfe1b0c8dc")
+# 272 bytes of head, 2 records of 24, and 1 frame of information and 80 bytes
+FIRMWARE_IMAGE = (4496, "2fa012ee00fe96e34b80aeb3b19db98224d0b1a0f683d1200b334065f5aa1741")
+# 272 bytes of head, 4 records of 24, 3 frames and one of kernel
+FIRMWARE_LINUX_IMAGE = (16752, "59261b085c95ce5d8886dff4abc6439c96766609f0002c6e8556f03faebbbac6")
 
 FIRST_MAP = """\
 0000000000000000 000000000009f000 usable
@@ -75,6 +80,37 @@ map 00000000fffc0000 0000000100000000 2
 LINUX_WALK = "protocol linux\nentry 00100000\n" + LINUX_PARTS
 # By the 64-bit entry: 0x200 bytes behind 1 MiB
 LINUX64_WALK = "protocol linux64\nentry 00100200\n" + LINUX_PARTS
+
+# What the description has, in the words of each protocol. The SHA-256 are those of the bytes of its `map`, 4 descriptors
+# of 48, and of its `tables`.
+FIRMWARE_BOTH = """\
+map 0000000000000000 00000000000a0000 1
+map 0000000000100000 0000000003e00000 1
+map 0000000003e00000 0000000003f00000 2
+map 0000000003f00000 0000000003f20000 3
+screen 00000000fd000000 4096 1024 768 32 16+8 8+8 0+8
+"""
+FIRMWARE_WALK = f"""\
+protocol multiboot2
+entry 00100010
+line 0
+kernel 00100000 80
+{FIRMWARE_BOTH}\
+efi 64 0000000003e02018
+efi-map - 192 48 1 901da438b83398d57ece9ed8ba01f6464e6a9ad8f85d865a9724e31591ff8026
+smbios 3 0 36 707dda40fbbd12953cb34354a409a073d9b951894b1fc203de0241ac3eb033c5
+"""
+FIRMWARE_LINUX_WALK = f"""\
+protocol linux
+entry 00100000
+line 0
+kernel 00100000 4096
+{FIRMWARE_BOTH}\
+rsdp 0000000003f00014
+efi 64 0000000003e02018
+efi-map 0000000003e01000 192 48 1 -
+secure-boot 2
+"""
 
 LINUX_MAP = """\
 0000000000000000 000000000009fc00 usable

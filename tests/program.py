@@ -8,7 +8,7 @@ from pathlib import Path
 from typing import Sequence
 
 from tests import examples
-from tests.examples import EXAMPLES, FIRST, FIRST_MAP, SECOND
+from tests.examples import EXAMPLES, FIRMWARE, FIRST, FIRST_MAP, SECOND
 from tests.program_checks import ImageChecks, static_busybox, version
 from tests.support import PROGRAM, TOP, Ran, is_at_hand, run, sha256
 
@@ -48,6 +48,19 @@ class Examples(ImageChecks):
             menu = f"the example of a menu, with its pieces in {order} order,"
             self.ends(f"{menu} falls back", ran, 0, "refused 0 8\nbooted 1 row one\n")
             self.has_same_image(f"{menu} has the image of the entry alone", image)
+
+    def test_firmware(self) -> None:
+        image = self.room / "firmware.image"
+        ran = self.boot(FIRMWARE, image)
+        self.ends("the example of what firmware tells boots its Multiboot2 kernel", ran, 0, "booted 0 told by tags\n")
+        self.ends("tags tell that kernel what firmware tells", self.program("walk", image), 0, examples.FIRMWARE_WALK)
+        self.is_expected("the image of that kernel", examples.FIRMWARE_IMAGE, image)
+        text = FIRMWARE.read_text(encoding="utf-8")
+        ran = self.boot(self.written(text.replace("\ndefault = 0\n", "\ndefault = 1\n")), image)
+        self.ends("with another default it boots its Linux kernel", ran, 0, "booted 1 told by boot parameters\n")
+        seen = self.program("walk", image)
+        self.ends("boot parameters tell that one what firmware tells", seen, 0, examples.FIRMWARE_LINUX_WALK)
+        self.is_expected("the image of the Linux kernel", examples.FIRMWARE_LINUX_IMAGE, image)
 
     def test_maps(self) -> None:
         for sentence, name, wanted in (
