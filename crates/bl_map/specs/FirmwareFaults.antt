@@ -10,7 +10,8 @@ use Rattle.bl_map.specs.MachineFacts.{MissesPool}
 use Rattle.bl_map.specs.declared.fault.MapFault.{MapFault}
 use Rattle.bl_map.specs.declared.fault.MapFault.TheVariants.{BadScreenPlace, BadRsdp}
 use Rattle.bl_map.specs.declared.fault.MapFault.TheVariants.{BadEfiMapPlace, BadSmbiosSize}
-use Rattle.bl_map.specs.declared.fault.MapFault.TheVariants.{TooManyAvoided, BadAvoided, PoolAvoided}
+use Rattle.bl_map.specs.declared.fault.MapFault.TheVariants.{TooManyAvoided, BadAvoided}
+use Rattle.bl_map.specs.declared.fault.MapFault.TheVariants.{PoolAvoided}
 use Rattle.bl_map.specs.declared.firmware.screen.Screen.{Screen}
 use Rattle.bl_map.specs.declared.region.Region.{Region}
 

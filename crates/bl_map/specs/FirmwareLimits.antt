@@ -1,8 +1,8 @@
--- What firmware may tell: the limits of a screen, of UEFI and of SMBIOS, and which of them is broken
--- first. Own; 0 is "not told" in boot parameters (Linux/x86 Boot Protocol, "Zero Page"), so that
--- what is told is not 0.
-use Rattle.std.specs.Prelude.{ℕ, ◌+◌, ◌*◌, ◌/◌, ◌%◌, ◌^◌, Bool, ◌&&◌, ◌||◌, not, ◌==◌, nat_le, nat_lt}
-use Rattle.std.specs.Prelude.{if◌then◌else◌, Option, Some, None}
+-- What firmware may tell: the limits of a screen, of UEFI and of SMBIOS, and which of them is
+-- broken first. Own; 0 is "not told" in boot parameters (Linux/x86 Boot Protocol, "Zero Page"), so
+-- that what is told is not 0.
+use Rattle.std.specs.Prelude.{ℕ, ◌+◌, ◌*◌, ◌/◌, ◌%◌, ◌^◌, Bool, ◌&&◌, ◌||◌, not, ◌==◌, nat_le}
+use Rattle.std.specs.Prelude.{nat_lt, if◌then◌else◌, Option, Some, None}
 use Rattle.bl_map.specs.Limits.{max_region_end}
 use Rattle.bl_map.specs.declared.fault.MapFault.{MapFault}
 use Rattle.bl_map.specs.declared.fault.MapFault.TheVariants as fault

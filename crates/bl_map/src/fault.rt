@@ -6,8 +6,8 @@ use std::alloc::{AllocError, AllocFailed};
 use thiserror::Error;
 
 /// Why a machine is refused: the first fault in the order size, number of regions, regions, pool;
-/// then what firmware tells: screen, root pointer of ACPI, UEFI, SMBIOS, ranges to avoid. Memory may
-/// run out at any growth.
+/// then what firmware tells: screen, root pointer of ACPI, UEFI, SMBIOS, ranges to avoid. Memory
+/// may run out at any growth.
 #[derive(Clone, Copy, Debug, PartialEq, Eq, Error)]
 pub enum MapFault {
     #[error("bad size")]

@@ -77,8 +77,8 @@ impl<A: Allocator> Machine<A> {
     ghost use Rattle.bl_map.specs.Firmware.{no_firmware};
 
     /// The machine of these regions, in any order, overlapping, adjoining or empty. `size` is in
-    /// bytes; `pool` has the addresses of the frames that files are staged in. Firmware tells nothing
-    /// of it.
+    /// bytes; `pool` has the addresses of the frames that files are staged in. Firmware tells
+    /// nothing of it.
     ///
     /// The first of these faults that stands refuses it:
     /// - `BadSize`: the size is not 1 MiB to 4 GiB in whole frames of 4096 bytes.

@@ -7,9 +7,9 @@ ghost use Rattle.bl_mb2head.specs.declared.tag.Tag.{Tag};
 ghost use Rattle.bl_mb2head.specs.Header.{IsHeader, HasFirstHeadFault, SegmentFitsFile};
 ghost use Rattle.bl_mb2head.specs.Tags.{AreAllTags, IsFirstTagFault};
 
-/// Exactly one of these holds of a place, whether there is a console or not: the tags from it on are
-/// one list, or one first fault stands among them. This holds for every list of numbers, be they
-/// bytes or not.
+/// Exactly one of these holds of a place, whether there is a console or not: the tags from it on
+/// are one list, or one first fault stands among them. This holds for every list of numbers, be
+/// they bytes or not.
 pub fn tags_are_determined()
     ensures total { (has_console : Bool) (bytes : List ℕ) (end at : ℕ)
         → ((ts : List Tag) × AreAllTags has_console bytes end at ts)

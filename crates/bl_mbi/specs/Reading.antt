@@ -18,7 +18,8 @@ use Rattle.bl_mbi.specs.InfoToWriteFacts.{EfiTables, ModuleInfo}
 use Rattle.bl_mbi.specs.ReadingSteps.{◌>>=◌, RestFacts, first_u32, is_next, next_info_tag}
 use Rattle.bl_mbi.specs.ReadingSteps.{required_at, optional_at}
 use Rattle.bl_mbi.specs.Bodies.{text_of_body, module_of, memory_of, map_of, load_base_of}
-use Rattle.bl_mbi.specs.FirmwareBodies.{framebuffer_of, pointer_of, smbios_of, efi_tables_of, copy_of}
+use Rattle.bl_mbi.specs.FirmwareBodies.{framebuffer_of, pointer_of, smbios_of, efi_tables_of}
+use Rattle.bl_mbi.specs.FirmwareBodies.{copy_of}
 use Rattle.bl_mbi.specs.InfoFacts.{InfoFacts}
 use Rattle.bl_mbi.specs.Size.{min_info_size}
 use Rattle.bl_mbi.specs.Tags.{pointer_type}

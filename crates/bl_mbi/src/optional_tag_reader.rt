@@ -26,7 +26,8 @@ use std::alloc::Allocator;
 #[tactic(auto, unfolding(crate::specs::ReadingSteps::optional_at))]
 pub(crate) fn screen_at<'a>(rest: Rest<'a>) -> Result<(Option<Screen>, Rest<'a>), InfoFault>
     ensures { MatchesReading with_rest result
-        (fields.optional_at TAG_FRAMEBUFFER firmware_bodies.framebuffer_of (rest_facts rest.entry)) }
+        (fields.optional_at TAG_FRAMEBUFFER firmware_bodies.framebuffer_of
+        (rest_facts rest.entry)) }
 {
     if !is_next(TAG_FRAMEBUFFER, rest) {
         return Ok((None, rest));

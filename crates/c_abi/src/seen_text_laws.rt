@@ -7,8 +7,8 @@ ghost use Rattle.c_records.specs.TextRanges.{range_bytes};
 ghost use Rattle.c_records.specs.SeenTold.{seen_told, text_seen, walk_records};
 
 /// The text that is told of what a kernel sees begins with its line; the range of a module is its
-/// line, that of a copy of the RSDP is the copy, and those of UEFI's memory map and of the tables of
-/// SMBIOS are what a kernel has been given.
+/// line, that of a copy of the RSDP is the copy, and those of UEFI's memory map and of the tables
+/// of SMBIOS are what a kernel has been given.
 pub fn ranges_have_their_texts()
     ensures line { (seen : SeenFacts)
         → take (seen_told seen).line_length (text_seen seen) ≡ seen.line }

@@ -1,5 +1,5 @@
-//! What C tells of firmware, as plain records. What is 0 of the first field of a record is not told,
-//! and the record's other fields are not looked at then; reserved words never are.
+//! What C tells of firmware, as plain records. What is 0 of the first field of a record is not
+//! told, and the record's other fields are not looked at then; reserved words never are.
 
 /// Where a colour's bits lie in a pixel, and how many they are.
 #[repr(C)]
@@ -59,8 +59,8 @@ pub struct AvoidedRecord {
     pub length: u64,
 }
 
-/// What firmware tells: the screen, the address of ACPI's root pointer, UEFI, SMBIOS, the ranges that
-/// are avoided.
+/// What firmware tells: the screen, the address of ACPI's root pointer, UEFI, SMBIOS, the ranges
+/// that are avoided.
 #[repr(C)]
 #[derive(Clone, Copy)]
 pub struct FirmwareRecord<'a> {

@@ -4,8 +4,8 @@ use crate::seen_records::ByteRange;
 
 /// UEFI, as a kernel is told of it: the address of its system table, 0 if it is not told; where its
 /// memory map lies and how long it is, how many bits it has, a descriptor's size and version, the
-/// state of secure boot. A Multiboot2 kernel has a copy of the map in place of its address: its range
-/// of the text.
+/// state of secure boot. A Multiboot2 kernel has a copy of the map in place of its address: its
+/// range of the text.
 #[repr(C)]
 #[derive(Clone, Copy)]
 pub struct SeenEfiRecord {
@@ -30,8 +30,8 @@ pub struct SeenSmbiosRecord {
     pub reserved32: u32,
 }
 
-/// What firmware tells: a screen, with address 0 for none, the address of ACPI's root pointer, 0 for
-/// none, UEFI, SMBIOS.
+/// What firmware tells: a screen, with address 0 for none, the address of ACPI's root pointer, 0
+/// for none, UEFI, SMBIOS.
 #[repr(C)]
 #[derive(Clone, Copy)]
 pub struct SeenFirmwareRecord {

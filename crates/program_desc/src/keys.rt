@@ -1,20 +1,20 @@
 //! What stands at the keys of a description's tables. Each reader takes a key with its rule, and
 //! answers what stands there or how the rule is broken.
-ghost use Rattle.std.specs.Prelude.{◌≡◌, ◌<◌, ◌^◌, [], true, false, option_map, IfOk, IfErr};
+ghost use Rattle.std.specs.Prelude.{◌≡◌, ◌<◌, ◌^◌, true, false, option_map, IfOk, IfErr};
 ghost use Rattle.toml.specs.View.{view, table_view};
 ghost use Rattle.toml.specs.Data.{as_table, get_member};
 ghost use Rattle.program_desc.specs.KeyRules.{keys_of_set};
 ghost use Rattle.program_desc.specs.TomlValues as spec;
 ghost use Rattle.program_desc.specs.TableFaults.{ReadsAs};
 ghost use Rattle.program_desc.specs.internal.TableReading as kept;
-ghost use Rattle.program_desc.specs.declared.allowed.Allowed.TheVariants.{Number, Byte, AnyText};
+ghost use Rattle.program_desc.specs.declared.allowed.Allowed.TheVariants.{Number, Byte};
 ghost use Rattle.program_desc.specs.declared.allowed.Allowed.TheVariants.{Word, OneTable};
 ghost use Rattle.program_desc.specs.declared.bad_key.KeyFault.TheVariants.{BadValue};
 ghost use Rattle.program_desc.specs.declared.table_fault.TableFault.TheVariants as faults;
 
 use crate::bad_key::{BadKey, KeyFault, TablePlace};
-use crate::key_set::KeySet;
-use crate::key_table::{Key, is_key};
+use crate::key_set::{KeySet, is_key};
+use crate::key_table::Key;
 use crate::table_fault::TableFault;
 use crate::values::{toml_byte, toml_number, toml_word};
 use toml::{Table, Value};
@@ -168,58 +168,5 @@ pub fn byte_or_zero<'a>(
     match at_key(table, key.name) {
         Some(value) => toml_byte(value).ok_or(bad_value(place, key, value)),
         None => Ok(0),
-    }
-}
-
-/// The text at a key that must stand.
-pub fn text_at<'a>(
-    table: &'a Table,
-    place: TablePlace,
-    key: &Key,
-) -> Result<&'a str, TableFault<'a>>
-    requires required { key.now.required ≡ true }
-    requires allowed { key.now.allowed ≡ AnyText }
-    ensures { ReadsAs (λ s. s.now)
-        (kept.BreaksAt place (kept.rule_view key.now) (table_view table.now)) result
-        (spec.at_key spec.toml_text key.now.name.now (table_view table.now)) }
-{
-    let value = required_at(table, place, key)?;
-    value.as_str().ok_or(bad_value(place, key, value))
-}
-
-/// The text at a key that may be left out.
-pub fn text_if<'a>(
-    table: &'a Table,
-    place: TablePlace,
-    key: &Key,
-) -> Result<Option<&'a str>, TableFault<'a>>
-    requires { key.now.allowed ≡ AnyText }
-    ensures { ReadsAs (option_map (λ s. s.now))
-        (kept.BreaksAt place (kept.rule_view key.now) (table_view table.now)) result
-        (spec.at_key_if spec.toml_text key.now.name.now (table_view table.now)) }
-{
-    match at_key(table, key.name) {
-        Some(value) => match value.as_str() {
-            Some(text) => Ok(Some(text)),
-            None => Err(bad_value(place, key, value)),
-        },
-        None => Ok(None),
-    }
-}
-
-/// The text at a key that may be left out, which is then empty.
-pub fn text_or_empty<'a>(
-    table: &'a Table,
-    place: TablePlace,
-    key: &Key,
-) -> Result<&'a str, TableFault<'a>>
-    requires { key.now.allowed ≡ AnyText }
-    ensures { ReadsAs (λ s. s.now)
-        (kept.BreaksAt place (kept.rule_view key.now) (table_view table.now)) result
-        (spec.at_key_or [] spec.toml_text key.now.name.now (table_view table.now)) }
-{
-    match at_key(table, key.name) {
-        Some(value) => value.as_str().ok_or(bad_value(place, key, value)),
-        None => Ok(""),
     }
 }

@@ -24,6 +24,7 @@ mod protocol_keys;
 mod regions;
 mod rsdp_copies;
 mod table_fault;
+mod texts;
 mod values;
 
 pub use allowed::Allowed;
@@ -35,7 +36,7 @@ pub use entry_row::EntryRow;
 pub use fault::DescFault;
 pub use file_row::FileRow;
 pub use index_of_name::file_index;
-pub use key_set::KeySet;
-pub use key_table::{Key, keys_of};
+pub use key_set::{KeySet, keys_of};
+pub use key_table::Key;
 pub use owned_text::Text;
 pub use table_fault::TableFault;

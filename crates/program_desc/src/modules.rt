@@ -15,9 +15,10 @@ use crate::bad_key::TablePlace;
 use crate::entry_form::{ModuleRow, Modules};
 use crate::key_set::KeySet;
 use crate::key_table::{LINE, MODULE, MODULE_FILE};
-use crate::keys::{check_keys, text_at, text_or_empty};
+use crate::keys::check_keys;
 use crate::owned_text::Text;
 use crate::table_fault::TableFault;
+use crate::texts::{text_at, text_or_empty};
 use std::alloc::Allocator;
 use toml::{Table, Value};
 

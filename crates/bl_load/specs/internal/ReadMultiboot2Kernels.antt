@@ -1,6 +1,6 @@
 -- What the code keeps of a kernel's file.
-use Rattle.std.specs.Prelude.{◌≡◌, ◌+◌, ◌<◌, ◌≤◌, ◌^◌, ℕ, Bool, length, All, AllPairs, List, Option, Some}
-use Rattle.std.specs.Prelude.{None}
+use Rattle.std.specs.Prelude.{◌≡◌, ◌+◌, ◌<◌, ◌≤◌, ◌^◌, ℕ, Bool, length, All, AllPairs, List, Option}
+use Rattle.std.specs.Prelude.{Some, None}
 use Rattle.bl_mem.specs.declared.segment.Segment.{Segment}
 use Rattle.bl_elf.specs.Elf.{ElfFacts, AreApartSegments}
 use Rattle.bl_elf.specs.declared.fault.ElfFault.{ElfFault}

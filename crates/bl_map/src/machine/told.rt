@@ -23,8 +23,8 @@ impl<A: Allocator> Machine<A> {
     /// - those of `EfiInfo::fault`; `BadEfiMapPlace` too if a byte of the map is usable;
     /// - `BadSmbiosSize`: the tables do not have 1 byte to 64 KiB;
     /// - `TooManyAvoided`: more than 128 ranges are avoided;
-    /// - `BadAvoided(i)`: range `i`, the first such one from 0, has its start above its end, or ends
-    ///   above 2^52;
+    /// - `BadAvoided(i)`: range `i`, the first such one from 0, has its start above its end, or
+    ///   ends above 2^52;
     /// - `PoolAvoided`: a byte of the pool is avoided;
     /// - `NoMemory`: there was no memory for the normal map and the copy.
     pub fn with_firmware(
