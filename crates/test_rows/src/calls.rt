@@ -2,6 +2,7 @@
 //! of a few that say the same.
 
 mod elf;
+mod firmware_words;
 pub mod handoff;
 mod image;
 mod linux_setup;
@@ -20,6 +21,7 @@ mod run;
 mod stage;
 mod staging;
 mod steps;
+mod told_firmware;
 mod walk;
 mod writer_sink;
 

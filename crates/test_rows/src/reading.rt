@@ -47,6 +47,16 @@ impl<'a> Row<'a> {
         number as u32
     }
 
+    /// The number of these hexadecimal digits, which must be a byte.
+    pub fn byte_of(&mut self, digits: &str) -> u8 {
+        let number = self.number_of(digits);
+        if number > 0xff {
+            self.refuse();
+            return 0;
+        }
+        number as u8
+    }
+
     /// The number that is the next word.
     pub fn number(&mut self) -> u64 {
         let word = self.word();
@@ -82,12 +92,8 @@ impl<'a> Row<'a> {
 
     /// The byte that stands after `NAME=` in the next word.
     pub fn byte_field(&mut self, name: &str) -> u8 {
-        let number = self.number_field(name);
-        if number > 0xff {
-            self.refuse();
-            return 0;
-        }
-        number as u8
+        let digits = self.field(name);
+        self.byte_of(digits)
     }
 
     /// The range that `START..END` is.

@@ -2,11 +2,13 @@
 //! are about.
 //!
 //! A region may stand there several times: `BASE+LENGTH:KIND*COUNT`, or each a step after the
-//! last: `..*COUNT/STEP`.
+//! last: `..*COUNT/STEP`. Beside regions stand the words of what firmware tells.
 
+use crate::calls::firmware_words::{keep_told, no_words};
 use crate::line::split_or;
 use crate::row::Row;
-use bl_map::{Kind, Machine, MapFault, Region};
+use bl_map::{Kind, Machine, MapFault, OwnedFirmware, Region};
+use std::alloc::Global;
 use test_refusing::Refusing;
 
 impl Row<'_> {
@@ -43,13 +45,33 @@ fn keep_regions(row: &mut Row<'_>, regions: &mut Vec<Region>, word: &str) {
     }
 }
 
-fn read_regions(row: &mut Row<'_>) -> Vec<Region> {
+/// The regions of a machine, what firmware tells, and whether a word says something of that.
+#[derive(Drop)]
+struct MachineWords {
+    regions: Vec<Region>,
+    firmware: OwnedFirmware<Global>,
+    is_told: bool,
+}
+
+/// What all words say that are left.
+fn read_words(row: &mut Row<'_>) -> MachineWords {
     let mut regions = Vec::new(row.alloc);
+    let mut firmware = no_words(row.alloc);
+    let mut is_told = false;
     for word in row.rest().split_whitespace() {
-        let region = row.field_of(word, "region");
-        keep_regions(row, &mut regions, region);
+        let (name, value) = row.cut(word, "=");
+        if name == "region" {
+            keep_regions(row, &mut regions, value);
+        } else {
+            keep_told(row, &mut firmware, name, value);
+            is_told = true;
+        }
     }
-    regions
+    MachineWords {
+        regions,
+        firmware,
+        is_told,
+    }
 }
 
 /// The machine that the words are which are left, over a heap.
@@ -59,8 +81,12 @@ pub fn read_machine<'h>(
 ) -> Result<Machine<&'h Refusing>, MapFault> {
     let size = row.number_field("size");
     let pool = row.range_field("pool");
-    let regions = read_regions(row);
-    Machine::new(heap, size, regions.as_slice(), pool)
+    let words = read_words(row);
+    let regions = words.regions.as_slice();
+    if words.is_told {
+        return Machine::with_firmware(heap, size, regions, pool, &words.firmware.lend());
+    }
+    Machine::new(heap, size, regions, pool)
 }
 
 /// Makes the machine over the heap. One that is refused leaves the last one as it was.

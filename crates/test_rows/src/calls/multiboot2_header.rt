@@ -1,10 +1,11 @@
-//! `header BYTES`: what a kernel's Multiboot2 header says.
+//! `header BYTES`, `header screen of BYTES`: what a kernel's Multiboot2 header says, where there is
+//! no screen or one.
 
 use crate::calls::elf::say_segment;
 use crate::entries::refusal::say_fault;
 use crate::row::Row;
 use bl_load::PrepFault;
-use bl_mb2head::{Header, find_header};
+use bl_mb2head::{HeadFault, Header, find_header, find_header_for};
 use bl_mem::SliceView;
 
 /// Where the header stands, and what it has of a segment, an entry and a relocation.
@@ -29,10 +30,19 @@ fn say_header(row: &mut Row<'_>, header: &Header) {
     }
 }
 
-/// Finds the header. The call takes no memory.
-pub fn answer(row: &mut Row<'_>) {
-    match find_header(&SliceView::new(row.bytes)) {
+fn say_found(row: &mut Row<'_>, found: Result<Header, HeadFault>) {
+    match found {
         Ok(header) => say_header(row, &header),
         Err(fault) => say_fault(row, "fault ", PrepFault::from(fault)),
+    }
+}
+
+/// Finds the header. The call takes no memory.
+pub fn answer(row: &mut Row<'_>) {
+    let view = SliceView::new(row.bytes);
+    match row.word() {
+        "" => say_found(row, find_header(&view)),
+        "screen" => say_found(row, find_header_for(&view, true)),
+        _ => row.refuse(),
     }
 }

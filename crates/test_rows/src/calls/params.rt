@@ -28,6 +28,9 @@ fn say_params(row: &mut Row<'_>, params: &Params<&Refusing>) {
     for run in &params.runs {
         row.say_region(" run=", run);
     }
+    row.say_screen(&params.screen);
+    row.say_rsdp(params.rsdp);
+    row.say_efi_info(&params.efi);
 }
 
 /// Reads boot parameters over the heap.

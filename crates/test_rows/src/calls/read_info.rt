@@ -37,6 +37,9 @@ fn say_info(row: &mut Row<'_>, info: &Info<&Refusing>) {
         Some(base) => row.say_number(" base=", base as u64),
         None => row.say(" base=none"),
     }
+    row.say_screen(&info.screen);
+    row.say_efi_copy(&info.efi);
+    row.say_smbios(&info.smbios);
 }
 
 /// A fault as its number and its place, if it has one.

@@ -4,7 +4,7 @@ use crate::calls::read_image::read_row_image;
 use crate::row::Row;
 use bl_image::Image;
 use bl_mem::Bytes;
-use bl_walk::{Seen, WalkFault, walk};
+use bl_walk::{Seen, SeenFirmware, WalkFault, walk};
 use test_refusing::Refusing;
 
 /// The modules, as ` module=ADDRESS:BYTES:LINE`, and the initial ramdisk, as
@@ -38,6 +38,15 @@ fn say_kernel(row: &mut Row<'_>, seen: &Seen<'_, &Refusing>) {
     }
 }
 
+/// What firmware tells, by the forms of either protocol.
+fn say_firmware(row: &mut Row<'_>, firmware: &SeenFirmware<&Refusing>) {
+    row.say_screen(&firmware.screen);
+    row.say_rsdp(firmware.rsdp);
+    row.say_efi_info(&firmware.efi_info);
+    row.say_efi_copy(&firmware.efi_tables);
+    row.say_smbios(&firmware.smbios);
+}
+
 fn say_seen(row: &mut Row<'_>, seen: &Seen<'_, &Refusing>) {
     say_kernel(row, seen);
     say_files(row, seen);
@@ -46,6 +55,7 @@ fn say_seen(row: &mut Row<'_>, seen: &Seen<'_, &Refusing>) {
     }
     say_copy(row, " rsdp_old=", &seen.rsdp_old);
     say_copy(row, " rsdp_new=", &seen.rsdp_new);
+    say_firmware(row, &seen.firmware);
 }
 
 fn say_fault(row: &mut Row<'_>, fault: WalkFault) {
