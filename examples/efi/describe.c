@@ -40,11 +40,14 @@ static void add_value(const char *key, const void *text, size_t length) {
 
 static void add_line(bootcore_bytes line) { add_value("line", line.bytes, line.length); }
 
-static void add_copy(const char *key, bootcore_bytes copy) {
-    const uint8_t *bytes = copy.bytes;
-    if (copy.length == 0) return;
+static void add_number(const char *key, uint64_t number) { print("%s = 0x%x\n", key, number); }
+
+/* Bytes, as those of a file are written. */
+static void add_bytes(const char *key, bootcore_bytes held) {
+    const uint8_t *bytes = held.bytes;
+    if (held.length == 0) return;
     print("%s = \"", key);
-    for (size_t i = 0; i < copy.length; i++)
+    for (size_t i = 0; i < held.length; i++)
         print("%x%x", (uint64_t)bytes[i] >> 4, (uint64_t)bytes[i] & 15);
     print("\"\n");
 }
@@ -113,13 +116,78 @@ static bootcore_region find_pool(const bootcore_machine *machine) {
     return pool;
 }
 
+/* A pool misses what is avoided: that is laid over the map, as a kind that counts before others. */
+static bootcore_machine laid_over(const bootcore_machine *machine) {
+    static bootcore_region regions[BOOTCORE_MAX_REGIONS + BOOTCORE_MAX_AVOIDED];
+    const bootcore_firmware *firmware = machine->firmware;
+    bootcore_machine laid = {.size = machine->size, .regions = regions};
+    for (; laid.region_count < machine->region_count; laid.region_count++)
+        regions[laid.region_count] = machine->regions[laid.region_count];
+    for (size_t i = 0; firmware != NULL && i < firmware->avoided_count; i++)
+        regions[laid.region_count++] = (bootcore_region){
+            firmware->avoided[i].base, firmware->avoided[i].length, BOOTCORE_KIND_BAD, 0};
+    return laid;
+}
+
 static void add_machine(const bootcore_machine *machine) {
     static const char *const kinds[] = {"", "usable", "reserved", "acpi", "nvs", "bad"};
-    bootcore_region pool = find_pool(machine), run = next_run(machine, 0);
+    const bootcore_machine laid = laid_over(machine);
+    bootcore_region pool = find_pool(&laid), run = next_run(machine, 0);
     print("size = 0x%x\npool = [0x%x, 0x%x]\n", machine->size, pool.base, pool.base + pool.length);
     for (; run.kind != 0; run = next_run(machine, run.base + run.length))
         print("\n[[region]]\nbase = 0x%x\nlength = 0x%x\nkind = \"%s\"\n", run.base, run.length,
               kinds[run.kind]);
+}
+
+/* ---- what firmware tells */
+
+static void add_color(const char *key, bootcore_color color) {
+    print("%s = [0x%x, 0x%x]\n", key, (uint64_t)color.position, (uint64_t)color.size);
+}
+
+static void add_screen(const bootcore_screen *screen) {
+    if (screen->base == 0) return;
+    print("\n[firmware.screen]\n");
+    add_number("base", screen->base);
+    add_number("pitch", screen->pitch);
+    add_number("width", screen->width);
+    add_number("height", screen->height);
+    add_number("depth", screen->depth);
+    add_color("red", screen->red);
+    add_color("green", screen->green);
+    add_color("blue", screen->blue);
+}
+
+static void add_efi(const bootcore_efi *efi) {
+    if (efi->system_table == 0) return;
+    print("\n[firmware.efi]\n");
+    add_number("bits", efi->bits);
+    add_number("system_table", efi->system_table);
+    add_bytes("map", efi->map);
+    add_number("map_address", efi->map_address);
+    add_number("descriptor_size", efi->descriptor_size);
+    add_number("descriptor_version", efi->descriptor_version);
+    add_number("secure_boot", efi->secure_boot);
+}
+
+static void add_smbios(const bootcore_smbios *smbios) {
+    if (smbios->tables.length == 0) return;
+    print("\n[firmware.smbios]\n");
+    add_number("major", smbios->major);
+    add_number("minor", smbios->minor);
+    add_bytes("tables", smbios->tables);
+}
+
+/* The ranges to avoid ascend, and none adjoins another one: map.c lists them so. */
+static void add_firmware(const bootcore_firmware *firmware) {
+    if (firmware == NULL) return;
+    if (firmware->rsdp != 0) print("\n[firmware]\nrsdp = 0x%x\n", firmware->rsdp);
+    add_screen(&firmware->screen);
+    add_efi(&firmware->efi);
+    add_smbios(&firmware->smbios);
+    for (size_t i = 0; i < firmware->avoided_count; i++)
+        print("\n[[avoid]]\nbase = 0x%x\nlength = 0x%x\n", firmware->avoided[i].base,
+              firmware->avoided[i].length);
 }
 
 /* ---- the entry */
@@ -151,8 +219,8 @@ static void add_entry(const menu_entry *entry) {
     add_value("kernel", entry->paths[0], strlen(entry->paths[0]));
     add_line(core->line);
     if (core->protocol == BOOTCORE_PROTOCOL_MULTIBOOT2) {
-        add_copy("rsdp_old", core->rsdp_old);
-        add_copy("rsdp_new", core->rsdp_new);
+        add_bytes("rsdp_old", core->rsdp_old);
+        add_bytes("rsdp_new", core->rsdp_new);
         add_modules(entry);
     } else add_ramdisks(entry);
 }
@@ -162,6 +230,7 @@ size_t describe(const bootcore_machine *machine, const menu_entry *entry, char *
     kept = text;
     kept_end = text + room;
     add_machine(machine);
+    add_firmware(machine->firmware);
     add_entry(entry);
     size_t length = (size_t)(kept - text);
     kept = NULL;

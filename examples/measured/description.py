@@ -5,16 +5,18 @@ import re
 import tomllib
 from typing import Any, Dict, List, NamedTuple, NoReturn, Optional, Tuple
 
+from firmware import Avoided, Firmware, firmware_lines, firmware_of
 from limits import DESCRIPTION_BYTES
+from one_form import bytes_value, tables, text_value, value
 from reading import fault, shown
 
 KINDS = ["usable", "reserved", "acpi", "nvs", "bad"]
 PROTOCOLS = ["multiboot2", "linux", "linux64"]
 FRAME = 0x1000
 ALL_FRAMES = 0xFFFFF000  # no part ends above it
-HIGHEST = (1 << 64) - 1  # of numbers
 # what any line of the one form looks like: other TOML takes its reader up to a minute
-HEADER, NUMBER, TEXT = r"\[\[(?:region|entry|entry\.module)\]\]", "0x[0-9a-f]+", r'"(?:[^"\\]|\\.)*"'
+HEADER = r"\[\[(?:region|avoid|entry|entry\.module)\]\]|\[firmware(?:\.(?:screen|efi|smbios))?\]"
+NUMBER, TEXT = "0x[0-9a-f]+", r'"(?:[^"\\]|\\.)*"'
 LINE = re.compile(rf"(?:{HEADER}|[a-z_0-9]+ = (?:{NUMBER}|{TEXT}|\[{NUMBER}, {NUMBER}\]))?")
 
 
@@ -32,6 +34,7 @@ class Module(NamedTuple):
 class Described(NamedTuple):
     size: int
     regions: List[Region]
+    firmware: Firmware
     title: str
     protocol: str
     kernel: str
@@ -46,24 +49,20 @@ class Described(NamedTuple):
         return self.initrd.split("\n") if self.initrd is not None else []
 
 
-def pool_of(size: int, regions: List[Region]) -> Tuple[int, int]:
+def pool_of(size: int, regions: List[Region], avoided: List[Avoided]) -> Tuple[int, int]:
     """The longest run of whole frames that a part may lie in, the lowest of equally long ones. The image does not depend on it."""
     longest = (0, 0)
     for region in regions:
-        start = max(region.base, FRAME)
-        end = min(region.base + region.length, size, ALL_FRAMES)
-        start, end = (start + FRAME - 1) // FRAME * FRAME, end // FRAME * FRAME
-        if region.kind == "usable" and end - start > longest[1] - longest[0]:
-            longest = (start, end)
+        start, last = max(region.base, FRAME), min(region.base + region.length, size, ALL_FRAMES)
+        for end, next_start in [*((it.base, it.base + it.length) for it in avoided), (last, last)]:
+            frame, end = (start + FRAME - 1) // FRAME * FRAME, min(end, last) // FRAME * FRAME
+            if region.kind == "usable" and end - frame > longest[1] - longest[0]:
+                longest = (frame, end)
+            start = max(start, next_start)
     return longest
 
 
 # ---- the writer
-
-
-def text_value(text: str) -> str:
-    escapes = {'"': '\\"', "\\": "\\\\"}
-    return '"' + "".join(f"\\u{ord(c):04x}" if c < " " or c == "\x7f" else escapes.get(c, c) for c in text) + '"'
 
 
 def entry_lines(described: Described) -> List[str]:
@@ -77,29 +76,15 @@ def entry_lines(described: Described) -> List[str]:
 
 
 def written(described: Described) -> bytes:
-    start, end = pool_of(described.size, described.regions)
+    start, end = pool_of(described.size, described.regions, described.firmware.avoided)
     lines = [f"size = {described.size:#x}", f"pool = [{start:#x}, {end:#x}]", ""]
     for region in described.regions:
         lines += ["[[region]]", f"base = {region.base:#x}", f"length = {region.length:#x}", f'kind = "{region.kind}"', ""]
-    return "".join(line + "\n" for line in lines + entry_lines(described)).encode()
+    lines += firmware_lines(described.firmware) + entry_lines(described)
+    return "".join(line + "\n" for line in lines).encode()
 
 
 # ---- the reader
-
-
-def value(table: Dict[str, Any], key: str, kind: type) -> Any:
-    found = table.get(key)
-    is_of_kind = type(found) is kind  # a truth value is an int, too
-    if not is_of_kind or (isinstance(found, int) and not 0 <= found <= HIGHEST):
-        fault(f"its key {key} is missing, or no {kind.__name__}")
-    return found
-
-
-def tables(table: Dict[str, Any], key: str) -> List[Dict[str, Any]]:
-    found = table.get(key, [])
-    if not isinstance(found, list) or not all(isinstance(item, dict) for item in found):
-        fault(f"its key {key} is no array of tables")
-    return found
 
 
 def regions_of(table: Dict[str, Any]) -> List[Region]:
@@ -112,18 +97,18 @@ def regions_of(table: Dict[str, Any]) -> List[Region]:
     return found
 
 
-def entry_of(table: Dict[str, Any], size: int, regions: List[Region]) -> Described:
+def entry_of(table: Dict[str, Any], size: int, regions: List[Region], firmware: Firmware) -> Described:
     protocol = value(table, "protocol", str)
     for_multiboot2 = protocol == "multiboot2"
     if protocol not in PROTOCOLS:
         fault(f"its protocol is {shown(protocol.encode())}")
-    copies = [value(table, key, str) if key in table and for_multiboot2 else None for key in ("rsdp_old", "rsdp_new")]
+    copies = [bytes_value(table, key) if key in table and for_multiboot2 else None for key in ("rsdp_old", "rsdp_new")]
     modules = [Module(value(it, "file", str), value(it, "line", str)) for it in tables(table, "module") if for_multiboot2]
     initrd = value(table, "initrd", str) if "initrd" in table and not for_multiboot2 else None
-    if "" in copies or initrd == "" or any(copy != copy.lower() for copy in copies if copy):
-        fault("it has an empty copy of the RSDP or an empty initrd, or a copy in upper case")
+    if initrd == "":
+        fault("it has an empty initrd")
     title, kernel, line = (value(table, key, str) for key in ("title", "kernel", "line"))
-    return Described(size, regions, title, protocol, kernel, line, copies[0], copies[1], modules, initrd)
+    return Described(size, regions, firmware, title, protocol, kernel, line, copies[0], copies[1], modules, initrd)
 
 
 def read_description(text: bytes) -> Described:
@@ -140,7 +125,7 @@ def read_description(text: bytes) -> Described:
     entries = tables(table, "entry")
     if len(entries) != 1:
         fault(f"it has {len(entries)} entries")
-    described = entry_of(entries[0], value(table, "size", int), regions_of(table))
+    described = entry_of(entries[0], value(table, "size", int), regions_of(table), firmware_of(table))
     wanted = written(described)
     if text != wanted:
         came, should = text.split(b"\n"), wanted.split(b"\n")

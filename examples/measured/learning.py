@@ -5,11 +5,12 @@ from typing import Dict, Iterator, List, NamedTuple, Optional, Tuple
 
 from application import application_digest
 from choices import Attempt, choices
-from description import Described, text_value
+from description import Described
 from entry import PROGRAM
 from event_log import Event, Log, digest, read_logs, replayed
 from handovers import handed_over
 from limits import FILE_BYTES, LOG_BYTES
+from one_form import text_value
 from reading import BadInput, file_bytes, shown
 from replay import COMPARED, DRIVERS, FILES, HANDOVERS, STARTED
 from texts import firmware_text, is_separator, options_text

@@ -1,5 +1,6 @@
 /* On the host: the description that the boot manager's own code writes. The words are the machine's
-   size, then `BASE LENGTH KIND` for each region, by their numbers; or, behind --cut, with each room
+   size, then `BASE LENGTH KIND` for each region, by their numbers, and with the kind 0 for each range
+   to avoid. Behind --told the firmware tells the rest too; behind --cut it is written with each room
    that is too small for it, of which none must be enough. The entry comes from standard input, as a
    menu; each of its files has a byte, but for those whose names end in 0. */
 #include "app.h"
@@ -35,25 +36,45 @@ static int cut(const bootcore_machine *machine, const menu_entry *entry) {
     return length + 1 == room ? 0 : 1;
 }
 
+static bootcore_region regions[BOOTCORE_MAX_REGIONS];
+static bootcore_avoided avoided[BOOTCORE_MAX_AVOIDED];
+static bootcore_firmware nothing = {.avoided = avoided};
+static bootcore_firmware all = {
+    .screen = {.base = 0x8000000000, .pitch = 5120, .width = 1280, .height = 800, .depth = 32,
+               .red = {16, 8}, .green = {8, 7}, .blue = {0, 5}},
+    .rsdp = 0x7e014,
+    .efi = {.system_table = 0x7f6018, .map = {"\x00\x01\xfe\xff", 4}, .map_address = 0x7e0000,
+            .bits = 64, .descriptor_size = 48, .descriptor_version = 1, .secure_boot = 2},
+    .smbios = {.tables = {"\x7f\x04\x0a", 3}, .major = 3, .minor = 0},
+    .avoided = avoided,
+};
+
 int main(int count, char **words) {
     static char menu_text[1 << 20];
-    static bootcore_region regions[BOOTCORE_MAX_REGIONS];
     static uint8_t old[20], new[36] = {[20] = 36};
     uint32_t line;
     int cuts = count > 1 && strcmp(words[1], "--cut") == 0;
-    size_t region_count = (size_t)(count - 2 - cuts) / 3;
+    words += 1 + cuts, count -= 1 + cuts;
+    int is_told = count > 0 && strcmp(words[0], "--told") == 0;
+    words += is_told, count -= is_told;
+    bootcore_firmware *firmware = is_told ? &all : &nothing;
     for (size_t i = 0; i < sizeof old; i++) old[i] = (uint8_t)i;
     for (size_t i = 0; i < sizeof new; i++)
         if (i / 4 != 5) new[i] = (uint8_t)(i * 17); /* what stands there is its length */
     tables[0].VendorTable = old;
     tables[1].VendorTable = new;
-    if (count < 2 + cuts || region_count > BOOTCORE_MAX_REGIONS) return 2;
-    words += 1 + cuts;
+    if (count < 1) return 2;
     bootcore_machine machine = {.size = strtoull(*words++, NULL, 0), .regions = regions};
-    for (; machine.region_count < region_count; words += 3)
-        regions[machine.region_count++] =
-            (bootcore_region){strtoull(words[0], NULL, 0), strtoull(words[1], NULL, 0),
-                              (uint32_t)strtoul(words[2], NULL, 0), 0};
+    for (count--; count >= 3; words += 3, count -= 3) {
+        uint64_t base = strtoull(words[0], NULL, 0), length = strtoull(words[1], NULL, 0);
+        uint32_t kind = (uint32_t)strtoul(words[2], NULL, 0);
+        size_t *of_kind = kind ? &machine.region_count : &firmware->avoided_count;
+        if (*of_kind == (kind ? BOOTCORE_MAX_REGIONS : BOOTCORE_MAX_AVOIDED)) return 2;
+        if (kind) regions[*of_kind] = (bootcore_region){base, length, kind, 0};
+        else avoided[*of_kind] = (bootcore_avoided){base, length};
+        ++*of_kind;
+    }
+    if (is_told || firmware->avoided_count) machine.firmware = firmware;
     menu_text[fread(menu_text, 1, sizeof menu_text - 1, stdin)] = 0;
     const char *wrong = read_menu(menu_text, &line);
     if (wrong == NULL) wrong = expand_lines(&menu.entries[0]);

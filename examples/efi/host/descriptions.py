@@ -12,8 +12,38 @@ import sys
 from typing import Iterable, List, Tuple
 
 Region = Tuple[int, int, int]
+Avoided = Tuple[int, int]
+Machine = Tuple[int, List[Region], List[Avoided]]
 KINDS = ["", "usable", "reserved", "acpi", "nvs", "bad"]
 OLD = bytes(range(20))
+TOLD = """
+[firmware]
+rsdp = 0x7e014
+
+[firmware.screen]
+base = 0x8000000000
+pitch = 0x1400
+width = 0x500
+height = 0x320
+depth = 0x20
+red = [0x10, 0x8]
+green = [0x8, 0x7]
+blue = [0x0, 0x5]
+
+[firmware.efi]
+bits = 0x40
+system_table = 0x7f6018
+map = "0001feff"
+map_address = 0x7e0000
+descriptor_size = 0x30
+descriptor_version = 0x1
+secure_boot = 0x2
+
+[firmware.smbios]
+major = 0x3
+minor = 0x0
+tables = "7f040a"
+"""  # as host/describe.c has it
 NEW = bytes(36 if i == 20 else 0 if 21 <= i <= 23 else i * 17 & 255 for i in range(36))
 
 
@@ -34,9 +64,9 @@ def runs(regions: List[Region]) -> List[Region]:
     return [run for run in found if run[2]]
 
 
-def pool(size: int, regions: List[Region]) -> Tuple[int, int]:
+def pool(size: int, regions: List[Region], avoided: List[Avoided]) -> Tuple[int, int]:
     best = (0, 0)
-    for base, length, kind in runs(regions):
+    for base, length, kind in runs(regions + [(base, length, 5) for base, length in avoided]):
         start = -(-max(base, 0x1000) // 4096) * 4096
         end = min(base + length, size, 0xFFFFF000) // 4096 * 4096
         if kind == 1 and end - start > best[1] - best[0]:
@@ -44,12 +74,16 @@ def pool(size: int, regions: List[Region]) -> Tuple[int, int]:
     return best
 
 
-def machine_text(size: int, regions: List[Region]) -> str:
-    start, end = pool(size, regions)
+def machine_text(size: int, regions: List[Region], avoided: List[Avoided]) -> str:
+    start, end = pool(size, regions, avoided)
     text = f"size = {size:#x}\npool = [{start:#x}, {end:#x}]\n"
     for base, length, kind in runs(regions):
         text += f'\n[[region]]\nbase = {base:#x}\nlength = {length:#x}\nkind = "{KINDS[kind]}"\n'
     return text
+
+
+def avoided_text(avoided: List[Avoided]) -> str:
+    return "".join(f"\n[[avoid]]\nbase = {base:#x}\nlength = {length:#x}\n" for base, length in avoided)
 
 
 def quoted(text: str) -> str:
@@ -62,12 +96,14 @@ def describe(program: str, words: Iterable[object], menu: bytes) -> Tuple[int, b
     return ran.returncode, re.sub(rb"0x[0-9a-f]{16}", b"ADDRESS", ran.stdout)  # of the RSDP, which is the host's
 
 
-def machines() -> Iterable[Tuple[int, List[Region]]]:
-    yield 0x100000, []
-    yield 1 << 32, [(0xFFF00000, 0x200000, 1), (0, 0x1000, 1)]  # beyond what is usable, and below it
-    yield 1 << 32, [((1 << 52) - 4096, 4096, 1)]
-    yield 0x100000, [(0x9000, 0x2000, 1), (0x3000, 0x2000, 1)]  # two pools of one length
-    yield 0x100000, [(i * 8192, 4096, 1 + i % 5) for i in range(128)]
+def machines() -> Iterable[Machine]:
+    yield 0x100000, [], []
+    yield 1 << 32, [(0xFFF00000, 0x200000, 1), (0, 0x1000, 1)], []  # beyond what is usable, and below it
+    yield 1 << 32, [((1 << 52) - 4096, 4096, 1)], []
+    yield 0x100000, [(0x9000, 0x2000, 1), (0x3000, 0x2000, 1)], []  # two pools of one length
+    yield 0x100000, [(0x3000, 0x9000, 1)], [(0x5801, 0x10)]  # which ends a frame within
+    yield 0x100000, [(0x3000, 0x9000, 1)], [(0, 1 << 52)]
+    yield 0x100000, [(i * 8192, 4096, 1 + i % 5) for i in range(128)], [(i * 7000, 3000) for i in range(128)]
     draw = random.Random(7)
     for _ in range(100):
         grain = draw.choice([1, 0x800, 0x1000])  # small, so that regions overlap, adjoin, and have no byte
@@ -77,8 +113,10 @@ def machines() -> Iterable[Tuple[int, List[Region]]]:
             (first + draw.randrange(24) * grain, draw.randrange(8) * grain, draw.choice([1, 1, 1, 2, 3, 4, 5]))
             for _ in range(draw.randrange(12))
         ]
-        yield size, regions
-        yield size, draw.sample(regions, len(regions))
+        edges = sorted(draw.sample(range(24), 2 * draw.randrange(4)))
+        avoided = [(first + start * grain, (end - start) * grain) for start, end in zip(edges[::2], edges[1::2])]
+        yield size, regions, avoided
+        yield size, draw.sample(regions, len(regions)), avoided
 
 
 LINES = [b"", b"a line", b"@rsdp@", b'a="b" \\c\x7f\x01\t.', "é€\ud7ff\ue000\U00010000\U0010ffff".encode(), b"x" * 999]
@@ -117,18 +155,19 @@ def entries() -> Iterable[Tuple[bytes, str]]:
 
 def main(program: str) -> int:
     compared = 0
-    for size, regions in machines():
-        words = [size, *(word for region in regions for word in region)]
-        status, came = describe(program, words, b"title T\nprotocol linux\nkernel k")
-        wanted = machine_text(size, regions).encode()
-        if status or came.partition(b"\n[[entry]]")[0] != wanted.rstrip(b"\n") + b"\n":
-            print(f"{words}: {came.decode(errors='replace')}, and not {wanted.decode()}")
-            return 1
-        compared += 1
-    machine = 0x100000, [(0x1000, 0x9000, 1)]
+    for size, regions, avoided in machines():
+        words = [size, *(word for region in regions for word in region), *(word for each in avoided for word in (*each, 0))]
+        for told, text in (([], ""), (["--told"], TOLD)):
+            status, came = describe(program, [*told, *words], b"title T\nprotocol linux\nkernel k")
+            wanted = (machine_text(size, regions, avoided) + text + avoided_text(avoided)).encode()
+            if status or came.partition(b"\n[[entry]]")[0] != wanted.rstrip(b"\n") + b"\n":
+                print(f"{words}: {came.decode(errors='replace')}, and not {wanted.decode()}")
+                return 1
+            compared += 1
+    machine = 0x100000, [(0x1000, 0x9000, 1)], [(0x3000, 0x1000)]
     for menu, text in entries():
-        words = [machine[0], *machine[1][0]]
-        wanted = (machine_text(*machine) + text if text else "not described\n").encode()
+        words = ["--told", machine[0], *machine[1][0], *machine[2][0], 0]
+        wanted = (machine_text(*machine) + TOLD + avoided_text(machine[2]) + text if text else "not described\n").encode()
         status, came = describe(program, words, menu)
         if status or came != wanted or (text and describe(program, ["--cut", *words], menu)[0]):
             print(f"{menu!r}: {came.decode(errors='replace')}, and not {wanted.decode()}")

@@ -305,6 +305,51 @@ line = "first @ 0x804014"
 file = "two"
 line = ""
 """
+FIRMWARE = """\
+[firmware]
+rsdp = 0x804014
+
+[firmware.screen]
+base = 0x80000000
+pitch = 0x1400
+width = 0x500
+height = 0x320
+depth = 0x20
+red = [0x10, 0x8]
+green = [0x8, 0x8]
+blue = [0x0, 0x8]
+
+[firmware.efi]
+bits = 0x40
+system_table = 0x807018
+map = "%s"
+map_address = 0xf0000
+descriptor_size = 0x30
+descriptor_version = 0x1
+secure_boot = 0x2
+
+[firmware.smbios]
+major = 0x3
+minor = 0x0
+tables = "7f04feff0000"
+
+[[avoid]]
+base = 0x108000
+length = 0x1000
+
+[[avoid]]
+base = 0x900000
+length = 0x400000
+
+""" % bytes(range(96)).hex()
+TOLD_POOL = "pool = [0x109000, 0x800000]"  # beside what is avoided
+
+
+def with_firmware(text: str) -> str:
+    """A description on a machine whose firmware tells all."""
+    return text.replace("pool = [0x100000, 0x800000]", TOLD_POOL).replace("[[entry]]\n", FIRMWARE + "[[entry]]\n", 1)
+
+
 FILES = {
     "menu.txt": b"timeout 5\n",
     "vmlinuz": examples.linux64_kernel(),
