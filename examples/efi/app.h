@@ -27,6 +27,7 @@ typedef struct {
     uint32_t file_count;
     bootcore_module modules[BOOTCORE_MAX_MODULES];
     bootcore_entry core; /* as the core takes it; read_files puts the files in */
+    int has_no_screen;   /* the kernel is not told of it */
     /* of loader/entries alone: its file's name, what it is sorted by, what is wrong with it */
     const char *name, *version, *sort_key, *machine, *wrong;
     uint32_t wrong_line;
@@ -136,6 +137,7 @@ uint64_t tables_address(int has_five_levels);
 typedef struct {
     bootcore_machine machine;
     bootcore_region regions[BOOTCORE_MAX_REGIONS];
+    bootcore_firmware firmware; /* by tell_firmware; the machine has it then */
     uint64_t usable; /* bytes */
     UINTN key;       /* of the map, for ExitBootServices */
 } machine_map;
@@ -145,6 +147,13 @@ const char *read_map(machine_map *map);
 /* In the map that was read last, the first range from an address on that has a page, or NULL. They
    overlap nowhere, and the firmware may list them in any order. */
 const EFI_MEMORY_DESCRIPTOR *first_range(uint64_t start);
+
+/* ---- firmware.c: what firmware tells beside memory */
+
+/* Looks for it, for one attempt to boot. */
+void find_firmware(void);
+/* Tells it of the map that was read last, for an entry. The firmware is asked for nothing. */
+void tell_firmware(machine_map *map, const menu_entry *entry);
 
 /* ---- memory.c */
 
@@ -158,6 +167,8 @@ size_t strlen(const char *text);
 extern struct boot_state {
     machine_map map;
     bootcore_layout layout;
+    uint32_t left_out[5]; /* statuses for which the core is not told all that firmware tells */
+    uint32_t left_out_count;
 } boot;
 
 /* Room for a plan, and for the core's tables while it makes one. */

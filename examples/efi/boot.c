@@ -41,11 +41,30 @@ static const char *status_words(uint32_t status) {
     }
 }
 
+static uint32_t plan(const menu_entry *entry) {
+    bootcore_arena(arena, menu.arena);
+    return bootcore_plan(&boot.map.machine, &entry->core, &boot.layout);
+}
+
+/* The core knows the limits of what firmware tells. What breaks one is not told, since a kernel without
+   it is better than none: whether that was so, and the entry may be planned again. */
+static int leave_out(uint32_t status) {
+    bootcore_firmware *told = &boot.map.firmware;
+    if (status >= BOOTCORE_STATUS_BAD_SCREEN_SIZE && status <= BOOTCORE_STATUS_BAD_SCREEN_PLACE)
+        told->screen = (bootcore_screen){0};
+    else return 0;
+    boot.left_out[boot.left_out_count++] = status;
+    return 1;
+}
+
 const char *plan_entry(const menu_entry *entry) {
     const char *wrong = read_map(&boot.map);
     if (wrong != NULL) return wrong;
-    bootcore_arena(arena, menu.arena);
-    return status_words(bootcore_plan(&boot.map.machine, &entry->core, &boot.layout));
+    tell_firmware(&boot.map, entry);
+    boot.left_out_count = 0;
+    uint32_t status = plan(entry);
+    while (leave_out(status)) status = plan(entry);
+    return status_words(status);
 }
 
 /* ---- the end of the firmware */

@@ -55,6 +55,12 @@ static int begin(EFI_HANDLE image) {
     return 1;
 }
 
+/* What was planned otherwise than one might expect. */
+static void say_plan(void) {
+    for (uint32_t i = 0; i < boot.left_out_count; i++)
+        print_sentence("It is not told all of the firmware", bootcore_status_text(boot.left_out[i]));
+}
+
 /* Returns only if the entry can't be booted, with the reason; or NULL after a program. The entry is
    a copy for this attempt: lines are expanded in it, files come to it. */
 static const char *attempt(EFI_HANDLE image, menu_entry *entry) {
@@ -66,12 +72,14 @@ static const char *attempt(EFI_HANDLE image, menu_entry *entry) {
     if (wrong == NULL) wrong = expand_lines(entry);
     if (wrong != NULL) return wrong;
     if (entry->core.protocol == efi_program) return start_program(image, self->DeviceHandle, entry);
+    find_firmware();
     wrong = read_files(entry);
     if (wrong == NULL) wrong = make_ready(entry);
     if (wrong != NULL) return wrong;
     if (menu.writes) say(write_handover(entry));
     print("    Booting %s. It is told of %u KiB of usable memory, the core took %u bytes.\n",
           entry->title, boot.map.usable / 1024, (uint64_t)bootcore_arena_peak());
+    say_plan();
     print(log_address() == 0 ? "    It is %s.\n" : "    It is %s. The log is at 0x%x.\n",
           measured_words(), log_address());
     if (restarts)

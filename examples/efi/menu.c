@@ -55,6 +55,13 @@ static void take_entry_line(const char *text, bootcore_entry *core) {
     if (check(core->line.bytes == NULL, "an entry has one line")) core->line = take_line(text);
 }
 
+/* What is told of each machine may be left out for an entry. */
+static void take_no(const char *text, const menu_entry *entry, int *is_left_out) {
+    check(entry->core.protocol != efi_program, "only a kernel is told this");
+    check(is_word(text, "no"), "the only value is no");
+    *is_left_out = 1;
+}
+
 static void begin_entry(const char *title) {
     if (!check(menu.entry_count < BOOTCORE_MAX_ENTRIES, "too many entries")) return;
     check(*title != 0, "a title is wanted");
@@ -83,6 +90,7 @@ static void take(const char *word, char *rest) {
     else if (is_word(word, "kernel")) take_kernel(rest, entry);
     else if (is_word(word, "module")) take_module(rest, entry);
     else if (is_word(word, "ramdisk")) take_linux_ramdisk(rest, entry);
+    else if (is_word(word, "screen")) take_no(rest, entry, &entry->has_no_screen);
     else if (check(is_word(word, "line"), "no such word")) take_entry_line(rest, &entry->core);
 }
 

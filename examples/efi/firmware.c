@@ -1,0 +1,82 @@
+/* What firmware tells beside memory, as facts for the core, which tells them in the form of each
+   protocol. Without them a kernel on a machine that has no BIOS finds no screen and no table. */
+#include "app.h"
+
+/* ---- the screen: a frame buffer of the graphics output protocol (UEFI 12.9) */
+
+#define CONSOLE_OUT_DEVICE \
+    {0xd3b36f2c, 0xd551, 0x11d4, {0x9a, 0x46, 0x00, 0x90, 0x27, 0x3f, 0xc1, 0x4d}}
+
+static EFI_GRAPHICS_OUTPUT_PROTOCOL *output; /* NULL: none has a frame buffer */
+
+static int has_frame_buffer(const EFI_GRAPHICS_OUTPUT_PROTOCOL *found) {
+    return found->Mode != NULL && found->Mode->Info != NULL &&
+           found->Mode->Info->PixelFormat < PixelBltOnly;
+}
+
+/* Where the firmware writes to several screens at once, one of these protocols stands for all of them,
+   and has no memory of its own. So the first one that is a device of the console counts, or else the
+   first one. */
+static void find_output(void) {
+    static EFI_GUID id = EFI_GRAPHICS_OUTPUT_PROTOCOL_GUID, console = CONSOLE_OUT_DEVICE;
+    EFI_GRAPHICS_OUTPUT_PROTOCOL *found;
+    EFI_HANDLE *handles;
+    UINTN count;
+    void *unused;
+    int is_device = 0;
+    output = NULL;
+    if (EFI_ERROR(BS->LocateHandleBuffer(ByProtocol, &id, NULL, &count, &handles))) return;
+    for (UINTN i = 0; i < count && !is_device; i++) {
+        if (EFI_ERROR(BS->HandleProtocol(handles[i], &id, (void **)&found)) || !has_frame_buffer(found))
+            continue;
+        is_device = !EFI_ERROR(BS->HandleProtocol(handles[i], &console, &unused));
+        if (output == NULL || is_device) output = found;
+    }
+    BS->FreePool(handles);
+}
+
+static EFI_PIXEL_BITMASK masks_of(const EFI_GRAPHICS_OUTPUT_MODE_INFORMATION *info) {
+    switch (info->PixelFormat) {
+    case PixelRedGreenBlueReserved8BitPerColor:
+        return (EFI_PIXEL_BITMASK){0xff, 0xff00, 0xff0000, 0xff000000};
+    case PixelBlueGreenRedReserved8BitPerColor:
+        return (EFI_PIXEL_BITMASK){0xff0000, 0xff00, 0xff, 0xff000000};
+    default: return info->PixelInformation;
+    }
+}
+
+/* The bits of a mask are one behind the other. */
+static bootcore_color color_of(uint32_t mask) {
+    bootcore_color color = {0, 0};
+    for (; mask != 0 && !(mask & 1); mask >>= 1) color.position++;
+    for (; mask & 1; mask >>= 1) color.size++;
+    return color;
+}
+
+static bootcore_screen screen_of(const EFI_GRAPHICS_OUTPUT_PROTOCOL_MODE *mode) {
+    const EFI_PIXEL_BITMASK masks = masks_of(mode->Info);
+    uint8_t depth = 0; /* up to the highest bit that means something, or is reserved */
+    for (uint32_t all = masks.RedMask | masks.GreenMask | masks.BlueMask | masks.ReservedMask; all; all >>= 1)
+        depth++;
+    return (bootcore_screen){
+        .base = mode->FrameBufferBase,
+        .pitch = mode->Info->PixelsPerScanLine * ((depth + 7u) / 8),
+        .width = mode->Info->HorizontalResolution,
+        .height = mode->Info->VerticalResolution,
+        .depth = depth,
+        .red = color_of(masks.RedMask),
+        .green = color_of(masks.GreenMask),
+        .blue = color_of(masks.BlueMask),
+    };
+}
+
+/* ---- all of it */
+
+void find_firmware(void) { find_output(); }
+
+void tell_firmware(machine_map *map, const menu_entry *entry) {
+    bootcore_firmware *told = &map->firmware;
+    *told = (bootcore_firmware){.rsdp = 0};
+    if (output != NULL && !entry->has_no_screen) told->screen = screen_of(output->Mode);
+    map->machine.firmware = told;
+}
