@@ -78,7 +78,7 @@ compare() {
 }
 
 for protocol in linux64 linux; do
-    printf '%s\n' 'timeout 0' 'title Linux' "protocol $protocol" 'kernel vmlinuz' "line $line acpi_rsdp=@rsdp@" \
+    printf '%s\n' 'timeout 0' 'title Linux' "protocol $protocol" 'kernel vmlinuz' "line $line" \
         'ramdisk ramdisk' >menu.txt
     disk "$image" menu.txt bootcore/menu.txt
     compare "the boot manager, $protocol"

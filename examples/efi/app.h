@@ -75,14 +75,9 @@ char *cut_word(char *line);
 /* Calls this for each line, with its word and the rest, until one is wrong: its number, or 0. */
 uint32_t take_lines(char *text, void (*take)(const char *word, char *rest));
 uint32_t take_number(const char *text);
-/* The firmware's RSDP of ACPI 2.0 or of 1.0, or NULL. */
-const uint8_t *find_rsdp(int is_new);
 /* These are kept in menu.text, one behind the other. */
 bootcore_bytes take_bytes(const void *bytes, size_t length);
 bootcore_bytes take_line(const char *text);
-/* In an entry's lines the address of the firmware's RSDP stands for `@rsdp@` then, until menu.text
-   is cut. NULL, or what is wrong. */
-const char *expand_lines(menu_entry *entry);
 const char *take_path(char *path);
 void take_kernel(char *path, menu_entry *entry);
 void take_ramdisk(char *path, menu_entry *entry);
@@ -147,6 +142,17 @@ const char *read_map(machine_map *map);
 /* In the map that was read last, the first range from an address on that has a page, or NULL. They
    overlap nowhere, and the firmware may list them in any order. */
 const EFI_MEMORY_DESCRIPTOR *first_range(uint64_t start);
+
+/* ---- tables.c: tables of the firmware's */
+
+/* One that its system table lists, or NULL. */
+const void *find_listed(const EFI_GUID *id);
+/* The RSDP of ACPI 2.0 or of 1.0, or NULL. */
+const uint8_t *find_rsdp(int is_new);
+/* Numbers, which may stand at any address. */
+uint32_t number16(const uint8_t *at);
+uint32_t number32(const uint8_t *at);
+uint64_t number64(const uint8_t *at);
 
 /* ---- firmware.c: what firmware tells beside memory */
 

@@ -52,6 +52,7 @@ static int leave_out(uint32_t status) {
     bootcore_firmware *told = &boot.map.firmware;
     if (status >= BOOTCORE_STATUS_BAD_SCREEN_SIZE && status <= BOOTCORE_STATUS_BAD_SCREEN_PLACE)
         told->screen = (bootcore_screen){0};
+    else if (status == BOOTCORE_STATUS_BAD_RSDP) told->rsdp = 0;
     else return 0;
     boot.left_out[boot.left_out_count++] = status;
     return 1;

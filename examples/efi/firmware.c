@@ -76,7 +76,8 @@ void find_firmware(void) { find_output(); }
 
 void tell_firmware(machine_map *map, const menu_entry *entry) {
     bootcore_firmware *told = &map->firmware;
-    *told = (bootcore_firmware){.rsdp = 0};
+    const uint8_t *old_rsdp = find_rsdp(0), *new_rsdp = find_rsdp(1);
+    *told = (bootcore_firmware){.rsdp = (UINTN)(new_rsdp != NULL ? new_rsdp : old_rsdp)};
     if (output != NULL && !entry->has_no_screen) told->screen = screen_of(output->Mode);
     map->machine.firmware = told;
 }

@@ -22,14 +22,6 @@ static const uint8_t *first, *end; /* of the firmware's log, NULL if it is not k
 static const final_events *final;  /* NULL if there are none */
 static uint64_t known_count;       /* how many of them are in the log too */
 
-/* ---- numbers, which may stand at any address */
-
-static uint32_t number16(const uint8_t *at) { return (uint32_t)at[0] | (uint32_t)at[1] << 8; }
-static uint32_t number32(const uint8_t *at) { return number16(at) | number16(at + 2) << 16; }
-static uint64_t number64(const uint8_t *at) {
-    return number32(at) | (uint64_t)number32(at + 4) << 32;
-}
-
 /* ---- the room */
 
 /* A table of ACPI, or NULL. */
@@ -115,10 +107,7 @@ const char *find_log(void) {
     end = (const uint8_t *)last + event_length((const uint8_t *)last);
     room = has_room(&area) ? &area : has_room(&own) ? &own : NULL;
     if (room == NULL) return first = NULL, "There is no room to keep the TPM's log.";
-    final = NULL;
-    for (UINTN i = 0; i < ST->NumberOfTableEntries; i++)
-        if (memcmp(&ST->ConfigurationTable[i].VendorGuid, &id, sizeof id) == 0)
-            final = ST->ConfigurationTable[i].VendorTable;
+    final = find_listed(&id);
     known_count = final == NULL ? 0 : final->count;
     if (is_cut) return "The firmware's log of the TPM is cut: it lacks events.";
     return room == &own && area.length ? "The TPM's log is too long for ACPI's area." : NULL;

@@ -62,14 +62,13 @@ static void say_plan(void) {
 }
 
 /* Returns only if the entry can't be booted, with the reason; or NULL after a program. The entry is
-   a copy for this attempt: lines are expanded in it, files come to it. */
+   a copy for this attempt: files come to it. */
 static const char *attempt(EFI_HANDLE image, menu_entry *entry) {
     if (entry->wrong != NULL)
         return compose(entry->wrong_line ? "loader/entries/%s.conf: %s in line %u."
                                          : "loader/entries/%s.conf: %s.",
                        entry->name, entry->wrong, (uint64_t)entry->wrong_line);
     const char *wrong = measure_choice(entry);
-    if (wrong == NULL) wrong = expand_lines(entry);
     if (wrong != NULL) return wrong;
     if (entry->core.protocol == efi_program) return start_program(image, self->DeviceHandle, entry);
     find_firmware();
@@ -96,7 +95,6 @@ static const char *boot_choice(EFI_HANDLE image, enum choice how) {
     for (uint32_t i = 0; i < menu.attempt_count && wrong != NULL; i++) {
         menu_entry entry = menu.entries[menu.attempts[i]];
         uint32_t kept_count = taken_count;
-        size_t text_length = menu.text_length;
         entry.core.modules = entry.modules;
         if (how == chosen_with_line && i == 0)
             entry.core.line = (bootcore_bytes){edited, strlen(edited)};
@@ -104,7 +102,6 @@ static const char *boot_choice(EFI_HANDLE image, enum choice how) {
         wrong = attempt(image, &entry);
         if (wrong != NULL) print_sentence(entry.title, wrong);
         give_back(kept_count);
-        menu.text_length = text_length;
     }
     return wrong;
 }

@@ -71,15 +71,6 @@ bootcore_bytes take_bytes(const void *bytes, size_t length) {
     return taken;
 }
 
-const uint8_t *find_rsdp(int is_new) {
-    static EFI_GUID old_acpi = ACPI_TABLE_GUID, new_acpi = ACPI_20_TABLE_GUID;
-    const EFI_GUID *version = is_new ? &new_acpi : &old_acpi;
-    for (UINTN i = 0; i < ST->NumberOfTableEntries; i++)
-        if (memcmp(&ST->ConfigurationTable[i].VendorGuid, version, sizeof *version) == 0)
-            return ST->ConfigurationTable[i].VendorTable;
-    return NULL;
-}
-
 bootcore_bytes take_line(const char *text) { return take_bytes(text, strlen(text)); }
 
 void take_kernel(char *path, menu_entry *entry) {
@@ -90,41 +81,4 @@ void take_kernel(char *path, menu_entry *entry) {
 void take_ramdisk(char *path, menu_entry *entry) {
     if (check(entry->file_count <= BOOTCORE_MAX_MODULES, "too many ramdisks of an entry"))
         entry->paths[entry->file_count++] = take_path(path);
-}
-
-/* ---- lines as kernels get them */
-
-static const char mark[] = "@rsdp@";
-
-static int has_mark_at(bootcore_bytes line, size_t at) {
-    return line.length - at >= strlen(mark) &&
-           memcmp((const char *)line.bytes + at, mark, strlen(mark)) == 0;
-}
-
-static bootcore_bytes expand(bootcore_bytes line) {
-    const uint8_t *rsdp = find_rsdp(1) ? find_rsdp(1) : find_rsdp(0);
-    size_t at = 0, start = menu.text_length;
-    while (at < line.length && !has_mark_at(line, at)) at++;
-    if (at == line.length) return line;
-    bootcore_bytes made = take_bytes(line.bytes, at);
-    while (at < line.length) {
-        if (!has_mark_at(line, at)) {
-            take_bytes((const char *)line.bytes + at++, 1);
-            continue;
-        }
-        take_bytes("0x", 2);
-        for (int shift = 60; shift >= 0; shift -= 4)
-            take_bytes(&"0123456789abcdef"[(uint64_t)(UINTN)rsdp >> shift & 15], 1);
-        at += strlen(mark);
-    }
-    made.length = menu.text_length - start;
-    return made;
-}
-
-const char *expand_lines(menu_entry *entry) {
-    mistake = NULL;
-    entry->core.line = expand(entry->core.line);
-    for (size_t i = 0; i < entry->core.module_count; i++)
-        entry->modules[i].line = expand(entry->modules[i].line);
-    return mistake == NULL ? NULL : "Its lines are too long.";
 }

@@ -1,13 +1,11 @@
 """An entry of the policy, and whether a description is of it."""
 
-import re
-from typing import List, NamedTuple, Set
+from typing import List, NamedTuple
 
 from description import PROTOCOLS, Described
 from reading import BadInput
 from tables import Table, named, only, table_list, text, texts
 
-MARK, ADDRESS = "@rsdp@", "(0x[0-9a-f]{1,16})"  # of the firmware's RSDP, in a line as it is handed over
 PROGRAM = "efi"  # in a protocol's place: an EFI program, which the firmware measures itself
 
 
@@ -56,12 +54,5 @@ def entry_of(table: Table) -> Entry:
 
 
 def has_lines(entry: Entry, described: Described) -> bool:
-    """Whether the lines that were handed over are the entry's, with one address for the mark in all of them."""
-    came = [described.line, *(module.line for module in described.modules)]
-    addresses: Set[str] = set()
-    for wanted, line in zip(entry.lines, came):
-        found = re.fullmatch(ADDRESS.join(re.escape(part) for part in wanted.split(MARK)), line, re.S)
-        if found is None:
-            return False
-        addresses.update(found.groups())
-    return len(came) == len(entry.lines) and len(addresses) <= 1
+    """Whether the lines that were handed over are the entry's."""
+    return [described.line, *(module.line for module in described.modules)] == entry.lines

@@ -77,7 +77,6 @@ int main(int count, char **words) {
     if (is_told || firmware->avoided_count) machine.firmware = firmware;
     menu_text[fread(menu_text, 1, sizeof menu_text - 1, stdin)] = 0;
     const char *wrong = read_menu(menu_text, &line);
-    if (wrong == NULL) wrong = expand_lines(&menu.entries[0]);
     if (wrong != NULL) return puts(wrong), 2;
     menu_entry *entry = &menu.entries[0];
     for (uint32_t i = 1; i < entry->file_count; i++)

@@ -93,7 +93,7 @@ def quoted(text: str) -> str:
 
 def describe(program: str, words: Iterable[object], menu: bytes) -> Tuple[int, bytes]:
     ran = subprocess.run([program, *map(str, words)], input=menu, stdout=subprocess.PIPE, stderr=subprocess.STDOUT)
-    return ran.returncode, re.sub(rb"0x[0-9a-f]{16}", b"ADDRESS", ran.stdout)  # of the RSDP, which is the host's
+    return ran.returncode, ran.stdout
 
 
 def machines() -> Iterable[Machine]:
@@ -119,7 +119,7 @@ def machines() -> Iterable[Machine]:
         yield size, draw.sample(regions, len(regions)), avoided
 
 
-LINES = [b"", b"a line", b"@rsdp@", b'a="b" \\c\x7f\x01\t.', "é€\ud7ff\ue000\U00010000\U0010ffff".encode(), b"x" * 999]
+LINES = [b"", b"a line", b'a="b" \\c\x7f\x01\t.', "é€\ud7ff\ue000\U00010000\U0010ffff".encode(), b"x" * 999]
 NO_UTF8 = rb"""\xff \x80 \xc0\xaf \xc1\xbf \xc3 \xe2\x82 \xe0\x9f\xbf \xed\xa0\x80 \xf0\x8f\xbf\xbf \xf0\x90\x80 \xf4\x90\x80\x80
 \xf5\x80\x80\x80 \xc3\xa9\xa9 \xe2\x82\xc3""".split()
 
@@ -127,7 +127,7 @@ NO_UTF8 = rb"""\xff \x80 \xc0\xaf \xc1\xbf \xc3 \xe2\x82 \xe0\x9f\xbf \xed\xa0\x
 def entries() -> Iterable[Tuple[bytes, str]]:
     """A menu, and what is said of its entry; nothing: it has no description."""
     for line in LINES:
-        told = quoted(line.decode().replace("@rsdp@", "ADDRESS"))
+        told = quoted(line.decode())
         menu = b"title T\nprotocol linux\nkernel //a/k k\n" + (b"line " + line if line else b"")
         head = f'\n[[entry]]\ntitle = "T"\nprotocol = "linux"\nkernel = "a/k k"\nline = {told}\n'
         yield menu, head
@@ -142,7 +142,7 @@ def entries() -> Iterable[Tuple[bytes, str]]:
     yield menu, text
     modules = b"".join(b"module m%d %s\n" % (i, line) for i, line in enumerate(LINES))
     for i, line in enumerate(LINES):
-        told = quoted(line.decode().replace("@rsdp@", "ADDRESS"))
+        told = quoted(line.decode())
         text += f'\n[[entry.module]]\nfile = "m{i}"\nline = {told}\n'
     yield menu + modules, text
     for bad in NO_UTF8:

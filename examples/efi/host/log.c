@@ -10,21 +10,22 @@
 
 enum { area_size = 65536, own_size = 131072, most_log = 200000 };
 
-EFI_SYSTEM_TABLE *ST;
+EFI_SYSTEM_TABLE *ST; /* which lists ACPI's only if there is an area */
 struct boot_state boot;
 tcg2 *tpm;
 int has_agile_log;
 
 static uint8_t area[area_size], pages[own_size], firmware_log[most_log], final[16384];
 static uint8_t table[76], root[44], rsdp[36];
+static EFI_CONFIGURATION_TABLE tables[2] = {{TCG2_FINAL_EVENTS, final}, {ACPI_20_TABLE_GUID, rsdp}};
+static EFI_SYSTEM_TABLE firmware = {.ConfigurationTable = tables};
 static uint64_t log_length, last_start;
-static int has_area, has_pages, is_cut, is_refused, has_short_end, calls;
+static int has_pages, is_cut, is_refused, has_short_end, calls;
 
 /* ---- the firmware */
 
 static void put(uint8_t *to, uint64_t number, size_t size) { memcpy(to, &number, size); }
 
-const uint8_t *find_rsdp(int is_new) { return is_new && has_area ? rsdp : NULL; }
 const char *read_map(machine_map *map) { return map->machine.region_count = 0, NULL; }
 void *take_pages_as(EFI_ALLOCATE_TYPE how, EFI_MEMORY_TYPE type, uint64_t count, uint64_t address) {
     int is_wanted = how == AllocateMaxAddress && type == EfiReservedMemoryType && address <= UINT32_MAX;
@@ -103,7 +104,7 @@ static int says(const char *words, const char *part) {
 }
 
 static void begin_case(int with_area, int with_pages) {
-    has_area = with_area, has_pages = with_pages;
+    firmware.NumberOfTableEntries = with_area ? 2 : 1, has_pages = with_pages;
     has_agile_log = 1, is_cut = 0, is_refused = 0, calls = 0;
 }
 
@@ -182,9 +183,7 @@ static void run(int number) {
 
 int main(int count, char **words) {
     static tcg2 made = {.GetEventLog = get_log};
-    static EFI_CONFIGURATION_TABLE tables[1] = {{TCG2_FINAL_EVENTS, final}};
-    static EFI_SYSTEM_TABLE system = {.NumberOfTableEntries = 1, .ConfigurationTable = tables};
-    ST = &system;
+    ST = &firmware;
     tpm = &made;
     put(rsdp + 24, (UINTN)root, 8);
     put(root + 4, sizeof root, 4), put(root + 36, (UINTN)table, 8);

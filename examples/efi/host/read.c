@@ -72,8 +72,6 @@ static void read_all(int shows) {
     memset(&menu, 0, sizeof menu);
     const char *wrong = text ? read_menu(text, &line) : "no text";
     if (wrong == NULL) list_attempts(1);
-    for (uint32_t i = 0; i < menu.entry_count && wrong == NULL; i++)
-        wrong = expand_lines(&menu.entries[i]);
     if (shows) show(wrong, line);
     while (text_count > 0) free(texts[--text_count]);
     free(text);

@@ -286,7 +286,7 @@ LINUX = DESCRIPTION + """\
 title = "Linux"
 protocol = "linux64"
 kernel = "vmlinuz"
-line = "root=/dev/vda1 acpi_rsdp=0x0000000000804014"
+line = "root=/dev/vda1 quiet"
 initrd = "initrd.img\\u000amore.img"
 """
 MULTIBOOT2 = DESCRIPTION + """\
@@ -299,7 +299,7 @@ rsdp_new = "52534420505452202f"
 
 [[entry.module]]
 file = "one"
-line = "first @ 0x804014"
+line = "first @ last"
 
 [[entry.module]]
 file = "two"
@@ -368,7 +368,7 @@ files = ["menu.txt"]
 title = "Linux"
 protocol = "linux64"
 kernel = "vmlinuz"
-line = "root=/dev/vda1 acpi_rsdp=@rsdp@"
+line = "root=/dev/vda1 quiet"
 ramdisks = ["initrd.img", "more.img"]
 
 [[entry]]
@@ -379,7 +379,7 @@ line = 'say "hello"'
 
 [[entry.module]]
 file = "one"
-line = "first @ @rsdp@"
+line = "first @ last"
 
 [[entry.module]]
 file = "two"
@@ -442,14 +442,14 @@ def handover(text: str, files: Dict[str, bytes]) -> Event:
 def linux_boot(files: Dict[str, bytes], text: str = LINUX) -> List[Event]:
     made = firmware(files["BOOTX64.EFI"])
     made.append(Event(9, IPL, files["menu.txt"], b"bootcore/menu.txt\0"))
-    made += attempt("Linux", ["root=/dev/vda1 acpi_rsdp=@rsdp@"], ["vmlinuz", "initrd.img", "more.img"], files)
+    made += attempt("Linux", ["root=/dev/vda1 quiet"], ["vmlinuz", "initrd.img", "more.img"], files)
     return [*made, handover(text, files), *exit_events()]
 
 
 def multiboot2_boot(files: Dict[str, bytes], text: str = MULTIBOOT2) -> List[Event]:
     made = firmware(files["BOOTX64.EFI"])
     made.append(Event(9, IPL, files["menu.txt"], b"bootcore/menu.txt\0"))
-    made += attempt("Kernel", ['say "hello"', "first @ @rsdp@", ""], ["kernel.elf", "one", "two"], files)
+    made += attempt("Kernel", ['say "hello"', "first @ last", ""], ["kernel.elf", "one", "two"], files)
     return [*made, handover(text, files), *exit_events()]
 
 

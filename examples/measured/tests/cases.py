@@ -10,7 +10,7 @@ from examples.measured.tests.boots import FILES, IPL, LINUX, MULTIBOOT2, POLICY,
 GOOD, WRONG, UNREADABLE, UNSIGNED, BAD_WORDS = 0, 1, 2, 3, 64
 ALL_BANKS = ["sha1", "sha256", "sha384", "sha512"]
 OTHER_MANAGER = boots.application([b"other".ljust(512, b"\0")])
-KERNEL_LINES = ['say "hello"', "first @ @rsdp@", ""]
+KERNEL_LINES = ['say "hello"', "first @ last", ""]
 
 
 def same(it):
@@ -115,10 +115,8 @@ for high in ("0x700000", "0x600000"):
 TOO_LARGE = LINUX.replace("size = 0x100000000", "size = 0x200000000")
 LONG = "A title that has more than sixty-four bytes, for which there is no room in a description"
 ODD = 'é"\\\t and more'
-ODD_TEXT = LINUX.replace("root=/dev/vda1 acpi_rsdp=0x0000000000804014", 'é\\"\\\\\\u0009 and more')
+ODD_TEXT = LINUX.replace("root=/dev/vda1 quiet", 'é\\"\\\\\\u0009 and more')
 DIGEST = boots.digest_of_application(FILES["BOOTX64.EFI"])
-TWO_MARKS = POLICY.replace("'say \"hello\"'", "'@rsdp@ or @rsdp@'")
-TWO_ADDRESSES = MULTIBOOT2.replace('say \\"hello\\"', "0x804014 or 0x804014")
 
 
 def titled(title: str, text: str) -> Change:
@@ -148,7 +146,7 @@ UNTAGGED_HANDOVER = "it is no handover of the boot manager, by its tag and size"
 # what a boot says before its last words
 LINUX_SAID = """\
 booted    "Linux" by the protocol linux64
-line      "root=/dev/vda1 acpi_rsdp=0x0000000000804014"
+line      "root=/dev/vda1 quiet"
 kernel    vmlinuz
 ramdisk   initrd.img
 ramdisk   more.img
@@ -264,15 +262,14 @@ AS_IT_SHOULD_BE = [
         'line      "\\xc3\\xa9"\\\\x09 and more"',
         text=ODD_TEXT,
         happened=lined(ODD),
-        policy=POLICY.replace('"root=/dev/vda1 acpi_rsdp=@rsdp@"', '"é\\"\\\\\\t and more"'),
+        policy=POLICY.replace('"root=/dev/vda1 quiet"', '"é\\"\\\\\\t and more"'),
     ),
+    Case("firmware tells a Linux kernel of all", 'kernel    vmlinuz', text=boots.with_firmware(LINUX)),
     Case(
-        "a mark that stands twice is one address",
-        'line      "0x804014 or 0x804014"',
+        "firmware tells a Multiboot2 kernel of all",
+        "kernel    kernel.elf",
         boot="multiboot2",
-        text=TWO_ADDRESSES,
-        happened=lined("@rsdp@ or @rsdp@"),
-        policy=TWO_MARKS,
+        text=boots.with_firmware(MULTIBOOT2),
     ),
     Case(
         "a driver is known by its digest",
@@ -719,14 +716,25 @@ HANDOVER = [
         "its lines are not those that were measured",
         logged=at(12, 0, saying("vda1", "vda2")),
     ),
-    Case("another address in the description", "is not the image", logged=at(12, 0, saying("804014", "804015"))),
-    Case(
-        "a mark that stands for two addresses",
-        "its lines are not those that were measured",
-        boot="multiboot2",
-        text=TWO_ADDRESSES.replace("or 0x804014", "or 0x804015"),
-        happened=lined("@rsdp@ or @rsdp@"),
-        policy=TWO_MARKS,
+    *(
+        Case(
+            f"{what} in the description of what firmware tells",
+            "is not the image",
+            boot=boot,
+            text=boots.with_firmware(LINUX if boot == "linux" else MULTIBOOT2),
+            logged=at(12, 0, saying(old, new)),
+        )
+        for what, boot, old, new in (
+            ("another address of the RSDP", "linux", "rsdp = 0x804014", "rsdp = 0x804015"),
+            ("another width of the screen", "linux", "width = 0x500", "width = 0x400"),
+            ("another address of the screen", "multiboot2", "base = 0x80000000", "base = 0x80001000"),
+            ("another colour", "multiboot2", "red = [0x10, 0x8]", "red = [0x10, 0x7]"),
+            ("another system table", "multiboot2", "system_table = 0x807018", "system_table = 0x807020"),
+            ("Secure Boot", "linux", "secure_boot = 0x2", "secure_boot = 0x3"),
+            ("another place of UEFI's map", "linux", "map_address = 0xf0000", "map_address = 0xf0008"),
+            ("another byte of UEFI's map", "multiboot2", 'map = "0001', 'map = "0101'),
+            ("another byte of SMBIOS", "multiboot2", 'tables = "7f04fe', 'tables = "7f04ff'),
+        )
     ),
     Case(
         "a description with a blank more",

@@ -20,7 +20,7 @@ efi driver.efi
 title Linux
 protocol linux64
 kernel bootcore/vmlinuz
-line console=tty0 console=ttyS0 acpi_rsdp=@rsdp@
+line console=tty0 console=ttyS0
 ramdisk bootcore/initrd.img
 """
 ENTRY = '\n[[entry]]\ntitle = "A driver"\nprotocol = "efi"\n'
@@ -102,7 +102,7 @@ class Machine(CheckerChecks):
             self.says(sentence, self.checked(seen="started", known="other", policy="policy"), status, said)
 
     def check_logs(self, log: bytes) -> None:
-        place = log.rindex(b"length = 0x") + 11
+        place = log.index(b"length = 0x", log.rindex(b"[[region]]")) + 11
         digit = b"2" if log[place] == 0x31 else b"1"
         first, events = boots.parted(log)
 
