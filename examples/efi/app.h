@@ -27,7 +27,7 @@ typedef struct {
     uint32_t file_count;
     bootcore_module modules[BOOTCORE_MAX_MODULES];
     bootcore_entry core; /* as the core takes it; read_files puts the files in */
-    int has_no_screen;   /* the kernel is not told of it */
+    int has_no_screen, has_no_efi; /* its kernel is not told of these */
     /* of loader/entries alone: its file's name, what it is sorted by, what is wrong with it */
     const char *name, *version, *sort_key, *machine, *wrong;
     uint32_t wrong_line;
@@ -130,6 +130,13 @@ uint64_t tables_address(int has_five_levels);
 /* ---- map.c: the firmware's memory map as the core's machine */
 
 typedef struct {
+    const EFI_MEMORY_DESCRIPTOR *descriptors; /* in any order; each is so many bytes long: */
+    UINTN step, size;                         /* of all */
+    UINT32 version;
+} memory_list;
+
+typedef struct {
+    memory_list list; /* as the firmware gave it, until the next one is read */
     bootcore_machine machine;
     bootcore_region regions[BOOTCORE_MAX_REGIONS];
     bootcore_firmware firmware; /* by tell_firmware; the machine has it then */
@@ -139,9 +146,10 @@ typedef struct {
 
 /* NULL, or why the firmware's map gives no machine. The firmware is asked for nothing else. */
 const char *read_map(machine_map *map);
-/* In the map that was read last, the first range from an address on that has a page, or NULL. They
-   overlap nowhere, and the firmware may list them in any order. */
-const EFI_MEMORY_DESCRIPTOR *first_range(uint64_t start);
+/* The first range from an address on that has a page, or NULL. They overlap nowhere. */
+const EFI_MEMORY_DESCRIPTOR *first_range(const memory_list *list, uint64_t start);
+/* Whether two lists differ only in what memory was used for that is free once the firmware has ended. */
+int are_alike(const memory_list *one, const memory_list *other);
 
 /* ---- tables.c: tables of the firmware's */
 
@@ -156,9 +164,10 @@ uint64_t number64(const uint8_t *at);
 
 /* ---- firmware.c: what firmware tells beside memory */
 
-/* Looks for it, for one attempt to boot. */
+/* Looks for it, and takes pages, for one attempt to boot. */
 void find_firmware(void);
-/* Tells it of the map that was read last, for an entry. The firmware is asked for nothing. */
+/* Tells it of a map that was just read, for an entry. Within an attempt lists that are alike are told as
+   the first of them. The firmware is asked for nothing. */
 void tell_firmware(machine_map *map, const menu_entry *entry);
 
 /* ---- memory.c */

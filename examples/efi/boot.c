@@ -53,6 +53,8 @@ static int leave_out(uint32_t status) {
     if (status >= BOOTCORE_STATUS_BAD_SCREEN_SIZE && status <= BOOTCORE_STATUS_BAD_SCREEN_PLACE)
         told->screen = (bootcore_screen){0};
     else if (status == BOOTCORE_STATUS_BAD_RSDP) told->rsdp = 0;
+    else if (status >= BOOTCORE_STATUS_BAD_SYSTEM_TABLE && status <= BOOTCORE_STATUS_BAD_EFI_MAP_PLACE)
+        told->efi = (bootcore_efi){0};
     else return 0;
     boot.left_out[boot.left_out_count++] = status;
     return 1;
@@ -86,7 +88,8 @@ static int is_same_map(void) {
     static machine_map now;
     size_t count = boot.map.machine.region_count;
     if (read_map(&now) != NULL || now.machine.region_count != count ||
-        memcmp(now.regions, boot.map.regions, count * sizeof now.regions[0]) != 0)
+        memcmp(now.regions, boot.map.regions, count * sizeof now.regions[0]) != 0 ||
+        !are_alike(&now.list, &boot.map.list))
         return 0;
     boot.map.key = now.key;
     return 1;

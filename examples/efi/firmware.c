@@ -70,14 +70,70 @@ static bootcore_screen screen_of(const EFI_GRAPHICS_OUTPUT_PROTOCOL_MODE *mode) 
     };
 }
 
+/* ---- UEFI: its system table and memory map, Secure Boot */
+
+enum { unknown = 1, disabled, enabled }; /* as the core has them */
+static uint32_t secure_boot;
+
+static EFI_STATUS read_byte(CHAR16 *name, uint8_t *byte) {
+    static EFI_GUID global = EFI_GLOBAL_VARIABLE;
+    UINTN size = sizeof *byte;
+    return ST->RuntimeServices->GetVariable(name, &global, NULL, &size, byte);
+}
+
+/* A firmware without the variable has no Secure Boot; in its setup mode it checks nothing. */
+static uint32_t find_secure_boot(void) {
+    static CHAR16 state[] = L"SecureBoot", setup[] = L"SetupMode";
+    uint8_t is_on = 0, is_setup = 0;
+    EFI_STATUS status = read_byte(state, &is_on);
+    if (status == EFI_NOT_FOUND) return disabled;
+    if (EFI_ERROR(status) || EFI_ERROR(read_byte(setup, &is_setup))) return unknown;
+    return is_on == 1 && is_setup == 0 ? enabled : disabled;
+}
+
+/* Linux reads the map where it lies, and looks in it for room for itself: so it is kept in pages that
+   it lists itself, as reserved. */
+enum { map_room = 65536 }; /* no longer map is told */
+static EFI_MEMORY_DESCRIPTOR *map_pages; /* NULL: there are none */
+static memory_list kept_list;            /* without bytes: none is kept */
+
+static void keep_list(const memory_list *list) {
+    kept_list = *list;
+    kept_list.descriptors = map_pages;
+    if (map_pages == NULL || list->size > map_room) kept_list.size = 0;
+    else memcpy(map_pages, list->descriptors, list->size);
+}
+
+/* A list that is not kept lies in memory that is free after the firmware's end: then the core tells
+   which limit it breaks. */
+static bootcore_efi efi_of(const memory_list *list) {
+    return (bootcore_efi){
+        .system_table = (UINTN)ST,
+        .map = {list->descriptors, list->size},
+        .map_address = (UINTN)list->descriptors,
+        .bits = 64,
+        .descriptor_size = (uint32_t)list->step,
+        .descriptor_version = list->version,
+        .secure_boot = secure_boot,
+    };
+}
+
 /* ---- all of it */
 
-void find_firmware(void) { find_output(); }
+void find_firmware(void) {
+    find_output();
+    secure_boot = find_secure_boot();
+    kept_list.size = 0;
+    map_pages = take_pages_as(AllocateMaxAddress, EfiReservedMemoryType, map_room / page, UINT32_MAX);
+}
 
 void tell_firmware(machine_map *map, const menu_entry *entry) {
     bootcore_firmware *told = &map->firmware;
+    if (kept_list.size == 0 || !are_alike(&kept_list, &map->list)) keep_list(&map->list);
+    if (kept_list.size != 0) map->list = kept_list;
     const uint8_t *old_rsdp = find_rsdp(0), *new_rsdp = find_rsdp(1);
     *told = (bootcore_firmware){.rsdp = (UINTN)(new_rsdp != NULL ? new_rsdp : old_rsdp)};
     if (output != NULL && !entry->has_no_screen) told->screen = screen_of(output->Mode);
+    if (!entry->has_no_efi) told->efi = efi_of(&map->list);
     map->machine.firmware = told;
 }

@@ -19,13 +19,10 @@ static uint32_t kind_of(const EFI_MEMORY_DESCRIPTOR *d) {
     }
 }
 
-static EFI_MEMORY_DESCRIPTOR listed[4096]; /* as the firmware lists them: each step bytes long */
-static UINTN listed_size, step;
-
-const EFI_MEMORY_DESCRIPTOR *first_range(uint64_t start) {
+const EFI_MEMORY_DESCRIPTOR *first_range(const memory_list *list, uint64_t start) {
     const EFI_MEMORY_DESCRIPTOR *first = NULL;
-    for (UINTN at = 0; at + step <= listed_size; at += step) {
-        const EFI_MEMORY_DESCRIPTOR *d = (const void *)((const uint8_t *)listed + at);
+    for (UINTN at = 0; at + list->step <= list->size; at += list->step) {
+        const EFI_MEMORY_DESCRIPTOR *d = (const void *)((const uint8_t *)list->descriptors + at);
         if (d->NumberOfPages == 0 || d->PhysicalStart < start) continue;
         if (first == NULL || d->PhysicalStart < first->PhysicalStart) first = d;
     }
@@ -50,14 +47,46 @@ static int add_region(machine_map *map, const EFI_MEMORY_DESCRIPTOR *d) {
 /* ---- the machine */
 
 const char *read_map(machine_map *map) {
-    UINT32 version;
-    listed_size = sizeof listed;
+    static EFI_MEMORY_DESCRIPTOR listed[4096];
+    memory_list *list = &map->list;
+    *list = (memory_list){.descriptors = listed, .size = sizeof listed};
     map->usable = 0;
     map->machine = (bootcore_machine){.size = (uint64_t)1 << 32, .regions = map->regions};
-    if (EFI_ERROR(BS->GetMemoryMap(&listed_size, listed, &map->key, &step, &version)) || step == 0)
+    if (EFI_ERROR(BS->GetMemoryMap(&list->size, listed, &map->key, &list->step, &list->version)) ||
+        list->step == 0)
         return "The firmware gives no memory map, or one above 160 KiB.";
-    const EFI_MEMORY_DESCRIPTOR *d = first_range(0);
-    for (; d != NULL; d = first_range(d->PhysicalStart + 1))
+    const EFI_MEMORY_DESCRIPTOR *d = first_range(list, 0);
+    for (; d != NULL; d = first_range(list, d->PhysicalStart + 1))
         if (!add_region(map, d)) return "The firmware's map has more than 128 ranges.";
     return NULL;
+}
+
+/* ---- two lists of one machine */
+
+/* Of memory that is free once the firmware has ended, no more than that matters. */
+static int have_one_use(const EFI_MEMORY_DESCRIPTOR *one, const EFI_MEMORY_DESCRIPTOR *other) {
+    int is_free = kind_of(one) == BOOTCORE_KIND_USABLE, is_other_free = kind_of(other) == BOOTCORE_KIND_USABLE;
+    if (is_free || is_other_free) return is_free == is_other_free;
+    return one->Type == other->Type && one->Attribute == other->Attribute;
+}
+
+/* Where the ranges of one use end that adjoin, from this one on. */
+static uint64_t end_of_use(const memory_list *list, const EFI_MEMORY_DESCRIPTOR *first) {
+    const EFI_MEMORY_DESCRIPTOR *d = first;
+    uint64_t end = first->PhysicalStart;
+    for (; d != NULL && d->PhysicalStart == end && have_one_use(first, d); d = first_range(list, end))
+        end += d->NumberOfPages * page;
+    return end;
+}
+
+int are_alike(const memory_list *one, const memory_list *other) {
+    uint64_t at = 0, end;
+    if (one->step != other->step || one->version != other->version) return 0;
+    for (;; at = end) {
+        const EFI_MEMORY_DESCRIPTOR *d = first_range(one, at), *e = first_range(other, at);
+        if (d == NULL || e == NULL) return d == e;
+        end = end_of_use(one, d);
+        if (d->PhysicalStart != e->PhysicalStart || !have_one_use(d, e) || end != end_of_use(other, e))
+            return 0;
+    }
 }

@@ -55,13 +55,6 @@ static void take_entry_line(const char *text, bootcore_entry *core) {
     if (check(core->line.bytes == NULL, "an entry has one line")) core->line = take_line(text);
 }
 
-/* What is told of each machine may be left out for an entry. */
-static void take_no(const char *text, const menu_entry *entry, int *is_left_out) {
-    check(entry->core.protocol != efi_program, "only a kernel is told this");
-    check(is_word(text, "no"), "the only value is no");
-    *is_left_out = 1;
-}
-
 static void begin_entry(const char *title) {
     if (!check(menu.entry_count < BOOTCORE_MAX_ENTRIES, "too many entries")) return;
     check(*title != 0, "a title is wanted");
@@ -72,6 +65,7 @@ static void begin_entry(const char *title) {
 
 static void take(const char *word, char *rest) {
     menu_entry *entry = &menu.entries[menu.entry_count ? menu.entry_count - 1 : 0];
+    int has_protocol = entry->core.protocol != 0 && entry->core.protocol != efi_program;
     if (is_word(word, "timeout")) menu.seconds = take_number(rest);
     else if (is_word(word, "default")) menu.chosen = take_number(rest);
     else if (is_word(word, "fallback")) take_fallbacks(rest);
@@ -85,12 +79,13 @@ static void take(const char *word, char *rest) {
     else if (is_word(word, "title")) begin_entry(rest);
     else if (!check(menu.entry_count != 0, "an entry begins with its title")) return;
     else if (is_word(word, "protocol")) take_protocol(rest, &entry->core);
+    else if (is_word(word, "efi") && has_protocol && is_word(rest, "no")) entry->has_no_efi = 1;
     else if (is_word(word, "efi")) take_program(rest, entry);
     else if (!check(entry->core.protocol != 0, "the protocol comes behind the title")) return;
     else if (is_word(word, "kernel")) take_kernel(rest, entry);
     else if (is_word(word, "module")) take_module(rest, entry);
     else if (is_word(word, "ramdisk")) take_linux_ramdisk(rest, entry);
-    else if (is_word(word, "screen")) take_no(rest, entry, &entry->has_no_screen);
+    else if (is_word(word, "screen")) entry->has_no_screen = check(is_word(rest, "no"), "the only value is no");
     else if (check(is_word(word, "line"), "no such word")) take_entry_line(rest, &entry->core);
 }
 

@@ -15,10 +15,11 @@ static int write_memory(EFI_FILE *file, const menu_entry *entry) {
     static char text[max_text];
     (void)entry;
     read_map(&boot.map); /* pages were taken since it was read */
-    const EFI_MEMORY_DESCRIPTOR *d = first_range(0);
+    const memory_list *list = &boot.map.list;
+    const EFI_MEMORY_DESCRIPTOR *d = first_range(list, 0);
     kept = text;
     kept_end = text + sizeof text;
-    for (; d != NULL; d = first_range(d->PhysicalStart + 1))
+    for (; d != NULL; d = first_range(list, d->PhysicalStart + 1))
         print("range %u 0x%x 0x%x\n", (uint64_t)d->Type, d->PhysicalStart, d->NumberOfPages * page);
     for (size_t i = 0; i < files.count; i++)
         print("file %u 0x%x 0x%x\n", i, (UINTN)files.read[i].bytes, files.read[i].length);

@@ -156,7 +156,7 @@ KERNEL_SAID = """\
 booted    "Kernel" by the protocol multiboot2
 line      "say "hello""
 kernel    kernel.elf
-module    one with the line "first @ 0x804014"
+module    one with the line "first @ last"
 module    two with the line ""
 """
 

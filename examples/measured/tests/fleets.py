@@ -28,7 +28,7 @@ class Json(CheckerChecks):
             told = self.told(self.checker(folder, "--json"), GOOD)
             self.assertEqual((told["verdict"], told["why"]), ("as it should be", None))
             self.assertEqual((told["title"], told["protocol"]), ("Kernel", "multiboot2"))
-            self.assertEqual((told["line"], told["modules"]), ('say "hello"', ["first @ 0x804014", ""]))
+            self.assertEqual((told["line"], told["modules"]), ('say "hello"', ["first @ last", ""]))
             self.assertEqual(told["files"], ["kernel.elf", "one", "two"])
             self.assertEqual(told["image"], boots.image_digest(boots.MULTIBOOT2, FILES).hex())
             self.assertEqual((told["managers"], told["drivers"], told["quote"]), (["BOOTX64.EFI"], [], None))
