@@ -51,10 +51,11 @@ static uint32_t plan(const menu_entry *entry) {
 static int leave_out(uint32_t status) {
     bootcore_firmware *told = &boot.map.firmware;
     if (status >= BOOTCORE_STATUS_BAD_SCREEN_SIZE && status <= BOOTCORE_STATUS_BAD_SCREEN_PLACE)
-        told->screen = (bootcore_screen){0};
+        told->screen = (bootcore_screen){.base = 0};
     else if (status == BOOTCORE_STATUS_BAD_RSDP) told->rsdp = 0;
     else if (status >= BOOTCORE_STATUS_BAD_SYSTEM_TABLE && status <= BOOTCORE_STATUS_BAD_EFI_MAP_PLACE)
-        told->efi = (bootcore_efi){0};
+        told->efi = (bootcore_efi){.bits = 0};
+    else if (status == BOOTCORE_STATUS_BAD_SMBIOS_SIZE) told->smbios = (bootcore_smbios){.major = 0};
     else return 0;
     boot.left_out[boot.left_out_count++] = status;
     return 1;

@@ -118,11 +118,45 @@ static bootcore_efi efi_of(const memory_list *list) {
     };
 }
 
+/* ---- SMBIOS: its tables, by the entry points of DSP0134, 5.2 */
+
+/* The structures up to the one that ends them; all bytes, if none does. Each has its own length, and
+   behind it texts, of which an empty one is the last. */
+static uint64_t smbios_length(const uint8_t *tables, uint64_t most) {
+    enum { head = 4, last_type = 127 };
+    for (uint64_t at = 0; at + head <= most && tables[at + 1] >= head;) {
+        int is_last = tables[at] == last_type;
+        at += tables[at + 1];
+        while (at + 2 <= most && number16(tables + at) != 0) at++;
+        at += 2;
+        if (is_last && at <= most) return at;
+    }
+    return most;
+}
+
+static bootcore_smbios smbios_at(const uint8_t *tables, uint64_t most, uint8_t major, uint8_t minor) {
+    return (bootcore_smbios){
+        .tables = {tables, smbios_length(tables, most)}, .major = major, .minor = minor};
+}
+
+static bootcore_smbios find_smbios(void) {
+    static const EFI_GUID old_id = SMBIOS_TABLE_GUID, new_id = SMBIOS3_TABLE_GUID;
+    const uint8_t *old = find_listed(&old_id), *new = find_listed(&new_id);
+    if (new != NULL)
+        return smbios_at((const uint8_t *)number64(new + 16), number32(new + 12), new[7], new[8]);
+    if (old != NULL)
+        return smbios_at((const uint8_t *)(UINTN)number32(old + 24), number16(old + 22), old[6], old[7]);
+    return (bootcore_smbios){.major = 0};
+}
+
 /* ---- all of it */
+
+static bootcore_smbios smbios;
 
 void find_firmware(void) {
     find_output();
     secure_boot = find_secure_boot();
+    smbios = find_smbios();
     kept_list.size = 0;
     map_pages = take_pages_as(AllocateMaxAddress, EfiReservedMemoryType, map_room / page, UINT32_MAX);
 }
@@ -132,7 +166,7 @@ void tell_firmware(machine_map *map, const menu_entry *entry) {
     if (kept_list.size == 0 || !are_alike(&kept_list, &map->list)) keep_list(&map->list);
     if (kept_list.size != 0) map->list = kept_list;
     const uint8_t *old_rsdp = find_rsdp(0), *new_rsdp = find_rsdp(1);
-    *told = (bootcore_firmware){.rsdp = (UINTN)(new_rsdp != NULL ? new_rsdp : old_rsdp)};
+    *told = (bootcore_firmware){.rsdp = (UINTN)(new_rsdp != NULL ? new_rsdp : old_rsdp), .smbios = smbios};
     if (output != NULL && !entry->has_no_screen) told->screen = screen_of(output->Mode);
     if (!entry->has_no_efi) told->efi = efi_of(&map->list);
     map->machine.firmware = told;
