@@ -140,6 +140,7 @@ typedef struct {
     bootcore_machine machine;
     bootcore_region regions[BOOTCORE_MAX_REGIONS];
     bootcore_firmware firmware; /* by tell_firmware; the machine has it then */
+    bootcore_avoided avoided[BOOTCORE_MAX_AVOIDED + 1];
     uint64_t usable; /* bytes */
     UINTN key;       /* of the map, for ExitBootServices */
 } machine_map;
@@ -150,6 +151,10 @@ const char *read_map(machine_map *map);
 const EFI_MEMORY_DESCRIPTOR *first_range(const memory_list *list, uint64_t start);
 /* Whether two lists differ only in what memory was used for that is free once the firmware has ended. */
 int are_alike(const memory_list *one, const memory_list *other);
+/* Memory of boot services, with room for one range more than the core takes. If there are more, those
+   are joined that have no usable memory between them, or the least: how many there are. They ascend,
+   and none adjoins another one. */
+size_t list_avoided(const machine_map *map, bootcore_avoided *ranges);
 
 /* ---- tables.c: tables of the firmware's */
 
@@ -184,6 +189,7 @@ extern struct boot_state {
     bootcore_layout layout;
     uint32_t left_out[5]; /* statuses for which the core is not told all that firmware tells */
     uint32_t left_out_count;
+    int avoids_nothing; /* since the entry is refused otherwise */
 } boot;
 
 /* Room for a plan, and for the core's tables while it makes one. */

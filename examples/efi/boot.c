@@ -61,6 +61,14 @@ static int leave_out(uint32_t status) {
     return 1;
 }
 
+/* Whether it may have room where nothing is avoided. */
+static int lacks_room(uint32_t status) {
+    const uint32_t number = boot.layout.refusal.number;
+    return status == BOOTCORE_STATUS_REFUSED &&
+           (number == BOOTCORE_REFUSAL_NOT_USABLE || number == BOOTCORE_REFUSAL_NO_ROOM ||
+            number == BOOTCORE_REFUSAL_NO_POOL);
+}
+
 const char *plan_entry(const menu_entry *entry) {
     const char *wrong = read_map(&boot.map);
     if (wrong != NULL) return wrong;
@@ -68,6 +76,11 @@ const char *plan_entry(const menu_entry *entry) {
     boot.left_out_count = 0;
     uint32_t status = plan(entry);
     while (leave_out(status)) status = plan(entry);
+    boot.avoids_nothing = lacks_room(status) && boot.map.firmware.avoided_count != 0;
+    if (boot.avoids_nothing) {
+        boot.map.firmware.avoided_count = 0;
+        status = plan(entry);
+    }
     return status_words(status);
 }
 

@@ -161,6 +161,8 @@ void find_firmware(void) {
     map_pages = take_pages_as(AllocateMaxAddress, EfiReservedMemoryType, map_room / page, UINT32_MAX);
 }
 
+/* Memory of boot services is free once they have ended. But devices may still write to it, and firmware
+   may use it when Linux asks for its runtime services: so it is avoided. */
 void tell_firmware(machine_map *map, const menu_entry *entry) {
     bootcore_firmware *told = &map->firmware;
     if (kept_list.size == 0 || !are_alike(&kept_list, &map->list)) keep_list(&map->list);
@@ -169,5 +171,7 @@ void tell_firmware(machine_map *map, const menu_entry *entry) {
     *told = (bootcore_firmware){.rsdp = (UINTN)(new_rsdp != NULL ? new_rsdp : old_rsdp), .smbios = smbios};
     if (output != NULL && !entry->has_no_screen) told->screen = screen_of(output->Mode);
     if (!entry->has_no_efi) told->efi = efi_of(&map->list);
+    told->avoided = map->avoided;
+    told->avoided_count = list_avoided(map, map->avoided);
     map->machine.firmware = told;
 }

@@ -59,6 +59,8 @@ static int begin(EFI_HANDLE image) {
 static void say_plan(void) {
     for (uint32_t i = 0; i < boot.left_out_count; i++)
         print_sentence("It is not told all of the firmware", bootcore_status_text(boot.left_out[i]));
+    if (boot.avoids_nothing)
+        print("    It has room only where memory of boot services is not avoided.\n");
 }
 
 /* Returns only if the entry can't be booted, with the reason; or NULL after a program. The entry is

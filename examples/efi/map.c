@@ -90,3 +90,43 @@ int are_alike(const memory_list *one, const memory_list *other) {
             return 0;
     }
 }
+
+/* ---- memory of boot services */
+
+static uint64_t usable_between(const machine_map *map, uint64_t start, uint64_t end) {
+    uint64_t bytes = 0;
+    for (size_t i = 0; i < map->machine.region_count; i++) {
+        const bootcore_region *region = &map->regions[i];
+        uint64_t from = region->base > start ? region->base : start;
+        uint64_t to = region->base + region->length < end ? region->base + region->length : end;
+        if (region->kind == BOOTCORE_KIND_USABLE && from < to) bytes += to - from;
+    }
+    return bytes;
+}
+
+/* Makes one of the two neighbours that have the least usable memory between them. */
+static void join_nearest(const machine_map *map, bootcore_avoided *ranges, size_t *count) {
+    size_t nearest = 1;
+    uint64_t least = UINT64_MAX;
+    for (size_t i = 1; i < *count; i++) {
+        uint64_t between = usable_between(map, ranges[i - 1].base + ranges[i - 1].length, ranges[i].base);
+        if (between < least) least = between, nearest = i;
+    }
+    ranges[nearest - 1].length = ranges[nearest].base + ranges[nearest].length - ranges[nearest - 1].base;
+    --*count;
+    for (size_t i = nearest; i < *count; i++) ranges[i] = ranges[i + 1];
+}
+
+size_t list_avoided(const machine_map *map, bootcore_avoided *ranges) {
+    size_t count = 0;
+    const EFI_MEMORY_DESCRIPTOR *d = first_range(&map->list, 0);
+    for (; d != NULL; d = first_range(&map->list, d->PhysicalStart + 1)) {
+        bootcore_avoided *last = count ? &ranges[count - 1] : NULL;
+        bootcore_avoided made = {d->PhysicalStart, d->NumberOfPages * page};
+        if (d->Type != EfiBootServicesCode && d->Type != EfiBootServicesData) continue;
+        if (last != NULL && last->base + last->length == made.base) last->length += made.length;
+        else ranges[count++] = made;
+        if (count > BOOTCORE_MAX_AVOIDED) join_nearest(map, ranges, &count);
+    }
+    return count;
+}
