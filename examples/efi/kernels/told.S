@@ -1,5 +1,5 @@
 # A Multiboot2 kernel, an ELF file, that writes what it is told to the first serial port: the line,
-# modules with their lines and bytes, the memory map, the copies of the RSDP. It looks whether its own
+# modules with their lines and bytes, the memory map, what firmware tells, the copies of the RSDP. It looks whether its own
 # memory behind the file is zero, and whether each usable range can be written at both ends. Then it
 # restarts the machine.
     .section .header, "a"
@@ -48,10 +48,23 @@ next_tag:
     je module
     cmpl $6, %eax
     je map
+    movl $screen_is, %esi
+    cmpl $8, %eax
+    je content
+    movl $efi_is, %esi
+    cmpl $12, %eax
+    je content
+    movl $smbios_is, %esi
+    cmpl $13, %eax
+    je content
+    movl $copy_is, %esi
     cmpl $14, %eax
-    je copy
+    je content
     cmpl $15, %eax
-    je copy
+    je content
+    movl $efi_map_is, %esi
+    cmpl $17, %eax
+    je content
 after_tag:
     addl 4(%ebp), %ebp
     addl $7, %ebp
@@ -106,18 +119,17 @@ next_range:
     call try_range
     addl $24, %ebx
     jmp next_range
-copy:
-    movl $copy_is, %esi
+content:                            # behind the text at ESI
     call write_text
     leal 8(%ebp), %esi
     movl 4(%ebp), %edi
     addl %ebp, %edi
-next_of_copy:
+next_of_content:
     movl $1, %ecx
     call write_number
     incl %esi
     cmpl %edi, %esi
-    jb next_of_copy
+    jb next_of_content
     call write_end
     jmp after_tag
 
@@ -212,6 +224,14 @@ bytes_are:
     .asciz ": "
 map_is:
     .asciz "told map "
+screen_is:
+    .asciz "told screen "
+efi_is:
+    .asciz "told efi "
+smbios_is:
+    .asciz "told smbios "
+efi_map_is:
+    .asciz "told efi map "
 copy_is:
     .asciz "told copy "
 ended:
