@@ -6,10 +6,11 @@ use Rattle.std.proofs.lemmas.List.Elements.{All-cons, All-head, All-weaker}
 use Rattle.bl_map.specs.declared.region.Region.{Region}
 use Rattle.bl_map.specs.Kinds.{kind_number}
 use Rattle.bl_map.specs.NormalMap.{AreRuns, ComesBefore, region_end, kind_at}
-use Rattle.bl_map.specs.MachineFacts.{IsWellFormedMachine, IsPool, IsSize, MachineFacts}
+use Rattle.bl_map.specs.MachineFacts.{IsWellFormedMachine, IsSize, MachineFacts}
 use Rattle.bl_map.proofs.EdgeLemmas.{edges_above, edges_fall, edges_fall_once, edges_most}
 use Rattle.bl_map.proofs.KindLemmas.{kind_not_held, none_before, not_held_behind, number_positive}
 use Rattle.bl_map.proofs.MapLaws.{fewer_runs, kind_in, later_runs, same_kind}
+use Rattle.bl_map.proofs.RunsLemmas.{firmware_in_runs, pool_in_runs}
 use Rattle.program_desc.specs.Described.{DescriptionFacts}
 use Rattle.program_boots.specs.described.DescribedMachine.{IsMachineOf}
 
@@ -72,28 +73,18 @@ pub machine_facts : (description : DescriptionFacts) (facts : MachineFacts) → 
     → IsWellFormedMachine facts
 machine_facts description facts is =
     let regions = description.regions in
-    let pool = is.accepted.pool_is in
     let few = is.accepted.few in
     let most = edges_most regions 0 in
     let runs =
     few_runs regions facts.runs 0 is.runs.runs_are (λ a _. is.runs.same_kinds a)
     (λ k d _. omega arith) in
-    let usable : IsPool facts.runs description.size description.pool =
-    record {
-      forward = pool.forward;
-      start_frame = pool.start_frame;
-      end_frame = pool.end_frame;
-      usable = λ a low high. let u = pool.usable a low high in
-          record {
-            kind = is.runs.same_kinds a ∙ u.kind;
-            above = u.above;
-            in_size = u.in_size;
-            below = u.below;
-          };
-    } in
+    let pool = pool_in_runs regions facts.runs is.runs _ _ is.accepted.pool_is in
+    let told = firmware_in_runs regions facts.runs is.runs _ _ _ is.told in
     record {
       size = subst IsSize (sym is.size) is.accepted.size_is;
       runs = is.runs.runs_are;
       few = omega arith;
-      pool = rw (is.size, is.pool) usable;
+      pool = rw (is.size, is.pool) pool;
+      firmware = rw (is.size, is.pool, is.firmware) told;
+      fits = rw is.firmware is.fits;
     }

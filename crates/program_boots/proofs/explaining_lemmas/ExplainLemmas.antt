@@ -1,5 +1,5 @@
 -- How explanations end.
-use Rattle.std.proofs.Common.{◌≡◌, ◌+◌, ◌≤◌, ◌++◌, ◌==◌, ◌&&◌, ℕ, nat_le, nat_lt, true}
+use Rattle.std.proofs.Common.{◌≡◌, ◌+◌, ◌≤◌, ◌++◌, ◌==◌, ◌&&◌, ℕ, nat_le, nat_lt}
 use Rattle.std.proofs.Common.{false, List, [], ◌∷◌, refl}
 use Rattle.std.proofs.Common.{arith, inl, inr}
 use Rattle.std.specs.Prelude.{IsUtf8}

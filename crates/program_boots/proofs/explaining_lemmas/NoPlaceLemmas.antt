@@ -27,7 +27,7 @@ use Rattle.bl_load.specs.Multiboot2Kernel.{entry_point_fault, head_refusal}
 use Rattle.bl_load.specs.LinuxKernel.{entering_fault, entry_64, has_64_bit_entry, linux_fault}
 use Rattle.bl_load.specs.LinuxKernel.{setup_refusal, telling_fault}
 use Rattle.bl_load.specs.Parts.{IsRefusal, OrRefused, handover_of}
-use Rattle.bl_load.specs.KernelReading.{HasKernelFileFault}
+use Rattle.bl_load.specs.KernelReading.{HasKernelFileFault, has_screen}
 use Rattle.bl_load.specs.Unplaced.{IsUnplaced, IsFaultBeforePlacing}
 use Rattle.bl_load.specs.EntryValue.{EntryValue, kernel_file, line_fault, lines_fault, lines_of}
 use Rattle.bl_load.specs.declared.refusal.PrepFault.TheVariants.{Refused}
@@ -104,10 +104,11 @@ other_load : (file : List ℕ) (segment : Option Segment) (r : Refusal)
 other_load file (Some segment) r has = absurd has
 other_load file None r (fault, same, has) = other_elf fault r same
 
-other_kernel : (file : List ℕ) (r : Refusal) → HasMultiboot2Fault file r → is_placing r ≡ false
-other_kernel file r (inl (fault, first, same)) = ap is_placing same ∙ other_head fault
-other_kernel file r (inr (inl (h, is, load))) = other_load file h.segment r load
-other_kernel file r (inr (inr (h, facts, is, loaded, same))) =
+other_kernel : (screen : Bool) (file : List ℕ) (r : Refusal) → HasMultiboot2Fault screen file r
+    → is_placing r ≡ false
+other_kernel screen file r (inl (fault, first, same)) = ap is_placing same ∙ other_head fault
+other_kernel screen file r (inr (inl (h, is, load))) = other_load file h.segment r load
+other_kernel screen file r (inr (inr (h, facts, is, loaded, same))) =
     other_entry facts.segments (effective_entry_point h facts) r same
 
 -- ---- a Linux kernel
@@ -153,7 +154,8 @@ other_linux protocol runs line file =
 
 other_read : (facts : MachineFacts) (value : EntryValue) (r : Refusal)
     → HasKernelFileFault facts value r → is_placing r ≡ false
-other_read facts value r (inl (is, fault)) = other_kernel (kernel_file value) r fault
+other_read facts value r (inl (is, fault)) =
+    other_kernel (has_screen facts) (kernel_file value) r fault
 other_read facts value r (inr (is, fault)) =
     other_linux value.protocol facts.runs value.line (kernel_file value) r fault
 

@@ -2,6 +2,7 @@
 use Rattle.std.specs.Prelude.{◌≡◌, ◌≢◌, ◌⊎◌, ℕ, List, None, Some}
 use Rattle.bl_map.specs.MachineFacts.{MachineFacts, IsFirmware}
 use Rattle.bl_map.specs.Faults.{IsAccepted}
+use Rattle.bl_map.specs.Firmware.{FitsFirmwareFields}
 use Rattle.bl_map.specs.FirmwareFaults.{HasFirstMachineFault}
 use Rattle.bl_map.specs.NormalMap.{IsNormalMap}
 use Rattle.bl_map.specs.declared.fault.MapFault.{MapFault}
@@ -15,6 +16,7 @@ pub record IsMachineOf (description : DescriptionFacts) (facts : MachineFacts) :
   pub accepted : IsAccepted description.size description.regions description.pool
   pub told :
       IsFirmware description.regions description.size description.pool description.firmware
+  pub fits : FitsFirmwareFields description.firmware
   pub size : facts.size ≡ description.size
   pub runs : IsNormalMap description.regions facts.runs
   pub pool : facts.pool ≡ description.pool

@@ -4,7 +4,8 @@ use Rattle.std.specs.Prelude.{MatchOption}
 use Rattle.bl_mem.specs.Least.{IsLeast}
 use Rattle.bl_map.specs.MachineFacts.{MachineFacts, AllUsable}
 use Rattle.bl_map.specs.PoolFrames.{open_frames}
-use Rattle.bl_plan.specs.Unusable.{IsUnusableFrom}
+use Rattle.bl_plan.specs.Permitted.{AreUnavoided}
+use Rattle.bl_plan.specs.Unusable.{IsUnplaceableFrom}
 use Rattle.bl_plan.specs.declared.part.Choice.{Choice}
 use Rattle.bl_plan.specs.declared.part.Choice.TheVariants.{Fixed, Lowest, Highest, Preferred}
 use Rattle.bl_load.specs.Handover.{Handover}
@@ -29,21 +30,22 @@ value_sought sought entry = entry_value entry (map (bytes_found sought) (file_na
 
 -- ---- a part that finds no place
 
--- of a part with so many bytes at a fixed address, the first one that is not usable, if there is
--- one; of a part whose address is chosen none is told
-abbrev pub IsFirstUnusable : MachineFacts → (count : ℕ) → Choice → Option ℕ → Type 0
-IsFirstUnusable facts count (Fixed at) byte =
-    MatchOption byte (AllUsable facts at (at + count))
-    (λ a. (a < at + count) × IsLeast (IsUnusableFrom facts at) a)
-IsFirstUnusable facts count (Lowest align low high) byte = byte ≡ None
-IsFirstUnusable facts count (Highest align low high) byte = byte ≡ None
-IsFirstUnusable facts count (Preferred at align low high) byte = byte ≡ None
+-- of a part with so many bytes at a fixed address, the first one that is not usable or is avoided,
+-- if there is one; of a part whose address is chosen none is told
+abbrev pub IsFirstUnplaceable : MachineFacts → (count : ℕ) → Choice → Option ℕ → Type 0
+IsFirstUnplaceable facts count (Fixed at) byte =
+    MatchOption byte (AllUsable facts at (at + count) × AreUnavoided facts at (at + count))
+    (λ a. (a < at + count) × IsLeast (IsUnplaceableFrom facts at) a)
+IsFirstUnplaceable facts count (Lowest align low high) byte = byte ≡ None
+IsFirstUnplaceable facts count (Highest align low high) byte = byte ≡ None
+IsFirstUnplaceable facts count (Preferred at align low high) byte = byte ≡ None
 
 -- the first part that finds no place is told, with that byte
 abbrev pub IsPlaceDetail : MachineFacts → EntryValue → RefusalDetail → Type 0
 IsPlaceDetail facts value details.Nothing = ⊥
-IsPlaceDetail facts value (details.NoPlace row unusable) =
-    IsUnplaced facts value (Some row) × IsFirstUnusable facts row.length row.choice unusable
+IsPlaceDetail facts value (details.NoPlace row unplaceable) =
+    IsUnplaced facts value (Some row)
+    × IsFirstUnplaceable facts row.length row.choice unplaceable
 IsPlaceDetail facts value (details.Frames beside) = ⊥
 
 -- ---- the frames of the pool
@@ -58,7 +60,7 @@ AreFramesBeside facts value (Some beside) =
 
 abbrev pub IsFramesDetail : MachineFacts → EntryValue → RefusalDetail → Type 0
 IsFramesDetail facts value details.Nothing = ⊥
-IsFramesDetail facts value (details.NoPlace row unusable) = ⊥
+IsFramesDetail facts value (details.NoPlace row unplaceable) = ⊥
 IsFramesDetail facts value (details.Frames beside) = AreFramesBeside facts value beside
 
 -- ---- a refusal

@@ -2,25 +2,27 @@
 ghost use Rattle.std.specs.Prelude.{◌+◌, ◌<◌, IfOk, MatchOption};
 ghost use Rattle.bl_mem.specs.Least.{IsLeast};
 ghost use Rattle.bl_map.specs.MachineFacts.{AllUsable};
-ghost use Rattle.bl_plan.specs.Unusable.{IsUnusableFrom};
+ghost use Rattle.bl_plan.specs.Permitted.{AreUnavoided};
+ghost use Rattle.bl_plan.specs.Unusable.{IsUnplaceableFrom};
 ghost use Rattle.program_desc.specs.Views.{entry_view};
-ghost use Rattle.program_boots.specs.explaining.Details.{IsFirstUnusable, IsFramesDetail};
+ghost use Rattle.program_boots.specs.explaining.Details.{IsFirstUnplaceable, IsFramesDetail};
 ghost use Rattle.program_boots.specs.explaining.Details.{IsPlaceDetail, value_sought};
 ghost use Rattle.program_boots.specs.explaining.AttemptedEntries.{HasNoPlace};
 
 use crate::explaining::found_entry::{entry_with_files, plan_found};
 use bl_load::{Choice, PrepFault, Row, unplaced};
 use bl_map::{Machine, open_frames};
-use bl_plan::first_unusable;
+use bl_plan::first_unplaceable;
 use program_desc::EntryRow;
 use program_say::{RefusalDetail, Sought};
 use std::alloc::{AllocError, Allocator};
 
-/// The first of `count` bytes from `at` on that is not usable, if there is one. None from the
-/// machine's size on is usable, so that of a longer part no more than that is looked at.
-fn unusable_of<A: Allocator>(machine: &Machine<A>, at: u64, count: u64) -> Option<u64>
-    ensures { MatchOption result (AllUsable machine.now at (at + count))
-        (λ a. (a < at + count) × IsLeast (IsUnusableFrom machine.now at) a) }
+/// The first of `count` bytes from `at` on that is not usable or is avoided, if there is one. None
+/// from the machine's size on is usable, so that of a longer part no more than that is looked at.
+fn unplaceable_of<A: Allocator>(machine: &Machine<A>, at: u64, count: u64) -> Option<u64>
+    ensures { MatchOption result
+        (AllUsable machine.now at (at + count) × AreUnavoided machine.now at (at + count))
+        (λ a. (a < at + count) × IsLeast (IsUnplaceableFrom machine.now at) a) }
 {
     let size = machine.size();
     if count == 0 {
@@ -29,15 +31,15 @@ fn unusable_of<A: Allocator>(machine: &Machine<A>, at: u64, count: u64) -> Optio
     if at >= size {
         return Some(at);
     }
-    first_unusable(machine, at..at + count.min(size + 1))
+    first_unplaceable(machine, at..at + count.min(size + 1))
 }
 
-/// The first byte of a part at a fixed address that is not usable, if there is one.
-fn unusable_byte<A: Allocator>(machine: &Machine<A>, row: &Row) -> Option<u64>
-    ensures { IsFirstUnusable machine.now row.now.length row.now.choice result }
+/// The first byte of a part at a fixed address that is not usable or is avoided, if there is one.
+fn unplaceable_byte<A: Allocator>(machine: &Machine<A>, row: &Row) -> Option<u64>
+    ensures { IsFirstUnplaceable machine.now row.now.length row.now.choice result }
 {
     match row.choice {
-        Choice::Fixed(at) => unusable_of(machine, at, row.length),
+        Choice::Fixed(at) => unplaceable_of(machine, at, row.length),
         Choice::Lowest { .. } | Choice::Highest { .. } | Choice::Preferred { .. } => None,
     }
 }
@@ -57,7 +59,7 @@ pub fn place_detail<A: Allocator + Copy>(
     match unplaced(alloc, machine, &found.entry, &found.files) {
         Ok(Some(row)) => Ok(RefusalDetail::NoPlace {
             row,
-            unusable: unusable_byte(machine, &row),
+            unplaceable: unplaceable_byte(machine, &row),
         }),
         // An entry that has its places, or is refused before these are looked for, is not refused
         // for want of one.

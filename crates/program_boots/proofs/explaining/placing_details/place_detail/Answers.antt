@@ -27,5 +27,5 @@ returns-in-Ok-Some g c =
     let same : value_of (map (λ f. f.bytes.now) c.deref.result.now) c.in_ok-found.found.entry ≡ value =
     rw c.deref.ensures.value c.in_ok-found.ensures.value in (
       rw same at (rw c.in-Ok-Some.field-0-is at c.in-Ok-Some.ensures.which),
-      c.unusable_byte.ensures,
+      c.unplaceable_byte.ensures,
     )
