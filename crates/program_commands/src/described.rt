@@ -9,6 +9,6 @@ mod piece_order;
 
 pub use boot_inputs::{ReadyBoot, ready_boot};
 pub use found_files::find_files;
-pub use machine::read_machine;
+pub use machine::{make_machine, read_machine};
 pub use names::attempted_file_names;
 pub use piece_order::order_of;

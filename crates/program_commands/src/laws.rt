@@ -31,10 +31,10 @@ ghost use Rattle.program_commands.specs.digesting.ImageDigested.{IsImageDigested
 use program_boots::Files;
 
 /// Two boots are two calls of `boot` with no more in common than this: their machines have equal
-/// facts (size, map and pool), and the entries that they hand over have equal values (protocol,
-/// line, files, the modules' lines and the copies of RSDPs). Memory, sinks, titles, names, indices,
-/// other entries and files, what was refused before, where each file came from and the order of its
-/// pieces may differ.
+/// facts (size, map, pool and what firmware tells), and the entries that they hand over have equal
+/// values (protocol, line, files, the modules' lines and the copies of RSDPs). Memory, sinks,
+/// titles, names, indices, other entries and files, what was refused before, where each file came
+/// from and the order of its pieces may differ.
 ///
 /// They write one image. And an entry that is refused in one is refused in the other, for the same,
 /// if its files have equal sizes and it has an equal value there.
@@ -54,8 +54,9 @@ pub fn two_boots<F: Files, G: Files>()
     // Machines have equal facts where size, pool and what firmware tells are equal and each
     // address has one kind in the two.
     ensures same_facts { (one two : DescriptionFacts) (f g : MachineFacts) →
-        IsMachineOf one f → IsMachineOf two g → one.size ≡ two.size → one.pool ≡ two.pool →
-        one.firmware ≡ two.firmware → ((a : ℕ) → kind_at one.regions a ≡ kind_at two.regions a) → f ≡ g }
+        IsMachineOf one f → IsMachineOf two g → one.size ≡ two.size → one.pool ≡ two.pool
+        → one.firmware ≡ two.firmware
+        → ((a : ℕ) → kind_at one.regions a ≡ kind_at two.regions a) → f ≡ g }
 {}
 
 /// Whatever is read from the image of an entry that was booted shows that entry and nothing else;
@@ -92,9 +93,10 @@ pub fn converted_images_are_walked_alike()
 {}
 
 /// A boot and the digest of a boot are two calls with no more in common than this: their machines
-/// have equal facts (size, map and pool), and the entries that they hand over have equal values
-/// (protocol, line, files, the modules' lines and the copies of RSDPs). Then what is said of the
-/// digests is the table of the image that the boot wrote. Likewise two digests say one table.
+/// have equal facts (size, map, pool and what firmware tells), and the entries that they hand over
+/// have equal values (protocol, line, files, the modules' lines and the copies of RSDPs). Then what
+/// is said of the digests is the table of the image that the boot wrote. Likewise two digests say
+/// one table.
 pub fn digests_are_of_booted_images<F: Files, G: Files>()
     ensures booted { (desc other : List ℕ) (before after : F) (old new : List ℕ)
         (began ended : Surroundings G) (a : IsDigested F.answers F.faults desc before after old new)

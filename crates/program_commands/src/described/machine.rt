@@ -1,5 +1,6 @@
 //! The machine of a description.
 ghost use Rattle.std.specs.Prelude.{IfOk, IfErr};
+ghost use Rattle.bl_map.specs.FirmwareFaults.{HasFirstMachineFault};
 ghost use Rattle.program_desc.specs.Views.{view};
 ghost use Rattle.program_boots.specs.described.DescribedMachine.{IsMachineFault, IsMachineOf};
 ghost use Rattle.program_commands.specs.internal.Readings.{IsReadMachine, IsReadingFault};
@@ -9,6 +10,24 @@ use program_desc::{DescFault, Description};
 use program_document::read_description;
 use std::alloc::{Allocator, Global};
 
+/// The machine that is described, or the first fault of it.
+pub fn make_machine<A: Allocator + Copy>(
+    alloc: A,
+    description: &Description<A>,
+) -> Result<Machine<A>, MapFault>
+    ensures machine { IfOk result (IsMachineOf (view description.now)) }
+    ensures fault { IfErr result (HasFirstMachineFault description.now.size
+        description.now.regions.items description.now.pool description.now.firmware) }
+{
+    let pool = description.pool.start..description.pool.end;
+    let regions = description.regions.as_slice();
+    let firmware = description.firmware.lend();
+    let machine = Machine::with_firmware(alloc, description.size, regions, pool, &firmware)?;
+    // For the proof: each byte of what firmware tells is one.
+    let _size = machine.size();
+    Ok(machine)
+}
+
 /// The machine that is described, which is a bad description where it breaks a rule of machines.
 pub fn machine_of<A: Allocator + Copy>(
     alloc: A,
@@ -17,13 +36,12 @@ pub fn machine_of<A: Allocator + Copy>(
     ensures machine { IfOk result (IsMachineOf (view description.now)) }
     ensures fault { IfErr result (IsMachineFault (view description.now)) }
 {
-    let pool = description.pool.start..description.pool.end;
-    let regions = description.regions.as_slice();
-    let firmware = description.firmware.lend();
-    match Machine::with_firmware(alloc, description.size, regions, pool, &firmware) {
+    match make_machine(alloc, description) {
         Ok(machine) => Ok(machine),
-        Err(MapFault::NoMemory) => Err(DescFault::NoMemory),
-        Err(_) => Err(DescFault::BadDescription),
+        Err(fault) => match fault {
+            MapFault::NoMemory => Err(DescFault::NoMemory),
+            _ => Err(DescFault::BadDescription),
+        },
     }
 }
 

@@ -4,6 +4,7 @@ ghost use Rattle.program_desc.specs.Views.{view};
 ghost use Rattle.program_say.specs.blame.BlameLines.{blame_lines};
 ghost use Rattle.program_commands.specs.internal.Readings.{IsMachineOrBlamed, SaysLines};
 
+use crate::described::make_machine;
 use bl_map::{Machine, MapFault};
 use program_desc::{DescFault, Description};
 use program_say::{Blame, say_blame};
@@ -34,12 +35,11 @@ pub fn machine_or_blame<A: Allocator + Copy, B: Allocator>(
 ) -> Result<Machine<A>, DescFault>
     ensures { IsMachineOrBlamed (view description.now) say.old.items say.new.items result }
 {
-    let pool = description.pool.start..description.pool.end;
-    let regions = description.regions.as_slice();
-    let firmware = description.firmware.lend();
-    match Machine::with_firmware(alloc, description.size, regions, pool, &firmware) {
+    match make_machine(alloc, description) {
         Ok(machine) => Ok(machine),
-        Err(MapFault::NoMemory) => Err(DescFault::NoMemory),
-        Err(fault) => Err(blamed(alloc, &Blame::BadMachine(fault), Some(description), say)),
+        Err(fault) => match fault {
+            MapFault::NoMemory => Err(DescFault::NoMemory),
+            _ => Err(blamed(alloc, &Blame::BadMachine(fault), Some(description), say)),
+        },
     }
 }
