@@ -35,6 +35,9 @@
     # what LGDT takes: the limit in two bytes, the base in eight. qemu.sh puts the head's numbers
     # here, where they lie in this order
     .set gdt, rom + 278
+    # what is written to ports before, as a firmware would, by qemu.sh's list: the port in two bytes,
+    # the bytes of the number in two, the number in four. Port 0 ends it
+    .set port_writes, rom + 288
 
     .text
     .code16
@@ -44,7 +47,27 @@ start:
     orb $2, %al                     # the A20 gate: each protocol wants it open
     andb $0xfe, %al                 # bit 0 would reset the machine
     outb %al, $0x92
-    lgdtl %cs:(table32_at - rom)    # CS begins at the ROM here
+    movw $(port_writes - rom), %si
+next_write:
+    movw %cs:(%si), %dx             # CS begins at the ROM here
+    testw %dx, %dx
+    jz ports_written
+    movl %cs:4(%si), %eax
+    cmpb $2, %cs:2(%si)
+    jb write_byte
+    je write_word
+    outl %eax, %dx
+    jmp port_written
+write_word:
+    outw %ax, %dx
+    jmp port_written
+write_byte:
+    outb %al, %dx
+port_written:
+    addw $8, %si
+    jmp next_write
+ports_written:
+    lgdtl %cs:(table32_at - rom)
     movl %cr0, %eax
     orb $1, %al
     movl %eax, %cr0

@@ -10,11 +10,13 @@
 # qemu-system-x86_64 and the usual tools, no assembler: qemu.hex has the bytes of the stub that
 # enters the kernel, qemu.S their source.
 #
-# There is no BIOS and no UEFI, so a kernel finds what the image hands to it and no more: no screen
-# (console=ttyS0 in the line of a Linux kernel), no tables of ACPI, no call of the BIOS.
+# There is no BIOS and no UEFI, so a kernel finds what the image hands to it and no more: no tables of
+# ACPI, no call of the BIOS; and no screen (console=ttyS0 in the line of a Linux kernel), unless DESC has a
+# table [firmware.screen]: the machine has that screen then.
 # docs/FORMATS.md, "An image in QEMU", says which kernels want these, and what to do.
 #
-# What comes after -- is handed to QEMU: `-- -accel kvm -cpu host`, or a disk.
+# What comes after -- is handed to QEMU: `-- -accel kvm -cpu host`, a disk, or `-- -display gtk` to see
+# the screen.
 set -u
 usage="usage: examples/qemu.sh [--seconds N] IMAGE [DESC] [-- OPTION-OF-QEMU ..]
   runs the kernel of IMAGE in QEMU, with memory of the size of DESC, for at most N seconds"
@@ -196,14 +198,74 @@ while read -r start end kind; do
     fi
 done <"$room/map"
 
-# ---- the ROM: the image's head, what LGDT takes, zeros, the stub
+# ---- the screen: a VGA of QEMU's, which the stub sets to the mode that DESC tells
+
+# screen_key KEY: the numbers of the key in the table [firmware.screen]
+screen_key() {
+    sed -n "s/^[[:space:]]*$1[[:space:]]*=[[:space:]]*\[*\([0-9A-Za-z_, ]*\).*/\1/p" "$room/screen" | tr -d _, | sed 's/\<0o/0/g'
+}
+# write_port PORT COUNT NUMBER: an item of the stub's list: COUNT bytes to a port
+write_port() {
+    bytes "$(printf '%02x%02x%02x00%02x%02x%02x%02x' $(($1 & 255)) $(($1 >> 8)) "$2" $(($3 & 255)) \
+        $(($3 >> 8 & 255)) $(($3 >> 16 & 255)) $(($3 >> 24 & 255)))"
+}
+# write_pci REGISTER NUMBER: to the configuration of PCI's device 2
+write_pci() {
+    write_port 0xcf8 4 $((0x80001000 + $1))
+    write_port 0xcfc 4 "$2"
+}
+# write_vbe INDEX NUMBER: to a register of Bochs' VBE
+write_vbe() {
+    write_port 0x1ce 2 "$1"
+    write_port 0x1cf 2 "$2"
+}
+: >"$room/port_writes"
+[ -z "$description" ] ||
+    sed -n '/^[[:space:]]*\[firmware\.screen\]/,/^[[:space:]]*\[\{1,2\}[a-z]/p' "$description" >"$room/screen"
+if [ -s "$room/screen" ]; then
+    mode=()
+    for key in base pitch width height depth red green blue; do
+        read -r -a told < <(screen_key "$key")
+        mode+=("${told[@]}")
+    done
+    [[ ${mode[*]} =~ ^((0x[0-9A-Fa-f]+|[0-9]+)( |$)){11}$ ]] || fail "[firmware.screen] of '$description' can't be read: a key a line"
+    for ((i = 0; i < 11; i++)); do mode[i]=$((mode[i])); done
+    read -r base pitch width height depth colors <<<"${mode[*]}"
+    case $depth,$colors in
+    15,'10 5 5 5 0 5' | 16,'11 5 5 6 0 5' | 24,'16 8 8 8 0 8' | 32,'16 8 8 8 0 8') ;;
+    *) fail "QEMU's VGA has no pixels of $depth bits with these colours" ;;
+    esac
+    vram=$((16 << 20))
+    pixel=$(((depth + 7) / 8))
+    if [ $((width % 8)) != 0 ] || [ $((pitch % (8 * pixel))) != 0 ] || [ $((pitch * height)) -gt "$vram" ]; then
+        fail "QEMU's VGA has a multiple of 8 pixels in a line, and 16 MiB"
+    fi
+    if [ $((base % vram)) != 0 ] || [ "$base" -lt "$low" ] || [ "$base" -ge $((0xfec00000)) ]; then
+        fail "QEMU's VGA can lie at a multiple of 16 MiB between memory and 0xfec00000"
+    fi
+    options+=(-device "VGA,addr=2")
+    {
+        write_pci 0x10 "$base"
+        write_pci 0x04 3 # it answers at ports and in memory
+        write_vbe 4 0
+        write_vbe 1 "$width"
+        write_vbe 2 "$height"
+        write_vbe 3 "$depth"
+        write_vbe 4 $((0x41)) # on, its memory in one piece
+        write_vbe 6 $((pitch / pixel))
+        write_port 0x3c0 1 $((0x20)) # the attribute controller lets the picture through
+    } >"$room/port_writes"
+fi
+
+# ---- the ROM: the image's head, what LGDT takes, what is written to ports, zeros, the stub
 
 {
     cut_out "$image" 0 272
     bytes 000000000000
     cut_out "$image" 248 2
     cut_out "$image" 240 8
-    head -c $((0x10000 - 272 - 16 - 512)) /dev/zero
+    cat "$room/port_writes"
+    head -c $((0x10000 - 272 - 16 - 512 - $(wc -c <"$room/port_writes"))) /dev/zero
     bytes "$(tr -d ' \n' <"$top/examples/qemu.hex")"
 } >"$room/rom"
 [ "$(wc -c <"$room/rom")" = 65536 ] || fail "examples/qemu.hex has not 512 bytes"
