@@ -8,7 +8,7 @@ from collections import Counter
 from pathlib import Path
 from typing import Callable, Dict, List, NamedTuple, Optional
 
-from tests.acpi_tables import tables
+from tests.firmware_tables import PAGE, acpi, efi, efi_map
 from tests.support import PROGRAM, TOP, Checks, Ran, has_tomllib, is_at_hand, need_built, run
 
 COLORS = ("red", "green", "blue")
@@ -161,7 +161,8 @@ def told_lines(told: dict) -> List[str]:
 
 # ---- Linux
 
-TABLES_AT = 0xFFF0000
+ACPI_AT, EFI_AT = 0xFFFD000, 0xFFFE000
+EFI_MAP = efi_map(EFI_AT, ACPI_AT)
 MACHINE = """\
 size = 0x10000000
 pool = [0x4000000, 0x8000000]
@@ -175,11 +176,11 @@ length = 0x10000
 kind = "reserved"
 [[region]]
 base = 0x100000
-length = 0xFEF0000
+length = 0xFEFD000
 kind = "usable"
 [[region]]
-base = 0xFFF0000
-length = 0x10000
+base = 0xFFFD000
+length = 0x3000
 kind = "acpi"
 """
 SCREEN = """\
@@ -193,16 +194,36 @@ red = [16, 8]
 green = [8, 8]
 blue = [0, 8]
 """
-RSDP = f"[firmware]\nrsdp = {TABLES_AT:#x}\n"
-# what Linux writes of a screen: a driver of frame buffers, or of DRM, has it
-HAS_SCREEN = re.compile(r"\bfb0: (?:EFI VGA|simple|simpledrmdrmfb) frame buffer device")
+RSDP = f"[firmware]\nrsdp = {ACPI_AT:#x}\n"
+EFI = f"""\
+[firmware.efi]
+bits = 64
+system_table = {EFI_AT:#x}
+map = "{EFI_MAP.hex()}"
+map_address = {EFI_AT + 0x400:#x}
+descriptor_size = 48
+descriptor_version = 1
+secure_boot = 3
+"""
+# What Linux writes. Of a screen: a driver of frame buffers has it, or one of DRM; the first tells what it was told
+HAS_SCREEN = [r"\bfb0: (EFI VGA|simple|simpledrmdrmfb) frame buffer device"]
 EFIFB = [
-    "efifb: framebuffer at 0xfd000000, using 1440k, total 1440k",
-    "efifb: mode is 640x480x32, linelength=3072, pages=1",
-    "efifb: Truecolor: size=0:8:8:8, shift=0:16:8:0",
+    r"efifb: framebuffer at 0xfd000000, using 1440k, total 1440k",
+    r"efifb: mode is 640x480x32, linelength=3072, pages=1",
+    r"efifb: Truecolor: size=0:8:8:8, shift=0:16:8:0",
 ]
-HAS_RSDP = re.compile(r"\bACPI: RSDP 0x0*FFF0000 0*24 \(v02 BOOTC *\)", re.I)
-HAS_PROCESSORS = re.compile(r"\bACPI: Using ACPI \(MADT\) for SMP configuration information")
+# of the RSDP: where it lies, its length and revision; then that of its tables one was used
+HAS_RSDP = [r"ACPI: RSDP 0x0*FFFD000 0*24 \(v02 BOOTC *\)", r"ACPI: Using ACPI \(MADT\) for SMP configuration information"]
+# of UEFI: the system table, each range of the memory map, the runtime services, the state of secure boot
+HAS_UEFI = [
+    r"efi: EFI v2\.70? by bootcore",
+    r"efi: mem00: \[Conventional.*range=\[0x0{16}-0x0{11}9efff\]",
+    r"efi: mem01: \[Conventional.*range=\[0x0{10}100000-0x0{9}fffcfff\]",
+    r"efi: mem02: \[ACPI Reclaim.*range=\[0x0{9}fffd000-0x0{9}fffdfff\]",
+    r"efi: mem03: \[Runtime Data *\|RUN.*range=\[0x0{9}fffe000-0x0{9}fffefff\]",
+    r"efi: mem04: \[Runtime Code *\|RUN.*range=\[0x0{9}ffff000-0x0{9}fffffff\]",
+    r"Secure boot enabled",
+]
 
 
 def linux_at_hand() -> Optional[Path]:
@@ -214,52 +235,69 @@ def linux_at_hand() -> Optional[Path]:
 
 
 class Linux(ScreenChecks):
-    """On one machine, with a screen and tables of ACPI, Linux has of them what it is told."""
+    """On one machine, with a screen and tables of ACPI and UEFI in memory, Linux has of them what it is told."""
 
-    def booted(self, protocol: str, told: str) -> Seen:
+    kernel: Path
+
+    @classmethod
+    def setUpClass(cls) -> None:
+        super().setUpClass()
         kernel = linux_at_hand()
         if kernel is None:
             raise unittest.SkipTest("there is no kernel in /boot that can be read, and KERNEL names none")
-        entry = f'[[entry]]\ntitle = "Linux"\nprotocol = "{protocol}"\nkernel = "{kernel}"\nline = "console=tty0 console=ttyS0 panic=0"\n'
-        machine, laid = self.room / "machine.toml", self.room / "acpi"
+        cls.kernel = kernel
+
+    def booted(self, protocol: str, told: str) -> Seen:
+        line = "console=tty0 console=ttyS0 efi=debug panic=0"  # without a disk its end is a panic
+        entry = f'[[entry]]\ntitle = "Linux"\nprotocol = "{protocol}"\nkernel = "{self.kernel}"\nline = "{line}"\n'
+        machine, left = self.room / "machine.toml", self.room / "left"
         machine.write_text(MACHINE + SCREEN, encoding="utf-8")
-        laid.write_bytes(tables(TABLES_AT))
-        loader = f"loader,file={laid},addr={TABLES_AT:#x},force-raw=on"
-        # without a disk its end is a panic
+        left.write_bytes(acpi(ACPI_AT).ljust(PAGE, b"\0") + efi(EFI_AT, EFI_MAP))
+        loader = f"loader,file={left},addr={ACPI_AT:#x},force-raw=on"
         return self.seen(self.image_of("linux", MACHINE + told + entry), machine, "end Kernel panic", "-device", loader)
 
-    def assert_says(self, seen: Seen, wanted: bool, *patterns: "re.Pattern[str]") -> None:
-        for pattern in patterns:
-            if bool(pattern.search(seen.written)) != wanted:
-                lines = [line[:200] for line in seen.written.splitlines() if re.search(r"ACPI|fb|drm", line)]
-                self.fail("\n".join([f"ran: {seen.ran}", f"{'no' if wanted else 'a'} line with {pattern.pattern}", *lines[:40]]))
+    def assert_says(self, seen: Seen, patterns: List[str]) -> None:
+        self.assert_lines(seen, [pattern for pattern in patterns if not re.search(pattern, seen.written)], "no")
 
-    def test_both(self) -> None:
-        seen = self.booted("linux64", RSDP + SCREEN)
+    def assert_silent(self, seen: Seen, patterns: List[str]) -> None:
+        self.assert_lines(seen, [pattern for pattern in patterns if re.search(pattern, seen.written)], "a")
+
+    def assert_lines(self, seen: Seen, wrong: List[str], word: str) -> None:
+        if wrong:
+            lines = [line for line in seen.written.splitlines() if re.search(r"ACPI|efi|fb|drm|[Ss]ecure", line)]
+            self.fail("\n".join([f"ran: {seen.ran}", *(f"{word} line with {pattern}" for pattern in wrong), *lines]))
+
+    def test_all(self) -> None:
+        seen = self.booted("linux64", RSDP + SCREEN + EFI)
         with self.check("Linux, told of a screen, has a frame buffer"):
-            self.assert_says(seen, True, HAS_SCREEN)
-            if "efifb: mode" in seen.written:
-                self.assert_says(seen, True, *(re.compile(re.escape(line)) for line in EFIFB))
+            self.assert_says(seen, HAS_SCREEN + (EFIFB if "efifb: mode" in seen.written else []))
         with self.check("and its lines stand on QEMU's screen, one below the other"):
-            # the first cell of a line is that of a bracket; long lines have more than one row of cells
-            rows = [seen.picture.pixels[row * 16 * 640 * 3:(row + 1) * 16 * 640 * 3] for row in range(30)]
-            cells = Counter(b"".join(row[line * 640 * 3:line * 640 * 3 + 8 * 3] for line in range(16)) for row in rows)
+            # of 30 rows of cells half begin with one cell, that of the bracket before the time
+            cells = Counter(self.first_cell(seen.picture, row) for row in range(30))
             most = max(count for cell, count in cells.items() if any(cell))
-            self.assertGreaterEqual(most, 15, f"ran: {seen.ran}\nrows with the same first cell, of 30")
+            self.assertGreaterEqual(most, 15, f"ran: {seen.ran}\nrows with the same first cell")
         with self.check("Linux, told of the RSDP, finds the tables of ACPI without acpi_rsdp= in its line"):
-            self.assert_says(seen, True, HAS_RSDP, HAS_PROCESSORS)
+            self.assert_says(seen, HAS_RSDP)
+        with self.check("Linux, told of UEFI, has its system table, each range of its memory map, and the state of secure boot"):
+            self.assert_says(seen, HAS_UEFI)
+
+    @staticmethod
+    def first_cell(picture: Picture, row: int) -> bytes:
+        """The leftmost 8 pixels of 16 lines: the letter that stands there."""
+        starts = [line * picture.width * 3 for line in range(row * 16, row * 16 + 16)]
+        return b"".join(picture.pixels[start:start + 8 * 3] for start in starts)
 
     def test_screen(self) -> None:
         seen = self.booted("linux", SCREEN)
         with self.check("Linux by its 32-bit entry, told of a screen, has a frame buffer"):
-            self.assert_says(seen, True, HAS_SCREEN)
-        with self.check("Linux, not told of the RSDP, finds no table of ACPI on the same machine"):
-            self.assert_says(seen, False, HAS_RSDP, HAS_PROCESSORS)
+            self.assert_says(seen, HAS_SCREEN)
+        with self.check("Linux, told of neither, finds no table of ACPI and none of UEFI on the same machine"):
+            self.assert_silent(seen, HAS_RSDP + HAS_UEFI)
 
     def test_rsdp(self) -> None:
         seen = self.booted("linux", RSDP)
         with self.check("Linux by its 32-bit entry, told of the RSDP, finds the tables of ACPI"):
-            self.assert_says(seen, True, HAS_RSDP, HAS_PROCESSORS)
+            self.assert_says(seen, HAS_RSDP)
         with self.check("Linux, not told of a screen, has no frame buffer on the same machine, and paints nothing"):
-            self.assert_says(seen, False, HAS_SCREEN)
+            self.assert_silent(seen, HAS_SCREEN)
             self.assertFalse(any(seen.picture.pixels), f"ran: {seen.ran}\nsomething is painted")
