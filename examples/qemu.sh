@@ -237,11 +237,9 @@ if [ -s "$room/screen" ]; then
     esac
     vram=$((16 << 20))
     pixel=$(((depth + 7) / 8))
-    if [ $((width % 8)) != 0 ] || [ $((pitch % (8 * pixel))) != 0 ] || [ $((pitch * height)) -gt "$vram" ]; then
-        fail "QEMU's VGA has a multiple of 8 pixels in a line, and 16 MiB"
-    fi
-    if [ $((base % vram)) != 0 ] || [ "$base" -lt "$low" ] || [ "$base" -ge $((0xfec00000)) ]; then
-        fail "QEMU's VGA can lie at a multiple of 16 MiB between memory and 0xfec00000"
+    if [ $((width % 8)) != 0 ] || [ $((pitch % (8 * pixel))) != 0 ] || [ $((pitch * height)) -gt "$vram" ] ||
+        [ $((base % vram)) != 0 ] || [ "$base" -lt "$low" ] || [ "$base" -ge $((0xfec00000)) ]; then
+        fail "QEMU's VGA has lines of 8, 16, .. pixels, and 16 MiB, which begin at a multiple of that between memory and 0xfec00000"
     fi
     options+=(-device "VGA,addr=2")
     {

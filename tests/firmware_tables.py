@@ -32,18 +32,18 @@ def acpi_table(signature: bytes, revision: int, content: bytes) -> bytes:
 
 def acpi(base: int) -> bytes:
     """The tables of a machine of one processor, the RSDP first."""
-    dsdt, fadt, madt, xsdt = (base + offset for offset in (0x40, 0x80, 0x180, 0x1C0))
+    dsdt, fadt, madt, xsdt = (base + offset for offset in (0x40, 0x80, 0x180, 0x200))
     # 5.2.5.3: the first 20 bytes, which have a sum of their own, are the RSDP of ACPI 1.0
     rsdp = checked(struct.pack("<8sB6sBIIQB3x", b"RSD PTR ", 0, OEM, 2, 0, 36, xsdt, 0), 8, 20)
     # 5.2.9, revision 3: the DSDT, interrupt 9, and ports of events and of control, which QEMU's PC does not open
     fixed = struct.pack("<4xI2xH8xI4xI20xBB50xQ96x", dsdt, 9, 0x600, 0x604, 4, 2, dsdt)
-    # 5.2.12: a local APIC, which is enabled, and an I/O APIC, where QEMU's PC has them
-    processors = struct.pack("<II BBBBI BBBBII", 0xFEE00000, 1, 0, 8, 0, 0, 1, 1, 12, 0, 0, 0xFEC00000, 0)
+    # 5.2.12: a local APIC, which is enabled, and an I/O APIC, where QEMU's PC has them; there the timer has input 2
+    apics = struct.pack("<II BBBBI BBBBII BBBBIH", 0xFEE00000, 1, 0, 8, 0, 0, 1, 1, 12, 0, 0, 0xFEC00000, 0, 2, 10, 0, 0, 2, 0)
     return laid({
         0: checked(rsdp, 32, 36),
         dsdt - base: acpi_table(b"DSDT", 2, b""),
         fadt - base: acpi_table(b"FACP", 3, fixed),
-        madt - base: acpi_table(b"APIC", 3, processors),
+        madt - base: acpi_table(b"APIC", 3, apics),
         xsdt - base: acpi_table(b"XSDT", 1, struct.pack("<QQ", fadt, madt)),
     })  # fmt: skip
 

@@ -34,26 +34,14 @@ class Kernels(Checks):
         return assembled.status == 0 and b"elf_x86_64" in run("ld", "-V").out
 
 
-class Picture(NamedTuple):
-    """What is on QEMU's screen: three bytes a pixel, red, green and blue."""
+class Seen(NamedTuple):
+    """What a kernel wrote, and what was on QEMU's screen then: three bytes a pixel, red, green and blue."""
 
+    ran: Ran
+    written: str
     width: int
     height: int
     pixels: bytes
-
-    @classmethod
-    def read(cls, file: Path) -> "Picture":
-        data = file.read_bytes()
-        head = re.match(rb"P6\s(\d+)\s(\d+)\s255\s", data)  # PPM, as QEMU's monitor writes it
-        if head is None:
-            raise AssertionError(f"{file} is no picture")
-        return cls(int(head[1]), int(head[2]), data[head.end():])
-
-
-class Seen(NamedTuple):
-    ran: Ran
-    written: str
-    picture: Picture
 
 
 class ScreenChecks(Checks):
@@ -76,21 +64,23 @@ class ScreenChecks(Checks):
 
     def seen(self, image: Path, machine: Path, last: str, *options: str) -> Seen:
         """What an image's kernel writes on the machine of a description up to its last line, and the screen then."""
-        shown = self.room / "screen.ppm"
-        shown.unlink(missing_ok=True)
-        words = [str(TOP / "examples/qemu.sh"), "--seconds", "120", str(image), str(machine), "--", "-no-shutdown", *options]
-        written: List[bytes] = []
+        picture = self.room / "screen.ppm"
+        picture.unlink(missing_ok=True)
+        words = [str(TOP / "examples/qemu.sh"), "--seconds", "240", str(image), str(machine), "--", "-no-shutdown", *options]
+        lines: List[bytes] = []
         with subprocess.Popen(words, stdin=subprocess.PIPE, stdout=subprocess.PIPE, stderr=subprocess.STDOUT) as process:
             for line in process.stdout or ():
-                written.append(line)
+                lines.append(line)
                 if last.encode() in line:
                     # Ctrl-A C: from the serial port to the monitor
-                    process.communicate(f'\1cscreendump "{shown}"\nquit\n'.encode(), timeout=60)
+                    process.communicate(f'\1cscreendump "{picture}"\nquit\n'.encode(), timeout=60)
                     break
-        told = b"".join(written).replace(b"\r", b"").decode(errors="backslashreplace")
-        ran = Ran(words, TOP, process.returncode, told.encode(), b"")
-        self.assertTrue(shown.exists(), f"ran: {ran}\nstatus {ran.status}; no screen after these lines:\n{told[-2000:]}")
-        return Seen(ran, told, Picture.read(shown))
+        written = b"".join(lines).replace(b"\r", b"")
+        ran = Ran(words, TOP, process.returncode, written, b"")
+        head = re.match(rb"P6\s(\d+)\s(\d+)\s255\s", picture.read_bytes()) if picture.exists() else None
+        if head is None:
+            self.fail(f"ran: {ran}\nstatus {ran.status}; no picture of the screen after these lines:\n{written[-2000:]!r}")
+        return Seen(ran, written.decode(errors="backslashreplace"), int(head[1]), int(head[2]), picture.read_bytes()[head.end():])
 
 
 # ---- a small kernel, which paints
@@ -135,11 +125,11 @@ class Painted(ScreenChecks):
 
     def assert_painted(self, seen: Seen, screen: dict) -> None:
         width, height = screen["width"], screen["height"]
-        self.assertEqual((seen.picture.width, seen.picture.height), (width, height), f"ran: {seen.ran}\nwidth and height")
+        self.assertEqual((seen.width, seen.height), (width, height), f"ran: {seen.ran}\nwidth and height")
         for place, color in enumerate(COLORS):
             bits, level = screen[color][1], LEVELS[color]
             highest = bytes(shade >> (8 - bits) for shade in range(256))  # QEMU widens each color to 8 bits
-            came = seen.picture.pixels[place::3].translate(highest)
+            came = seen.pixels[place::3].translate(highest)
             wanted = bytes(level(x, y) & ((1 << bits) - 1) for y in range(height) for x in range(width))
             if came != wanted:
                 at = next(at for at, (one, other) in enumerate(zip(came, wanted)) if one != other)
@@ -149,62 +139,35 @@ class Painted(ScreenChecks):
 def told_lines(told: dict) -> List[str]:
     """What the kernel writes of what firmware tells: numbers with two digits a byte, then bytes."""
     screen, efi, smbios = told["screen"], told["efi"], told["smbios"]
-    lines = [f"screen: base {screen['base']:016x}", *(f"{key} {screen[key]:08x}" for key in ("pitch", "width", "height"))]
-    lines += [f"depth {screen['depth']:02x}", "type 01", "reserved 0000"]
-    for color in COLORS:
-        lines += [f"{color}: lowest bit {screen[color][0]:02x}", f"bits {screen[color][1]:02x}"]
+    lines = [f"screen {screen['base']:016x}", *(f"{key} {screen[key]:08x}" for key in ("pitch", "width", "height"))]
+    lines += [f"depth {screen['depth']:02x}", "type 01", "reserved 0000", f"colors {bytes(sum((screen[color] for color in COLORS), [])).hex()}"]
     lines += [f"system table of {efi['bits']}-bit UEFI {efi['system_table']:0{efi['bits'] // 4}x}"]
-    lines += [f"SMBIOS: major {smbios['major']:02x}", f"minor {smbios['minor']:02x}", "reserved 000000000000", f"tables {smbios['tables']}"]
-    lines += [f"UEFI's memory map: descriptor size {efi['descriptor_size']:08x}"]
-    return [*lines, f"descriptor version {efi['descriptor_version']:08x}", f"map {efi['map']}"]
+    lines += [f"SMBIOS {smbios['major']:02x}", f"minor {smbios['minor']:02x}", f"reserved and tables {'00' * 6 + smbios['tables']}"]
+    lines += [f"map of UEFI, by descriptors of {efi['descriptor_size']:08x}", f"version {efi['descriptor_version']:08x}"]
+    return [*lines, f"bytes {efi['map']}"]
 
 
 # ---- Linux
 
+
+def table(name: str, **keys: object) -> str:
+    return "\n".join([name, *(f"{key} = {value}" for key, value in keys.items()), ""])
+
+
 ACPI_AT, EFI_AT = 0xFFFD000, 0xFFFE000
 EFI_MAP = efi_map(EFI_AT, ACPI_AT)
-MACHINE = """\
-size = 0x10000000
-pool = [0x4000000, 0x8000000]
-[[region]]
-base = 0
-length = 0x9F000
-kind = "usable"
-[[region]]
-base = 0xF0000
-length = 0x10000
-kind = "reserved"
-[[region]]
-base = 0x100000
-length = 0xFEFD000
-kind = "usable"
-[[region]]
-base = 0xFFFD000
-length = 0x3000
-kind = "acpi"
-"""
-SCREEN = """\
-[firmware.screen]
-base = 0xFD000000
-pitch = 3072
-width = 640
-height = 480
-depth = 32
-red = [16, 8]
-green = [8, 8]
-blue = [0, 8]
-"""
-RSDP = f"[firmware]\nrsdp = {ACPI_AT:#x}\n"
-EFI = f"""\
-[firmware.efi]
-bits = 64
-system_table = {EFI_AT:#x}
-map = "{EFI_MAP.hex()}"
-map_address = {EFI_AT + 0x400:#x}
-descriptor_size = 48
-descriptor_version = 1
-secure_boot = 3
-"""
+REGIONS = [(0, 0x9F000, "usable"), (0x100000, ACPI_AT - 0x100000, "usable"), (ACPI_AT, 0x3000, "acpi")]
+MACHINE = table("", size=0x10000000, pool=[0x4000000, 0x8000000]) + "".join(
+    table("[[region]]", base=base, length=length, kind=f'"{kind}"') for base, length, kind in REGIONS
+)
+RSDP = table("[firmware]", rsdp=ACPI_AT)
+SCREEN = table(
+    "[firmware.screen]", base=0xFD000000, pitch=3072, width=640, height=480, depth=32, red=[16, 8], green=[8, 8], blue=[0, 8]
+)
+EFI = table(
+    "[firmware.efi]", bits=64, system_table=EFI_AT, map=f'"{EFI_MAP.hex()}"', map_address=EFI_AT + 0x400,
+    descriptor_size=48, descriptor_version=1, secure_boot=3,
+)  # fmt: skip
 # What Linux writes. Of a screen: a driver of frame buffers has it, or one of DRM; the first tells what it was told
 HAS_SCREEN = [r"\bfb0: (EFI VGA|simple|simpledrmdrmfb) frame buffer device"]
 EFIFB = [
@@ -249,23 +212,21 @@ class Linux(ScreenChecks):
 
     def booted(self, protocol: str, told: str) -> Seen:
         line = "console=tty0 console=ttyS0 efi=debug panic=0"  # without a disk its end is a panic
-        entry = f'[[entry]]\ntitle = "Linux"\nprotocol = "{protocol}"\nkernel = "{self.kernel}"\nline = "{line}"\n'
+        entry = table("[[entry]]", title='"Linux"', protocol=f'"{protocol}"', kernel=f'"{self.kernel}"', line=f'"{line}"')
         machine, left = self.room / "machine.toml", self.room / "left"
         machine.write_text(MACHINE + SCREEN, encoding="utf-8")
         left.write_bytes(acpi(ACPI_AT).ljust(PAGE, b"\0") + efi(EFI_AT, EFI_MAP))
         loader = f"loader,file={left},addr={ACPI_AT:#x},force-raw=on"
-        return self.seen(self.image_of("linux", MACHINE + told + entry), machine, "end Kernel panic", "-device", loader)
+        image = self.image_of("linux", MACHINE + told + entry)
+        # its clock goes by instructions, so that a busy machine is only slower
+        clock = ["-icount", "shift=2,sleep=off", "-rtc", "base=2026-01-01,clock=vm"]
+        return self.seen(image, machine, "end Kernel panic", "-device", loader, *clock)
 
-    def assert_says(self, seen: Seen, patterns: List[str]) -> None:
-        self.assert_lines(seen, [pattern for pattern in patterns if not re.search(pattern, seen.written)], "no")
-
-    def assert_silent(self, seen: Seen, patterns: List[str]) -> None:
-        self.assert_lines(seen, [pattern for pattern in patterns if re.search(pattern, seen.written)], "a")
-
-    def assert_lines(self, seen: Seen, wrong: List[str], word: str) -> None:
+    def assert_says(self, seen: Seen, patterns: List[str], wanted: bool = True) -> None:
+        wrong = [pattern for pattern in patterns if bool(re.search(pattern, seen.written)) != wanted]
         if wrong:
-            lines = [line for line in seen.written.splitlines() if re.search(r"ACPI|efi|fb|drm|[Ss]ecure", line)]
-            self.fail("\n".join([f"ran: {seen.ran}", *(f"{word} line with {pattern}" for pattern in wrong), *lines]))
+            lines = [line for line in seen.written.splitlines() if re.search(r"ACPI|efi|fb|drm|[Ss]ecure|panic", line)]
+            self.fail("\n".join([f"ran: {seen.ran}", *(f"{'no' if wanted else 'a'} line with {pattern}" for pattern in wrong), *lines]))
 
     def test_all(self) -> None:
         seen = self.booted("linux64", RSDP + SCREEN + EFI)
@@ -273,8 +234,8 @@ class Linux(ScreenChecks):
             self.assert_says(seen, HAS_SCREEN + (EFIFB if "efifb: mode" in seen.written else []))
         with self.check("and its lines stand on QEMU's screen, one below the other"):
             # of 30 rows of cells half begin with one cell, that of the bracket before the time
-            cells = Counter(self.first_cell(seen.picture, row) for row in range(30))
-            most = max(count for cell, count in cells.items() if any(cell))
+            cells = Counter(self.first_cell(seen, row) for row in range(30))
+            most = max((count for cell, count in cells.items() if any(cell)), default=0)
             self.assertGreaterEqual(most, 15, f"ran: {seen.ran}\nrows with the same first cell")
         with self.check("Linux, told of the RSDP, finds the tables of ACPI without acpi_rsdp= in its line"):
             self.assert_says(seen, HAS_RSDP)
@@ -282,22 +243,22 @@ class Linux(ScreenChecks):
             self.assert_says(seen, HAS_UEFI)
 
     @staticmethod
-    def first_cell(picture: Picture, row: int) -> bytes:
+    def first_cell(seen: Seen, row: int) -> bytes:
         """The leftmost 8 pixels of 16 lines: the letter that stands there."""
-        starts = [line * picture.width * 3 for line in range(row * 16, row * 16 + 16)]
-        return b"".join(picture.pixels[start:start + 8 * 3] for start in starts)
+        starts = [line * seen.width * 3 for line in range(row * 16, row * 16 + 16)]
+        return b"".join(seen.pixels[start:start + 8 * 3] for start in starts)
 
     def test_screen(self) -> None:
         seen = self.booted("linux", SCREEN)
         with self.check("Linux by its 32-bit entry, told of a screen, has a frame buffer"):
             self.assert_says(seen, HAS_SCREEN)
         with self.check("Linux, told of neither, finds no table of ACPI and none of UEFI on the same machine"):
-            self.assert_silent(seen, HAS_RSDP + HAS_UEFI)
+            self.assert_says(seen, HAS_RSDP + HAS_UEFI, False)
 
     def test_rsdp(self) -> None:
         seen = self.booted("linux", RSDP)
         with self.check("Linux by its 32-bit entry, told of the RSDP, finds the tables of ACPI"):
             self.assert_says(seen, HAS_RSDP)
         with self.check("Linux, not told of a screen, has no frame buffer on the same machine, and paints nothing"):
-            self.assert_silent(seen, HAS_SCREEN)
-            self.assertFalse(any(seen.picture.pixels), f"ran: {seen.ran}\nsomething is painted")
+            self.assert_says(seen, HAS_SCREEN, False)
+            self.assertFalse(any(seen.pixels), f"ran: {seen.ran}\nsomething is painted")

@@ -40,17 +40,8 @@ next_letter:
     addl $8, %edi
     cmpl $names_end, %ebx
     jb next_register
-    movl $ended, %esi
-    call write_text
-    # without a table of interrupts one interrupt is three faults: the machine restarts, and QEMU
-    # ends by -no-reboot
-    lidt nothing
-    int3
-halt:
-    hlt
-    jmp halt
 
-    .include "serial.S"
+    .include "serial.S"             # which goes on with the end
 
 line_is:
     .asciz "\nline "

@@ -53,16 +53,6 @@ no_screen:
     addl $7, %edi
     andl $-8, %edi
     jmp next_tag
-end:
-    movl $ended, %esi
-    call write_text
-    # without a table of interrupts one interrupt is three faults: the machine restarts, and QEMU
-    # ends by -no-reboot
-    lidt nothing
-    int3
-halt:
-    hlt
-    jmp halt
 
 # write_field: of the tag at EDI what the field at EBX says, and the end of the line
 write_field:
@@ -138,35 +128,28 @@ next_byte:
 
     .include "serial.S"
 
-# field TYPE, AT, COUNT, NAME: in tags of the type, COUNT bytes that stand AT are a number; 0: all from there
-# on are bytes
+# field TYPE, AT, COUNT, NAME: in tags of the type COUNT bytes that stand AT are a number; with 0 all from AT on are bytes
     .macro field type, at, count, name
     .byte \type, \at, \count
     .asciz "\name "
     .endm
 fields:
-    field 8, 8, 8, "screen: base"
+    field 8, 8, 8, "screen"
     field 8, 16, 4, "pitch"
     field 8, 20, 4, "width"
     field 8, 24, 4, "height"
     field 8, 28, 1, "depth"
     field 8, 29, 1, "type"
     field 8, 30, 2, "reserved"
-    field 8, 32, 1, "red: lowest bit"
-    field 8, 33, 1, "bits"
-    field 8, 34, 1, "green: lowest bit"
-    field 8, 35, 1, "bits"
-    field 8, 36, 1, "blue: lowest bit"
-    field 8, 37, 1, "bits"
+    field 8, 32, 0, "colors"
     field 11, 8, 4, "system table of 32-bit UEFI"
     field 12, 8, 8, "system table of 64-bit UEFI"
-    field 13, 8, 1, "SMBIOS: major"
+    field 13, 8, 1, "SMBIOS"
     field 13, 9, 1, "minor"
-    field 13, 10, 6, "reserved"
-    field 13, 16, 0, "tables"
-    field 17, 8, 4, "UEFI's memory map: descriptor size"
-    field 17, 12, 4, "descriptor version"
-    field 17, 16, 0, "map"
+    field 13, 10, 0, "reserved and tables"
+    field 17, 8, 4, "map of UEFI, by descriptors of"
+    field 17, 12, 4, "version"
+    field 17, 16, 0, "bytes"
 fields_end:
 ended:
     .asciz "ended\n"

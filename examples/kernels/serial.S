@@ -1,5 +1,17 @@
-# What the kernels of this folder write with, to the first serial port. The text is the same for 32 bits
-# and for 64 bits.
+# How the kernels of this folder write to the first serial port, and end. The text is the same for 32 bits and
+# for 64 bits. The kernel has its last line as `ended`, and 16 zero bytes as `nothing`.
+
+# end: writes the last line, and ends the machine
+end:
+    movl $ended, %esi
+    call write_text
+    # without a table of interrupts one interrupt is three faults: the machine restarts, and QEMU
+    # ends by -no-reboot
+    lidt nothing
+    int3
+halt:
+    hlt
+    jmp halt
 
 # write_text: the text at ESI, up to its zero byte
 write_text:
@@ -16,7 +28,6 @@ write_number:
     movl $7, %ecx
 # write_digits: the ECX + 1 bytes at EDI, the last one first
 write_digits:
-next_pair:
     movb (%edi, %ecx), %al
     shrb $4, %al
     call write_digit
@@ -24,7 +35,7 @@ next_pair:
     andb $15, %al
     call write_digit
     decl %ecx
-    jns next_pair
+    jns write_digits
     ret
 
 write_digit:
