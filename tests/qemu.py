@@ -66,7 +66,7 @@ class ScreenChecks(Checks):
         """What an image's kernel writes on the machine of a description up to its last line, and the screen then."""
         picture = self.room / "screen.ppm"
         picture.unlink(missing_ok=True)
-        words = [str(TOP / "examples/qemu.sh"), "--seconds", "240", str(image), str(machine), "--", "-no-shutdown", *options]
+        words = [str(TOP / "examples/qemu.sh"), "--seconds", "300", str(image), str(machine), "--", "-no-shutdown", *options]
         lines: List[bytes] = []
         with subprocess.Popen(words, stdin=subprocess.PIPE, stdout=subprocess.PIPE, stderr=subprocess.STDOUT) as process:
             for line in process.stdout or ():
