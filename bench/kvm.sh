@@ -7,8 +7,8 @@
 #   bench/kvm.sh
 #
 # The files are a Linux kernel of 10 MiB and an initial ramdisk of 200 MiB, the guest has 512 MiB; then a kernel of 14 KiB alone.
-# The programs take turns, and the best of all rounds counts. Needs /dev/kvm, bash 5, coreutils, awk, cc, and the static library
-# that examples/c/build makes.
+# The programs take turns, and the best of all rounds counts. Needs /dev/kvm, bash 5, coreutils, awk, cc, iasl, and the static
+# library that examples/c/build makes.
 # shellcheck source-path=SCRIPTDIR source=loads.sh
 source "$(dirname "${BASH_SOURCE[0]}")/loads.sh"
 
@@ -17,8 +17,9 @@ archive=$top/examples/c/out/libbootcore.a
 [ -e "$archive" ] || fail "$archive is not built: examples/c/build builds it"
 [ -w /dev/kvm ] || fail "/dev/kvm is not at hand"
 cc -std=c99 -O2 -o "$work/kvm_reads" "$here/kvm_reads.c" || fail "kvm_reads.c does not build"
-cc -std=c99 -O2 -I"$top/include" -I"$top/examples/kvm" -o "$work/kvm_state" "$top/tools/c/kvm_state.c" \
-    "$top"/examples/kvm/{load,machine,memory}.c "$archive" || fail "kvm_state.c does not build"
+"$top/examples/kvm/build" "$work/made" > /dev/null || fail "the monitor is not built" # with its tables
+cc -std=c99 -O2 -I"$top/include" -I"$top/examples/kvm" -I"$work/made/acpi" -o "$work/kvm_state" "$top/tools/c/kvm_state.c" \
+    "$top"/examples/kvm/{acpi,load,machine,memory}.c "$archive" || fail "kvm_state.c does not build"
 cd "$work"
 echo 'int main(void) { return 0; }' > nothing.c
 cc -O2 -o nothing nothing.c || fail "nothing.c does not build"

@@ -52,6 +52,14 @@ def libraries() -> List[Path]:
     return [OUT / "libbootcore.a"]
 
 
+def working_sanitizers(room: Path) -> List[str]:
+    """The sanitizers, if the compiler has them and what it makes with them in a folder runs; else none."""
+    source, made = room / "sanitized.c", room / "sanitized"
+    source.write_text("int main(void) { return 0; }\n", encoding="utf-8")
+    works = run(*CC, *SANITIZERS, source, "-o", made).status == 0 and run(made).status == 0
+    return SANITIZERS if works else []
+
+
 class CoreChecks(ProgramChecks):
     """Checks of the core for C as it is built, with the files of two examples and the images of these."""
 
@@ -87,13 +95,11 @@ class CoreChecks(ProgramChecks):
         return run(OUT / name, *words, cwd=cwd)
 
     def sanitizers(self) -> List[str]:
-        """The sanitizers, if the compiler has them and what it makes with them runs."""
-        source, made = self.room / "none.c", self.room / "none"
-        source.write_text("int main(void) { return 0; }\n", encoding="utf-8")
-        if run(*CC, *SANITIZERS, source, "-o", made).status == 0 and run(made).status == 0:
-            return SANITIZERS
-        self.leave_out("a driver of the core for C runs under the sanitizers", "this compiler has none")
-        return []
+        """The sanitizers, or none, which is told then."""
+        working = working_sanitizers(self.room)
+        if not working:
+            self.leave_out("a driver of the core for C runs under the sanitizers", "this compiler has none")
+        return working
 
     def driver(self, name: str, *flags: str, archive: Optional[Path] = None) -> Optional[Path]:
         """A program of tools/c over an archive, the one with a libc if none is named; None if it can't be built, as is reported."""

@@ -60,8 +60,8 @@ static void make_plan(const bootcore_machine *machine, const bootcore_entry *ent
     }
 }
 
-bootcore_handoff load_guest(const guest_memory *memory, uint32_t protocol, const char *line, char **paths,
-                            int count, bootcore_place *places) {
+bootcore_handoff load_guest(const guest_memory *memory, bootcore_bytes rsdp, uint32_t protocol, const char *line,
+                            char **paths, int count, bootcore_place *places) {
     int files[MAX_FILES];
     bootcore_module modules[MAX_FILES]; /* the first is the kernel, which is no module */
     if (count > (protocol == BOOTCORE_PROTOCOL_MULTIBOOT2 ? MAX_FILES : 2)) {
@@ -79,11 +79,15 @@ bootcore_handoff load_guest(const guest_memory *memory, uint32_t protocol, const
 
     const bootcore_region regions[] = {{0, 0x9F000, BOOTCORE_KIND_USABLE, 0}, /* above is a PC's BIOS */
                                        {0x100000, memory->low_size - 0x100000, BOOTCORE_KIND_USABLE, 0},
+                                       {TABLES_BASE, TABLES_SIZE, BOOTCORE_KIND_ACPI, 0},
+                                       {FACS_PLACE, TABLES_BASE + TABLES_SIZE - FACS_PLACE, BOOTCORE_KIND_NVS, 0},
                                        {HIGH_BASE, memory->high_size, BOOTCORE_KIND_USABLE, 0}};
+    const bootcore_firmware firmware = {.rsdp = RSDP_PLACE};
     const bootcore_machine machine = {.size = memory->low_size, .regions = regions,
-                                      .region_count = memory->high_size ? 3 : 2};
+                                      .region_count = memory->high_size ? 5 : 4, .firmware = &firmware};
     const bootcore_entry entry = {.protocol = protocol, .kernel = {kernel, length},
                                   .line = {line, strlen(line)}, .initrd = modules[1].file, /* of Linux */
+                                  .rsdp_new = rsdp, /* of Multiboot2, like the modules; Linux is told the place */
                                   .modules = modules + 1, .module_count = (size_t)count - 1};
     bootcore_layout layout = {.places = places, .place_room = BOOTCORE_MAX_PLACES};
     make_plan(&machine, &entry, &layout);

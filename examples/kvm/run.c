@@ -1,12 +1,13 @@
-/* The loop: the guest runs until it asks something of the monitor. */
+/* The loop: a processor runs until it asks something of the monitor. */
 #include "vmm.h"
 
 #include <errno.h>
+#include <pthread.h>
 #include <stdio.h>
 #include <string.h>
 #include <sys/ioctl.h>
 
-enum { KEYBOARD_COMMAND = 0x64, RESET = 0xFE, CMOS_DATA = 0x71 };
+enum { CMOS_DATA = 0x71, SLEEPS = 0x20 }; /* a bit in the second byte of PM1_CONTROL */
 
 /* Why no guest of this monitor goes on after an exit, and for one of them why KVM itself does not. */
 static const char *const exits[] = {
@@ -24,14 +25,14 @@ static const char *const errors[] = {
 };
 #define WORDS(table, at) ((at) < sizeof(table) / sizeof *(table) ? (table)[at] : NULL)
 
-static int bad_exit(int processor, const struct kvm_run *shared) {
+static int bad_exit(int file, const struct kvm_run *shared) {
     uint32_t number = shared->exit_reason, error = shared->internal.suberror;
     bool gives_up = number == KVM_EXIT_INTERNAL_ERROR;
     const char *why = WORDS(exits, number), *more = gives_up ? WORDS(errors, error) : NULL;
     struct kvm_regs general = {0};
     struct kvm_sregs special = {0};
-    kvm_call(processor, KVM_GET_REGS, &general, "KVM_GET_REGS");
-    kvm_call(processor, KVM_GET_SREGS, &special, "KVM_GET_SREGS");
+    kvm_call(file, KVM_GET_REGS, &general, "KVM_GET_REGS");
+    kvm_call(file, KVM_GET_SREGS, &special, "KVM_GET_SREGS");
     fprintf(stderr, "vmm: the guest stopped: %s%s\n", why ? why : "the monitor does not know this exit", more ? more : "");
     fprintf(stderr, "vmm: exit %u, reason %#llx; cs %#x rip %#llx rsp %#llx cr0 %#llx cr2 %#llx cr3 %#llx\n", number,
             gives_up ? error : shared->hw.hardware_exit_reason, special.cs.selector, general.rip, general.rsp,
@@ -39,14 +40,14 @@ static int bad_exit(int processor, const struct kvm_run *shared) {
     return BAD_EXIT;
 }
 
-static int restarted(const char *how) {
-    fprintf(stderr, "vmm: the guest restarted, by %s\n", how);
-    return RESTARTED;
+static int ended(const char *how) {
+    fprintf(stderr, "vmm: the guest %s\n", how);
+    return ENDED;
 }
 
-/* Whether the guest goes on. A port of no device reads as ones. CMOS has no clock and reads as 0: with ones
- * Linux would wait for the end of a clock's update. */
-static bool port_answered(unsigned port, bool is_in, uint8_t *bytes, size_t size) {
+/* How the guest ended, if it did. A port of no device reads as ones, with which ACPI is on. CMOS has no clock and
+ * reads as 0: with ones Linux would wait for the end of a clock's update. */
+static const char *port_answered(unsigned port, bool is_in, uint8_t *bytes, size_t size) {
     bool is_serial = port >= SERIAL_PORT && port < SERIAL_PORT + 8;
     if (is_in) {
         memset(bytes, port == CMOS_DATA ? 0 : 0xFF, size);
@@ -55,25 +56,29 @@ static bool port_answered(unsigned port, bool is_in, uint8_t *bytes, size_t size
         }
     } else if (is_serial) {
         serial_out(port - SERIAL_PORT, bytes[0]);
+    } else if (port == KEYBOARD_COMMAND && bytes[0] == KEYBOARD_RESET) {
+        return "restarted, by the keyboard controller";
+    } else if (port == PM1_CONTROL && size > 1 && bytes[1] & SLEEPS) {
+        return "switched off";
     }
-    return is_in || port != KEYBOARD_COMMAND || bytes[0] != RESET;
+    return NULL;
 }
 
-/* Whether the guest goes on after a port's exit, of one access or of several in a row. */
-static bool ports_answered(struct kvm_run *shared) {
+/* The same of a port's exit, of one access or of several in a row. */
+static const char *ports_answered(struct kvm_run *shared) {
     uint8_t *bytes = (uint8_t *)shared + shared->io.data_offset;
     bool is_in = shared->io.direction == KVM_EXIT_IO_IN;
-    for (uint32_t i = 0; i < shared->io.count; i++, bytes += shared->io.size) {
-        if (!port_answered(shared->io.port, is_in, bytes, shared->io.size)) {
-            return false;
-        }
+    const char *how = NULL;
+    for (uint32_t i = 0; i < shared->io.count && !how; i++, bytes += shared->io.size) {
+        how = port_answered(shared->io.port, is_in, bytes, shared->io.size);
     }
-    return true;
+    return how;
 }
 
-int run_guest(int processor, struct kvm_run *shared) {
-    for (;;) {
-        if (ioctl(processor, KVM_RUN, 0) < 0) {
+/* Answers the program's status. What waits to be started does so in KVM_RUN. */
+static int run_processor(int file, struct kvm_run *shared) {
+    for (const char *how;;) {
+        if (ioctl(file, KVM_RUN, 0) < 0) {
             if (errno == EINTR || errno == EAGAIN) {
                 continue;
             }
@@ -81,8 +86,9 @@ int run_guest(int processor, struct kvm_run *shared) {
         }
         switch (shared->exit_reason) {
         case KVM_EXIT_IO:
-            if (!ports_answered(shared)) {
-                return restarted("the keyboard controller");
+            how = ports_answered(shared);
+            if (how) {
+                return ended(how);
             }
             break;
         case KVM_EXIT_MMIO: /* of no device */
@@ -91,9 +97,24 @@ int run_guest(int processor, struct kvm_run *shared) {
             }
             break;
         case KVM_EXIT_INTR: break;
-        case KVM_EXIT_SHUTDOWN: return restarted("a fault of a fault of a fault");
-        case KVM_EXIT_SYSTEM_EVENT: return restarted("an event of the system");
-        default: return bad_exit(processor, shared);
+        case KVM_EXIT_SHUTDOWN: return ended("restarted, by a fault of a fault of a fault");
+        case KVM_EXIT_SYSTEM_EVENT: return ended("restarted, by an event of the system");
+        default: return bad_exit(file, shared);
         }
     }
+}
+
+static void *run_thread(void *given) {
+    const processor *one = given;
+    end(run_processor(one->file, one->shared));
+}
+
+void run_guest(const processor *processors, uint32_t count) {
+    for (uint32_t i = 1; i < count; i++) {
+        pthread_t thread;
+        if (pthread_create(&thread, NULL, run_thread, (void *)&processors[i])) {
+            fail(FAILED, "no thread can be started for a processor");
+        }
+    }
+    end(run_processor(processors->file, processors->shared));
 }

@@ -2,11 +2,13 @@
  * but for its main and its loop:
  *
  *     kvm_state image|ready multiboot2|linux|linux64 MIB LINE KERNEL [FILE..]
+ *     kvm_state tables PROCESSORS
  *
  * `image` writes a handoff image to the standard output: the registers by KVM_GET_REGS and KVM_GET_SREGS, and the guest's
  * memory at the parts; and each segment register whole to the standard error. tests/kvm.py compares them with the image of
  * `bootcore boot` and with the rules. `ready` writes how many KiB the program takes beside the guest's memory, and ends there,
- * so that bench/kvm.sh can take the time up to the first instruction. */
+ * so that bench/kvm.sh can take the time up to the first instruction. `tables` writes the page of ACPI's tables, and needs no
+ * KVM. */
 #define _DEFAULT_SOURCE
 #include "vmm.h"
 
@@ -34,11 +36,11 @@ static void tell_segment(const char *name, const struct kvm_segment *s) {
 }
 
 /* A20 is no register of KVM's: a machine of it has no gate. */
-static bootcore_registers registers_in(int processor, uint64_t bits) {
+static bootcore_registers registers_in(int file, uint64_t bits) {
     struct kvm_regs r;
     struct kvm_sregs s;
-    kvm_call(processor, KVM_GET_REGS, &r, "KVM_GET_REGS");
-    kvm_call(processor, KVM_GET_SREGS, &s, "KVM_GET_SREGS");
+    kvm_call(file, KVM_GET_REGS, &r, "KVM_GET_REGS");
+    kvm_call(file, KVM_GET_SREGS, &s, "KVM_GET_SREGS");
     tell_segment("cs", &s.cs), tell_segment("ds", &s.ds), tell_segment("es", &s.es);
     tell_segment("fs", &s.fs), tell_segment("gs", &s.gs), tell_segment("ss", &s.ss);
     return (bootcore_registers){
@@ -75,24 +77,29 @@ int main(int argc, char **argv) {
     static const char *const names[] = {"multiboot2", "linux", "linux64"};
     static bootcore_place places[BOOTCORE_MAX_PLACES];
     uint32_t protocol = 0;
+    if (argc == 3 && !strcmp(argv[1], "tables")) {
+        guest_memory memory = map_memory(0x200000);
+        lay_tables(&memory, (uint32_t)strtoul(argv[2], NULL, 10));
+        return fwrite(memory.tables, 1, TABLES_SIZE, stdout) < TABLES_SIZE || fflush(stdout) ? FAILED : ENDED;
+    }
     for (uint32_t i = 0; argc > 5 && i < 3; i++) {
         protocol = strcmp(argv[2], names[i]) ? protocol : BOOTCORE_PROTOCOL_MULTIBOOT2 + i;
     }
     if (!protocol) {
-        fail(BAD_WORDS, "usage: kvm_state image|ready multiboot2|linux|linux64 MIB LINE KERNEL [FILE..]");
+        fail(BAD_WORDS, "usage: kvm_state image|ready multiboot2|linux|linux64 MIB LINE KERNEL [FILE..], or kvm_state tables PROCESSORS");
     }
     guest_memory memory = map_memory(strtoull(argv[3], NULL, 10) << 20);
-    bootcore_handoff handoff = load_guest(&memory, protocol, argv[4], argv + 5, argc - 5, places);
-    struct kvm_run *shared;
+    bootcore_bytes rsdp = lay_tables(&memory, 1);
+    bootcore_handoff handoff = load_guest(&memory, rsdp, protocol, argv[4], argv + 5, argc - 5, places);
     make_machine(&memory);
-    int processor = make_processor(&handoff.registers, &shared);
+    processor first = make_processor(0, &handoff.registers);
     if (strcmp(argv[1], "image")) {
         struct rusage usage;
         getrusage(RUSAGE_SELF, &usage);
         printf("%" PRIu64 "\n", (uint64_t)usage.ru_maxrss - given(&memory) / 1024);
     } else {
-        handoff.registers = registers_in(processor, handoff.registers.bits);
+        handoff.registers = registers_in(first.file, handoff.registers.bits);
         write_image(&memory, &handoff, places);
     }
-    return fflush(stdout) || ferror(stdout) ? FAILED : RESTARTED;
+    return fflush(stdout) || ferror(stdout) ? FAILED : ENDED;
 }
