@@ -60,9 +60,8 @@ fn secure_boot_of(row: &mut Row<'_>, digits: &str) -> SecureBoot {
     row.found(SecureBoot::from_number(number), SecureBoot::Unset)
 }
 
-/// What `BITS,TABLE,MAP_ADDRESS,DESCRIPTOR_SIZE,VERSION,SECURE_BOOT:MAP` says of UEFI.
-fn efi_of(row: &mut Row<'_>, word: &str) -> OwnedEfi<Global> {
-    let (numbers, map) = row.cut(word, ":");
+/// What `BITS,TABLE,MAP_ADDRESS,DESCRIPTOR_SIZE,VERSION,SECURE_BOOT` says of UEFI, with its map.
+fn efi_of(row: &mut Row<'_>, numbers: &str, map: Vec<u8>) -> OwnedEfi<Global> {
     let (bits, rest) = row.cut(numbers, ",");
     let (system_table, rest) = row.cut(rest, ",");
     let (map_address, rest) = row.cut(rest, ",");
@@ -72,21 +71,20 @@ fn efi_of(row: &mut Row<'_>, word: &str) -> OwnedEfi<Global> {
         bits: bits_of(row, bits),
         system_table: row.number_of(system_table),
         map_address: row.number_of(map_address),
-        map: row.bytes_of(map),
+        map,
         descriptor_size: row.number32_of(descriptor_size),
         descriptor_version: row.number32_of(descriptor_version),
         secure_boot: secure_boot_of(row, secure_boot),
     }
 }
 
-/// What `MAJOR,MINOR:TABLES` says of SMBIOS.
-fn smbios_of(row: &mut Row<'_>, word: &str) -> OwnedSmbios<Global> {
-    let (version, tables) = row.cut(word, ":");
+/// SMBIOS of the version that `MAJOR,MINOR` is, with its tables.
+fn smbios_of(row: &mut Row<'_>, version: &str, tables: Vec<u8>) -> OwnedSmbios<Global> {
     let (major, minor) = row.cut(version, ",");
     OwnedSmbios {
         major: row.byte_of(major),
         minor: row.byte_of(minor),
-        tables: row.bytes_of(tables),
+        tables,
     }
 }
 
@@ -119,11 +117,15 @@ pub fn keep_told(row: &mut Row<'_>, told: &mut OwnedFirmware<Global>, name: &str
             keep_once(row, &mut told.rsdp, rsdp);
         }
         "efi" => {
-            let efi = efi_of(row, value);
+            let (numbers, map) = row.cut(value, ":");
+            let map = row.bytes_of(map);
+            let efi = efi_of(row, numbers, map);
             keep_once(row, &mut told.efi, efi);
         }
         "smbios" => {
-            let smbios = smbios_of(row, value);
+            let (version, tables) = row.cut(value, ":");
+            let tables = row.bytes_of(tables);
+            let smbios = smbios_of(row, version, tables);
             keep_once(row, &mut told.smbios, smbios);
         }
         "avoid" => keep_avoided(row, &mut told.avoided, value),
