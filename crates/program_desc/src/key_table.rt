@@ -1,6 +1,16 @@
 //! The keys of a description's tables, each with its rule. Reading and the words of messages take
 //! them from here.
+ghost use Rattle.std.specs.Prelude.{◌≡◌, map};
+ghost use Rattle.std.specs.List.{list_any};
+ghost use Rattle.std.specs.Str.{bytes_eq};
+ghost use Rattle.program_desc.specs.KeyRules.{keys_of_set};
+
 use crate::allowed::Allowed;
+use crate::firmware_keys::{
+    BITS, BLUE, DEPTH, DESCRIPTOR_SIZE, DESCRIPTOR_VERSION, EFI, EFI_SECURE_BOOT, GREEN, HEIGHT,
+    MAJOR, MAP, MAP_ADDRESS, MINOR, PITCH, RED, RSDP, SCREEN, SMBIOS, SYSTEM_TABLE, TABLES, WIDTH,
+};
+use crate::key_set::KeySet;
 
 /// A key of a table: whether it must stand, and what it may hold.
 #[derive(Clone, Copy)]
@@ -10,9 +20,10 @@ pub struct Key {
     pub allowed: Allowed,
 }
 
+#[macro_export]
 macro_rules! required {
     ($name:expr, $allowed:expr) => {
-        Key {
+        $crate::key_table::Key {
             name: $name,
             required: true,
             allowed: $allowed,
@@ -20,9 +31,10 @@ macro_rules! required {
     };
 }
 
+#[macro_export]
 macro_rules! optional {
     ($name:expr, $allowed:expr) => {
-        Key {
+        $crate::key_table::Key {
             name: $name,
             required: false,
             allowed: $allowed,
@@ -90,69 +102,6 @@ pub const KIND: Key = required!("kind", Allowed::KindName);
 /// What firmware tells beside memory.
 pub const FIRMWARE: Key = optional!("firmware", Allowed::OneTable);
 
-/// The address of ACPI's root pointer.
-pub const RSDP: Key = optional!("rsdp", Allowed::Number);
-
-/// The screen.
-pub const SCREEN: Key = optional!("screen", Allowed::OneTable);
-
-/// How many bytes a line of the screen takes.
-pub const PITCH: Key = required!("pitch", Allowed::Word);
-
-/// How many pixels a line of the screen has.
-pub const WIDTH: Key = required!("width", Allowed::Word);
-
-/// How many lines the screen has.
-pub const HEIGHT: Key = required!("height", Allowed::Word);
-
-/// How many bits a pixel has.
-pub const DEPTH: Key = required!("depth", Allowed::Byte);
-
-/// Where the bits of red lie in a pixel.
-pub const RED: Key = required!("red", Allowed::Color);
-
-/// Where the bits of green lie in a pixel.
-pub const GREEN: Key = required!("green", Allowed::Color);
-
-/// Where the bits of blue lie in a pixel.
-pub const BLUE: Key = required!("blue", Allowed::Color);
-
-/// UEFI.
-pub const EFI: Key = optional!("efi", Allowed::OneTable);
-
-/// How many bits the addresses of UEFI's tables have.
-pub const BITS: Key = required!("bits", Allowed::EfiBits);
-
-/// The address of UEFI's system table.
-pub const SYSTEM_TABLE: Key = required!("system_table", Allowed::Number);
-
-/// The bytes of UEFI's memory map.
-pub const MAP: Key = required!("map", Allowed::HexText);
-
-/// The address at which these bytes lie.
-pub const MAP_ADDRESS: Key = required!("map_address", Allowed::Number);
-
-/// How many bytes a descriptor of that map has.
-pub const DESCRIPTOR_SIZE: Key = required!("descriptor_size", Allowed::Word);
-
-/// The version of its descriptors.
-pub const DESCRIPTOR_VERSION: Key = required!("descriptor_version", Allowed::Word);
-
-/// The state of secure boot.
-pub const EFI_SECURE_BOOT: Key = optional!("secure_boot", Allowed::SecureBoot);
-
-/// SMBIOS.
-pub const SMBIOS: Key = optional!("smbios", Allowed::OneTable);
-
-/// The major version of SMBIOS.
-pub const MAJOR: Key = required!("major", Allowed::Byte);
-
-/// The minor version of SMBIOS.
-pub const MINOR: Key = required!("minor", Allowed::Byte);
-
-/// The tables of SMBIOS.
-pub const TABLES: Key = required!("tables", Allowed::HexText);
-
 /// Ranges in which nothing is placed.
 pub const AVOID: Key = optional!("avoid", Allowed::Tables);
 
@@ -164,3 +113,72 @@ pub const HEX: Key = required!("hex", Allowed::HexText);
 
 /// The name of the file that is a module.
 pub const MODULE_FILE: Key = required!("file", Allowed::AnyText);
+
+static IN_DESCRIPTION: [Key; 10] = [
+    SIZE, POOL, FILL, DEFAULT, FALLBACK, REGION, FILE, ENTRY, FIRMWARE, AVOID,
+];
+
+static IN_REGION: [Key; 3] = [BASE, LENGTH, KIND];
+
+static IN_FIRMWARE: [Key; 4] = [RSDP, SCREEN, EFI, SMBIOS];
+
+static IN_SCREEN: [Key; 8] = [BASE, PITCH, WIDTH, HEIGHT, DEPTH, RED, GREEN, BLUE];
+
+static IN_EFI: [Key; 7] = [
+    BITS,
+    SYSTEM_TABLE,
+    MAP,
+    MAP_ADDRESS,
+    DESCRIPTOR_SIZE,
+    DESCRIPTOR_VERSION,
+    EFI_SECURE_BOOT,
+];
+
+static IN_SMBIOS: [Key; 3] = [MAJOR, MINOR, TABLES];
+
+static IN_AVOIDED: [Key; 2] = [BASE, LENGTH];
+
+static IN_FILE: [Key; 2] = [NAME, HEX];
+
+static IN_ENTRY: [Key; 8] = [
+    TITLE, PROTOCOL, KERNEL, LINE, MODULE, RSDP_OLD, RSDP_NEW, INITRD,
+];
+
+static IN_MULTIBOOT2: [Key; 7] = [TITLE, PROTOCOL, KERNEL, LINE, MODULE, RSDP_OLD, RSDP_NEW];
+
+static IN_LINUX: [Key; 5] = [TITLE, PROTOCOL, KERNEL, LINE, INITRD];
+
+static IN_MODULE: [Key; 2] = [MODULE_FILE, LINE];
+
+/// The keys that a table may have.
+pub fn keys_of(set: KeySet) -> &'static [Key]
+    ensures { map (λ key. key.name.now) result.now ≡ keys_of_set set }
+{
+    match set {
+        KeySet::Description => &IN_DESCRIPTION,
+        KeySet::Region => &IN_REGION,
+        KeySet::Firmware => &IN_FIRMWARE,
+        KeySet::Screen => &IN_SCREEN,
+        KeySet::Efi => &IN_EFI,
+        KeySet::Smbios => &IN_SMBIOS,
+        KeySet::Avoided => &IN_AVOIDED,
+        KeySet::File => &IN_FILE,
+        KeySet::Entry => &IN_ENTRY,
+        KeySet::Multiboot2Entry => &IN_MULTIBOOT2,
+        KeySet::LinuxEntry => &IN_LINUX,
+        KeySet::Module => &IN_MODULE,
+    }
+}
+
+fn is_among(name: &str, keys: &[Key]) -> bool
+    ensures { result ≡ list_any (λ key. bytes_eq key.name.now name.now) keys.now }
+{
+    keys.iter().any(|key| key.name == name)
+}
+
+/// Whether a table may have a key of this name, by its set of keys.
+pub fn is_key(set: KeySet, name: &str) -> bool
+    ensures { result ≡ list_any (λ k. bytes_eq k name.now) (keys_of_set set) }
+{
+    is_among(name, keys_of(set))
+}

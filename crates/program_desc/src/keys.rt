@@ -13,8 +13,8 @@ ghost use Rattle.program_desc.specs.declared.bad_key.KeyFault.TheVariants.{BadVa
 ghost use Rattle.program_desc.specs.declared.table_fault.TableFault.TheVariants as faults;
 
 use crate::bad_key::{BadKey, KeyFault, TablePlace};
-use crate::key_set::{KeySet, is_key};
-use crate::key_table::Key;
+use crate::key_set::KeySet;
+use crate::key_table::{Key, is_key};
 use crate::table_fault::TableFault;
 use crate::values::{toml_byte, toml_number, toml_word};
 use toml::{Table, Value};

@@ -14,10 +14,10 @@ ghost use Rattle.program_desc.specs.declared.key_set.KeySet.TheVariants as keys;
 
 use crate::bad_key::TablePlace;
 use crate::firmware::smbios::bytes_at;
-use crate::key_set::KeySet;
-use crate::key_table::{
+use crate::firmware_keys::{
     BITS, DESCRIPTOR_SIZE, DESCRIPTOR_VERSION, EFI, EFI_SECURE_BOOT, MAP, MAP_ADDRESS, SYSTEM_TABLE,
 };
+use crate::key_set::KeySet;
 use crate::keys::{at_key, bad_value, check_keys, number_at, required_at, table_if, word_at};
 use crate::table_fault::TableFault;
 use crate::values::toml_word;

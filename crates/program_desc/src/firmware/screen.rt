@@ -11,8 +11,9 @@ ghost use Rattle.program_desc.specs.declared.bad_key.TablePlace.TheVariants as p
 ghost use Rattle.program_desc.specs.declared.key_set.KeySet.TheVariants as keys;
 
 use crate::bad_key::TablePlace;
+use crate::firmware_keys::{BLUE, DEPTH, GREEN, HEIGHT, PITCH, RED, SCREEN, WIDTH};
 use crate::key_set::KeySet;
-use crate::key_table::{BASE, BLUE, DEPTH, GREEN, HEIGHT, Key, PITCH, RED, SCREEN, WIDTH};
+use crate::key_table::{BASE, Key};
 use crate::keys::{bad_value, byte_at, check_keys, number_at, required_at, table_if, word_at};
 use crate::table_fault::TableFault;
 use crate::values::toml_byte;

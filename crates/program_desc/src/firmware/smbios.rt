@@ -11,8 +11,9 @@ ghost use Rattle.program_desc.specs.declared.bad_key.TablePlace.TheVariants as p
 ghost use Rattle.program_desc.specs.declared.key_set.KeySet.TheVariants as keys;
 
 use crate::bad_key::TablePlace;
+use crate::firmware_keys::{MAJOR, MINOR, SMBIOS, TABLES};
 use crate::key_set::KeySet;
-use crate::key_table::{Key, MAJOR, MINOR, SMBIOS, TABLES};
+use crate::key_table::Key;
 use crate::keys::{bad_value, byte_at, check_keys, required_at, table_if};
 use crate::table_fault::TableFault;
 use crate::values::toml_bytes;

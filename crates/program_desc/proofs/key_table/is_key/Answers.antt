@@ -2,7 +2,7 @@ use Rattle.std.proofs.Common.{◌∙◌, ap, List, ℕ}
 use Rattle.std.specs.List.{list_any}
 use Rattle.std.specs.Str.{bytes_eq}
 use Rattle.program_desc.proofs.KeyLemmas.{among_names}
-use Rattle.program_desc.proofs.key_set.is_key.Goals as goal
+use Rattle.program_desc.proofs.key_table.is_key.Goals as goal
 
 pub returns : goal.returns
 returns c =
