@@ -102,9 +102,10 @@ static int is_same_map(void) {
     static machine_map now;
     size_t count = boot.map.machine.region_count;
     if (read_map(&now) != NULL || now.machine.region_count != count ||
-        memcmp(now.regions, boot.map.regions, count * sizeof now.regions[0]) != 0 ||
-        !are_alike(&now.list, &boot.map.list))
+        memcmp(now.regions, boot.map.regions, count * sizeof now.regions[0]) != 0)
         return 0;
+    int is_kept = boot.map.list.descriptors != now.list.descriptors; /* and not read over */
+    if (is_kept && !are_alike(&now.list, &boot.map.list)) return 0;
     boot.map.key = now.key;
     return 1;
 }

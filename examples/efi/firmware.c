@@ -55,9 +55,9 @@ static bootcore_color color_of(uint32_t mask) {
 
 static bootcore_screen screen_of(const EFI_GRAPHICS_OUTPUT_PROTOCOL_MODE *mode) {
     const EFI_PIXEL_BITMASK masks = masks_of(mode->Info);
+    uint32_t all = masks.RedMask | masks.GreenMask | masks.BlueMask | masks.ReservedMask;
     uint8_t depth = 0; /* up to the highest bit that means something, or is reserved */
-    for (uint32_t all = masks.RedMask | masks.GreenMask | masks.BlueMask | masks.ReservedMask; all; all >>= 1)
-        depth++;
+    for (; all != 0; all >>= 1) depth++;
     return (bootcore_screen){
         .base = mode->FrameBufferBase,
         .pitch = mode->Info->PixelsPerScanLine * ((depth + 7u) / 8),
@@ -167,8 +167,8 @@ void tell_firmware(machine_map *map, const menu_entry *entry) {
     bootcore_firmware *told = &map->firmware;
     if (kept_list.size == 0 || !are_alike(&kept_list, &map->list)) keep_list(&map->list);
     if (kept_list.size != 0) map->list = kept_list;
-    const uint8_t *old_rsdp = find_rsdp(0), *new_rsdp = find_rsdp(1);
-    *told = (bootcore_firmware){.rsdp = (UINTN)(new_rsdp != NULL ? new_rsdp : old_rsdp), .smbios = smbios};
+    const uint8_t *rsdp = find_rsdp(1) != NULL ? find_rsdp(1) : find_rsdp(0);
+    *told = (bootcore_firmware){.rsdp = (UINTN)rsdp, .smbios = smbios};
     if (output != NULL && !entry->has_no_screen) told->screen = screen_of(output->Mode);
     if (!entry->has_no_efi) told->efi = efi_of(&map->list);
     told->avoided = map->avoided;

@@ -63,10 +63,11 @@ const char *read_map(machine_map *map) {
 
 /* ---- two lists of one machine */
 
+static int is_free(const EFI_MEMORY_DESCRIPTOR *d) { return kind_of(d) == BOOTCORE_KIND_USABLE; }
+
 /* Of memory that is free once the firmware has ended, no more than that matters. */
 static int have_one_use(const EFI_MEMORY_DESCRIPTOR *one, const EFI_MEMORY_DESCRIPTOR *other) {
-    int is_free = kind_of(one) == BOOTCORE_KIND_USABLE, is_other_free = kind_of(other) == BOOTCORE_KIND_USABLE;
-    if (is_free || is_other_free) return is_free == is_other_free;
+    if (is_free(one) || is_free(other)) return is_free(one) == is_free(other);
     return one->Type == other->Type && one->Attribute == other->Attribute;
 }
 
@@ -109,10 +110,12 @@ static void join_nearest(const machine_map *map, bootcore_avoided *ranges, size_
     size_t nearest = 1;
     uint64_t least = UINT64_MAX;
     for (size_t i = 1; i < *count; i++) {
-        uint64_t between = usable_between(map, ranges[i - 1].base + ranges[i - 1].length, ranges[i].base);
+        uint64_t end = ranges[i - 1].base + ranges[i - 1].length;
+        uint64_t between = usable_between(map, end, ranges[i].base);
         if (between < least) least = between, nearest = i;
     }
-    ranges[nearest - 1].length = ranges[nearest].base + ranges[nearest].length - ranges[nearest - 1].base;
+    uint64_t end = ranges[nearest].base + ranges[nearest].length;
+    ranges[nearest - 1].length = end - ranges[nearest - 1].base;
     --*count;
     for (size_t i = nearest; i < *count; i++) ranges[i] = ranges[i + 1];
 }

@@ -85,7 +85,8 @@ static void take(const char *word, char *rest) {
     else if (is_word(word, "kernel")) take_kernel(rest, entry);
     else if (is_word(word, "module")) take_module(rest, entry);
     else if (is_word(word, "ramdisk")) take_linux_ramdisk(rest, entry);
-    else if (is_word(word, "screen")) entry->has_no_screen = check(is_word(rest, "no"), "the only value is no");
+    else if (is_word(word, "screen"))
+        entry->has_no_screen = check(is_word(rest, "no"), "the only value is no");
     else if (check(is_word(word, "line"), "no such word")) take_entry_line(rest, &entry->core);
 }
 
