@@ -15,7 +15,7 @@ extern "C" {
 
 /* How long an arena is enough for each load, preparation, plan and digest, and bootcore_unplaced,
  * if nothing else is kept in it. A boot, a session and a walk may want more: docs/EMBED.md. */
-enum { BOOTCORE_ARENA = 1048576 };
+enum { BOOTCORE_ARENA = 1572864 };
 
 /* The two functions are in libbootcore_freestanding.a alone: with libbootcore.a they don't link. */
 

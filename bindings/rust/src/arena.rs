@@ -4,7 +4,7 @@ use crate::raw;
 
 /// How long an arena is enough for each load, preparation, plan and digest, if nothing else is kept in it. A boot, a session and
 /// a walk may want more.
-pub const ARENA: usize = 1048576;
+pub const ARENA: usize = 1572864;
 
 /// Gives the calls the memory that they take for their tables, for good. Before, each that wants some is
 /// [`Error::NoMemory`](crate::Error::NoMemory). All calls share it, so that each waits until no other runs: make none in a handler
