@@ -24,7 +24,7 @@ MEASURED = {
     "planner": 0.25, "modules_boot": 0.25, "entry_files": 0.31, "said": 0.34, "registers": 0.4,
     "menu": 0.44, "header": 0.46, "elf": 0.95, "menu_boot": 1.87, "bad_keys": 2.15,
     "description": 2.5, "prepare": 2.68, "walk_2": 3.03, "setup": 3.81, "looking": 3.8, "firmware": 4.8,
-    "explain": 6.27, "told": 7.5, "read_image_2": 8.8, "walk": 9, "stdin": 14, "walk_to": 15, "walk_64": 31,
+    "explain": 6.27, "told": 7.5, "read_image_2": 8.8, "walk": 9, "stdin": 14, "walk_to": 15,
 }
 
 
