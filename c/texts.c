@@ -89,7 +89,7 @@ size_t bootcore_refusal_line(const bootcore_refusal *refusal, char *buffer, size
         text.room = length - 1;
     }
     if (refusal) {
-        put_words(&text, refusal->number > BOOTCORE_REFUSAL_NO_64_ENTRY ? "bad image " : "refused ");
+        put_words(&text, refusal->number < BOOTCORE_FAULT_BAD_MAGIC ? "refused " : "bad image ");
         put_number(&text, refusal->number, 10);
         if (found) {
             put(&text, ' ');

@@ -37,8 +37,8 @@ def is_copy(copy: Optional[bytes]) -> bool:
 
 
 def prepare(machine: Machine, entry: Entry) -> Handover:
-    """Steps 4 to 9 of the checks of an entry, whose files are all there; refused with 4 to 20 and
-    22 to 30. The room is not asked for."""
+    """Steps 4 to 9 of the checks of an entry, whose files are all there; refused with 4 to 20, or
+    with 22 and above. The room is not asked for."""
     check_lines(entry)
     if isinstance(entry, Multiboot2Entry):
         return multiboot2_entry.prepare(machine, entry.kernel, entry.line, entry.modules,
