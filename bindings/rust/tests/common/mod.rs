@@ -1,7 +1,7 @@
 //! The machines and kernels of the first two examples, and the kernel of the second for the 64-bit entry.
 #![allow(dead_code)] // no test uses all
 
-use bootcore::{Kind, Machine};
+use bootcore::{Color, Kind, Machine, Screen};
 
 const FIRST: &str = include_str!("../../../../examples/first.toml");
 const SECOND: &str = include_str!("../../../../examples/second.toml");
@@ -34,6 +34,12 @@ fn first_file(description: &str) -> Vec<u8> {
     let value = description.split("hex = ").nth(1).unwrap();
     let quotes = if value.starts_with("\"\"\"") { "\"\"\"" } else { "\"" };
     bytes_of(value.split(quotes).nth(1).unwrap())
+}
+
+/// A screen of 1024 times 768 pixels, of 32 bits each.
+pub fn screen(base: u64) -> Screen {
+    let color = |position| Color { position, size: 8 };
+    Screen { base, pitch: 4096, width: 1024, height: 768, depth: 32, red: color(16), green: color(8), blue: color(0) }
 }
 
 /// The machine of both examples.
