@@ -5,9 +5,9 @@ ghost use Rattle.program_desc.specs.Views.{view};
 ghost use Rattle.program_boots.specs.described.DescribedMachine.{IsMachineFault, IsMachineOf};
 ghost use Rattle.program_commands.specs.internal.Readings.{IsReadMachine, IsReadingFault};
 
+use crate::document::read_description;
 use bl_map::{Machine, MapFault};
 use program_desc::{DescFault, Description};
-use program_document::read_description;
 use std::alloc::{Allocator, Global};
 
 /// The machine that is described, or the first fault of it.

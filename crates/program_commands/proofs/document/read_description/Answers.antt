@@ -2,7 +2,7 @@ use Rattle.std.proofs.Common.{◌∙◌, sym}
 use Rattle.std.proofs.Math.Bool.{true≢false}
 use Rattle.program_desc.proofs.DescribedLemmas.{described-table, described-no_text}
 use Rattle.program_desc.proofs.DescribedLemmas.{described-no_table}
-use Rattle.program_document.proofs.document.read_description.Goals as goal
+use Rattle.program_commands.proofs.document.read_description.Goals as goal
 
 pub returns-in_default-clause-given : goal.returns-in_default-clause-given
 returns-in_default-clause-given g c =
