@@ -18,7 +18,7 @@ archive=$top/examples/c/out/libbootcore.a
 [ -w /dev/kvm ] || fail "/dev/kvm is not at hand"
 cc -std=c99 -O2 -o "$work/kvm_reads" "$here/kvm_reads.c" || fail "kvm_reads.c does not build"
 "$top/examples/kvm/build" "$work/made" > /dev/null || fail "the monitor is not built" # with its tables
-cc -std=c99 -O2 -I"$top/include" -I"$top/examples/kvm" -I"$work/made/acpi" -o "$work/kvm_state" "$top/tools/c/kvm_state.c" \
+cc -std=c99 -O2 -I"$top/include" -I"$top/examples/kvm" -I"$work/made/acpi" -o "$work/kvm_state" "$top/tests/drivers/kvm_state.c" \
     "$top"/examples/kvm/{acpi,load,machine,memory}.c "$archive" || fail "kvm_state.c does not build"
 cd "$work"
 echo 'int main(void) { return 0; }' > nothing.c

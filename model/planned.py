@@ -1,4 +1,4 @@
-"""Plans and digests of entries by way of C, as tools/c/plans.c prints them, beside the rules'."""
+"""Plans and digests of entries by way of C, as tests/drivers/plans.c prints them, beside the rules'."""
 
 import os
 import sys
@@ -14,7 +14,7 @@ from rules.machine import Machine
 from rules.plans import Place, Step
 from rules.refusals import Refused
 
-sys.path.append(os.path.join(TOP, "tools", "c"))
+sys.path.append(os.path.join(TOP, "tests", "drivers"))
 from spelling import spelled  # noqa: E402
 
 DONE, REFUSED, BAD_FILE = 0, 1, 103  # statuses of include/bootcore.h
@@ -36,7 +36,7 @@ class Told(NamedTuple):
 def plan_fault(rng: Random, text: bytes, path_named: Callable[[str], File],
                driver: Callable[[bytes], Ended]) -> Tuple[Optional[str], List[str]]:
     """What is wrong with the plans of a description's entries, None if nothing is; and how they
-    end. The driver is given the description as tools/c/case.h says."""
+    end. The driver is given the description as tests/drivers/case.h says."""
     try:
         described = description.read(text)
     except description.BadDescription:

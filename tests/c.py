@@ -167,7 +167,7 @@ class Archives(CoreChecks):
         self.assertEqual(count, 1)
         header.write_text(text, encoding="utf-8")
         self.assert_ended(run(other / "tools/c_archive", other / "libbootcore.a", timeout=300))
-        source, made = TOP / "tools/c/versions.c", []
+        source, made = TOP / "tests/drivers/versions.c", []
         for name, archive in (("one", libraries()[0]), ("other", other / "libbootcore.a")):
             made.append(self.room / f"{name}.so")
             words = [*CC, "-std=c99", "-DLIBRARY", "-fPIC", "-shared", *WARNINGS, "-I", HEADER.parent, source, archive]
@@ -192,7 +192,7 @@ class Texts(CoreChecks):
 
     def test_texts(self) -> None:
         made = self.room / "texts"
-        words = [*CC, "-std=c99", "-O2", *WARNINGS, "-I", HEADER.parent, TOP / "tools/c/texts.c", *libraries()]
+        words = [*CC, "-std=c99", "-O2", *WARNINGS, "-I", HEADER.parent, TOP / "tests/drivers/texts.c", *libraries()]
         self.ends("the driver that prints refusals in words is built", run(*words, "-o", made))
         if not made.exists():
             return
@@ -398,7 +398,7 @@ class Cases(CoreChecks):
         if not has_tomllib():
             self.leave_out(sentence, "python3 of 3.11 or later is not at hand")
             return
-        ran = run(TOP / "tools/c/cases", driver, timeout=900, env={"PYTHONDONTWRITEBYTECODE": "1"})
+        ran = run(TOP / "tests/drivers/cases", driver, timeout=900, env={"PYTHONDONTWRITEBYTECODE": "1"})
         lines = ran.out.decode(errors="backslashreplace").splitlines()
         counts = CASES_COUNT.fullmatch(lines[-1]) if lines else None
         if counts is None or ran.err or (ran.status == 0) != (counts[3] == "0"):

@@ -91,13 +91,13 @@ class Needs(CoreChecks):
     """What calls need of stack, and of an arena."""
 
     def measured(self, sentence: str, driver: Optional[Path]) -> Dict[Tuple[str, ...], int]:
-        """What tools/c/needs prints of a driver: the number behind the words of each line."""
+        """What tests/drivers/needs prints of a driver: the number behind the words of each line."""
         if driver is None:
             return {}
         if not has_tomllib():
             self.leave_out(sentence, NO_TOMLLIB)
             return {}
-        ran = run(TOP / "tools/c/needs", driver, timeout=1800, env=QUIET)
+        ran = run(TOP / "tests/drivers/needs", driver, timeout=1800, env=QUIET)
         with self.check(sentence):
             self.assert_ended(ran, 0, None)
         lines = [line.split(" ") for line in ran.out.decode().splitlines()] if ran.status == 0 else []
@@ -136,7 +136,7 @@ class Needs(CoreChecks):
 class Freestanding(CoreChecks):
     def test_allocator(self) -> None:
         made = self.room / "arena"
-        sources = [TOP / "tools/c/arena.c", TOP / "c/freestanding/arena.c"]
+        sources = [TOP / "tests/drivers/arena.c", TOP / "c/freestanding/arena.c"]
         words = [*CC, "-std=c99", "-g", "-O2", *WARNINGS, *self.sanitizers(), "-I", HEADER.parent, *sources, "-o", made]
         self.ends("the allocator over an arena is built with its driver", run(*words))
         self.ends("blocks of an arena are apart and keep their bytes, and an arena of the peak's length is enough", run(made))
@@ -147,7 +147,7 @@ class Freestanding(CoreChecks):
             return
         made = self.room / "bare"
         words = [*CC, "-std=c99", "-O2", *WARNINGS, "-ffreestanding", "-fno-stack-protector", "-fno-pic", "-mno-red-zone"]
-        built = run(*words, "-nostdlib", "-static", "-I", HEADER.parent, TOP / "tools/c/bare.c", FREESTANDING, "-o", made)
+        built = run(*words, "-nostdlib", "-static", "-I", HEADER.parent, TOP / "tests/drivers/bare.c", FREESTANDING, "-o", made)
         self.ends("a program that calls all of the archive for firmware is linked with nothing else", built)
         if built.status == 0:
             self.ends("it loads, plans, boots, digests and walks with an arena, and has no memory without one", run(made))
@@ -186,7 +186,7 @@ class Fuzzed(CoreChecks):
         sentence = "a minute of random machines, entries and files ends as it should: loads, plans that are carried out, digests, walks"
         if has_tomllib():
             of_cases = self.room / "kernels"
-            self.ends("the kernels of the cases are written", run(TOP / "tools/c/kernels", of_cases, env=QUIET))
+            self.ends("the kernels of the cases are written", run(TOP / "tests/drivers/kernels", of_cases, env=QUIET))
             kernels += sorted(of_cases.iterdir())
         ran = run(driver, str(ONE_MINUTE), "1", self.kernel, *kernels, cwd=self.room, timeout=10 * ONE_MINUTE)
         told = ran.out.decode(errors="replace").strip()
@@ -221,7 +221,7 @@ class Clients(CoreChecks):
             self.leave_out("a client in C++98 loads a kernel", "c++ is not at hand")
             return
         made = self.room / "client_cc"
-        words = ["c++", "-std=c++98", "-O2", *WARNINGS, "-I", HEADER.parent, TOP / "tools/c/client.cc", *libraries(), "-o", made]
+        words = ["c++", "-std=c++98", "-O2", *WARNINGS, "-I", HEADER.parent, TOP / "tests/drivers/client.cc", *libraries(), "-o", made]
         self.ends("a client in C++98 is built without a warning", run(*words))
         self.ends("a client in C++98 loads a kernel", run(made), 0, CLIENT)
 
@@ -230,6 +230,6 @@ class Clients(CoreChecks):
             self.leave_out("a client in Rust loads a kernel", "rustc is not at hand")
             return
         made, folder = self.room / "client_rs", libraries()[0].parent
-        words = ["rustc", "--edition", "2021", "-O", "-D", "warnings", TOP / "tools/c/client.rs", "-L", f"native={folder}"]
+        words = ["rustc", "--edition", "2021", "-O", "-D", "warnings", TOP / "tests/drivers/client.rs", "-L", f"native={folder}"]
         self.ends("a client in Rust is built without a warning", run(*words, "-l", "static=bootcore", "-o", made, timeout=300))
         self.ends("a client in Rust loads a kernel", run(made), 0, CLIENT)

@@ -102,9 +102,9 @@ class CoreChecks(ProgramChecks):
         return working
 
     def driver(self, name: str, *flags: str, archive: Optional[Path] = None) -> Optional[Path]:
-        """A program of tools/c over an archive, the one with a libc if none is named; None if it can't be built, as is reported."""
+        """A program of tests/drivers over an archive, the one with a libc if none is named; None if it can't be built, as is reported."""
         made = self.room / f"c_{name}"
-        words = [*CC, "-std=c99", "-g", "-O2", *WARNINGS, *flags, "-I", HEADER.parent, TOP / f"tools/c/{name}.c"]
+        words = [*CC, "-std=c99", "-g", "-O2", *WARNINGS, *flags, "-I", HEADER.parent, TOP / f"tests/drivers/{name}.c"]
         built = run(*words, *([archive] if archive else libraries()), "-o", made, timeout=600)
-        self.ends(f"tools/c/{name}.c is built without a warning over {(archive or libraries()[0]).name}", built)
+        self.ends(f"tests/drivers/{name}.c is built without a warning over {(archive or libraries()[0]).name}", built)
         return made if built.status == 0 else None

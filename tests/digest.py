@@ -244,7 +244,7 @@ class Growths(DigestChecks):
             raise unittest.SkipTest("cc is not at hand")
         cls.library = cls.room / "refuse.so"
         how = "-std=c99 -Wall -Wextra -Wpedantic -Wconversion -Werror -O1 -shared -fPIC".split()
-        ran = run("cc", *how, "-o", cls.library, TOP / "tools/c/refuse.c", "-ldl")
+        ran = run("cc", *how, "-o", cls.library, TOP / "tests/drivers/refuse.c", "-ldl")
         if ran.status != 0:
             raise AssertionError(f"ran: {ran}\n{ran.err.decode(errors='replace')}")
 

@@ -111,7 +111,7 @@ class Gate(Checks):
             stdout=subprocess.PIPE,
             stderr=subprocess.STDOUT,
         )
-        times = subprocess.Popen(["tools/gate_times"], cwd=TOP, stdin=subprocess.PIPE, stdout=sys.stdout)
+        times = subprocess.Popen(["tests/gate_times"], cwd=TOP, stdin=subprocess.PIPE, stdout=sys.stdout)
         last, misfits = b"", []
         assert gate.stdout is not None and times.stdin is not None
         for line in gate.stdout:

@@ -74,9 +74,9 @@ class MonitorChecks(Checks):
 
     @classmethod
     def build_state(cls) -> Path:
-        """tools/c/kvm_state.c over the files of the monitor, under the sanitizers."""
+        """tests/drivers/kvm_state.c over the files of the monitor, under the sanitizers."""
         state, monitor = cls.room / "kvm_state", TOP / "examples/kvm"
-        sources = [TOP / "tools/c/kvm_state.c", *(monitor / f"{name}.c" for name in ("acpi", "load", "machine", "memory"))]
+        sources = [TOP / "tests/drivers/kvm_state.c", *(monitor / f"{name}.c" for name in ("acpi", "load", "machine", "memory"))]
         built = run(
             *CC, "-std=c99", "-g", "-O2", *WARNINGS, *cls.sanitizers, f"-I{TOP / 'include'}", f"-I{monitor}", f"-I{MADE / 'acpi'}",
             *sources, OUT / "libbootcore.a", "-o", state,
@@ -292,7 +292,7 @@ class OnEmulatedKvm(MonitorChecks):
     def setUpClass(cls) -> None:
         super().setUpClass()
         root = os.environ.get("KVM_ROOT")
-        cls.ran = run(TOP / "tools/kvm_nested", *([root] if root else []), timeout=1200)
+        cls.ran = run(TOP / "tests/kvm_nested", *([root] if root else []), timeout=1200)
         if cls.ran.status == NOT_AT_HAND:
             raise unittest.SkipTest(cls.ran.err.decode(errors="replace").strip())
 

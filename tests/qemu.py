@@ -21,7 +21,7 @@ class Kernels(Checks):
         if not is_at_hand("qemu-system-x86_64"):
             self.skipTest("qemu-system-x86_64 is not at hand")
         need_built(PROGRAM, "tools/build")
-        self.passes("each small kernel is handed in QEMU what its image says", TOP / "tools/qemu_check", PROGRAM)
+        self.passes("each small kernel is handed in QEMU what its image says", TOP / "tests/qemu_check", PROGRAM)
 
     def test_bytes(self) -> None:
         """the bytes of stub and kernels are those of their sources"""

@@ -14,10 +14,10 @@ from tests.support import TOP, Checks, Ran, has_tomllib, is_at_hand, run
 WITHOUT_USAGE = {
     "bootcore": "the first line of its help is the program's name and version",
     "bench/*.sh": "--help shows the comment at its top",
-    "tests/*": "the test alone calls it",
+    "tests/*.py": "the test alone calls it",
 }
 # what imports the model, which needs Python 3.11
-OVER_MODEL = ["model/*", "tools/c/*"]
+OVER_MODEL = ["model/*", "tests/drivers/*"]
 # what shellcheck may find: in sed's words quotes stand beside backslashes, and a key of a description has no blank
 SHELLCHECK_EXCLUDES = {"cases/expand": "SC1003,SC2013"}
 # rows whose last cell is empty, and an edit's context

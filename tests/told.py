@@ -57,16 +57,16 @@ class Told(ProgramChecks):
             raise unittest.SkipTest("what is told is compared with a description that Python 3.11 or later reads")
 
     def compiled(self, name: str, what: str) -> Path:
-        """A program of tools/c; where it can't be compiled, what it compares is left out."""
+        """A program of tests/drivers; where it can't be compiled, what it compares is left out."""
         if not is_at_hand(CC[0]):
             self.leave_out(what, f"there is no compiler {CC[0]}")
             raise unittest.SkipTest(what)
         program = self.room / name
-        ran = run(*CC, "-Wall", "-Werror", "-o", program, TOP / f"tools/c/{name}.c")
+        ran = run(*CC, "-Wall", "-Werror", "-o", program, TOP / f"tests/drivers/{name}.c")
         if ran.status != 0 and b"No such file or directory" in ran.err:
             self.leave_out(what, "there are no Linux headers for C")
             raise unittest.SkipTest(what)
-        with self.check(f"tools/c/{name}.c compiles without a warning"):
+        with self.check(f"tests/drivers/{name}.c compiles without a warning"):
             self.assert_ended(ran)
         return program
 

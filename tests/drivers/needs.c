@@ -1,5 +1,5 @@
 /*
- * What calls need: of stack, and with libbootcore_freestanding.a of its arena. tools/c/needs runs it on each case.
+ * What calls need: of stack, and with libbootcore_freestanding.a of its arena. tests/drivers/needs runs it on each case.
  *
  *     needs <CASE
  *

@@ -1,4 +1,4 @@
-/* A case, as tools/c/spelling.py spells it, read from standard input: twelve numbers of 64 bits, as written below, and then arrays:
+/* A case, as tests/drivers/spelling.py spells it, read from standard input: twelve numbers of 64 bits, as written below, and then arrays:
  * regions and ranges to avoid as they lie in memory; what firmware tells, where it tells something; files, entries, the bytes of all
  * files, lines and tables, and modules, as the structs below; fallbacks of 32 bits. Each array is a block of its own, which ends where
  * it should. */

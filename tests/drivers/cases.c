@@ -1,5 +1,5 @@
 /*
- * A case by way of C. tools/c/cases runs it on each.
+ * A case by way of C. tests/drivers/cases runs it on each.
  *
  *     cases load ENTRY IMAGE <CASE       loads this entry by bootcore_load
  *     cases boot MOST IMAGE <CASE        boots the menu by bootcore_boot
