@@ -17,6 +17,7 @@ LINK_TO_HEADING = re.compile(r"\]\(([^)#\s]*)#([^)\s]+)\)")
 CONFLICT = re.compile(r"(<{7}|>{7}) ")
 MANUAL_PAGE = TOP / "docs/bootcore.1"
 
+LAID_OUT = ["layers", "session", "frame"]
 DRAWN_BY_PROGRAM = ["first", "second", "boot"]
 TOOLS = [
     ("each link to a definition or a clause names one that its file declares", "tools/pages", "anchors"),
@@ -198,15 +199,23 @@ class Pages(Checks):
             self.assertEqual(missing, [])
 
     def test_pictures(self) -> None:
-        drawn = first_match(r"^pictures=\((.*)\)$", "tools/pictures").split()
+        drawn = run(TOP / "tools/pictures", "--help").out.decode().split("] [")[1].split(" ..]")[0].split("|")
         with self.check("each picture of docs/pictures is one that tools/pictures draws, and no page shows another one"):
             self.assertEqual(sorted(it.stem for it in (TOP / "docs/pictures").glob("*.svg")), sorted(drawn))
             texts = {page: "\n".join(repository.lines(page)) for page in repository.pages()}
             shown = {page: re.findall(r"!\[[^]]*\]\(([^)]*)\)", text) for page, text in texts.items()}
             others = [(page, it) for page, links in shown.items() for it in links if Path(it).name not in [f"{each}.svg" for each in drawn]]
             self.assertEqual(others, [])
-        from_sources = [name for name in drawn if name not in DRAWN_BY_PROGRAM]
+        from_sources = [name for name in drawn if name not in DRAWN_BY_PROGRAM + LAID_OUT]
         self.passes("each picture that needs no program is what tools/pictures draws", TOP / "tools/pictures", "--check", *from_sources)
+
+    def test_graphs(self) -> None:
+        ran = run(TOP / "tools/pictures", "--check", *LAID_OUT)
+        if ran.status == 127 and ran.out:  # no `dot`, or another one
+            self.ends("each graph is what tools/pictures draws, wherever its boxes stand", ran, 127, None)
+            self.leave_out("the boxes of each graph stand where `dot` has them", ran.out.decode().splitlines()[0])
+        else:
+            self.ends("each graph is what tools/pictures draws, and its boxes stand where `dot` has them", ran)
 
     def test_copies(self) -> None:
         with self.check("HANDLES is its one line"):

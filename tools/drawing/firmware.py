@@ -2,11 +2,16 @@
 
 from __future__ import annotations
 
+import sys
+from pathlib import Path
 from typing import Callable, List, NamedTuple, Sequence, Tuple
 
-from memory import FREE, PAGE, Memory, Range
-
 from . import svg, words
+from .boots import BadInput
+
+sys.path.append(str(Path(__file__).resolve().parent.parent.parent / "examples/efi/host"))
+
+from memory import FREE, PAGE, Memory, Range, faults, read_memory  # noqa: E402
 
 TOP, ROW = 122, 30
 AXIS, FIRST, WIDTH, GAP = 112, 128, 200, 66
@@ -155,7 +160,15 @@ def _pages(each: Range) -> Range:
     return each._replace(length=-(-each.length // PAGE) * PAGE)
 
 
-def picture(memory: Memory) -> str:
+def picture(path: str) -> str:
+    """Of the file handover.memory at this path, whose copies must do."""
+    try:
+        memory = read_memory(path)
+        wrong = faults(memory)
+    except ValueError as fault:
+        raise BadInput(str(fault)) from fault
+    if wrong:
+        raise BadInput(wrong[0])
     memory = memory._replace(files=[_pages(each) for each in memory.files], last=_pages(memory.last))
     rows = _rows(memory)
     elements = [

@@ -41,12 +41,15 @@ rect { stroke: #57606a }
 .tables { fill: #98a848 }
 """
 
-DEFINITIONS = """\
+TIP = """\
+<marker id="tip" viewBox="0 0 8 8" refX="7" refY="4" markerWidth="7" markerHeight="7" orient="auto">
+<path d="M0 0L8 4L0 8Z" fill="#1b1f24"/></marker>"""
+
+DEFINITIONS = f"""\
 <defs>
 <pattern id="hatch" width="8" height="8" patternUnits="userSpaceOnUse" patternTransform="rotate(45)">
 <path d="M0 0H8V8H0Z" fill="#f1f3f5"/><path d="M0 0V8" stroke="#d8dde3" stroke-width="4"/></pattern>
-<marker id="tip" viewBox="0 0 8 8" refX="7" refY="4" markerWidth="7" markerHeight="7" orient="auto">
-<path d="M0 0L8 4L0 8Z" fill="#1b1f24"/></marker>
+{TIP}
 </defs>"""
 
 

@@ -1,11 +1,10 @@
-"""The words of the picture: sizes, addresses, where a part's bytes come from."""
+"""The words of pictures of memory: sizes, addresses, where a part's bytes come from."""
 
 from __future__ import annotations
 
 from typing import Dict, List, Optional, Tuple
 
-from .handover import Boot, Part, Source
-from .map_lines import MemoryMap
+from .boots import Boot, MemoryMap, Part, Source
 
 # So many characters of text fit into a line beside the parts, and into the line below the title, in the usual fonts.
 LINE = 42
