@@ -5,7 +5,7 @@
 # instruction by the 64-bit entry makes the processor set accessed bits in the page tables.
 #
 # Assembled at 0xfffffe00. examples/qemu.hex has its bytes, so nothing need be assembled to run it;
-# tools/qemu_bytes compares them where an assembler is at hand.
+# examples/kernels/bytes compares them where an assembler is at hand.
 
     .set rom, start - 0xfe00
     # the head of an image of version 2, as docs/FORMATS.md has it

@@ -30,7 +30,7 @@ TOOLS = [
     ("a reader's hour in docs/THEOREMS.md has the lines that it counts", "tools/pages", "hour"),
     ("CONTRIBUTING.md lists each place where a refusal and a key stand", "tools/pages", "places"),
     ("each list of refusals has the numbers, the names and the meanings of docs/REFUSALS.md", "tools/refusals", "--check"),
-    ("each must-fail edit changes a line that stands once, those of docs/EDITS.md in the function named there", "tools/edits"),
+    ("each must-fail edit changes a line that stands once, those of docs/EDITS.md in the function named there", "tools/pages", "edits"),
     ("the completions have the subcommands, options and values of the usage text", "tools/pages", "completions"),
     ("docs/PLANTS.md has a row of each crate but those of tests, and a reason in each", "tools/plants", "--check"),
 ]

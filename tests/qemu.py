@@ -27,7 +27,7 @@ class Kernels(Checks):
         """the bytes of stub and kernels are those of their sources"""
         if not self.has_assembler():
             self.skipTest("as and ld for x86-64 are not at hand")
-        self.passes("the bytes of stub and kernels are those of their sources", TOP / "tools/qemu_bytes")
+        self.passes("the bytes of stub and kernels are those of their sources", TOP / "examples/kernels/bytes")
 
     def has_assembler(self) -> bool:
         assembled = run("as", "--64", "-o", self.room / "object", "/dev/null")

@@ -1,33 +1,127 @@
-"""What a source declares, and at which line: one parser for the tools that check pages.
-
-In .antt: a definition, a field, a constructor. In .rt: `fn`, `struct`, `enum`, `trait`; with `Type::call` a call within a trait or an `impl`
-of that type, or of the type that `type Type = ..` of the same file names; with `call.clause` a clause of the call's contract."""
+"""The repository's texts, and what a source or a file of definitions declares: the one parser of all tools that look at such."""
 import re
 from functools import lru_cache
 from pathlib import Path
-from typing import Dict, List, Tuple
+from typing import Dict, Iterator, List, NamedTuple, Set, Tuple
 
 TOP = Path(__file__).resolve().parent.parent.parent
-MARK = re.compile(r"(pub|abbrev|unfoldable|data|record) ")
-OWNER = re.compile(r"(?:impl|(?:pub )?trait)[ <]")
-ITEM = re.compile(
-    r' *(?:pub(?:\([a-z]+\))? )?(?:(?:const|unsafe|ghost|extern "C") )*(fn|struct|enum|trait) ([A-Za-z0-9_]+)'
-)
-ALIAS = re.compile(r"(?:pub(?:\([a-z]+\))? )?type ([A-Za-z0-9_]+)[^=]*= ([A-Za-z0-9_]+)")
-CLAUSE = re.compile(r" *(ensures|requires) ([A-Za-z0-9_]+) \{")
+OWN = ("README.md", "CONTRIBUTING.md", "SECURITY.md", "docs/*.md", "crates/*/README.md")
+ALL = OWN + ("cases/README.md", "model/README.md", "bindings/*/README.md")
+
+# in .rt
+HEAD = re.compile(r"(?:unsafe )?(?:impl|(?:pub(?:\([a-z]+\))? )?(?:unsafe )?(trait|enum|struct))[ <]")
+ITEM = re.compile(r'( *)(pub(?:\([a-z]+\))? )?(?:(?:const|unsafe|ghost|extern "C") )*(fn|struct|enum|trait|const|type) (\w+)')
+CLAUSE = re.compile(r" *(ensures|requires) (\w+) \{")
+VARIANT, FIELD = re.compile(r"    ([A-Z]\w*)\b"), re.compile(r"    (?:pub(?:\([a-z]+\))? )?(\w+): ")
+ALIASED = re.compile(r"[^=]*= (\w+)")
+EXPORTED = re.compile(r"^ *pub use ([\w:]+)(?:::\{([^}]*)\})?(?: as \w+)?;", re.M)
+# in .antt
+MARKS = re.compile(r"((?:(?:pub|abbrev|unfoldable|data|record) )*)([^ :({]+)( *:|$)?")
+NONE = ("use", "mod", "mutual")
 
 
-def owner_of(line: str) -> str:
-    """The type of an `impl` or a trait."""
-    while True:
+def paths(patterns: Tuple[str, ...] = OWN) -> Iterator[str]:
+    """The pages."""
+    for pattern in patterns:
+        for page in sorted(TOP.glob(pattern)):
+            yield str(page.relative_to(TOP))
+
+
+def text_of(path: str) -> str:
+    return (TOP / path).read_text(encoding="utf-8")
+
+
+def crates() -> List[Path]:
+    return sorted(path for path in (TOP / "crates").iterdir() if path.is_dir())
+
+
+class Item(NamedTuple):
+    """What a line declares.
+
+    In .rt: `fn`, `struct`, `enum`, `trait`, `const`, `type`, which names the type `owner`; `impl`, of the type `name`; `variant` and
+    `field`; and `ensures` and `requires`, clauses of the call `owner`. An `owner` is the type or the trait around, and `trait` the one of an `impl`.
+    In .antt: `definition`; `field` of a record; `constructor`, or any other name that gets a type. An `owner` is the record or the type
+    around, whose line is `begins`."""
+
+    line: int
+    kind: str
+    name: str
+    owner: str = ""
+    is_public: bool = False
+    is_outer: bool = True
+    trait: str = ""
+    begins: int = 0
+
+
+def without_arguments(line: str) -> str:
+    """A line without what stands in angle brackets."""
+    count = 1
+    while count:
         line, count = re.subn(r"<[^<>]*>", "", line)
-        if not count:
-            break
-    line = re.sub(r"^(impl (.* for )?|(pub )?trait )", "", line)
-    return re.sub(r"[^A-Za-z0-9_].*", "", line, flags=re.S)
+    return line
 
 
-class Places(Dict[str, Tuple[int, int]]):
+def owner_of(line: str) -> Tuple[str, str]:
+    """The type of an `impl`, and its trait if it has one; of a trait or an enum itself."""
+    found = re.match(r"(?:(?:pub(?:\([a-z]+\))?|unsafe) )*(?:impl|trait|enum|struct) *(?:(\w+(?:::\w+)*) for )?[&(]*(\w+(?:::\w+)*)", without_arguments(line))
+    return (found[2].split("::")[-1], (found[1] or "").split("::")[-1]) if found else ("", "")
+
+
+def in_rt(text: str) -> Iterator[Item]:
+    owner = trait = call = holder = ""
+    for number, line in enumerate(text.splitlines(), 1):
+        if (head := HEAD.match(line)) and line.endswith("{"):
+            (owner, trait), holder = owner_of(line), head[1] or "impl"
+            if holder == "impl":
+                yield Item(number, "impl", owner, trait=trait)
+        elif line.startswith("}"):
+            owner = trait = holder = ""
+        if item := ITEM.match(line):
+            margin, public, kind, name = item.groups()
+            named = ALIASED.match(line[item.end() :])
+            if kind in ("fn", "struct") or not margin:
+                around = (named[1] if named else "") if kind == "type" else owner if kind == "fn" else ""
+                yield Item(number, kind, name, around, public == "pub ", not margin, trait if kind == "fn" else "")
+            if kind == "fn":
+                call = f"{owner}::{name}" if owner else name
+        elif call and (clause := CLAUSE.match(line)):
+            yield Item(number, clause[1], clause[2], call)
+        elif holder == "enum" and (variant := VARIANT.match(line)):
+            yield Item(number, "variant", variant[1], owner)
+        elif holder == "struct" and (field := FIELD.match(line)):
+            yield Item(number, "field", field[1], owner)
+
+
+def in_antt(text: str) -> Iterator[Item]:
+    owner, begins, margin, is_data, mutual = "", 0, 0, False, False
+    for number, line in enumerate(text.splitlines(), 1):
+        depth = len(line) - len(line.lstrip(" "))
+        if line[depth:]:
+            mutual = line.startswith("mutual") if depth == 0 else mutual
+            if owner and depth <= margin:
+                owner, is_data = "", False
+        found = MARKS.match(line[depth:])
+        if not found or found[2] in NONE:
+            continue
+        marks, name, typed = found.groups()
+        is_outer = depth == 0 or (mutual and depth == 2)
+        if not marks.replace("pub ", ""):
+            kind = "field" if marks or (owner and not is_data) else "constructor"
+            if marks or (typed and ":" in typed) or (is_data and depth == margin + 2 and typed is not None):
+                yield Item(number, "definition" if marks and is_outer and not owner else kind, name, owner, bool(marks), is_outer, begins=begins)
+            continue
+        yield Item(number, "definition", name, "", "pub " in marks, is_outer)
+        if "record " in marks or "data " in marks:
+            owner, begins, margin, is_data = name, number, depth, "data " in marks
+
+
+@lru_cache(maxsize=None)
+def items(path: str) -> List[Item]:
+    """What a file declares; its path is from the top of the repository."""
+    return list((in_antt if path.endswith(".antt") else in_rt)(text_of(path)))
+
+
+class Lines(Dict[str, Tuple[int, int]]):
     """Of each name its rank and its line: the first line of the least rank counts."""
 
     def declare(self, name: str, line: int, rank: int = 1) -> None:
@@ -35,46 +129,55 @@ class Places(Dict[str, Tuple[int, int]]):
             self[name] = (rank, line)
 
 
-def from_antt(places: Places, line: str, number: int) -> None:
-    """Rank 1 is a definition, by its mark, 2 a field, 3 a constructor, which has no mark."""
-    line, rank = line.lstrip(" "), 3
-    while mark := MARK.match(line):
-        rank = 1 if mark[1] != "pub" else min(rank, 2)
-        line = line[mark.end() :]
-    name = re.match(r"[^ :(]+", line)
-    if name and (rank < 3 or re.match(r" *:", line[name.end() :])):
-        places.declare(name[0], number, rank)
+@lru_cache(maxsize=None)
+def declared(path: str) -> Dict[str, int]:
+    """The line of each name that a link may lead to: in .rt also of `Type::call`, where `type Type = ..` of the same file may name the
+    type, of `call.clause` and of `Type::call.clause`."""
+    lines = Lines()
+    for item in items(path):
+        # of a condition and a promise of one name, the promise
+        rank = {"field": 2, "constructor": 3, "requires": 2}.get(item.kind, 1)
+        if item.kind in ("ensures", "requires"):
+            lines.declare(f"{item.owner.split('::')[-1]}.{item.name}", item.line, rank)
+            lines.declare(f"{item.owner}.{item.name}", item.line, rank)
+        elif path.endswith(".antt") or item.kind not in ("impl", "variant", "field", "const"):
+            lines.declare(item.name, item.line, rank)
+            if item.kind == "fn" and item.owner:
+                lines.declare(f"{item.owner}::{item.name}", item.line, rank)
+    for alias in items(path):
+        if alias.kind == "type":
+            of_type = f"{alias.owner}::"
+            for name, (rank, line) in [each for each in lines.items() if each[0].startswith(of_type)]:
+                lines.declare(f"{alias.name}::{name[len(of_type) :]}", line, rank)
+    return {name: line for name, (_, line) in lines.items()}
 
 
 @lru_cache(maxsize=None)
-def declared(path: str) -> Dict[str, int]:
-    """The line of each name that a source declares; its path is from the top of the repository."""
-    places, owner, call = Places(), "", ""
-    aliases: List[Tuple[str, str]] = []
-    for number, line in enumerate((TOP / path).read_text(encoding="utf-8").splitlines(), 1):
-        if path.endswith(".antt"):
-            from_antt(places, line, number)
-            continue
-        if OWNER.match(line):
-            owner = owner_of(line)
-        elif line.startswith("}"):
-            owner = ""
-        elif alias := ALIAS.match(line):
-            places.declare(alias[1], number)
-            aliases.append((alias[1], f"{alias[2]}::"))
-        if item := ITEM.match(line):
-            places.declare(item[2], number)
-            if item[1] == "fn":
-                call = item[2]
-                if owner:
-                    places.declare(f"{owner}::{call}", number)
-        elif call and (clause := CLAUSE.match(line)):
-            # of a condition and a promise of one name, the promise
-            rank = 2 if clause[1] == "requires" else 1
-            places.declare(f"{call}.{clause[2]}", number, rank)
-            if owner:
-                places.declare(f"{owner}::{call}.{clause[2]}", number, rank)
-    for alias, owner in aliases:
-        for name, (rank, line) in [each for each in places.items() if each[0].startswith(owner)]:
-            places.declare(f"{alias}::{name[len(owner) :]}", line, rank)
-    return {name: line for name, (_, line) in places.items()}
+def definitions(path: str) -> List[Item]:
+    """The definitions of a file, those of a `mutual` block too, and the constructors of a `data`; of a source its public types."""
+    if path.endswith(".rt"):
+        return [item for item in items(path) if item.kind in ("struct", "enum") and item.is_public and item.is_outer]
+    return [
+        item for item in items(path)
+        if (item.kind == "definition" and item.is_outer) or (item.kind == "constructor" and item.begins)
+    ]
+
+
+def handed_on(text: str) -> Set[str]:
+    """What a source hands on: types by their name, functions by that of their module too."""
+    found: Set[str] = set()
+    for path, names in EXPORTED.findall(text):
+        module, _, last = path.rpartition("::")
+        module, listed = (path, names.split(",")) if names else (module, [last])
+        for name in (each.split()[0] for each in listed if each.strip()):
+            found.add(name if name[0].isupper() else f"{module.split('::')[-1]}::{name}")
+    return found
+
+
+def exports(sources: Dict[str, str]) -> Set[str]:
+    """What a crate hands out, also by way of files that hand it on, of the texts of its sources."""
+    found = next((handed_on(text) for path, text in sources.items() if path.endswith("/src/lib.rt")), set())
+    names = {name.split("::")[-1] for name in found}
+    for text in sources.values():
+        found |= {name for name in handed_on(text) if name.split("::")[-1] in names}
+    return found

@@ -1,14 +1,15 @@
-"""Where links lead, what pages quote, and which files of definitions and proofs a crate's page lists."""
+"""Where links lead, what pages quote, which files of definitions and proofs a crate's page lists, and what is too wide to be read."""
 import os
 import re
 from functools import lru_cache
 from typing import Iterator, List
 
-from checks.declarations import declared
-from checks.pages import TOP, paths, text_of
+from checks.declarations import ALL, TOP, declared, paths, text_of
 
 LINK = re.compile(r"\[([^\]]*)\]\(([^()# ]+\.(?:rt|antt))(#[^() ]*)?\)")
 QUOTED = re.compile(r"<!-- (quoted|calls): (.*) -->")
+ANY_LINK = re.compile(r"\[([^\]]*)\]\([^)]*\)")
+CELL, LINE = 160, 200
 LISTED = re.compile(r"\[(specs|proofs)\]\((?:specs|proofs)\)|`([A-Z][A-Za-z0-9]*)`")
 
 
@@ -100,3 +101,26 @@ def listed() -> Iterator[str]:
                     continue
                 if folder != "specs" or name not in words:
                     yield f"{page}: {crate}/{folder} has no '{name}'"
+
+
+# ---- widths
+
+
+def width(source: str, link: str) -> int:
+    return len(ANY_LINK.sub(link, source).replace("`", "").strip("| "))
+
+
+def widths() -> Iterator[str]:
+    """a table cell of more than 160 characters, a row of more than 200 beside links, another line of more than 200"""
+    for page in paths(("*.md",) + ALL[3:]):
+        for number, line in enumerate(text_of(page).splitlines(), 1):
+            if line.startswith("<!--"):
+                continue
+            is_row = line.startswith("|")
+            cells = [len(ANY_LINK.sub(r"[\1]", cell)) for cell in line.strip("|").split("|")] if is_row else []
+            for cell in cells:
+                if cell > CELL:
+                    yield f"{page}:{number}: a cell of {cell} characters"
+            whole = width(line, "" if is_row else r"\1")
+            if whole > LINE:
+                yield f"{page}:{number}: a {'row' if is_row else 'line'} of {whole} characters"

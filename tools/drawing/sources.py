@@ -6,18 +6,15 @@ from __future__ import annotations
 
 import re
 import textwrap
-from pathlib import Path
 from typing import Dict, List, NamedTuple, Set, Tuple
+
+from checks.declarations import in_rt, items, text_of
 
 from . import svg
 from .boots import BadInput
 from .graphs import Box, Graph, Way
 
-TOP = Path(__file__).resolve().parent.parent.parent
-
-
-def text_of(path: str) -> str:
-    return (TOP / path).read_text(encoding="utf-8")
+HELD = ("variant", "field", "constructor")  # by a type
 
 
 # ---- the crates
@@ -168,53 +165,39 @@ FRAME = Graph(
 
 
 class Names(NamedTuple):
-    """The names that a source has where this is found."""
+    """The variants or the fields that a type has in its source, in their order."""
 
     source: str
-    found: str
+    owner: str
     names: Tuple[str, ...]
 
 
 # what the pictures show is what the sources have
 SHOWN = {
     "session": (
-        Names("crates/bl_session/specs/session/Phases.antt", r"(?ms)^pub data PhaseFacts : Type 0 where\n(.*?)\n\n", tuple(SESSION.boxes)),
-        Names(
-            "crates/bl_session/src/session/outcome.rt",
-            r"(?ms)^pub enum Progress \{\n(.*?)^\}",
-            ("Waiting", "Next", "Done", "Failed"),
-        ),
+        Names("crates/bl_session/specs/session/Phases.antt", "PhaseFacts", tuple(SESSION.boxes)),
+        Names("crates/bl_session/src/session/outcome.rt", "Progress", ("Waiting", "Next", "Done", "Failed")),
     ),
-    "frame": (
-        Names("crates/bl_stage/src/cell.rt", r"(?ms)^pub struct Cell \{\n(.*?)^\}", ("holder", "shut")),
-        Names("crates/bl_stage/README.md", r"(?ms)^<!-- calls: .*?```rust\n(.*?)^```", ("begin", "put", "evacuate", "scrub")),
-    ),
+    "frame": (Names("crates/bl_stage/src/cell.rt", "Cell", ("holder", "shut")),),
 }
+CALLS = ("crates/bl_stage/README.md", {"begin", "put", "evacuate", "scrub"})
 CALLS_THAT_READ = {"size", "piece", "piece_at", "complete", "are_staged", "pool", "files", "size_of", "is_missing", "view", "address"}
 CALLS_FOR_TESTS = {"begin_at"}
 
 
-def names_in(text: str) -> Tuple[str, ...]:
-    """Those of variants, fields or functions, each once."""
-    found = re.findall(r"(?m)^ *(?:pub )?(?:fn )?([A-Za-z_]+)(?: :|,|\(|:|<)", re.sub(r"(?m)^ *(///?|where|impl|\)).*", "", text))
-    return tuple(dict.fromkeys(found))
-
-
-def check(shown: Names) -> None:
-    found = re.search(shown.found, text_of(shown.source))
-    if not found:
-        raise BadInput(f"{shown.source} has not what the picture shows")
-    if "```" in shown.found:
-        calls = set(re.findall(r"pub fn (\w+)", found[1])) - CALLS_THAT_READ - CALLS_FOR_TESTS
-        if calls != set(shown.names):
-            raise BadInput(f"{shown.source} has the calls {', '.join(sorted(calls))}; the picture shows {', '.join(shown.names)}")
-    elif names_in(found[1]) != shown.names:
-        raise BadInput(f"{shown.source} has {', '.join(names_in(found[1]))}; the picture shows {', '.join(shown.names)}")
+def check(name: str) -> None:
+    for source, owner, names in SHOWN[name]:
+        found = tuple(dict.fromkeys(item.name for item in items(source) if item.owner == owner and item.kind in HELD))
+        if found != names:
+            raise BadInput(f"{source} has {', '.join(found)} of {owner}; the picture shows {', '.join(names)}")
+    page, shown = CALLS
+    calls = {item.name for item in in_rt(text_of(page)) if item.kind == "fn"} - CALLS_THAT_READ - CALLS_FOR_TESTS
+    if name == "frame" and calls != shown:
+        raise BadInput(f"{page} has the calls {', '.join(sorted(calls))}; the picture shows {', '.join(sorted(shown))}")
 
 
 def states(name: str) -> Graph:
-    for shown in SHOWN[name]:
-        check(shown)
+    check(name)
     return {"session": SESSION, "frame": FRAME}[name]
 
 

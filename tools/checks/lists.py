@@ -1,39 +1,17 @@
-"""What is too wide to be read in the sources of the pages, and the places of a refusal and of a key that CONTRIBUTING.md lists."""
+"""Lists that are written by hand: the places of a refusal and of a key in CONTRIBUTING.md, and the words that shells complete."""
 import fnmatch
 import re
 import subprocess
-from typing import Iterator, List, Tuple
+from typing import Dict, Iterator, List, Set, Tuple
 
-from checks.pages import ALL, TOP, paths, text_of
+from checks.declarations import TOP, text_of
 
-CELL, LINE = 160, 200
-LINK = re.compile(r"\[([^\]]*)\]\([^)]*\)")
 PAGE = "CONTRIBUTING.md"
 PLACES = re.compile(r"<!-- places of (.*) -->")
 REFUSAL, KEY = re.compile(r"the refusal (\w+), (\d+)"), re.compile(r"the key ([a-z0-9_]+)")
-
-
-def width(source: str, link: str) -> int:
-    return len(LINK.sub(link, source).replace("`", "").strip("| "))
-
-
-def widths() -> Iterator[str]:
-    """a table cell of more than 160 characters, a row of more than 200 beside links, another line of more than 200"""
-    for page in paths(("*.md",) + ALL[3:]):
-        for number, line in enumerate(text_of(page).splitlines(), 1):
-            if line.startswith("<!--"):
-                continue
-            is_row = line.startswith("|")
-            cells = [len(LINK.sub(r"[\1]", cell)) for cell in line.strip("|").split("|")] if is_row else []
-            for cell in cells:
-                if cell > CELL:
-                    yield f"{page}:{number}: a cell of {cell} characters"
-            whole = width(line, "" if is_row else r"\1")
-            if whole > LINE:
-                yield f"{page}:{number}: a {'row' if is_row else 'line'} of {whole} characters"
-
-
-# ---- places
+PROGRAM = "crates/bootcore/src/program.rt"
+USAGE = re.compile(r'^const USAGE: &str = "\\\nbootcore [\d.]+\nusage: (.*?)^";$', re.M | re.S)
+COMPLETIONS = ("completions/bootcore.bash", "completions/_bootcore", "completions/bootcore.fish")
 
 
 def found(pattern: str, *where: str) -> List[str]:
@@ -106,3 +84,44 @@ def places() -> Iterator[str]:
 def show_places() -> Iterator[str]:
     for _, lines, _ in lists():
         yield from (line[:160] for line in sorted(set(lines)))
+
+
+# ---- the words of the program's usage text
+
+
+def usage() -> Tuple[Dict[str, Set[str]], Set[str]]:
+    """Each subcommand with its options, and the words that an option may have for its value."""
+    subcommands: Dict[str, Set[str]] = {}
+    values: Set[str] = set()
+    found = USAGE.search(text_of(PROGRAM))
+    for name, rest in re.findall(r"bootcore ([a-z]+)(.*)", found[1] if found else ""):
+        subcommands.setdefault(name, set()).update(re.findall(r"--[a-z]+", rest))
+        values.update(word for words in re.findall(r"[a-z]+(?:\|[a-z]+)+", rest) for word in words.split("|"))
+    return subcommands, values
+
+
+def offered(path: str) -> Dict[str, Set[str]]:
+    """The options that a file offers for each subcommand, beside --help."""
+    text, found = text_of(path), {}
+    if path.endswith(".bash"):
+        found = {name: set(options.split()) for name, options in re.findall(r"^ +(\w+)\) options='(.*)' ;;$", text, re.M)}
+    elif path.endswith(".fish"):
+        for name, option in re.findall(r"__bootcore_wants (\w+) (--\w+)'", text):
+            found.setdefault(name, set()).add(option)
+    else:
+        for name, block in re.findall(r"^    (\w+)\)\n(.*?)^ +;;$", text, re.M | re.S):
+            found[name] = set(re.findall(r"(--\w+)\[", block))
+    return {name: options - {"--help"} for name, options in found.items()}
+
+
+def completions() -> Iterator[str]:
+    """a subcommand, an option or a value of the usage text that a shell's completion lacks, or one that it has beside them"""
+    subcommands, values = usage()
+    for path in COMPLETIONS:
+        text, told = text_of(path), offered(path)
+        for name in sorted(subcommands.keys() | told.keys()):
+            if told.get(name) != subcommands.get(name):
+                yield f"{path}: {name} has {sorted(told.get(name) or ())}, the usage text {sorted(subcommands.get(name) or ())}"
+        for value in sorted(values):
+            if not re.search(rf"\b{value}\b", text):
+                yield f"{path}: it lacks {value}"

@@ -1,1 +1,0 @@
-"""What tools/pages checks: a module for each kind of thing that a page says."""
