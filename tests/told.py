@@ -7,11 +7,13 @@ from pathlib import Path
 from typing import Dict, List, NamedTuple
 
 from tests.c_core import CC
-from tests.support import TOP, ProgramChecks, Ran, has_tomllib, is_at_hand, run
+from tests.support import TOP, Checks, ProgramChecks, Ran, has_tomllib, is_at_hand, run
 
 HEAD, RECORD = 272, 24  # bytes of an image of version 2 before its records, and of each
 INFORMATION, PARAMETERS = 3, 4  # roles of parts
 COLORS = ("red", "green", "blue")
+LAYOUTS = [f"crates/bl_params/src/{name}.rt" for name in ("fields", "screen_fields", "efi_fields")] + ["crates/bl_bzimage/src/fields.rt"]
+WHOLE = {"boot_params", "e820_entry"}  # structs, whose sizes the program over the headers prints too
 
 
 class Case(NamedTuple):
@@ -49,13 +51,7 @@ def part(image: bytes, role: int) -> bytes:
     raise AssertionError(f"the image has no part of role {role}")
 
 
-class Told(ProgramChecks):
-    @classmethod
-    def setUpClass(cls) -> None:
-        super().setUpClass()
-        if not has_tomllib():
-            raise unittest.SkipTest("what is told is compared with a description that Python 3.11 or later reads")
-
+class Compiled(Checks):
     def compiled(self, name: str, what: str) -> Path:
         """A program of tests/drivers; where it can't be compiled, what it compares is left out."""
         if not is_at_hand(CC[0]):
@@ -69,6 +65,37 @@ class Told(ProgramChecks):
         with self.check(f"tests/drivers/{name}.c compiles without a warning"):
             self.assert_ended(ran)
         return program
+
+
+class Layout(Compiled):
+    def test_fields(self) -> None:
+        ran = run(self.compiled("zero_page", "the fields of boot parameters by the compiler's Linux headers"))
+        self.assert_ended(ran, 0, None)
+        fields = {name.lower(): (int(at, 16), int(size, 16)) for name, at, size in map(str.split, ran.out.decode().splitlines())}
+        told, wrong = set(), []
+        page = (TOP / "docs/FORMATS.md").read_text(encoding="utf-8").split("\n## Boot parameters\n")[1].split("\n## ")[0]
+        for at, name, bits in re.findall(r"^\| 0x(\w+) \| ([a-z]\w+) \| (?:u(\d+)\b)?", page, re.M):
+            told.add(name.lower())
+            place, size = fields.get(name.lower(), (None, None))
+            if place != int(at, 16) or (bits and size * 8 != int(bits)):
+                wrong.append(f"docs/FORMATS.md: {name} at 0x{at}, of {bits} bits; the headers have {size} bytes at {place}")
+        for source in LAYOUTS:
+            for name, at in re.findall(r"^pub const (\w+): (?:usize|u64) = 0x(\w+);$", (TOP / source).read_text(encoding="utf-8"), re.M):
+                field = name.lower().replace("_is_vga", "_isvga")
+                told.add(field)
+                if field in fields and fields[field][0] != int(at, 16):
+                    wrong.append(f"{source}: {name} is 0x{at}; the headers have {fields[field]}")
+        with self.check("each field of boot parameters stands in docs/FORMATS.md and in the core where the compiler's Linux headers have it"):
+            self.assertEqual(wrong, [], "fields that stand elsewhere")
+            self.assertEqual(sorted(set(fields) - told - WHOLE), [], "fields that neither the page nor the core names")
+
+
+class Told(Compiled, ProgramChecks):
+    @classmethod
+    def setUpClass(cls) -> None:
+        super().setUpClass()
+        if not has_tomllib():
+            raise unittest.SkipTest("what is told is compared with a description that Python 3.11 or later reads")
 
     def booted(self, case: Case, role: int) -> bytes:
         """The part of this role of the case's image."""

@@ -1,5 +1,5 @@
 /* Where the fields of boot parameters stand by the compiler's own Linux headers: a line `NAME OFFSET SIZE` for each field that the core
-   writes or reads, both in hexadecimal digits. It stands on nothing of ours. */
+   writes or reads, both in hexadecimal digits. It stands on nothing of ours; tests/told.py compares the page and the core with it. */
 #include <asm/bootparam.h>
 #include <linux/screen_info.h>
 #include <stddef.h>
@@ -30,8 +30,6 @@ int main(void) {
     SCREEN(green_pos);
     SCREEN(blue_size);
     SCREEN(blue_pos);
-    SCREEN(rsvd_size);
-    SCREEN(rsvd_pos);
     SCREEN(pages);
     SCREEN(capabilities);
     SCREEN(ext_lfb_base);
@@ -48,6 +46,17 @@ int main(void) {
     FIELD(e820_entries, e820_entries);
     FIELD(secure_boot, secure_boot);
     HEADER(setup_sects);
+    HEADER(boot_flag);
+    HEADER(header);
+    HEADER(version);
+    HEADER(loadflags);
+    HEADER(initrd_addr_max);
+    HEADER(kernel_alignment);
+    HEADER(relocatable_kernel);
+    HEADER(xloadflags);
+    HEADER(cmdline_size);
+    HEADER(pref_address);
+    HEADER(init_size);
     HEADER(vid_mode);
     HEADER(type_of_loader);
     HEADER(code32_start);
