@@ -28,6 +28,7 @@ TOOLS = [
     ("no table cell of a page has more than 160 characters, no row and no line more than 200 beside links", "tools/pages", "widths"),
     ("no definition that a reader must believe, and no exported clause, uses one of specs/internal", "tools/pages", "believed"),
     ("a reader's hour in docs/THEOREMS.md has the lines that it counts", "tools/pages", "hour"),
+    ("SECURITY.md has the lines of what must be right without a proof, and counts each file of those", "tools/pages", "trusted"),
     ("CONTRIBUTING.md lists each place where a refusal and a key stand", "tools/pages", "places"),
     ("each list of refusals has the numbers, the names and the meanings of docs/REFUSALS.md", "tools/refusals", "--check"),
     ("each must-fail edit changes a line that stands once, those of docs/EDITS.md in the function named there", "tools/pages", "edits"),

@@ -1,5 +1,5 @@
-"""What a reader must believe: the definitions of each crate's specs/, but for specs/internal/, and the hour that docs/THEOREMS.md gives
-to those that every boot has.
+"""What a reader must believe: the definitions of each crate's specs/, but for specs/internal/; the hour that docs/THEOREMS.md gives to
+those that every boot has; and the lines of SECURITY.md, which counts all that must be right although no proof says so.
 
 A definition's lines are its type and equations; a struct, an enum, a law or a clause goes up to its last brace. Comments and empty lines
 do not count. A row of that page has its definitions and those "with them"; without that column, all that they use but what other rows
@@ -9,7 +9,7 @@ from functools import lru_cache
 from pathlib import Path
 from typing import Dict, Iterator, List, Set, Tuple
 
-from checks.declarations import TOP, crates, declared, definitions, exports, items, text_of
+from checks.declarations import TOP, crates, declared, definitions, exports, items, text_of, without_comments
 
 INTERNAL = re.compile(r"^ *(?:ghost |pub )*use Rattle\.\w+\.specs\.internal(?:\.\w+)+?(?:\.\{(.*)\}| as (\w+));?$", re.M)
 
@@ -188,3 +188,70 @@ def hour() -> Iterator[str]:
 
 def write_hour() -> None:
     (TOP / PAGE).write_text("\n".join(told(text_of(PAGE).split("\n"))), encoding="utf-8")
+
+
+# ---- how much is trusted
+
+TRUSTED = "SECURITY.md"
+WHOLE = re.compile(r"^\| The four together \| (\d+) \| (\d+) \|$", re.M)
+ROW = re.compile(r"(\| [^|]+ \| )(about )?([\d,]+)( \| ([^|]+) \|.*)")
+CODE = (".antt", ".c", ".h", ".py", ".rs", ".rt", ".S")
+
+
+def counted(path: str) -> int:
+    """The lines of a file that a reader reads: without comments and empty ones; of definitions without imports."""
+    if path.endswith(".antt"):
+        return definition_lines(path)
+    return sum(1 for line in without_comments(path, text_of(path)).split("\n") if line.strip())
+
+
+def files_of(pattern: str) -> Set[str]:
+    """A pattern of files, or of folders with all their sources; of a crate's specs/ what must be believed."""
+    found: Set[str] = set()
+    for place in TOP.glob(pattern):
+        if place.is_file():
+            found.add(str(place.relative_to(TOP)))
+        elif place.name == "specs":
+            found.update(believed(place.parent))
+        else:
+            files = (str(file.relative_to(TOP)) for file in place.rglob("*") if file.is_file() and "tests" not in file.parts)
+            found.update(file for file in files if file.endswith(CODE) or (TOP / file).read_bytes()[:2] == b"#!")
+    return found
+
+
+def with_lines(row: str) -> Tuple[str, Set[str]]:
+    """A row of the table with the lines that there are, and the files that it counts: those that its third cell names."""
+    before, about, _, after, cell = ROW.fullmatch(row).groups()
+    files = set().union(*(files_of(pattern) for pattern in re.findall(r"`([^`]+)`", cell)))
+    lines = sum(map(counted, files))
+    if not files:
+        lines, minutes = map(int, WHOLE.search(text_of(PAGE)).groups())
+        after = re.sub(r"\d+ minutes", f"{minutes} minutes", after)
+    if about:
+        lines = round(lines, -3 if lines >= 10000 else -2)
+    return f"{before}{about or ''}{lines:,}{after}", files
+
+
+def trusted_rows(page: List[str]) -> Iterator[Tuple[int, str, Set[str]]]:
+    first = next(at for at, line in enumerate(page) if line.startswith("| What must be right ")) + 2
+    for at in range(first, next(at for at in range(first, len(page)) if not page[at].startswith("|"))):
+        yield (at, *with_lines(page[at]))
+
+
+def trusted() -> Iterator[str]:
+    """a row of SECURITY.md that counts other lines than there are, or a file that must be believed and that none counts; `--write` as well"""
+    page, has = text_of(TRUSTED).split("\n"), set()
+    for at, new, files in trusted_rows(page):
+        has |= files
+        if page[at] != new:
+            yield f"{TRUSTED}:{at + 1}: {page[at][:60]}.. : it is {new[:60]}.."
+    wanted = {path for crate in crates() if not crate.name.startswith(("test_", "example_")) for path in believed(crate)}
+    for path in sorted((wanted | files_of("c") | files_of("include")) - has):
+        yield f"{TRUSTED}: no row counts {path}"
+
+
+def write_trusted() -> None:
+    page = text_of(TRUSTED).split("\n")
+    for at, new, _ in list(trusted_rows(page)):
+        page[at] = new
+    (TOP / TRUSTED).write_text("\n".join(page), encoding="utf-8")

@@ -29,7 +29,7 @@ import pathlib
 import re
 from typing import Dict, Iterator, List, Set, Tuple
 
-from checks.declarations import ALL, TOP, crates, definitions, in_antt, in_rt, items, paths, text_of
+from checks.declarations import ALL, TOP, crates, definitions, in_antt, in_rt, items, paths, text_of, without_comments
 from checks.lists import usage
 
 LIST = "tools/checks/names.txt"
@@ -100,15 +100,6 @@ def files():
         below[:] = [name for name in below if name not in (".git", "out", "trial", "__pycache__")]
         for name in names:
             yield os.path.relpath(os.path.join(folder, name), TOP)
-
-
-def without_comments(path, text):
-    """A source's text; Python's docstrings say what is meant, so they count as comments."""
-    if path.endswith((".rt", ".rs", ".c", ".h", ".S")):
-        return re.sub(r"//.*", " ", re.sub(r"/\*.*?\*/", " ", text, flags=re.S))
-    if path.endswith(".antt"):
-        return re.sub(r"--.*", " ", re.sub(r"\{-.*?-\}", " ", text, flags=re.S))
-    return re.sub(r"(^|\s)#.*", " ", re.sub(r'^\s*""".*?"""', " ", text, flags=re.M | re.S), flags=re.M)
 
 
 class Names:
