@@ -244,7 +244,7 @@ def trusted() -> Iterator[str]:
     for at, new, files in trusted_rows(page):
         has |= files
         if page[at] != new:
-            yield f"{TRUSTED}:{at + 1}: {page[at][:60]}.. : it is {new[:60]}.."
+            yield f"{TRUSTED}:{at + 1}: it is {new[:150]}"
     wanted = {path for crate in crates() if not crate.name.startswith(("test_", "example_")) for path in believed(crate)}
     for path in sorted((wanted | files_of("c") | files_of("include")) - has):
         yield f"{TRUSTED}: no row counts {path}"

@@ -10,6 +10,9 @@ ALL = OWN + ("cases/README.md", "model/README.md", "bindings/*/README.md")
 
 # in .rt
 HEAD = re.compile(r"(?:unsafe )?(?:impl|(?:pub(?:\([a-z]+\))? )?(?:unsafe )?(trait|enum|struct))[ <]")
+OWNER = re.compile(
+    r"(?:(?:pub(?:\([a-z]+\))?|unsafe) )*(?:impl|trait|enum|struct) *(?:(\w+(?:::\w+)*) for )?[&(]*(\w+(?:::\w+)*)"
+)
 ITEM = re.compile(r'( *)(pub(?:\([a-z]+\))? )?(?:(?:const|unsafe|ghost|extern "C") )*(fn|struct|enum|trait|const|type) (\w+)')
 CLAUSE = re.compile(r" *(ensures|requires) (\w+) \{")
 VARIANT, FIELD = re.compile(r"    ([A-Z]\w*)\b"), re.compile(r"    (?:pub(?:\([a-z]+\))? )?(\w+): ")
@@ -48,9 +51,9 @@ class Item(NamedTuple):
     """What a line declares.
 
     In .rt: `fn`, `struct`, `enum`, `trait`, `const`, `type`, which names the type `owner`; `impl`, of the type `name`; `variant` and
-    `field`; and `ensures` and `requires`, clauses of the call `owner`. An `owner` is the type or the trait around, and `trait` the one of an `impl`.
-    In .antt: `definition`; `field` of a record; `constructor`, or any other name that gets a type. An `owner` is the record or the type
-    around, whose line is `begins`."""
+    `field`; and `ensures` and `requires`, clauses of the call `owner`. An `owner` is the type or the trait around, and `trait` the one of
+    an `impl`. In .antt: `definition`; `field` of a record; `constructor`, or any other name that gets a type. An `owner` is the record or
+    the type around, whose line is `begins`."""
 
     line: int
     kind: str
@@ -72,7 +75,7 @@ def without_arguments(line: str) -> str:
 
 def owner_of(line: str) -> Tuple[str, str]:
     """The type of an `impl`, and its trait if it has one; of a trait or an enum itself."""
-    found = re.match(r"(?:(?:pub(?:\([a-z]+\))?|unsafe) )*(?:impl|trait|enum|struct) *(?:(\w+(?:::\w+)*) for )?[&(]*(\w+(?:::\w+)*)", without_arguments(line))
+    found = OWNER.match(without_arguments(line))
     return (found[2].split("::")[-1], (found[1] or "").split("::")[-1]) if found else ("", "")
 
 
@@ -105,21 +108,21 @@ def in_antt(text: str) -> Iterator[Item]:
     owner, begins, margin, is_data, mutual = "", 0, 0, False, False
     for number, line in enumerate(text.splitlines(), 1):
         depth = len(line) - len(line.lstrip(" "))
-        if line[depth:]:
-            mutual = line.startswith("mutual") if depth == 0 else mutual
-            if owner and depth <= margin:
-                owner, is_data = "", False
+        if line[depth:] and depth == 0:
+            mutual = line.startswith("mutual")
+        if line[depth:] and depth <= margin:
+            owner, is_data = "", False
         found = MARKS.match(line[depth:])
         if not found or found[2] in NONE:
             continue
-        marks, name, typed = found.groups()
-        is_outer = depth == 0 or (mutual and depth == 2)
-        if not marks.replace("pub ", ""):
-            kind = "field" if marks or (owner and not is_data) else "constructor"
-            if marks or (typed and ":" in typed) or (is_data and depth == margin + 2 and typed is not None):
-                yield Item(number, "definition" if marks and is_outer and not owner else kind, name, owner, bool(marks), is_outer, begins=begins)
-            continue
-        yield Item(number, "definition", name, "", "pub " in marks, is_outer)
+        marks, name, after = found.groups()
+        is_outer, is_typed = depth == 0 or (mutual and depth == 2), ":" in (after or "")
+        if marks not in ("", "pub ") or (marks and is_outer and not owner):
+            yield Item(number, "definition", name, "", "pub " in marks, is_outer)
+        elif marks or (owner and not is_data and is_typed):
+            yield Item(number, "field", name, owner, bool(marks), is_outer, begins=begins)
+        elif is_typed or (is_data and depth == margin + 2 and after is not None):  # its type may stand on the next line
+            yield Item(number, "constructor", name, owner, is_outer=is_outer, begins=begins)
         if "record " in marks or "data " in marks:
             owner, begins, margin, is_data = name, number, depth, "data " in marks
 

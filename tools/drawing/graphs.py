@@ -17,9 +17,11 @@ POINT = 72  # of an inch, in which `dot` wants sizes
 
 Place = Tuple[int, int]
 
+NO_FRAME = ((0, 0), (0, 0))
+
 
 class Box(NamedTuple):
-    """Its colour, its name, and words in it. A frame is a box around the others, which ways that begin at one of these begin at."""
+    """Its colour, its name, and words in it."""
 
     kind: str
     name: str
@@ -38,7 +40,7 @@ class Way(NamedTuple):
 
 
 class Graph(NamedTuple):
-    """Boxes and ways by the names that `dot` has for them; `layout` are attributes for it, `framed` the boxes in the frame."""
+    """Boxes and ways by the names that `dot` has for them; `layout` are attributes for it. A frame is around the boxes `framed`."""
 
     title: str
     note: str
@@ -54,13 +56,14 @@ class Graph(NamedTuple):
 
 
 class Layout(NamedTuple):
-    """Where all stands, from the upper left corner on: the size, each box's middle, each way's steps, its words' middle; the frame."""
+    """Where all stands, from the upper left corner on: the picture's size; the middle of each box, the steps of each way, the middle of
+    its words; two corners of the frame."""
 
     size: Place
     boxes: Dict[str, Place]
     ways: List[str]
     words: List[Place]
-    frame: Tuple[Place, Place] = ((0, 0), (0, 0))
+    frame: Tuple[Place, Place] = NO_FRAME
 
 
 def quoted(words: Sequence[str]) -> str:
@@ -113,10 +116,11 @@ def laid_out(graph: Graph) -> Layout:
         last = "L{} {}".format(*place(tip)) if tip else ""
         ways.append(f"M{first}C{' '.join(others)}{last}")
         words.append(place(way.get("lp", "0,0")))
-    frame = ((0, 0), (0, 0))
+    frame = NO_FRAME
     if corners:
-        # `dot` has ways between the boxes of the frame, and their words, perhaps outside of it
-        within = [y - graph.line * (len(way.words) + 1) // 2 - 8 for way, (_, y) in zip(graph.ways, words) if {way.start, way.end} <= set(graph.framed)]
+        # `dot` may lay a way between boxes of the frame, with its words, above it
+        inner = [(way, y) for way, (_, y) in zip(graph.ways, words) if {way.start, way.end} <= set(graph.framed)]
+        within = [y - graph.line * (len(way.words) + 1) // 2 - 8 for way, y in inner]
         frame = ((corners[0][0], min([corners[1][1], *within])), (corners[1][0], corners[0][1]))
     boxes = {name: place(objects[name]["pos"]) for name in graph.boxes}
     return Layout((round(width) + 2 * MARGIN, round(height) + top_of(graph) + MARGIN), boxes, ways, words, frame)
@@ -127,7 +131,7 @@ def top_of(graph: Graph) -> int:
 
 
 def nowhere(graph: Graph) -> Layout:
-    """For a picture of which only the places matter not."""
+    """For a picture whose places are not compared."""
     return Layout((0, 0), {name: (0, 0) for name in graph.boxes}, [""] * len(graph.ways), [(0, 0)] * len(graph.ways))
 
 

@@ -141,6 +141,8 @@ SESSION = Graph(
     ),
 )
 
+AROUND = "ltail=cluster"  # the way begins at the frame
+
 FRAME = Graph(
     title="What a frame of the pool goes through",
     note="Nothing but these calls of bl_stage, and a load, writes a frame of the pool.",
@@ -157,8 +159,8 @@ FRAME = Graph(
         Way("free", "awaited", ("Stage::begin",)),
         Way("awaited", "held", ("put",)),
         Way("held", "free", ("", "refused: the next attempt begins"), places="constraint=false tailport=n headport=n"),
-        Way("free", "part", ("a part goes here: evacuate moves a piece to", "a free frame first, then load writes the part"), places="ltail=cluster"),
-        Way("held", "cleared", ("an entry is handed over to other", "places, or none is left: scrub"), places="ltail=cluster"),
+        Way("free", "part", ("a part goes here: evacuate moves a piece to", "a free frame first, then load writes the part"), places=AROUND),
+        Way("held", "cleared", ("an entry is handed over to other", "places, or none is left: scrub"), places=AROUND),
     ),
     framed=("rank=same", "free", "awaited", "held"),
 )
