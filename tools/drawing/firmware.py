@@ -165,8 +165,8 @@ def picture(path: str) -> str:
     try:
         memory = read_memory(path)
         wrong = faults(memory)
-    except ValueError as fault:
-        raise BadInput(str(fault)) from fault
+    except (IndexError, ValueError) as fault:
+        raise BadInput(f"{path} is no handover.memory: {fault}") from fault
     if wrong:
         raise BadInput(wrong[0])
     memory = memory._replace(files=[_pages(each) for each in memory.files], last=_pages(memory.last))

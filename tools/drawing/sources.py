@@ -33,8 +33,6 @@ CHARACTERS = 26  # of a line of text in a crate's box
 # names are in dark text on each of the colours
 CRATES_STYLE = """\
 text { font-size: 11px }
-.title { font-size: 17px }
-.name { font-size: 13px }
 .quiet { font-size: 12px }
 rect { stroke: #57606a }
 .strong { stroke: #1b1f24; stroke-width: 1.4; fill: none }
