@@ -1,6 +1,5 @@
-"""The script bootcore in a folder of its own, where what it calls are stand-ins."""
+"""The script bootcore and tools/look in a folder of their own, where what they call are stand-ins; tools/build beside a look"""
 
-import json
 import os
 import shutil
 import signal
@@ -8,147 +7,239 @@ import subprocess
 import sys
 import time
 from pathlib import Path
-from typing import Dict, List, Optional, Tuple
+from typing import List, Optional, Tuple
 
 from tests.examples import FIRST
-from tests.support import TOP, Ran, run
+from tests.program_checks import version
+from tests.support import TOP, Checks, Ran, is_at_hand, run
 
-IMAGE = "new.image"  # the IMAGE of all words that name one in a folder that is there
+# rt, tools/build and the program: each does what ACT_ and its name says, in bash, with these functions.
+STAND_IN = r"""#!/usr/bin/env bash
+name=${0##*/}
+note() { echo "$name" >>"$CALLS"; }
+image() { # TEXT WORDS..: writes TEXT to the file behind --out
+    while [ "$2" != --out ]; do set -- "$1" "${@:3}"; done
+    printf %s "$1" >"$3"
+}
+end() { # STATUS [LINE [LAST]]: as rt says how the program ended; its interpreter can't run one that reads its words
+    echo "interpreter: no-answer: the run did not finish within 1 step: the program may loop forever" >&2
+    printf '%s\n' "${2-checked: ended status=$1}" "${3-run=ended status=$1 runners=1 proved=no}" >&2
+    exit "$1"
+}
+until_gone() { while [ -e "$1" ]; do sleep 0.02; done; }
+stay() { echo $$ >"$STAYS.new" && mv "$STAYS.new" "$STAYS" && exec sleep 20; } # until a signal ends it
+make() { note && mkdir -p "${BUILT%/*}" && cp "$0" "$BUILT"; }
+act=ACT_$name
+eval "${!act}"
+"""
+OUT = "booted 0 row one\n"
+BOOTS = 'note; echo "booted 0 row one"; image "an image" "$@"'
+ACTS = {"rt": f"{BOOTS}; end 0", "build": 'until_gone "$2"; make', "bootcore": BOOTS}
 
-BOOTED = {"out": "booted 0 row one\n", "image": "an image"}
+COMPILES = "look: compiling the program without a proof, which takes one to two minutes\n"
+LOOKED = "look: nothing is proved yet: this was a run of the program without a proof, under the address sanitizer\n"
+NONE = "look: no run without a proof: "
+BUILDS = "bootcore: building for the first time: every crate below it is proved, 15 to 60 minutes\n"
+BUILDS_CHANGED = "bootcore: building what changed: what it touches is proved again, seconds to minutes\n"
+PROVED = "bootcore: proved and built; "
+SAME = f"{PROVED}the proved program reported and wrote the same\n"
 
-# what rt says of a program that ended; its interpreter can't run one that reads its words
-INTERPRETER = "interpreter: no-answer: the run did not finish within 1 step: the program may loop forever\n"
-ENDED = INTERPRETER + "checked: ended status={0}\nrun=ended status={0} runners=1 proved=no\n"
-
-# what of the proved program's run differs from a run that does as BOOTED says, and what it does in its place
-DIFFERENCES: List[Tuple[str, dict]] = [
-    ("standard output", {"out": "booted 1 row two\n"}),
-    ("standard error", {"err": "a line\n"}),
-    ("status (0 before, 1 now)", {"status": 1}),
-    ("image", {"image": "another image"}),
-    (
-        "standard output, standard error, status (0 before, 4 now), image",
-        {"out": "", "err": "no memory\n", "status": 4, "image": ""},
-    ),
+# what of the proved program's run differs from the look that ACTS has, what it does in its place, what it reports, and its image
+DIFFERENCES: List[Tuple[str, str, str, str, int, Optional[str]]] = [
+    ("standard output", 'note; echo "booted 1 row two"; image "an image" "$@"', "booted 1 row two\n", "", 0, "an image"),
+    ("standard error", f"{BOOTS}; echo a line >&2", OUT, "a line\n", 0, "an image"),
+    ("status (0 before, 1 now), image", f"{BOOTS}; exit 1", OUT, "", 1, None),
+    ("image", 'note; echo "booted 0 row one"; image "another image" "$@"', OUT, "", 0, "another image"),
 ]
-
-# words, the status of which the program ends of them, and what it says on standard error
-STATUSES: List[Tuple[str, int, str]] = [
-    ("boot first.toml --out new.image", 1, ""),
-    ("boot first.toml --out new.image", 2, "bad description\n"),
-    ("boot none.toml --out new.image", 3, "file fault\n"),
-    ("boot first.toml --out none/new.image", 3, "file fault\n"),
-    ("translate first.toml", 64, "bad command line\n"),
-]
-
 LIMIT = "checked: no-answer: the program did not end within the time limit"
-NOT_ITS = "it ended with status {}, which may not be the proved program's"
-# which run of well-formed words is not reported, what rt does, and why it is not
-NO_ANSWERS: List[Tuple[str, dict, str]] = [
-    (
-        "at a limit of rt try",
-        {**BOOTED, "status": 6, "end": f"{INTERPRETER}{LIMIT}\nrun=no-answer proved=no\n"},
-        f"rt try has no answer: {LIMIT}",
-    ),
-    (
-        "of a program that rt try refuses",
-        {"err": "error: a reason\n", "status": 1, "end": "run=none proved=no\n"},
-        "rt try has no answer: error: a reason",
-    ),
-    ("that ends for want of memory", {**BOOTED, "status": 4}, NOT_ITS.format(4)),
-    ("that can't write its image", {**BOOTED, "status": 3}, NOT_ITS.format(3)),
-    ("that refuses its words", {"status": 64}, NOT_ITS.format(64)),
-    ("that wrote no image", {"out": "booted 0 row one\n"}, "it wrote no image"),
+# which look is not reported, what rt does, and what is said
+NO_ANSWERS: List[Tuple[str, str, str]] = [
+    ("at a limit of rt try", f'{BOOTS}; end 6 "{LIMIT}" "run=no-answer proved=no"', f"rt try has no answer: {LIMIT}"),
+    ("of a program that rt refuses", "end 1 'error: a reason' 'run=none proved=no'", "rt try has no answer: error: a reason"),
+    ("of an rt that says nothing", "exit 0", "rt try has no answer: it says nothing"),
+    ("that ends for want of memory", f"{BOOTS}; end 4", "it ended with status 4, as the proved program may not"),
+    ("that wrote no image", "end 0", "it ended with status 0 and no image, as the proved program may not"),
 ]
 
 
-def can_be_interrupted() -> None:
-    """What a shell starts in the background ignores the interrupt, and so does all that it starts."""
-    signal.signal(signal.SIGINT, signal.SIG_DFL)
+class StandIns(Checks):
+    """What the script does with words, by what those that it calls do."""
 
+    BOOT = ("boot", "first.toml", "--out", "new.image")
 
-def write_stand_in(file: Path) -> None:
-    source = (TOP / "tests/stand_in.py").read_text(encoding="utf-8")
-    file.write_text(f"#!/usr/bin/env python3\n{source}", encoding="utf-8")
-    file.chmod(0o755)
-
-
-class Script:
-    """A copy of the script bootcore and of what it reads; rt, tools/build and the program are tests/stand_in.py."""
-
-    def __init__(self, folder: Path) -> None:
-        self.top, self.room, self.temporary = folder / "a clone", folder / "room", folder / "temporary"
-        self.calls, self.begun, self.started = folder / "calls", folder / "begun", folder / "started"
-        for made in (self.top / "tools", self.top / "crates/bootcore/src", self.room, self.temporary, folder / "bin"):
+    @classmethod
+    def setUpClass(cls) -> None:
+        super().setUpClass()
+        cls.top, cls.folder, cls.temporary = cls.room / "a clone", cls.room / "folder", cls.room / "temporary"
+        for made in (cls.top / "tools", cls.top / "crates/bootcore/src", cls.folder, cls.temporary, cls.room / "bin"):
             made.mkdir(parents=True)
-        for name in ("bootcore", "crates.txt", "tools/look", "tools/look_plan", "crates/bootcore/src/program.rt"):
-            shutil.copy2(TOP / name, self.top / name)
-        for stand_in in (self.top / "tools/build", folder / "bin/rt"):
-            write_stand_in(stand_in)
-        (folder / "bin/python3").symlink_to(sys.executable)
-        shutil.copy(FIRST, self.room)
-        self.path = f"{folder / 'bin'}:{os.environ['PATH']}"
-        self.built = self.top / "crates/bootcore/out/bootcore"
-        self.image = self.room / IMAGE
+        for name in ("bootcore", "crates.txt", "tools/look", "crates/bootcore/src/program.rt"):
+            shutil.copy2(TOP / name, cls.top / name)
+        write_script(cls.top / "tools/build", STAND_IN)
+        write_script(cls.room / "bin/rt", STAND_IN)
+        shutil.copy(FIRST, cls.folder)
+        cls.calls, cls.stays = cls.room / "calls", cls.room / "stays"
+        cls.built, cls.image = cls.top / "crates/bootcore/out/bootcore", cls.folder / "new.image"
 
-    def env(self, **acts: dict) -> Dict[str, str]:
-        """The environment in which the stand-ins do what the acts say, and rt says how its run ended."""
-        acts.setdefault("build", {"makes": str(self.built)})
-        if "rt" in acts:
-            acts["rt"] = {"end": ENDED.format(acts["rt"].get("status", 0)), **acts["rt"]}
-        said = {"ACTS": json.dumps(acts), "CALLS": str(self.calls)}
-        return {"PATH": self.path, "TMPDIR": str(self.temporary), **said}
-
-    def begin(self, older: Optional[str] = None) -> None:
-        """All as before the first run, but an older IMAGE."""
+    def setUp(self) -> None:
+        """All as before the first run."""
         shutil.rmtree(self.built.parent, ignore_errors=True)
         self.calls.write_text("")
-        for file in (self.image, self.begun, self.started):
+        for file in (self.image, self.stays):
             if file.exists():
                 file.unlink()
-        if older is not None:
-            self.image.write_text(older)
 
-    def build(self, is_newer: bool) -> None:
-        """Makes the program, newer than all of its sources or older than the newest."""
-        self.built.parent.mkdir()
-        write_stand_in(self.built)
-        source = self.top / "crates/bootcore/src"
-        newest = max(file.stat().st_mtime for file in (self.top / "crates.txt", source, source / "program.rt"))
-        moment = newest + (60 if is_newer else -60)
-        os.utime(self.built, (moment, moment))
+    def env(self, acts: dict) -> dict:
+        told = {f"ACT_{name}": act for name, act in {**ACTS, **acts}.items()}
+        told.update(CALLS=str(self.calls), STAYS=str(self.stays), BUILT=str(self.built), TMPDIR=str(self.temporary))
+        return {**told, "PATH": f"{self.room / 'bin'}:{os.environ['PATH']}"}
 
-    def run(self, *words: str, **acts: dict) -> Ran:
+    def script(self, *words: str, **acts: str) -> Ran:
         """Runs the script as it would be called from another folder."""
-        return run(self.top / "bootcore", *words, cwd=self.room, env=self.env(**acts))
+        return run(self.top / "bootcore", *words, cwd=self.folder, env=self.env(acts))
 
-    def run_interrupted(self, which: str, *words: str, **acts: dict) -> Ran:
-        """The same as from a terminal, with an interrupt once this stand-in has done what it does."""
-        acts[which] = {**acts.get(which, {}), "begun": str(self.begun)}
-        env = {**os.environ, **self.env(**acts)}
-        how = {"stdin": subprocess.DEVNULL, "stdout": subprocess.PIPE, "stderr": subprocess.PIPE}
-        how.update({"start_new_session": True, "preexec_fn": can_be_interrupted})
-        process = subprocess.Popen([self.top / "bootcore", *words], cwd=self.room, env=env, **how)
-        until = time.monotonic() + 60
-        while not self.begun.exists() and process.poll() is None and time.monotonic() < until:
+    def interrupted(self, *words: str, **acts: str) -> Ran:
+        """The same as from a terminal, with an interrupt once a stand-in stays."""
+        how = {"stdin": subprocess.DEVNULL, "stdout": subprocess.PIPE, "stderr": subprocess.PIPE, "start_new_session": True}
+        # what a shell starts in the background ignores the interrupt, and so does all that it starts
+        how.update(env={**os.environ, **self.env(acts)}, preexec_fn=lambda: signal.signal(signal.SIGINT, signal.SIG_DFL))
+        process = subprocess.Popen([self.top / "bootcore", *words], cwd=self.folder, **how)
+        until = time.monotonic() + 20
+        while not self.stays.exists() and process.poll() is None and time.monotonic() < until:
             time.sleep(0.05)
         os.killpg(process.pid, signal.SIGINT)
-        try:
-            out, err = process.communicate(timeout=60)
-        except subprocess.TimeoutExpired:
-            os.killpg(process.pid, signal.SIGKILL)
-            out, err = process.communicate()
-        return Ran(["bootcore", *words], self.room, process.returncode, out, err)
+        out, err = process.communicate(timeout=60)
+        return Ran(["bootcore", *words], self.folder, process.returncode, out, err)
 
-    def is_building(self) -> bool:
-        """Whether the stand-in for tools/build, which was started, still runs."""
-        try:
-            os.kill(int(self.started.read_text()), 0)
-        except ProcessLookupError:
-            return False
-        return True
+    def did(self, sentence: str, called: str, image: Optional[str] = "an image") -> None:
+        """A check of which stand-ins were called, and that nothing is left of the runs but IMAGE."""
+        with self.check(sentence):
+            self.assertEqual(self.calls.read_text().split(), called.split(), "what was called, in this order")
+            self.assertEqual(os.listdir(self.temporary), [], f"what is left in {self.temporary}")
+            self.assertEqual(self.image.read_text() if self.image.exists() else None, image, f"what is in {self.image}")
 
-    def called(self) -> List[str]:
-        """The stand-ins that were called, in their order."""
-        return [line.split(" ")[0] for line in self.calls.read_text().splitlines()]
+    def test_both(self) -> None:
+        ran = self.script(*self.BOOT, rt=f"{BOOTS}; echo a line >&2; end 0", bootcore=f"{BOOTS}; echo a line >&2")
+        err = f"{COMPILES}a line\n{LOOKED}{BUILDS}{SAME}"
+        self.ends("what both runs report the same is written once, with what kind of run it was", ran, 0, OUT, err)
+        self.did("the look comes first, then the proof, then the program", "rt build bootcore")
+        for which, act, out, err, status, image in DIFFERENCES:
+            self.setUp()
+            ran = self.script(*self.BOOT, bootcore=act)
+            said = f"{COMPILES}{LOOKED}{BUILDS}{PROVED}THE RUNS DIFFER: {which}; the proved program's lines follow\n{err}"
+            self.ends(f"that both runs differ in their {which} is reported", ran, status, f"{OUT}{out}", said)
+            self.did(f"IMAGE is the proved program's, or none, after runs that differ in their {which}", "rt build bootcore", image)
+
+    def test_proof_fails(self) -> None:
+        ran = self.script(*self.BOOT, build='until_gone "$2"; note; exit 1')
+        err = f"{COMPILES}{LOOKED}{BUILDS}bootcore: the program could not be built\n"
+        self.ends("after a proof that fails the status is 127", ran, 127, OUT, err)
+        self.did("after a proof that fails no file is left but IMAGE", "rt build")
+
+    def test_beside(self) -> None:
+        build = 'if [ "$(ps -o sid= -p $$)" -eq $$ ]; then touch "$STAYS"; fi; until_gone "$2"; make'
+        ran = self.script(*self.BOOT, build=build, rt=f'until [ -e "$STAYS" ]; do sleep 0.02; done; {BOOTS}; end 0')
+        sentence = "the proof begins beside the look, in a session of its own, and says nothing before that has ended"
+        self.ends(sentence, ran, 0, OUT, f"{COMPILES}{LOOKED}{BUILDS}{SAME}")
+
+    def test_interrupt(self) -> None:
+        ran = self.interrupted(*self.BOOT, build='until_gone "$2"; note; stay')
+        self.ends("an interrupt during the proof has the status 130", ran, 130, OUT, f"{COMPILES}{LOOKED}{BUILDS}")
+        self.did("an interrupt during the proof leaves no file but IMAGE", "rt build")
+        with self.check("an interrupt ends the proof"):
+            self.assertRaises(ProcessLookupError, os.kill, int(self.stays.read_text()), 0)
+        self.setUp()
+        ran = self.interrupted(*self.BOOT, build="exec sleep 20", rt="note; stay")
+        self.ends("an interrupt during the look ends both with the status 130", ran, 130, "", COMPILES)
+        self.did("an interrupt during the look leaves no file", "rt", None)
+
+    def test_look(self) -> None:
+        self.ends("--look ends after the run without a proof", self.script("--look", *self.BOOT), 0, OUT, f"{COMPILES}{LOOKED}")
+        self.did("--look proves and builds nothing", "rt")
+        for status, err in ((1, ""), (2, "bad description\n"), (64, "bad command line\n")):
+            ran = self.script("--look", *self.BOOT, rt=f"echo a line; printf '{err}' >&2; end {status}")
+            sentence = f"--look reports the program's lines and its status {status}, and no line of rt"
+            self.ends(sentence, ran, status, "a line\n", f"{COMPILES}{err}{LOOKED}")
+
+    def test_no_answer(self) -> None:
+        for what, act, why in NO_ANSWERS:
+            self.image.write_text("an older image")
+            ran = self.script("--look", *self.BOOT, rt=act)
+            self.ends(f"a look {what} has the status 127", ran, 127, "", f"{COMPILES}{NONE}{why}\n")
+            with self.check(f"a look {what} leaves an older IMAGE as it was"):
+                self.assertEqual(self.image.read_text(), "an older image")
+        ran = self.script(*self.BOOT, rt=NO_ANSWERS[0][1])
+        err = f"{COMPILES}{NONE}{NO_ANSWERS[0][2]}\n{BUILDS}"
+        self.ends("after a look that has no answer the proved program alone reports", ran, 0, OUT, err)
+
+    def test_none(self) -> None:
+        ran = self.script("boot", "none.toml", "--out", "new.image")
+        err = f"{NONE}none.toml is no regular file that can be read\n{BUILDS}"
+        self.ends("where there is no look, that is said and the build comes at once", ran, 0, OUT, err)
+        self.did("where there is no look the program is built, and runs once", "build bootcore")
+        self.setUp()
+        self.ends("--no-look runs the words after the proof", self.script("--no-look", *self.BOOT), 0, OUT, BUILDS)
+        self.did("--no-look never calls rt", "build bootcore")
+
+    def test_built(self) -> None:
+        source = self.top / "crates/bootcore/src"
+        newest = max(file.stat().st_mtime for file in (self.top / "crates.txt", source, source / "program.rt"))
+        for seconds, options in ((60, []), (60, ["--look"]), (60, ["--no-look"]), (-60, [])):
+            self.setUp()
+            self.built.parent.mkdir()
+            write_script(self.built, STAND_IN)
+            os.utime(self.built, (newest + seconds,) * 2)
+            which, called = ("newer", "bootcore") if seconds > 0 else ("older", "build bootcore")
+            ran = self.script(*options, *self.BOOT)
+            sentence = f"a program {which} than its sources is run{'' if seconds > 0 else ' once it is built anew'}, with {options}"
+            self.ends(sentence, ran, 0, OUT, "" if seconds > 0 else BUILDS_CHANGED)
+            self.did(f"{sentence}, without a look", called)
+
+    def test_without_rt(self) -> None:
+        bare = self.room / "bare"
+        bare.mkdir()
+        for tool in "bash cat dirname find python3 realpath rm sed".split():
+            (bare / tool).symlink_to(sys.executable if tool == "python3" else str(shutil.which(tool)))
+        why = "the command 'rt' of the Rattle toolchain is not on the PATH\n"
+        for words, err in ((["boot"], f"bootcore: {why}"), (["--look", "map", "first.toml"], f"{COMPILES}{NONE}{why}")):
+            ran = run(self.top / "bootcore", *words, cwd=self.folder, env={"PATH": str(bare)})
+            self.ends(f"with no rt on the PATH `bootcore {' '.join(words)}` says so", ran, 127, "", err)
+        ran = run(self.top / "bootcore", "--look", "--help", env={"PATH": str(bare)})
+        with self.check("--help prints the program's words, also where it is not built, and the script's options"):
+            self.assert_ended(ran, 0, None)
+            form = rf"bootcore {version()}\nusage: bootcore boot DESC .*\noptions of the script .*\n +--look +.*\n +--no-look +.*\n"
+            self.assertRegex(ran.out.decode(), f"(?s)^{form}$")
+
+
+class Beside(Checks):
+    """tools/build of two crates, one after the other, where rt notes the priorities that it has."""
+
+    RT = r"""#!/usr/bin/env bash
+crate=${PWD##*/}
+if [ "$crate" = b ]; then sleep 1.5; fi # as long as the build may take to see that the look has ended
+{ ps -o cls= -p $$ && sed 's/.*nice/nice/' "/proc/$$/autogroup"; } >"$NOTES/$crate"
+rm -f "$NOTES/looking"
+mkdir -p out
+"""
+
+    def test_beside(self) -> None:
+        if not is_at_hand("chrt") or not Path("/proc/self/autogroup").exists():
+            self.skipTest("the command chrt is not at hand, or this Linux has no autogroup")
+        for name in ("tools", "crates/a/src", "crates/b/src"):
+            (self.room / name).mkdir(parents=True)
+        shutil.copy2(TOP / "tools/build", self.room / "tools")
+        for name, text in {"tools/build.seconds": "a 1\nb 1\n", "crates.txt": "a:\nb: a\n", "HANDLES": "", "looking": ""}.items():
+            (self.room / name).write_text(text)
+        write_script(self.room / "rt", self.RT)
+        env = {"PATH": f"{self.room}:{os.environ['PATH']}", "NOTES": str(self.room)}
+        own = run("ps", "-o", "cls=", "-p", str(os.getpid())).out.split()
+        ran = run(self.room / "tools/build", "--beside", self.room / "looking", "b", env=env)  # in a session of its own
+        with self.check("what is proved beside a look has the lowest priority, what begins later the usual one"):
+            self.assert_ended(ran, 0, None, None)
+            came = [(self.room / name).read_bytes().split() for name in ("a", "b")]
+            self.assertEqual(came, [[b"IDL", b"nice", b"19"], [*own, b"nice", b"0"]], f"ran: {ran}")
+
+
+def write_script(file: Path, text: str) -> None:
+    file.write_text(text, encoding="utf-8")
+    file.chmod(0o755)
