@@ -87,7 +87,7 @@ class Header(CoreChecks):
     def test_c(self) -> None:
         for compiler in dict.fromkeys([" ".join(CC), "gcc", "clang"]):
             if not is_at_hand(compiler.split()[0]):
-                self.leave_out(f"include/bootcore.h is accepted by {compiler} as C99 and C11 without a warning", "it is not at hand")
+                self.leave_out(f"include/bootcore.h is accepted by {compiler} as C99 and C11 without a warning", f"{compiler} is not at hand")
                 continue
             for standard in ("c99", "c11"):
                 sentence = f"include/bootcore.h is accepted by {compiler} as {standard.upper()} without a warning"
@@ -96,7 +96,7 @@ class Header(CoreChecks):
     def test_cxx(self) -> None:
         for compiler in ("c++", "clang++"):
             if not is_at_hand(compiler):
-                self.leave_out(f"include/bootcore.h is accepted by {compiler} as C++98 and C++11 without a warning", "it is not at hand")
+                self.leave_out(f"include/bootcore.h is accepted by {compiler} as C++98 and C++11 without a warning", f"{compiler} is not at hand")
                 continue
             for standard in ("c++98", "c++11"):
                 sentence = f"include/bootcore.h is accepted by {compiler} as {standard.upper()} without a warning"
@@ -110,23 +110,24 @@ class Header(CoreChecks):
         self.reads(sentence, ["clang", "--target=x86_64-unknown-windows", "-ffreestanding"], "c99", "c")
 
     def test_processors(self) -> None:
-        """include/bootcore.h refuses a processor that the archive is not for, and says so"""
         wanted = b'error: #error "bootcore is for x86-64'
-        tried = 0
         for compiler, *words in (["gcc", "-m32"], ["clang", "-m32"], ["clang", "--target=aarch64-linux-gnu"], ["clang", "--target=s390x-linux-gnu"]):
-            if is_at_hand(compiler):
-                ran = run(compiler, *words, "-ffreestanding", "-fsyntax-only", "-x", "c", HEADER)
+            sentence = f"include/bootcore.h refuses a processor that the archive is not for, and says so: {' '.join([compiler, *words])}"
+            if not is_at_hand(compiler):
+                self.leave_out(sentence, f"{compiler} is not at hand")
+                continue
+            ran = run(compiler, *words, "-ffreestanding", "-fsyntax-only", "-x", "c", HEADER)
+            with self.check(sentence):
                 self.assertNotEqual(ran.status, 0, f"ran: {ran}")
                 self.assertIn(wanted, ran.err.replace(b'error: "', b'error: #error "'), f"ran: {ran}")
-                tried += 1
-        if not tried:
-            self.skipTest("neither gcc nor clang is at hand")
 
     def test_abi(self) -> None:
-        """include/abi.txt is what gcc says of the headers, and clang"""
         for compiler in ("gcc", "clang"):
+            sentence = f"include/abi.txt is what {compiler} says of the headers"
             if is_at_hand(compiler):
-                self.assert_ended(run(TOP / "tools/abi", env={"CC": compiler}))
+                self.ends(sentence, run(TOP / "tools/abi", env={"CC": compiler}))
+            else:
+                self.leave_out(sentence, f"{compiler} is not at hand")
 
     def test_length(self) -> None:
         """include/bootcore.h has at most 560 lines, of at most 100 columns"""

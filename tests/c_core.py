@@ -1,7 +1,6 @@
 """What the checks of the core for C share: the build, why it is left out, and the images that they look at."""
 
 import os
-import shutil
 import time
 import unittest
 from functools import lru_cache
@@ -9,7 +8,7 @@ from pathlib import Path
 from typing import Dict, List, Optional, Union
 
 from tests import changed_images, examples
-from tests.support import C_ARCHIVE, PROGRAM, STARTED, TOP, ProgramChecks, Ran, run
+from tests.support import C_ARCHIVE, PROGRAM, STARTED, TOP, ProgramChecks, Ran, is_at_hand, run
 
 OUT = TOP / "examples/c/out"
 HEADER = TOP / "include/bootcore.h"
@@ -22,7 +21,7 @@ LATEST = 105 * 60.0  # the core for C and its checks take an hour more on a slow
 
 
 def why_left_out() -> Optional[str]:
-    if shutil.which(CC[0]) is None:
+    if not is_at_hand(CC[0]):
         return f"the core for C: no compiler of C is at hand, '{' '.join(CC)}' is none"
     is_late = len(os.sched_getaffinity(0)) < 4 or time.monotonic() - STARTED > LATEST
     if os.environ.get("CI") and is_late and not C_ARCHIVE.exists():

@@ -4,6 +4,7 @@ import os
 import re
 import shutil
 import stat
+import tarfile
 import unittest
 from pathlib import Path
 from typing import List, Optional
@@ -12,11 +13,12 @@ from tests import examples
 from tests.c import GUEST
 from tests.c_core import CC, HEADER, why_left_out
 from tests.kvm import assert_restarted, why_no_kvm
-from tests.support import PROGRAM, TOP, ProgramChecks, Ran, is_at_hand, need_built, run
+from tests.support import C_ARCHIVE, PROGRAM, TOP, ProgramChecks, Ran, is_at_hand, need_built, run
 
 INSTALL = TOP / "install"
 RELEASE = TOP / "tools/release"
 HALF_AN_HOUR = 1800.0  # the library for C is built first, if it is not
+NOT_AT_HAND = 127
 
 
 def setUpModule() -> None:
@@ -141,40 +143,76 @@ class Released(ProgramChecks):
     """The archive for those without the toolchain."""
 
     name: str
+    archives: List[Path]  # of this checkout, and of another one of the same commit
     ran: List[Ran]
+    top: Path  # the folder that the first one unpacks to
 
     @classmethod
     def setUpClass(cls) -> None:
         super().setUpClass()
         version = run(TOP / "tools/version").out.decode().strip()
         cls.name = f"bootcore-{version}-x86_64-linux"
-        cls.ran = [run(RELEASE, cls.room / folder, timeout=HALF_AN_HOUR) for folder in ("once", "again")]
+        cls.archives = [cls.room / folder / f"{cls.name}.tar.gz" for folder in ("once", "again")]
+        cls.ran = [run(RELEASE, cls.room / "once", timeout=HALF_AN_HOUR)]
+        other = check_out(cls.room / "another checkout")
+        words = ["bash", "-c", 'umask 077; exec "$@"', "bash", other / "tools/release", cls.room / "again"]
+        (cls.room / "temporary").mkdir()
+        env = {"TMPDIR": str(cls.room / "temporary"), "TZ": "JST-9", "SOURCE_DATE_EPOCH": "1"}
+        cls.ran.append(run(*words, cwd=cls.room, env=env, timeout=HALF_AN_HOUR))
+        run("tar", "-xzf", cls.archives[0], "-C", cls.room)
+        cls.top = cls.room / cls.name
 
     def test_archive(self) -> None:
         for ran in self.ran:
             self.ends(f"tools/release makes the archive in {Path(ran.words[-1]).name}", ran, 0, None, None)
-        archives = [self.room / folder / f"{self.name}.tar.gz" for folder in ("once", "again")]
-        self.are_same_file("a release that is made twice has the same bytes", *archives)
+        sentence = "releases of one commit have the same bytes, whatever folder, umask, time zone and time they are made in"
+        if has_changes():
+            self.leave_out(sentence, "this checkout has changes that are not committed, which the archive tells")
+        else:
+            self.are_same_file(sentence, *self.archives)
         ran = run("sha256sum", "-c", f"{self.name}.tar.gz.sha256", cwd=self.room / "once")
         self.ends("the SHA-256 beside the archive is the archive's", ran, 0, f"{self.name}.tar.gz: OK\n")
+        with tarfile.open(self.archives[0]) as archive, self.check("the archive tells nothing of who made it, and when"):
+            members = archive.getmembers()
+            names = [it.name.split("/") for it in members]
+            self.assertEqual(names, sorted(names))
+            seconds = int(run("git", "log", "-1", "--format=%ct").out)
+            told = {(it.uid, it.gid, it.uname, it.gname, it.mtime, it.mode) for it in members}
+            self.assertEqual(told, {(0, 0, "", "", seconds, mode) for mode in (0o755, 0o644)})
+            self.assertEqual(self.archives[0].read_bytes()[3:8], bytes(5), "gzip's flags and time")
+
+    def test_contents(self) -> None:
+        with self.check("SHA256SUMS has each other file of the archive, and its sum"):
+            self.assert_ended(run("sha256sum", "--strict", "--quiet", "-c", "SHA256SUMS", cwd=self.top))
+            listed = [line[66:] for line in (self.top / "SHA256SUMS").read_text().splitlines()]
+            self.assertEqual(sorted(["SHA256SUMS", *listed]), [os.path.relpath(it, self.top) for it in installed(self.top)])
+        with self.check("the archive has what ./install installs, and examples"):
+            ran = run(INSTALL, "--list", "--prefix", self.top)
+            wanted = {os.fsdecode(line.split(b"\t")[0]) for line in ran.out.splitlines()}
+            wanted |= {str(self.top / f"examples/{it}") for it in ("first.toml", "c/first.c", "kvm/acpi/dsdt.asl", "efi/main.c")}
+            self.assertEqual(wanted - set(installed(self.top)), set(), f"ran: {ran}\nfiles that it lacks")
+
+    def test_boot_manager(self) -> None:
+        """the released boot manager is built without a checkout"""
+        ran = run(self.top / "examples/efi/build", env={"CFLAGS": "-Werror"})
+        if ran.status == NOT_AT_HAND:
+            self.skipTest(ran.err.decode(errors="replace").strip())
+        self.assert_ended(ran, 0, None)
+        self.assertEqual((self.top / "examples/efi/out/BOOTX64.EFI").read_bytes()[:2], b"MZ", f"ran: {ran}")
 
     def test_monitor(self) -> None:
         """the released monitor is built without a checkout, and boots a small kernel where KVM serves"""
-        unpacked = self.room / "unpacked"
-        unpacked.mkdir()
-        self.assert_ended(run("tar", "-xzf", self.room / "once" / f"{self.name}.tar.gz", "-C", unpacked))
-        top = unpacked / self.name
         if not is_at_hand("iasl"):
             self.leave_out("the monitor of a release is built on its library", "iasl, which compiles its ACPI tables, is not at hand")
             return
-        built = run(top / "examples/kvm/build", env={"CFLAGS": "-Werror"})
+        built = run(self.top / "examples/kvm/build", env={"CFLAGS": "-Werror"})
         self.ends("the monitor of a release is built on its library", built, 0, None)
         why = why_no_kvm()
         sentence = "the monitor of a release boots a small kernel"
         if why:
             self.leave_out(sentence, why)
             return
-        ran = run(top / "examples/kvm/run", top / "examples/kvm/out/linux64", top / "README.md", "a line of mine")
+        ran = run(self.top / "examples/kvm/run", self.top / "examples/kvm/out/linux64", self.top / "README.md", "a line of mine")
         with self.check(sentence):
             begin = "a Linux kernel, by its 64-bit entry\nline a line of mine\nfile # bootcore "
             self.assert_text(ran, begin, ran.out[: len(begin)], "first lines")
@@ -191,10 +229,23 @@ class Released(ProgramChecks):
             (root / file.lstrip("/")).parent.mkdir(parents=True, exist_ok=True)
             shutil.copy(os.path.realpath(file), root / file.lstrip("/"))
         (root / "tmp").mkdir()
-        self.assert_ended(run("tar", "-xzf", self.room / "once" / f"{self.name}.tar.gz", "-C", root))
+        self.assert_ended(run("tar", "-xzf", self.archives[0], "-C", root))
         boot = f"cd /{self.name} && bin/bootcore boot examples/first.toml --out /tmp/first.image"
         self.assert_ended(run(*enter, root, "/bin/sh", "-c", boot), 0, "booted 0 row one\n")
         self.assert_digest(examples.FIRST_IMAGE[1], root / "tmp/first.image")
+
+
+def has_changes() -> bool:
+    return run("git", "status", "--porcelain").out != b""
+
+
+def check_out(folder: Path) -> Path:
+    """This checkout's last commit in another folder, with what is built here, which is newer than each source there."""
+    run("git", "clone", "-q", "--depth", "1", f"file://{TOP}", folder)
+    for built in (PROGRAM, C_ARCHIVE, C_ARCHIVE.parent / "freestanding" / C_ARCHIVE.name):  # each newer than the one before
+        (folder / built.relative_to(TOP)).parent.mkdir(parents=True, exist_ok=True)
+        shutil.copy(built, folder / built.relative_to(TOP))
+    return folder
 
 
 def mode_of(path: Path) -> int:

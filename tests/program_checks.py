@@ -6,7 +6,7 @@ from pathlib import Path
 from typing import Optional, Tuple, Union
 
 from tests.examples import FIRST
-from tests.support import PROGRAM, TOP, ProgramChecks, Ran, run
+from tests.support import PROGRAM, TOP, ProgramChecks, Ran, is_at_hand, run
 
 
 def version() -> str:
@@ -22,7 +22,7 @@ def version() -> str:
 
 def static_busybox() -> Optional[str]:
     """The busybox of the PATH if it is linked statically: of a library that it needs, ldd ends with the status 0."""
-    busybox = shutil.which("busybox")
+    busybox = shutil.which("busybox") if is_at_hand("busybox") else None
     return busybox if busybox and run("ldd", busybox).status != 0 else None
 
 

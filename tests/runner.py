@@ -8,6 +8,8 @@ import time
 import unittest
 from typing import Callable, Iterable, List, Tuple
 
+from tests import support
+
 PARTS = (
     "gate rows cases model program images told digest docs scripts look c c_calls rust qemu efi measured kvm install".split()
 )
@@ -81,6 +83,7 @@ class Result(unittest.TestResult):
         self.checked_within = True
         name = self.name_of(test)
         self.left_out.append((name, reason))
+        support.lacking.update(re.findall(r"(?:^|: |command ')([\w.+-]+)'? is not at hand", reason))  # as scripts say it
         print(f"skipped {name}: {reason}", flush=True)
 
 
@@ -132,6 +135,8 @@ def run_parts(parts: Iterable[str], remarks: Callable[[], Iterable[str]] = tuple
         print("What was left out, and why:")
         for name, why in result.left_out:
             print(f"skipped {name}: {why}")
+        if support.lacking:
+            print(f"What is not at hand here: {', '.join(sorted(support.lacking))}")
     if result.failed:
         print("What failed:")
         for name in dict.fromkeys(result.failed):

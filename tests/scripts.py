@@ -79,6 +79,43 @@ class Calls(Checks):
         self.assertEqual(stale, [], "exceptions without a file")
 
 
+class Closing(Checks):
+    """The last lines of the test, of a part whose checks want what is nowhere."""
+
+    PART = """
+import sys, types, unittest
+from tests import runner
+from tests.support import Checks, is_at_hand
+
+class Wanting(Checks):
+    def test_one(self):
+        with self.check("one is checked"):
+            pass
+        if not is_at_hand("no-such-tool"):
+            self.leave_out("another is drawn", "what draws it is not at hand")
+    def test_other(self):
+        self.leave_out("a third is run", "build: the command 'no-other' is not at hand; a package has it")
+
+Wanting.__module__ = "tests.wanting"
+sys.modules["tests.wanting"] = part = types.ModuleType("tests.wanting", "a part")
+part.Wanting = Wanting
+sys.exit(runner.run_parts(["wanting"]))
+"""
+
+    def test_left_out(self) -> None:
+        """the test's last lines name each check that is left out, why, and each command that is not at hand"""
+        ran = run("python3", "-c", self.PART, env={"PYTHONDONTWRITEBYTECODE": "1"})
+        self.assert_ended(ran, 0, None)
+        closing = """\
+What was left out, and why:
+skipped another is drawn: what draws it is not at hand
+skipped a third is run: build: the command 'no-other' is not at hand; a package has it
+What is not at hand here: no-other, no-such-tool
+1 passed, 0 failed
+"""
+        self.assert_text(ran, closing, ran.out[-len(closing) :], "last lines")
+
+
 class Sources(Checks):
     def test_shellcheck(self) -> None:
         """shellcheck finds nothing in the bash scripts"""

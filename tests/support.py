@@ -12,7 +12,7 @@ import tempfile
 import time
 import unittest
 from pathlib import Path
-from typing import Iterator, NamedTuple, Optional, Sequence, Union
+from typing import Iterator, NamedTuple, Optional, Sequence, Set, Union
 
 TOP = Path(__file__).resolve().parent.parent
 PROGRAM = TOP / "crates/bootcore/out/bootcore"
@@ -24,6 +24,9 @@ Text = Union[str, bytes]
 
 # whether checks of a program that is not built are left out (the quick test) or fail (any other)
 may_lack_programs = False
+
+# the commands that checks asked for and that are not at hand; the last lines of the test name them
+lacking: Set[str] = set()
 
 
 class Ran(NamedTuple):
@@ -90,7 +93,10 @@ def sha256(source: Union[Path, bytes]) -> str:
 
 
 def is_at_hand(tool: str) -> bool:
-    return shutil.which(tool) is not None
+    if shutil.which(tool) is None:
+        lacking.add(tool)
+        return False
+    return True
 
 
 def has_tomllib() -> bool:
