@@ -216,15 +216,15 @@ class Beside(Checks):
 
     RT = r"""#!/usr/bin/env bash
 crate=${PWD##*/}
-if [ "$crate" = b ]; then sleep 1.5; fi # as long as the build may take to see that the look has ended
+if [ "$crate" = b ]; then timeout 20 sh -c 'until grep -q "nice 0$" /proc/self/autogroup; do sleep 0.1; done'; fi
 { ps -o cls= -p $$ && sed 's/.*nice/nice/' "/proc/$$/autogroup"; } >"$NOTES/$crate"
 rm -f "$NOTES/looking"
 mkdir -p out
 """
 
     def test_beside(self) -> None:
-        if not is_at_hand("chrt") or not Path("/proc/self/autogroup").exists():
-            self.skipTest("the command chrt is not at hand, or this Linux has no autogroup")
+        if not is_at_hand("chrt") or run("chrt", "--idle", "0", "true").status != 0 or not Path("/proc/self/autogroup").exists():
+            self.skipTest("chrt is not at hand or may not be called, or this Linux has no autogroup")
         for name in ("tools", "crates/a/src", "crates/b/src"):
             (self.room / name).mkdir(parents=True)
         shutil.copy2(TOP / "tools/build", self.room / "tools")
