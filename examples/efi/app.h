@@ -12,6 +12,7 @@
 
 extern EFI_SYSTEM_TABLE *ST; /* the firmware's tables, as its manuals call them */
 extern EFI_BOOT_SERVICES *BS;
+extern EFI_HANDLE application; /* this one, as the firmware knows it */
 
 enum {
     page = 4096,
@@ -91,6 +92,7 @@ extern struct entry_files {
 
 int open_disk(EFI_HANDLE device);
 void close_disk(void);
+EFI_HANDLE used_disk(void);
 /* A path as the firmware has it: 16-bit letters and backslashes, until the next call; or NULL. */
 CHAR16 *file_name(const char *path);
 int has_file(const char *path);
@@ -174,6 +176,8 @@ void find_firmware(void);
 /* Tells it of a map that was just read, for an entry. Within an attempt lists that are alike are told as
    the first of them. The firmware is asked for nothing. */
 void tell_firmware(machine_map *map, const menu_entry *entry);
+/* As it was found; on is also a state that the firmware does not tell. */
+int is_secure_boot_on(void);
 
 /* ---- memory.c */
 
@@ -216,26 +220,41 @@ typedef struct {
 void *take_file_pages(uint32_t file, uint64_t length);
 /* Moves files and the plan's bytes to where no step goes over them. 0 if there is too little memory. */
 int clear_sources(void);
-/* The SHA-256 of the image that the plan makes: of its head, and of each byte that a step takes, from
-   where its move takes it. The sources were cleared. */
-void digest_image(uint8_t *digest);
-/* The steps as moves, and behind them one of no bytes. The sources were cleared. */
-void list_moves(move *list);
+/* Whether its bytes come from elsewhere. */
+int is_moved(const move *each);
+/* All of the image that the plan makes: its head, which is put into that room; the steps, also those
+   whose bytes are in place; and one of no bytes. The sources were cleared. */
+void list_moves(move *list, uint8_t *head);
 
 /* ---- entry.c, entry.S: what is left to do without the firmware */
 
-extern move *last_moves; /* their list; the page before it is that of the last jump */
-/* Makes that page, the list and page tables, where no step goes. 0 if there is too little memory. */
+typedef struct last_pages last_pages;
+extern last_pages *last; /* what is needed until the kernel runs */
+extern uint64_t last_length;
+const move *last_moves(void);
+/* Makes these pages and page tables, where no step goes. 0 if there is too little memory. */
 int make_entry(void);
-/* Loads by the plan, and enters the kernel. It never returns. */
+/* The SHA-256 of the image that the plan makes, from where its moves take it. */
+void digest_image(uint8_t *digest);
+/* Loads by the plan, and enters the kernel; or restarts the machine, if what was to be loaded was
+   measured and is not what lies there now. It never returns. */
 void enter_alone(void);
 
-/* ---- digest.c: a SHA-256, one at a time */
+/* ---- digest.c: the SHA-256 of an image, one at a time */
 
-void begin_digest(void);
-void add_to_digest(const void *bytes, uint64_t length);
+typedef struct {
+    const move *moves;
+    uint32_t constants[64], first[8], state[8], words[64];
+    uint32_t wanted[8]; /* the digest that was measured */
+    uint8_t padding[72];
+} digest_work;
+
+void begin_digest(digest_work *work, const move *moves);
+/* Goes through the moves: the bytes that they take, or once they are made, those that they brought.
+   Whether the digest is the wanted one. */
+int digest_moves(digest_work *work, int are_made);
 /* Its 32 bytes. */
-void end_digest(uint8_t *digest);
+void end_digest(const digest_work *work, uint8_t *digest);
 
 /* ---- keep.c: the choice, kept for the next boot */
 
@@ -282,8 +301,17 @@ size_t describe(const bootcore_machine *machine, const menu_entry *entry, char *
 
 /* ---- program.c: another EFI program */
 
+/* The way to a disk's file, as the firmware has it, until the next call. NULL: it is too long. */
+EFI_DEVICE_PATH *find_way(EFI_HANDLE disk, const char *path);
 /* Starts an entry's program from a disk. NULL if it ended well, or what is wrong. */
 const char *start_program(EFI_HANDLE image, EFI_HANDLE disk, const menu_entry *entry);
+
+/* ---- verify.c: Secure Boot */
+
+/* Of an entry's kernel, as it was read. NULL, or why it must not be booted. */
+const char *verify_kernel(const menu_entry *entry);
+/* Whether its kernel must be told that Secure Boot is on, and is not. */
+int hides_secure_boot(const menu_entry *entry);
 
 /* ---- screen.c */
 

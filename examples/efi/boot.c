@@ -81,6 +81,8 @@ const char *plan_entry(const menu_entry *entry) {
         boot.map.firmware.avoided_count = 0;
         status = plan(entry);
     }
+    if (status == BOOTCORE_STATUS_DONE && hides_secure_boot(entry))
+        return "Secure Boot is on, and the kernel would not be told so.";
     return status_words(status);
 }
 
@@ -95,6 +97,14 @@ static void change(const char *when) {
     void *free = take_low_pages(1);
     give_back(taken_count - 1);
     if (!is_word(when, "key")) take_pages_as(AllocateAddress, EfiReservedMemoryType, 1, (UINTN)free);
+}
+
+/* For tests: a byte that was measured is another one when it is copied. */
+static void change_byte(void) {
+    if (menu.change == NULL || !is_word(menu.change, "byte")) return;
+    const move *each = last_moves() + 1; /* behind the head */
+    while (each->from == 0) each++;
+    *(uint8_t *)(UINTN)each->from ^= 1;
 }
 
 /* Whether the firmware's map is still that of the plan: then its new key is known. */
@@ -151,6 +161,7 @@ const char *leave_firmware(EFI_HANDLE image, menu_entry *entry) {
         change("key");
         if (!EFI_ERROR(BS->ExitBootServices(image, boot.map.key))) {
             keep_log();
+            change_byte();
             enter_alone();
         }
         if (!is_same_map() && (is_handover_measured() || make_ready(entry) != NULL)) break;

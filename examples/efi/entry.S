@@ -1,8 +1,8 @@
 # From the state in which a firmware leaves its application (64-bit mode, paging) to the registers
 # that the core hands over: run_alone begins what is left to do without the firmware, and the
 # trampoline does it. entry.c copies all between trampoline and trampoline_end to a page of its own
-# below 4 GiB, where no step of the plan goes, puts the registers into it, and behind the page the list
-# of moves: where to, where from (0 for zeros), how many bytes; the last one has none.
+# below 4 GiB, where no step of the plan goes, and puts the registers into it. The list of moves has:
+# where to, where from (0 for zeros), how many bytes; the last one has none.
 #
 # Each entry leaves 64-bit mode: the one of 64 bits too, since only so the paging that the firmware
 # chose (of five levels, say) can be changed for that of the handover.
@@ -23,7 +23,7 @@
     # Of CR4 it leaves the paging in use. The rest is the firmware's: global pages, by which its page
     # tables would last, shadow stacks, and what else limits what tables allow.
     .globl run_alone
-run_alone:                          # (the last page, page tables); it never returns
+run_alone:                          # (the page, page tables, moves, digest_moves or 0, its work)
     cli
     lidt no_handlers(%rip)          # the firmware's handlers may be written over
     movq %cr4, %rax
@@ -42,7 +42,8 @@ trampoline:                         # interrupts are off, and there are no handl
     cld
     leaq trampoline(%rip), %rbx     # the page: 32-bit code finds all by its offset from here
     leaq stack_end(%rip), %rsp
-    leaq 4096(%rbx), %rdx
+    movq %rcx, %r12
+    movq %r8, %r13
 next_move:                          # eight bytes at a time, and then the rest
     movq (%rdx), %rdi
     movq 8(%rdx), %rsi
@@ -55,6 +56,8 @@ next_move:                          # eight bytes at a time, and then the rest
     andl $7, %ebp
     testq %rsi, %rsi
     jz zeros
+    cmpq %rsi, %rdi
+    je next_move                    # it is in place
     rep movsq
     movl %ebp, %ecx
     rep movsb
@@ -67,6 +70,15 @@ zeros:
     jmp next_move
 
 moved:
+    testq %r12, %r12
+    jz looked
+    movq %r13, %rdi                 # was this measured, as it lies there now?
+    movl $1, %esi
+    call *%r12
+    testl %eax, %eax
+    jnz looked
+    ud2                             # no: without handlers this restarts the machine
+looked:
     leaq table32(%rip), %rax        # what LGDT takes has addresses: of the two tables below, and of
     movq %rax, table32_at + 2(%rip) # the kernel's own, if it is handed one
     leaq table64(%rip), %rax
@@ -192,7 +204,8 @@ gdt_at:
     .balign 8, 0
 trampoline_registers:
     .fill offset / 8, 8, 0
-    .fill 8, 8, 0
+    .org trampoline + 3072          # if this is an error, the stack has less than 1 KiB
+    .org trampoline + 4096
 stack_end:
 trampoline_end:
 

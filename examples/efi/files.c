@@ -4,12 +4,14 @@
 struct entry_files files;
 
 static EFI_FILE *root;
+static EFI_HANDLE disk;
 
 enum { most_bytes = 0x40000000, chunk = 1 << 20 };
 
 int open_disk(EFI_HANDLE device) {
     static EFI_GUID system = SIMPLE_FILE_SYSTEM_PROTOCOL;
     EFI_FILE_IO_INTERFACE *volume;
+    disk = device;
     return !EFI_ERROR(BS->HandleProtocol(device, &system, (void **)&volume)) &&
            !EFI_ERROR(volume->OpenVolume(volume, &root));
 }
@@ -17,6 +19,8 @@ int open_disk(EFI_HANDLE device) {
 void close_disk(void) {
     if (root != NULL) root->Close(root);
 }
+
+EFI_HANDLE used_disk(void) { return disk; }
 
 CHAR16 *file_name(const char *path) {
     static CHAR16 name[512] = {'\\'};
@@ -181,6 +185,7 @@ const char *read_files(menu_entry *entry) {
         fault = find_lengths(entry->paths, i, joined_end(entry, i), &files.read[files.count++].length);
     if (fault) return fault_words(fault);
     const char *wrong = read_file(entry, 0, 0, take_pages(files.read[0].length / page + 1));
+    if (wrong == NULL) wrong = verify_kernel(entry);
     if (wrong == NULL) wrong = plan_entry(entry);
     for (uint32_t i = 1; i < entry->file_count && wrong == NULL; i = joined_end(entry, i)) {
         index++;

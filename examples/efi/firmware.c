@@ -91,6 +91,8 @@ static uint32_t find_secure_boot(void) {
     return is_on == 1 && is_setup == 0 ? enabled : disabled;
 }
 
+int is_secure_boot_on(void) { return secure_boot != disabled; }
+
 /* Linux reads the map where it lies, and looks in it for room for itself: so it is kept in pages that
    it lists itself, as reserved. */
 enum { map_room = 65536 }; /* no longer map is told */

@@ -5,6 +5,7 @@
 
 EFI_SYSTEM_TABLE *ST;
 EFI_BOOT_SERVICES *BS;
+EFI_HANDLE application;
 
 static EFI_LOADED_IMAGE *self;
 
@@ -111,6 +112,7 @@ static const char *boot_choice(EFI_HANDLE image, enum choice how) {
 EFI_STATUS efi_main(EFI_HANDLE image, EFI_SYSTEM_TABLE *table) {
     enum choice how;
     ST = table;
+    application = image;
     BS = table->BootServices;
     BS->SetWatchdogTimer(0, 0, 0, NULL);
     int is_good = begin(image);

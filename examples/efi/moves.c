@@ -57,25 +57,13 @@ static uint64_t source_of(const bootcore_step *step) {
     }
 }
 
-void digest_image(uint8_t *digest) {
-    static uint8_t head[BOOTCORE_MAX_IMAGE_HEAD];
-    static const uint8_t zeros[page];
-    begin_digest();
-    add_to_digest(head, bootcore_image_head(&boot.layout.handoff, boot.layout.places, head, sizeof head));
-    for (size_t i = 0; i < boot.layout.step_count; i++) {
-        const uint8_t *from = (const uint8_t *)(UINTN)source_of(&boot.layout.steps[i]);
-        uint64_t left = boot.layout.steps[i].length;
-        for (; from == NULL && left > page; left -= page) add_to_digest(zeros, page);
-        add_to_digest(from == NULL ? zeros : from, left);
-    }
-    end_digest(digest);
-}
+int is_moved(const move *each) { return each->from == 0 || each->from != each->to; }
 
-void list_moves(move *list) {
-    for (size_t i = 0; i < boot.layout.step_count; i++) {
-        const bootcore_step *step = &boot.layout.steps[i];
-        if (source_of(step) != step->address)
-            *list++ = (move){step->address, source_of(step), step->length};
-    }
+void list_moves(move *list, uint8_t *head) {
+    const bootcore_layout *layout = &boot.layout;
+    const size_t length = bootcore_image_head(&layout->handoff, layout->places, head, BOOTCORE_MAX_IMAGE_HEAD);
+    *list++ = (move){(UINTN)head, (UINTN)head, length};
+    for (size_t i = 0; i < layout->step_count; i++)
+        *list++ = (move){layout->steps[i].address, source_of(&layout->steps[i]), layout->steps[i].length};
     *list = (move){0, 0, 0};
 }

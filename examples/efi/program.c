@@ -1,9 +1,8 @@
 /* Another EFI program, which the firmware loads and starts: a shell, another boot manager. */
 #include "app.h"
 
-/* The way to a file: the nodes of its disk, one of the file's name, and one that ends them. NULL if
-   it is too long. */
-static EFI_DEVICE_PATH *find_way(EFI_HANDLE disk, const char *path) {
+/* The nodes of the disk, one of the file's name, and one that ends them. */
+EFI_DEVICE_PATH *find_way(EFI_HANDLE disk, const char *path) {
     static EFI_GUID id = DEVICE_PATH_PROTOCOL;
     static uint8_t made[4096];
     const CHAR16 *name = file_name(path);

@@ -10,7 +10,7 @@ static int write_description(EFI_FILE *file, const menu_entry *entry) {
 }
 
 /* Addresses and lengths of the firmware's ranges, by its number for their type, of the entry's files
-   and parts; the page of the last jump; and what is moved by it: to, from, how many bytes. */
+   and parts; what is needed until the last jump; and what is moved: to, from, how many bytes. */
 static int write_memory(EFI_FILE *file, const menu_entry *entry) {
     static char text[max_text];
     (void)entry;
@@ -27,9 +27,9 @@ static int write_memory(EFI_FILE *file, const menu_entry *entry) {
         const bootcore_place *place = &boot.layout.places[i];
         print("part %u 0x%x 0x%x\n", (uint64_t)place->role, place->address, place->length);
     }
-    print("last 0x%x\n", (UINTN)last_moves - page);
-    for (const move *each = last_moves; each->length; each++)
-        print("move 0x%x 0x%x 0x%x\n", each->to, each->from, each->length);
+    print("last 0x%x 0x%x\n", (UINTN)last, last_length);
+    for (const move *each = last_moves(); each->length; each++)
+        if (is_moved(each)) print("move 0x%x 0x%x 0x%x\n", each->to, each->from, each->length);
     size_t length = (size_t)(kept - text);
     kept = NULL;
     return append(file, text, length);

@@ -12,7 +12,6 @@ sys.dont_write_bytecode = True
 
 FREE = {1, 2, 3, 4, 7}  # the firmware's numbers of the types whose memory is free after its end: loader, boot services, conventional
 LOADER_DATA = 2
-PAGE = 4096
 HEAD, RECORD = 272, struct.Struct("<IIQQ")  # of an image: where its records begin, and one of them
 
 
@@ -34,8 +33,8 @@ class Move(NamedTuple):
 
 
 class Memory(NamedTuple):
-    """As the firmware is to end: its ranges by type, the entry's files, and parts by role, the page of the last jump with the
-    list, the moves."""
+    """As the firmware is to end: its ranges by type, the entry's files, and parts by role, what is needed until the last jump, the
+    moves."""
 
     ranges: List[Tuple[int, Range]]
     files: List[Range]
@@ -56,7 +55,7 @@ def read_memory(path: str) -> Memory:
         [(kind, Range(start, length)) for kind, start, length in words["range"]],
         [Range(start, length) for _, start, length in words["file"]],
         [(role, Range(start, length)) for role, start, length in words["part"]],
-        Range(words["last"][0][0], PAGE + 24 * (len(moves) + 1)),
+        Range(*words["last"][0]),
         moves,
     )
 
