@@ -277,6 +277,8 @@ const char *measured_words(void);
 const char *measure_file(const char *path, const void *bytes, uint64_t length);
 /* An entry's title and lines. */
 const char *measure_choice(const menu_entry *entry);
+/* That an entry's kernel is verified next, and that this is over. */
+const char *measure_verifying(int is_over);
 /* What make_ready has planned, and listed to be copied. The firmware's map may change by it. */
 const char *measure_handover(const menu_entry *entry);
 int is_handover_measured(void);

@@ -4,9 +4,9 @@
 #include "app.h"
 #include "tcg2.h"
 
-enum { text_pcr = 8, file_pcr = 9, handover_pcr = 12 };
+enum { started_pcr = 4, text_pcr = 8, file_pcr = 9, handover_pcr = 12 };
 /* Our own, by which a checker knows these events: "bc" and the PCR. */
-enum { text_tag = 0x62630008, handover_tag = 0x6263000c };
+enum { own_tag = 0x62630000 };
 
 tcg2 *tpm;
 int has_agile_log;
@@ -65,9 +65,8 @@ static const char *extend(uint32_t pcr, uint32_t type, const void *bytes, uint64
 
 /* The same as an event with a tag, whose content stands there already. An event of the type boot_event
    would be taken for one of another loader's in these PCRs. */
-static const char *extend_tagged(uint32_t pcr, uint32_t tag, const void *bytes, uint64_t length,
-                                 size_t content_length) {
-    const tcg2_tag head = {tag, (uint32_t)content_length};
+static const char *extend_tagged(uint32_t pcr, const void *bytes, uint64_t length, size_t content_length) {
+    const tcg2_tag head = {own_tag + pcr, (uint32_t)content_length};
     memcpy(event.data, &head, sizeof head);
     return extend(pcr, tag_event, bytes, length, sizeof head + content_length);
 }
@@ -85,9 +84,9 @@ static size_t put_text(char *to, const char *what, const void *text, size_t leng
 static const char too_long[] = "not measured: it is too long for an event";
 
 /* All of the content is measured, so that no part of the text is the log's word alone. */
-static const char *measure_text(const char *what, const void *text, size_t length) {
+static const char *measure_text(uint32_t pcr, const char *what, const void *text, size_t length) {
     length = put_text(content, what, text, length);
-    return length ? extend_tagged(text_pcr, text_tag, content, length, length) : fail(too_long);
+    return length ? extend_tagged(pcr, content, length, length) : fail(too_long);
 }
 
 const char *measure_file(const char *path, const void *bytes, uint64_t length) {
@@ -97,13 +96,20 @@ const char *measure_file(const char *path, const void *bytes, uint64_t length) {
 
 const char *measure_choice(const menu_entry *entry) {
     const bootcore_bytes *line = &entry->core.line;
-    const char *wrong = measure_text("bootcore_choice: ", entry->title, strlen(entry->title));
-    if (wrong == NULL) wrong = measure_text("kernel_cmdline: ", line->bytes, line->length);
+    const char *wrong = measure_text(text_pcr, "bootcore_choice: ", entry->title, strlen(entry->title));
+    if (wrong == NULL) wrong = measure_text(text_pcr, "kernel_cmdline: ", line->bytes, line->length);
     for (size_t i = 0; i < entry->core.module_count && wrong == NULL; i++) {
         line = &entry->modules[i].line;
-        wrong = measure_text("module_cmdline: ", line->bytes, line->length);
+        wrong = measure_text(text_pcr, "module_cmdline: ", line->bytes, line->length);
     }
     return wrong;
+}
+
+/* Who verifies a kernel measures it like a program that is started. What stands between these two in that
+   PCR was not: only the application that runs can measure the first one before. */
+const char *measure_verifying(int is_over) {
+    const char *text = is_over ? "end" : "begin";
+    return measure_text(started_pcr, "kernel_verify: ", text, strlen(text));
 }
 
 /* A log that can't be kept whole is for a checker to complain of: the PCRs have all. */
@@ -125,7 +131,7 @@ const char *measure_handover(const menu_entry *entry) {
     size_t length = describe(&boot.map.machine, entry, content, max_text);
     if (length == 0) return fail("not measured: a line or path is no UTF-8, or all is too long");
     digest_image(digest);
-    const char *wrong = extend_tagged(handover_pcr, handover_tag, digest, sizeof digest, length);
+    const char *wrong = extend_tagged(handover_pcr, digest, sizeof digest, length);
     if (wrong == NULL) say_of_log();
     return wrong;
 }

@@ -25,16 +25,20 @@ static EFI_STATUS ask_firmware(const char *path, const bootcore_bytes *kernel) {
     return status;
 }
 
-/* A warning is no word for the kernel either. */
-const char *verify_kernel(const menu_entry *entry) {
+static EFI_STATUS verify(const char *path, const bootcore_bytes *kernel) {
     static EFI_GUID id = SHIM_LOCK_PROTOCOL;
-    const bootcore_bytes *kernel = &files.read[0];
     shim_lock *shim;
+    if (EFI_ERROR(BS->LocateProtocol(&id, NULL, (void **)&shim))) return ask_firmware(path, kernel);
+    return shim->Verify(kernel->bytes, (UINT32)kernel->length);
+}
+
+/* A warning is no word for a kernel. */
+const char *verify_kernel(const menu_entry *entry) {
     if (!is_secure_boot_on()) return NULL;
-    EFI_STATUS status = EFI_ERROR(BS->LocateProtocol(&id, NULL, (void **)&shim))
-                            ? ask_firmware(entry->paths[0], kernel)
-                            : shim->Verify(kernel->bytes, (UINT32)kernel->length);
-    if (status == EFI_SUCCESS) return NULL;
+    const char *wrong = measure_verifying(0);
+    EFI_STATUS status = wrong == NULL ? verify(entry->paths[0], &files.read[0]) : EFI_ABORTED;
+    if (wrong == NULL) wrong = measure_verifying(1);
+    if (wrong != NULL || status == EFI_SUCCESS) return wrong;
     if (allows_unverified) return print("    Secure Boot is on, and nothing verified this kernel.\n"), NULL;
     if (status == EFI_OUT_OF_RESOURCES) return "There is too little memory to verify the kernel.";
     return "Secure Boot is on, and nothing verified this kernel: it has no signature that is trusted here.";

@@ -13,7 +13,7 @@ from limits import FILE_BYTES, LOG_BYTES
 from one_form import text_value
 from reading import BadInput, file_bytes, shown
 from replay import COMPARED, DRIVERS, FILES, HANDOVERS, STARTED
-from texts import firmware_text, is_separator, options_text
+from texts import firmware_text, is_separator, options_text, parted
 
 VALUED = [0, 2, 7]  # the firmware's code, drivers, Secure Boot
 
@@ -46,8 +46,8 @@ class Learned:
 
     def take(self, boot: Boot) -> None:
         log, bank = boot.log, self.bank
-        self.applications(log, STARTED, self.managers)
-        self.applications(log, DRIVERS, self.drivers)
+        self.applications(parted(log.of_pcr(STARTED), bank).started, self.managers)
+        self.applications(log.of_pcr(DRIVERS), self.drivers)
         made = choices(log, bank)
         others = [text for _, text in made.others]
         others += [text for text in (options_text(event, bank) for event in log.of_pcr(HANDOVERS)) if text is not None]
@@ -76,8 +76,8 @@ class Learned:
             else:
                 self.entries[entry_text(attempt, None, [])] = None
 
-    def applications(self, log: Log, pcr: int, found: Dict[bytes, str]) -> None:
-        for event in log.of_pcr(pcr):
+    def applications(self, events: List[Event], found: Dict[bytes, str]) -> None:
+        for event in events:
             if firmware_text(event, self.bank) is None and not is_separator(event, self.bank):
                 found[event.digests[self.bank]] = event.digests[self.bank].hex()
 

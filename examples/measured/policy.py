@@ -67,6 +67,17 @@ class Policy:
             raise BadInput(f"{self.folder / name} has another digest than the policy says")
         return Known(digest(self.bank, held), held)
 
+    def kernels(self) -> Dict[bytes, str]:
+        """By what a firmware measures of those that are EFI applications too."""
+        found = {}
+        for name in (entry.files[0] for entry in self.entries if entry.files):
+            held = self.files[name].contents or b""
+            try:
+                found[application_digest(self.bank, held, name)] = name
+            except BadInput:
+                continue
+        return found
+
     def contents(self, name: str) -> bytes:
         held = self.files[name].contents
         if held is None:

@@ -1,12 +1,14 @@
 """Texts in an event log. A text counts only if its digest was measured: then nothing else was, no program and no handover."""
 
 import struct
-from typing import Optional
+from typing import List, NamedTuple, Optional
 
 from event_log import Event, digest
+from reading import fault
 
 SEPARATORS = [bytes(4), b"\xff" * 4]
-TEXT_TAG, HANDOVER_TAG = 0x62630008, 0x6263000C  # of the boot manager's events in PCR 8 and 12
+VERIFY_TAG, TEXT_TAG, HANDOVER_TAG = 0x62630004, 0x62630008, 0x6263000C  # of the boot manager's events in PCR 4, 8 and 12
+VERIFIES, VERIFIED = b"kernel_verify: begin\0", b"kernel_verify: end\0"
 LONGEST = 256  # of a firmware's
 GRUB = [b"grub_cmd: ", b"kernel_cmdline: ", b"module_cmdline: "]  # GRUB measures what follows, without the zero byte
 
@@ -30,6 +32,30 @@ def firmware_text(event: Event, bank: str) -> Optional[bytes]:
     text, came = event.data.rstrip(b"\0"), event.digests[bank]
     is_measured = digest(bank, event.data) == came or (digest(bank, text) == came and event.data in (text, text + b"\0"))
     return text if 0 < len(text) <= LONGEST and is_printable(text) and is_measured else None
+
+
+class Applications(NamedTuple):
+    """Of PCR 4: what was started, with the firmware's texts, and what was verified alone."""
+
+    started: List[Event]
+    verified: List[Event]
+
+
+def parted(events: List[Event], bank: str) -> Applications:
+    """Where Secure Boot is on, the boot manager has each kernel verified, and who does that measures it like a program that is
+    started. What stands between the two texts was not: only who runs already can measure the first of them."""
+    made, is_open = Applications([], []), False
+    for event in events:
+        text = tagged(event, VERIFY_TAG)
+        if text not in (VERIFIES, VERIFIED) or digest(bank, text) != event.digests[bank]:
+            (made.verified if is_open else made.started).append(event)
+        elif is_open == (text == VERIFIES):
+            fault(f"{event.name}: a kernel's verification does not begin or end there")
+        else:
+            is_open = not is_open
+    if is_open:
+        fault("PCR 4: a kernel's verification has no end")
+    return made
 
 
 def grub_text(event: Event, bank: str) -> Optional[bytes]:

@@ -9,7 +9,7 @@ from pcr_values import Values
 from policy import Policy
 from reading import fault, shown
 from replay import DRIVERS, FILES, HANDOVERS, STARTED, replayed_log
-from texts import firmware_text, is_separator, options_text
+from texts import firmware_text, is_separator, options_text, parted
 
 STARTING = [b"Calling EFI Application from Boot Option", b"Returning from EFI Application from Boot Option"]
 
@@ -74,7 +74,9 @@ def started(log: Log, policy: Policy, said: Dict[str, None]) -> List[str]:
     was started last did not return: the firmware may have programs of its own, which it does not measure."""
     names: List[str] = []
     is_back = True
-    for event in log.of_pcr(STARTED):
+    applications = parted(log.of_pcr(STARTED), policy.bank)
+    check_verified(applications.verified, policy, said)
+    for event in applications.started:
         came, text = event.digests[policy.bank], firmware_text(event, policy.bank)
         is_back = came not in policy.managers
         if not is_back:
@@ -86,6 +88,15 @@ def started(log: Log, policy: Policy, said: Dict[str, None]) -> List[str]:
     if is_back:
         fault("PCR 4: " + ("the firmware went on behind what was started last" if names else "nothing was started"))
     return names
+
+
+def check_verified(events: List[Event], policy: Policy, said: Dict[str, None]) -> None:
+    kernels = policy.kernels() if events else {}
+    for event in events:
+        came = event.digests[policy.bank]
+        if came not in kernels:
+            fault(f"{event.name}: a kernel was verified that is none of the policy's, with the digest {came.hex()}")
+        said[f"PCR 4 has the kernel {kernels[came]}, which was verified there"] = None
 
 
 # ---- what was chosen, and read

@@ -2,6 +2,8 @@
 measured. A line is the PCR and the event's content; behind a file's path comes the digest that the event has for it, and of
 the handover the digest alone: its content, the description, is written to a file.
 
+Of PCR 4 it prints what stands between the two texts of a kernel that is verified, by its digest, and these.
+
     python3 events.py LOG PCRS DESCRIPTION
 
 The status is 1 if a PCR is not that of the log. A checker for others than this test stands in examples/measured."""
@@ -14,8 +16,9 @@ from pathlib import Path
 from typing import Dict, Iterator, List, NamedTuple
 
 BANKS = {0x04: "sha1", 0x0B: "sha256", 0x0C: "sha384", 0x0D: "sha512"}
-NO_ACTION, TAG_EVENT, BOOT_EVENT = 0x03, 0x06, 0x0D
-TAGS = {8: 0x62630008, 12: 0x6263000C}  # of texts and handovers
+NO_ACTION, TAG_EVENT, BOOT_EVENT, APPLICATION = 0x03, 0x06, 0x0D, 0x80000003
+KINDS = {4: TAG_EVENT, 8: TAG_EVENT, 9: BOOT_EVENT, 12: TAG_EVENT}
+TAGS = {4: 0x62630004, 8: 0x62630008, 12: 0x6263000C}  # of texts and handovers
 
 
 class Event(NamedTuple):
@@ -45,7 +48,7 @@ def events_of(log: bytes) -> Iterator[Event]:
 
 
 def content_of(event: Event) -> bytes:
-    """Of what the boot manager measured: in PCR 8 and 12 behind its tag and size."""
+    """Of what the boot manager measured: but in PCR 9 behind its tag and size."""
     if event.pcr == 9:
         return event.data
     if event.data[:8] != struct.pack("<II", TAGS[event.pcr], len(event.data) - 8):
@@ -66,7 +69,7 @@ def replayed(events: List[Event], bank: str) -> List[bytes]:
 
 def main(log: str, pcrs: str, description: str) -> int:
     events = list(events_of(Path(log).read_bytes()))
-    faults, compared, bank = [], 0, ""
+    faults, compared, bank, is_verified = [], 0, "", False
     wanted: Dict[str, List[bytes]] = {}
     for line in Path(pcrs).read_text().splitlines():
         if named := re.fullmatch(r" *(sha\d+):", line):
@@ -76,11 +79,16 @@ def main(log: str, pcrs: str, description: str) -> int:
             compared += 1
             if wanted[bank][int(value[1])] != bytes.fromhex(value[2]):
                 faults.append(f"{bank}: PCR {value[1]} is not that of the log")
-    for event in (event for event in events if event.kind == {8: TAG_EVENT, 9: BOOT_EVENT, 12: TAG_EVENT}.get(event.pcr)):
+    for event in events:
+        if is_verified and event.pcr == 4 and event.kind == APPLICATION:
+            print(4, event.digests["sha256"].hex())
+        if event.kind != KINDS.get(event.pcr):
+            continue
         content = content_of(event)
         text, sha256 = content.rstrip(b"\0").decode(errors="backslashreplace"), event.digests["sha256"].hex()
-        if event.pcr == 8:
-            print(8, text)
+        if event.pcr in (4, 8):
+            print(event.pcr, text)
+            is_verified = text == "kernel_verify: begin" if event.pcr == 4 else is_verified
             faults += [f"{text}: another {bank}" for bank, it in event.digests.items() if hashlib.new(bank, content).digest() != it]
         elif event.pcr == 9:
             print(9, text, sha256)

@@ -12,7 +12,7 @@ from tests.support import TOP
 
 ALGORITHMS = {"sha1": 0x04, "sha256": 0x0B, "sha384": 0x0C, "sha512": 0x0D}
 NO_ACTION, SEPARATOR, TAG, VERSION, IPL = 0x03, 0x04, 0x06, 0x08, 0x0D
-TAGS = {8: 0x62630008, 12: 0x6263000C}  # of the boot manager's events
+TAGS = {4: 0x62630004, 8: 0x62630008, 12: 0x6263000C}  # of the boot manager's events
 VARIABLE, APPLICATION, DRIVER, RUNTIME_DRIVER, ACTION = 0x80000001, 0x80000003, 0x80000004, 0x80000005, 0x80000007
 
 
@@ -237,6 +237,16 @@ def driver() -> bytes:
     return bytes(held)
 
 
+def signable(kernel: bytes) -> bytes:
+    """A Linux kernel that is an application too: its header fits before that of the boot protocol, and all behind is a section."""
+    held, optional = bytearray(kernel), 0x40 + 24
+    held[: optional + 240] = application([])[: optional + 240]
+    struct.pack_into("<H", held, 0x46, 1)
+    header = struct.pack("<8sIIIIIIHHI", b"k", len(held), 0x1000, len(held) - 512, 512, 0, 0, 0, 0, 0)
+    held[optional + 240 : optional + 280] = header
+    return bytes(held)
+
+
 def without_signature(held: bytes) -> bytes:
     """What is measured of an application of the form above."""
     optional = 0x40 + 24
@@ -422,6 +432,12 @@ def firmware(manager: bytes) -> List[Event]:
     ]
     separators = [told(pcr, SEPARATOR, bytes(4)) for pcr in range(8)]
     return [*before, *separators, Event(4, APPLICATION, without_signature(manager), b"where it was loaded")]
+
+
+def verified(kernel: bytes) -> List[Event]:
+    """What is measured of a kernel where Secure Boot is on."""
+    begin, end = (tagged(4, text, text) for text in (b"kernel_verify: begin\0", b"kernel_verify: end\0"))
+    return [begin, Event(4, APPLICATION, without_signature(kernel), b"where it was loaded"), end]
 
 
 def exit_events() -> List[Event]:

@@ -193,6 +193,16 @@ def valued_policy(pcr: int, happened: Change) -> str:
     return POLICY.replace("\n[[entry]]", f'\n[pcr]\n{pcr} = ["{value}"]\n\n[[entry]]', 1)
 
 
+# a boot where Secure Boot is on
+SIGNABLE = {"vmlinuz": boots.signable(FILES["vmlinuz"])}
+VERIFIED = boots.verified(SIGNABLE["vmlinuz"])
+
+
+def verifying(sentence: str, said: str, *added: Event) -> Case:
+    """What is measured as the kernel is verified, once it was read."""
+    return Case(sentence, said, happened=at(9, 1, after(*added)), known=SIGNABLE, booted=SIGNABLE)
+
+
 PCR_POLICY = POLICY.replace("\n[[entry]]", "\n[pcr]\n17 = ['" + 32 * "ff" + "']\n\n[[entry]]", 1)
 
 AS_IT_SHOULD_BE = [
@@ -232,6 +242,12 @@ AS_IT_SHOULD_BE = [
         happened=at(8, 0, before(*SHELL)),
     ),
     Case("a PCR may have a value that the policy names", LINUX_SAID, policy=PCR_POLICY),
+    verifying(
+        "a kernel that was verified where Secure Boot is on is a remark",
+        "remark    PCR 4 has the kernel vmlinuz, which was verified there",
+        *VERIFIED,
+    ),
+    verifying("a kernel that nobody could verify, of which only the texts are there", LINUX_SAID, VERIFIED[0], VERIFIED[2]),
     Case("a boot manager is known by its digest", f"manager   {DIGEST}", policy=POLICY.replace("BOOTX64.EFI", DIGEST)),
     Case(
         "an application's signature does not matter",
@@ -504,6 +520,28 @@ MACHINE = [
         happened=ended(told(4, boots.ACTION, b"Returning from EFI Application from Boot Option")),
     ),
     Case("a firmware that started nothing", "PCR 4: nothing was started", happened=at(4, -1, gone)),
+    verifying("a kernel that was started as a program", "something was started that the policy does not name", VERIFIED[1]),
+    verifying(
+        "a kernel that was started as a program once it was verified",
+        "something was started that the policy does not name",
+        *VERIFIED,
+        VERIFIED[1],
+    ),
+    verifying(
+        "another program than a kernel of the policy's that was verified",
+        "a kernel was verified that is none of the policy's",
+        VERIFIED[0],
+        Event(4, boots.APPLICATION, b"shell", b""),
+        VERIFIED[2],
+    ),
+    verifying("a kernel's verification without an end", "PCR 4: a kernel's verification has no end", *VERIFIED[:2]),
+    verifying("a kernel's verification that begins twice", "does not begin or end there", VERIFIED[0], *VERIFIED),
+    verifying("a kernel's verification without a beginning", "does not begin or end there", VERIFIED[2]),
+    verifying(
+        "a program that says that it is a kernel's verification",
+        "something was started that the policy does not name",
+        VERIFIED[0]._replace(measured=b"shell"),
+    ),
     Case("a text that is not what was measured", "is not what was measured", logged=at(8, 1, saying("vda1", "vda2"))),
     Case(
         "a text of another loader",
