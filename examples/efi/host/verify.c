@@ -26,7 +26,8 @@ EFI_DEVICE_PATH *find_way(EFI_HANDLE of, const char *path) {
 }
 const char *measure_verifying(int is_over) {
     *(is_over ? &over : &begun) += 1;
-    expect("the kernel is verified between two measurements", over <= begun && (!is_over || asked_firmware + asked_shim));
+    int is_asked = asked_firmware || asked_shim;
+    expect("the kernel is verified between two measurements", over <= begun && is_asked == is_over);
     return is_unmeasured == 1 + is_over ? "not measured" : NULL;
 }
 
@@ -65,7 +66,8 @@ int main(int count, char **words) {
     static const EFI_STATUS refusals[] = {EFI_SECURITY_VIOLATION, EFI_ACCESS_DENIED, EFI_UNSUPPORTED, EFI_LOAD_ERROR,
                                           EFI_INVALID_PARAMETER, EFI_OUT_OF_RESOURCES, EFI_WARN_UNKNOWN_GLYPH};
     const int is_strict = count < 2 || strcmp(words[1], "unverified") != 0;
-    menu_entry linux = {.core.protocol = BOOTCORE_PROTOCOL_LINUX64}, other = {.core.protocol = BOOTCORE_PROTOCOL_MULTIBOOT2};
+    menu_entry linux = {.core.protocol = BOOTCORE_PROTOCOL_LINUX64};
+    menu_entry other = {.core.protocol = BOOTCORE_PROTOCOL_MULTIBOOT2};
     BS = &services;
     application = &application;
     expect("nobody is asked without Secure Boot", ask() == NULL && !begun && !asked_firmware && !asked_shim);
@@ -78,7 +80,7 @@ int main(int count, char **words) {
         for (loads = 0; loads < 2; loads++) {
             answer = EFI_SUCCESS;
             expect("a kernel that was verified is booted", ask() == NULL && !printed);
-            expect("one is asked once, and it is measured", asked_shim == has_shim && asked_firmware == !has_shim && over == 1);
+            expect("one is asked, once", asked_shim == has_shim && asked_firmware == !has_shim && over == 1);
             expect("what was loaded is unloaded", unloaded == (loads && !has_shim));
             for (size_t i = 0; i < sizeof refusals / sizeof refusals[0]; i++) {
                 answer = refusals[i];
