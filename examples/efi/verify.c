@@ -41,7 +41,7 @@ const char *verify_kernel(const menu_entry *entry) {
     if (wrong != NULL || status == EFI_SUCCESS) return wrong;
     if (allows_unverified) return print("    Secure Boot is on, and nothing verified this kernel.\n"), NULL;
     if (status == EFI_OUT_OF_RESOURCES) return "There is too little memory to verify the kernel.";
-    return "Secure Boot is on, and nothing verified this kernel: it has no signature that is trusted here.";
+    return "Secure Boot is on, and nothing verified this kernel.";
 }
 
 /* Linux may lock itself down where Secure Boot is on. It hears of it with UEFI alone. */
