@@ -41,9 +41,8 @@ no_handlers:
 trampoline:                         # interrupts are off, and there are no handlers
     cld
     leaq trampoline(%rip), %rbx     # the page: 32-bit code finds all by its offset from here
-    leaq stack_end(%rip), %rsp
     movq %rcx, %r12
-    movq %r8, %r13
+    movq %r8, %rsp                  # its stack, in no page that has code
 next_move:                          # eight bytes at a time, and then the rest
     movq (%rdx), %rdi
     movq 8(%rdx), %rsi
@@ -72,13 +71,14 @@ zeros:
 moved:
     testq %r12, %r12
     jz looked
-    movq %r13, %rdi                 # was this measured, as it lies there now?
+    movq %rsp, %rdi                 # was this measured, as it lies there now?
     movl $1, %esi
     call *%r12
     testl %eax, %eax
     jnz looked
     ud2                             # no: without handlers this restarts the machine
 looked:
+    leaq stack_end(%rip), %rsp
     leaq table32(%rip), %rax        # what LGDT takes has addresses: of the two tables below, and of
     movq %rax, table32_at + 2(%rip) # the kernel's own, if it is handed one
     leaq table64(%rip), %rax
@@ -204,8 +204,7 @@ gdt_at:
     .balign 8, 0
 trampoline_registers:
     .fill offset / 8, 8, 0
-    .org trampoline + 3072          # if this is an error, the stack has less than 1 KiB
-    .org trampoline + 4096
+    .org trampoline + 4096          # if this is an error, all is longer than a page
 stack_end:
 trampoline_end:
 

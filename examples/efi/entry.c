@@ -7,6 +7,7 @@ extern const uint8_t run_alone[], trampoline[], trampoline_registers[], trampoli
 
 struct last_pages {
     uint8_t jump[page], digest[page]; /* code: of entry.S, and digest_moves */
+    uint8_t stack[page];              /* of that */
     digest_work work;
     uint8_t head[BOOTCORE_MAX_IMAGE_HEAD];
     move moves[];
