@@ -27,10 +27,11 @@ typedef struct {
     const char *paths[1 + BOOTCORE_MAX_MODULES]; /* of its files in order, the kernel's first */
     uint32_t file_count;
     bootcore_module modules[BOOTCORE_MAX_MODULES];
-    bootcore_entry core; /* as the core takes it; read_files puts the files in */
+    const char *partition; /* where they are, by its GUID; NULL: on the disk of the application */
+    bootcore_entry core;   /* as the core takes it; read_files puts the files in */
     int has_no_screen, has_no_efi; /* its kernel is not told of these */
-    /* of loader/entries alone: its file's name, what it is sorted by, what is wrong with it */
-    const char *name, *version, *sort_key, *machine, *wrong;
+    /* of loader/entries alone: its file and that's name, what it is sorted by, what is wrong with it */
+    const char *file, *name, *version, *sort_key, *machine, *wrong;
     uint32_t wrong_line;
 } menu_entry;
 
@@ -71,6 +72,8 @@ extern const char *mistake; /* the first thing that is wrong with a text, NULL s
 /* Whether it is good; else this is wrong. */
 int check(int is_good, const char *what);
 int is_word(const char *word, const char *wanted);
+int begins_with(const char *text, const char *start);
+char small_letter(char letter);
 /* Cuts a line at its first blank: the word before, and the rest without blanks around it. */
 char *cut_word(char *line);
 /* Calls this for each line, with its word and the rest, until one is wrong: its number, or 0. */
@@ -82,17 +85,31 @@ bootcore_bytes take_line(const char *text);
 const char *take_path(char *path);
 void take_kernel(char *path, menu_entry *entry);
 void take_ramdisk(char *path, menu_entry *entry);
+/* A file of another partition has that one's GUID before its path, as a folder. */
+void name_partition(menu_entry *entry);
 
-/* ---- files.c: files of the disk that the application was started from */
+/* ---- partitions.c: partitions of the machine's disks */
+
+enum { partition_letters = 36 };
+/* Its GUID as text, until the next call; empty if it has none. */
+const char *partition_name(EFI_HANDLE device);
+/* The partition with a file system that has this GUID; without one the extended boot partition
+   (XBOOTLDR) of a device's disk. NULL if it is not there. */
+EFI_HANDLE find_partition(const char *name, EFI_HANDLE own);
+
+/* ---- files.c: files of the disk that the application was started from, and of other partitions */
 
 extern struct entry_files {
     bootcore_bytes read[1 + BOOTCORE_MAX_MODULES]; /* in the order of the paths; ramdisks are one */
     size_t count;
 } files; /* of the entry that is attempted */
 
+/* The application's disk, whose files are meant from here on; 0 if it can't be read. */
 int open_disk(EFI_HANDLE device);
-void close_disk(void);
+/* The same of a partition, or with NULL of the application's disk again. NULL, or what is wrong. */
+const char *use_partition(const char *name);
 EFI_HANDLE used_disk(void);
+void close_disk(void);
 /* A path as the firmware has it: 16-bit letters and backslashes, until the next call; or NULL. */
 CHAR16 *file_name(const char *path);
 int has_file(const char *path);
@@ -305,8 +322,8 @@ size_t describe(const bootcore_machine *machine, const menu_entry *entry, char *
 
 /* The way to a disk's file, as the firmware has it, until the next call. NULL: it is too long. */
 EFI_DEVICE_PATH *find_way(EFI_HANDLE disk, const char *path);
-/* Starts an entry's program from a disk. NULL if it ended well, or what is wrong. */
-const char *start_program(EFI_HANDLE image, EFI_HANDLE disk, const menu_entry *entry);
+/* Starts an entry's program. NULL if it ended well, or what is wrong. */
+const char *start_program(EFI_HANDLE image, const menu_entry *entry);
 
 /* ---- verify.c: Secure Boot */
 

@@ -1,30 +1,44 @@
-/* Files of the disk that the application was started from, through the firmware's file system. */
+/* Files of the disk that the application was started from, or of another partition, through the
+   firmware's file systems. */
 #include "app.h"
 
 struct entry_files files;
 
-static EFI_FILE *root;
-static EFI_HANDLE disk;
+static EFI_HANDLE devices[2]; /* the application's disk, and a partition while its files are meant */
+static EFI_FILE *roots[2];
+static int used; /* which of them */
+static const char *used_name; /* the partition's */
 
 enum { most_bytes = 0x40000000, chunk = 1 << 20 };
 
 int open_disk(EFI_HANDLE device) {
     static EFI_GUID system = SIMPLE_FILE_SYSTEM_PROTOCOL;
     EFI_FILE_IO_INTERFACE *volume;
-    disk = device;
+    devices[used] = device;
     return !EFI_ERROR(BS->HandleProtocol(device, &system, (void **)&volume)) &&
-           !EFI_ERROR(volume->OpenVolume(volume, &root));
+           !EFI_ERROR(volume->OpenVolume(volume, &roots[used]));
 }
 
 void close_disk(void) {
-    if (root != NULL) root->Close(root);
+    if (roots[used] != NULL) roots[used]->Close(roots[used]);
 }
 
-EFI_HANDLE used_disk(void) { return disk; }
+const char *use_partition(const char *name) {
+    EFI_HANDLE device = name == NULL ? NULL : find_partition(name, devices[0]);
+    if (used) close_disk();
+    used = device != NULL;
+    used_name = name;
+    if (name == NULL || (used && open_disk(device))) return NULL;
+    used = 0;
+    return compose("There is no partition %s, or the firmware can't read it.", name);
+}
+
+EFI_HANDLE used_disk(void) { return devices[used]; }
 
 CHAR16 *file_name(const char *path) {
     static CHAR16 name[512] = {'\\'};
     UINTN i = 0;
+    if (used && begins_with(path, used_name)) path += partition_letters + 1;
     for (; path[i] && i < 510; i++)
         name[1 + i] = path[i] == '/' ? '\\' : (CHAR16)(unsigned char)path[i];
     name[1 + i] = 0;
@@ -35,6 +49,7 @@ CHAR16 *file_name(const char *path) {
 static EFI_FILE *open(const char *path, uint64_t mode) {
     CHAR16 *name = file_name(path);
     EFI_FILE *file;
+    EFI_FILE *root = roots[used];
     return name == NULL || EFI_ERROR(root->Open(root, &file, name, mode, 0)) ? NULL : file;
 }
 
@@ -177,7 +192,7 @@ static const char *read_file(menu_entry *entry, uint32_t index, uint32_t from, u
 
 /* A plan wants the kernel, and of the other files the lengths: so these are read to where the plan
    has them, or at least out of its way. */
-const char *read_files(menu_entry *entry) {
+static const char *read_all(menu_entry *entry) {
     uint32_t fault = 0, index = 0;
     memset(&files, 0, sizeof files);
     boot.layout.step_count = 0;
@@ -191,6 +206,13 @@ const char *read_files(menu_entry *entry) {
         index++;
         wrong = read_file(entry, index, i, take_file_pages(index, files.read[index].length));
     }
+    return wrong;
+}
+
+const char *read_files(menu_entry *entry) {
+    const char *wrong = use_partition(entry->partition);
+    if (wrong == NULL) wrong = read_all(entry);
+    use_partition(NULL);
     return wrong;
 }
 

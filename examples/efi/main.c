@@ -68,12 +68,11 @@ static void say_plan(void) {
    a copy for this attempt: files come to it. */
 static const char *attempt(EFI_HANDLE image, menu_entry *entry) {
     if (entry->wrong != NULL)
-        return compose(entry->wrong_line ? "loader/entries/%s.conf: %s in line %u."
-                                         : "loader/entries/%s.conf: %s.",
-                       entry->name, entry->wrong, (uint64_t)entry->wrong_line);
+        return compose(entry->wrong_line ? "%s: %s in line %u." : "%s: %s.", entry->file, entry->wrong,
+                       (uint64_t)entry->wrong_line);
     const char *wrong = measure_choice(entry);
     if (wrong != NULL) return wrong;
-    if (entry->core.protocol == efi_program) return start_program(image, self->DeviceHandle, entry);
+    if (entry->core.protocol == efi_program) return start_program(image, entry);
     find_firmware();
     wrong = read_files(entry);
     if (wrong == NULL) wrong = make_ready(entry);

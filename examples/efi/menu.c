@@ -19,6 +19,13 @@ static void take_protocol(const char *word, bootcore_entry *core) {
     if (length >= 36 && length <= BOOTCORE_MAX_RSDP) core->rsdp_new = take_bytes(new, length);
 }
 
+static void take_partition(char *name, menu_entry *entry) {
+    check(entry->partition == NULL, "an entry has one partition");
+    check(strlen(name) == partition_letters, "the GUID of a partition is wanted, of 36 letters");
+    for (size_t i = 0; name[i]; i++) name[i] = small_letter(name[i]);
+    entry->partition = name;
+}
+
 static void take_module(char *text, menu_entry *entry) {
     check(entry->core.protocol == BOOTCORE_PROTOCOL_MULTIBOOT2, "only a multiboot2 kernel has modules");
     check(entry->core.module_count < BOOTCORE_MAX_MODULES, "too many modules of an entry");
@@ -82,6 +89,7 @@ static void take(const char *word, char *rest) {
     else if (is_word(word, "efi") && has_protocol && is_word(rest, "no")) entry->has_no_efi = 1;
     else if (is_word(word, "efi")) take_program(rest, entry);
     else if (!check(entry->core.protocol != 0, "the protocol comes behind the title")) return;
+    else if (is_word(word, "partition")) take_partition(rest, entry);
     else if (is_word(word, "kernel")) take_kernel(rest, entry);
     else if (is_word(word, "module")) take_module(rest, entry);
     else if (is_word(word, "ramdisk")) take_linux_ramdisk(rest, entry);
@@ -104,6 +112,7 @@ const char *read_menu(char *text, uint32_t *line) {
     menu.seconds = no_limit;
     menu.arena = BOOTCORE_ARENA;
     *line = take_lines(text, take);
+    for (uint32_t i = 0; i < menu.entry_count && mistake == NULL; i++) name_partition(&menu.entries[i]);
     if (mistake != NULL) return mistake;
     if (menu.lists_entries) {
         list_entries();

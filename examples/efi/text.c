@@ -16,9 +16,13 @@ int is_word(const char *word, const char *wanted) {
     return strlen(word) == strlen(wanted) && memcmp(word, wanted, strlen(word)) == 0;
 }
 
-static int begins_with(const char *text, const char *start) {
+int begins_with(const char *text, const char *start) {
     while (*start && *text == *start) text++, start++;
     return *start == 0;
+}
+
+char small_letter(char letter) {
+    return letter >= 'A' && letter <= 'Z' ? (char)(letter - 'A' + 'a') : letter;
 }
 
 char *cut_word(char *line) {
@@ -81,4 +85,14 @@ void take_kernel(char *path, menu_entry *entry) {
 void take_ramdisk(char *path, menu_entry *entry) {
     if (check(entry->file_count <= BOOTCORE_MAX_MODULES, "too many ramdisks of an entry"))
         entry->paths[entry->file_count++] = take_path(path);
+}
+
+void name_partition(menu_entry *entry) {
+    for (uint32_t i = 0; i < entry->file_count && entry->partition != NULL; i++) {
+        const char *path = entry->paths[i];
+        if (path == NULL) continue;
+        entry->paths[i] = take_bytes(entry->partition, partition_letters).bytes;
+        take_bytes("/", 1);
+        take_bytes(path, strlen(path) + 1);
+    }
 }

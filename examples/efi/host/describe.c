@@ -16,6 +16,10 @@ EFI_BOOT_SERVICES *BS;
 
 void each_file(const char *folder, void (*take)(const char *name)) { (void)folder, (void)take; }
 char *read_text(const char *path, const char **wrong) { return (void)path, (void)wrong, NULL; }
+EFI_HANDLE used_disk(void) { return NULL; }
+EFI_HANDLE find_partition(const char *name, EFI_HANDLE own) { return (void)name, (void)own, NULL; }
+const char *partition_name(EFI_HANDLE device) { return (void)device, ""; }
+const char *use_partition(const char *name) { return (void)name, NULL; }
 
 static void show(const bootcore_machine *machine, const menu_entry *entry) {
     char *text = malloc(1 << 20);

@@ -145,6 +145,10 @@ def entries() -> Iterable[Tuple[bytes, str]]:
         told = quoted(line.decode())
         text += f'\n[[entry.module]]\nfile = "m{i}"\nline = {told}\n'
     yield menu + modules, text
+    guid = "01234567-89ab-cdef-0123-456789abcdef"
+    menu = f"title T\nprotocol linux64\npartition {guid.upper()}\nkernel //a/k\nramdisk r\nramdisk s t\n".encode()
+    head = f'\n[[entry]]\ntitle = "T"\nprotocol = "linux64"\nkernel = "{guid}/a/k"\nline = ""\n'
+    yield menu, head + f'initrd = "{guid}/r\\u000a{guid}/s t"\n'
     for bad in NO_UTF8:
         bad = bad.decode().encode("latin-1").decode("unicode_escape").encode("latin-1")
         yield b"title T\nprotocol linux\nkernel k\nline a" + bad, ""

@@ -1,5 +1,6 @@
 /* On the host: what the boot manager's own code reads out of a menu and files of loader/entries, as
-   lines; or, with --cut, each of them cut after so many bytes, for each number. */
+   lines; or, with --cut, each of them cut after so many bytes, for each number. Files in a folder
+   `extended` are those of an extended boot partition. */
 #include "app.h"
 
 #include <stdio.h>
@@ -11,6 +12,7 @@ static EFI_CONFIGURATION_TABLE tables[2] = {{ACPI_TABLE_GUID, (void *)rsdp},
                                             {ACPI_20_TABLE_GUID, (void *)rsdp}};
 static EFI_SYSTEM_TABLE firmware = {.ConfigurationTable = tables};
 EFI_SYSTEM_TABLE *ST = &firmware;
+EFI_BOOT_SERVICES *BS;
 
 static char **paths; /* the menu's, then those of entries */
 static int path_count;
@@ -38,16 +40,41 @@ static char *read_path(const char *path) {
 static char *texts[64];
 static int text_count;
 
+static const char *used; /* the partition, NULL: none is */
+
+static int is_extended(const char *path) { return strstr(path, "extended/") != NULL; }
+
 void each_file(const char *folder, void (*take)(const char *name)) {
     (void)folder;
-    for (int i = 1; i < path_count; i++) take(name_of(paths[i]));
+    for (int i = 1; i < path_count; i++)
+        if (is_extended(paths[i]) == (used != NULL)) take(name_of(paths[i]));
 }
 
 char *read_text(const char *path, const char **wrong) {
     *wrong = "it is no text";
+    if (used != NULL && strncmp(path, used, strlen(used)) != 0) exit(3);
     for (int i = 1; i < path_count; i++)
-        if (strcmp(name_of(paths[i]), name_of(path)) == 0)
+        if (strcmp(name_of(paths[i]), name_of(path)) == 0 && is_extended(paths[i]) == (used != NULL))
             return texts[text_count++] = read_path(paths[i]);
+    return NULL;
+}
+
+EFI_HANDLE used_disk(void) { return NULL; }
+
+EFI_HANDLE find_partition(const char *name, EFI_HANDLE own_disk) {
+    (void)name, (void)own_disk;
+    for (int i = 1; i < path_count; i++)
+        if (is_extended(paths[i])) return paths[i];
+    return NULL;
+}
+
+const char *partition_name(EFI_HANDLE device) {
+    (void)device;
+    return "01234567-89ab-cdef-0123-456789abcdef";
+}
+
+const char *use_partition(const char *name) {
+    used = name;
     return NULL;
 }
 

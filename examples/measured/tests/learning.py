@@ -72,6 +72,27 @@ class Learning(CheckerChecks):
         self.learned(folder, "log")
         self.as_learned("by the policy of a boot with modules it is as it should be", folder, GOOD, cases.KERNEL_SAID)
 
+    def test_partition(self) -> None:
+        """Files of another partition have its GUID before their paths: the known files are in a folder of that name."""
+        names = {name: f"6cf0b5d1-93a8-4e2f-b0c7-5d1e8a3f9b24/{name}" for name in ("vmlinuz", "initrd.img", "more.img")}
+        text, happened = LINUX, cases.same
+        for place, (name, there) in enumerate(names.items(), 1):
+            text = text.replace(name, there)
+            happened = lambda it, made=happened, path=at(9, place, cases.with_data(there.encode() + b"\0")): path(made(it))
+        booted = {there: FILES[name] for name, there in names.items()}
+        folder = self.folder("learn-partition", Case("", "", text=text, booted=booted, happened=happened))
+        (folder / "known" / names["vmlinuz"]).parent.mkdir()
+        for name, there in names.items():
+            (folder / "known" / name).rename(folder / "known" / there)
+        ran = self.learned(folder, "--known", "known", "log")
+        with self.check("a policy of a boot from another partition names each file by that one's GUID and path"):
+            self.assert_ended(ran, 0, None)
+            self.assertIn(f'\nkernel = "{names["vmlinuz"]}"\n', ran.out.decode())
+            for name, there in names.items():
+                self.assertIn(f'\n"{there}" = "{cases.sha256(FILES[name])}"\n', ran.out.decode())
+        told = f"kernel    {names['vmlinuz']}\nramdisk   {names['initrd.img']}\nramdisk   {names['more.img']}\n"
+        self.as_learned("by the policy of a boot from another partition it is as it should be", folder, GOOD, told)
+
     def test_empty(self) -> None:
         text = LINUX.replace('initrd = "initrd.img\\u000amore.img"\n', "")
         folder = self.folder("learn-empty", Case("", "", text=text, known=cases.EMPTY, booted=cases.EMPTY))

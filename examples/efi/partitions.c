@@ -1,0 +1,60 @@
+/* Partitions beside the one that the application was started from, by the ways to them that the
+   firmware tells. One is known by its GUID in the disk's table, as text. */
+#include "app.h"
+
+enum { id_at = 24, id_kind_at = 41 /* in the node of a partition (UEFI 10.3.5.1) */ };
+
+#define PARTITION_INFO_PROTOCOL \
+    {0x8cf2f62c, 0xbc9b, 0x4821, {0x80, 0x8d, 0xec, 0x9e, 0xc4, 0x21, 0xa1, 0xa0}}
+enum { table_at = 4, of_gpt = 2, kind_at = 16 /* in what it tells (UEFI 13.18) */ };
+
+/* The last node of the way to a device, if it is that of a partition with a GUID; or NULL. */
+static const uint8_t *find_node(EFI_HANDLE device, const uint8_t **start) {
+    static EFI_GUID id = DEVICE_PATH_PROTOCOL;
+    const uint8_t *last = NULL;
+    EFI_DEVICE_PATH *node;
+    if (EFI_ERROR(BS->HandleProtocol(device, &id, (void **)&node))) return NULL;
+    *start = (const uint8_t *)node;
+    for (; !IsDevicePathEnd(node); node = NextDevicePathNode(node)) last = (const uint8_t *)node;
+    int has_id = last != NULL && last[0] == MEDIA_DEVICE_PATH && last[1] == MEDIA_HARDDRIVE_DP &&
+                 last[id_kind_at] == SIGNATURE_TYPE_GUID;
+    return has_id ? last : NULL;
+}
+
+const char *partition_name(EFI_HANDLE device) {
+    static const char order[] = "\3\2\1\0-\5\4-\7\6-\10\11-\12\13\14\15\16\17", digits[] = "0123456789abcdef";
+    static char name[partition_letters + 1];
+    const uint8_t *start, *node = find_node(device, &start);
+    char *letter = name;
+    for (size_t i = 0; node != NULL && i < sizeof order - 1; i++) {
+        const uint8_t byte = node[id_at + order[i] % '-'];
+        *letter++ = order[i] == '-' ? '-' : digits[byte >> 4];
+        if (order[i] != '-') *letter++ = digits[byte & 15];
+    }
+    *letter = 0;
+    return name;
+}
+
+/* Whether it is the extended boot partition of a device's disk. */
+static int is_extended(EFI_HANDLE device, EFI_HANDLE own) {
+    static EFI_GUID id = PARTITION_INFO_PROTOCOL;
+    static const uint8_t extended[16] = {0xff, 0xc2, 0x13, 0xbc, 0xe6, 0x59, 0x62, 0x42,
+                                         0xa3, 0x52, 0xb2, 0x75, 0xfd, 0x6f, 0x71, 0x72};
+    const uint8_t *one_start, *one = find_node(own, &one_start), *start, *node = find_node(device, &start), *info;
+    return one != NULL && node != NULL && one - one_start == node - start &&
+           memcmp(one_start, start, (size_t)(node - start)) == 0 &&
+           !EFI_ERROR(BS->HandleProtocol(device, &id, (void **)&info)) && info[table_at] == of_gpt &&
+           memcmp(info + kind_at, extended, sizeof extended) == 0;
+}
+
+EFI_HANDLE find_partition(const char *name, EFI_HANDLE own) {
+    static EFI_GUID system = SIMPLE_FILE_SYSTEM_PROTOCOL;
+    EFI_HANDLE *devices, found = NULL;
+    UINTN count;
+    if (EFI_ERROR(BS->LocateHandleBuffer(ByProtocol, &system, NULL, &count, &devices))) return NULL;
+    for (UINTN i = 0; i < count && found == NULL; i++)
+        if (name != NULL ? is_word(partition_name(devices[i]), name) : is_extended(devices[i], own))
+            found = devices[i];
+    BS->FreePool(devices);
+    return found;
+}
