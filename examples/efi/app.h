@@ -30,8 +30,9 @@ typedef struct {
     const char *partition; /* where they are, by its GUID; NULL: on the disk of the application */
     bootcore_entry core;   /* as the core takes it; read_files puts the files in */
     int has_no_screen, has_no_efi; /* its kernel is not told of these */
-    /* of loader/entries alone: its file and that's name, what it is sorted by, what is wrong with it */
-    const char *file, *name, *version, *sort_key, *machine, *wrong;
+    /* of loader/entries alone: its file, that one's name, and without its ending; what it is sorted by,
+       what is wrong with it */
+    const char *file, *id, *name, *version, *sort_key, *machine, *wrong;
     uint32_t wrong_line;
 } menu_entry;
 
@@ -284,6 +285,15 @@ uint32_t take_restarts(void);
 /* Keeps that it is restarted, by runtime services alone, which serve also as the firmware ends. 0 if
    that can't be kept. */
 int keep_restart(void);
+
+/* ---- variables.c: those of the Boot Loader Interface */
+
+/* Takes from them the time limit and which entry is chosen. */
+void read_variables(void);
+/* Writes of the firmware, the application and the menu's entries. */
+void write_variables(const EFI_LOADED_IMAGE *self);
+/* Writes which entry is attempted. */
+void write_selected(uint32_t index);
 
 /* ---- measure.c: the TPM. NULL, or why what is to be measured must not be used */
 

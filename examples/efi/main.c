@@ -51,6 +51,8 @@ static int begin(EFI_HANDLE image) {
         return print(": %s\n", wrong), 0;
     }
     mark_kept();
+    read_variables();
+    write_variables(self);
     if (!take_plan_room()) return say("There is too little memory.");
     take_log_room();
     return 1;
@@ -101,6 +103,7 @@ static const char *boot_choice(EFI_HANDLE image, enum choice how) {
         if (how == chosen_with_line && i == 0)
             entry.core.line = (bootcore_bytes){edited, strlen(edited)};
         print("\n");
+        write_selected(menu.attempts[i]);
         wrong = attempt(image, &entry);
         if (wrong != NULL) print_sentence(entry.title, wrong);
         give_back(kept_count);
