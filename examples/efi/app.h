@@ -54,7 +54,8 @@ extern struct menu_file {
     size_t text_length;
 } menu;
 extern const char *const protocols[4]; /* their words, by the core's numbers */
-enum { efi_program = BOOTCORE_PROTOCOL_LINUX64 + 1 }; /* in a protocol's place: no matter of the core's */
+/* In a protocol's place, and no matter of the core's. From the second one on nothing is booted. */
+enum { efi_program = BOOTCORE_PROTOCOL_LINUX64 + 1, reboot, power_off, firmware_setup };
 
 /* Reads the menu out of a text, which it keeps and changes. NULL, or what is wrong: in a line, or
    with line 0 in the whole. */
@@ -294,6 +295,8 @@ void read_variables(void);
 void write_variables(const EFI_LOADED_IMAGE *self);
 /* Writes which entry is attempted. */
 void write_selected(uint32_t index);
+/* Asks the firmware for its setup at the next start; 0 if it has none that can be asked for. */
+int ask_for_setup(void);
 
 /* ---- measure.c: the TPM. NULL, or why what is to be measured must not be used */
 
@@ -332,7 +335,7 @@ size_t describe(const bootcore_machine *machine, const menu_entry *entry, char *
 
 /* The way to a disk's file, as the firmware has it, until the next call. NULL: it is too long. */
 EFI_DEVICE_PATH *find_way(EFI_HANDLE disk, const char *path);
-/* Starts an entry's program. NULL if it ended well, or what is wrong. */
+/* Starts an entry's program from the disk that is used. NULL if it ended well, or what is wrong. */
 const char *start_program(EFI_HANDLE image, const menu_entry *entry);
 
 /* ---- verify.c: Secure Boot */

@@ -192,7 +192,7 @@ static const char *read_file(menu_entry *entry, uint32_t index, uint32_t from, u
 
 /* A plan wants the kernel, and of the other files the lengths: so these are read to where the plan
    has them, or at least out of its way. */
-static const char *read_all(menu_entry *entry) {
+const char *read_files(menu_entry *entry) {
     uint32_t fault = 0, index = 0;
     memset(&files, 0, sizeof files);
     boot.layout.step_count = 0;
@@ -206,13 +206,6 @@ static const char *read_all(menu_entry *entry) {
         index++;
         wrong = read_file(entry, index, i, take_file_pages(index, files.read[index].length));
     }
-    return wrong;
-}
-
-const char *read_files(menu_entry *entry) {
-    const char *wrong = use_partition(entry->partition);
-    if (wrong == NULL) wrong = read_all(entry);
-    use_partition(NULL);
     return wrong;
 }
 

@@ -49,7 +49,8 @@ int keep_restart(void) {
 int keep_choice(void) {
     char *title = (char *)(UINTN)menu.entries[menu.chosen].title;
     uint32_t attributes = EFI_VARIABLE_NON_VOLATILE | EFI_VARIABLE_BOOTSERVICE_ACCESS;
-    return !menu.keeps || is_kept(title) ||
+    int is_end = menu.entries[menu.chosen].core.protocol >= reboot; /* no entry that boots something */
+    return !menu.keeps || is_end || is_kept(title) ||
            !EFI_ERROR(ST->RuntimeServices->SetVariable(variable, &vendor, attributes,
                                                        kept_length(title), title));
 }

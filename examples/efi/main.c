@@ -73,10 +73,12 @@ static const char *attempt(EFI_HANDLE image, menu_entry *entry) {
         return compose(entry->wrong_line ? "%s: %s in line %u." : "%s: %s.", entry->file, entry->wrong,
                        (uint64_t)entry->wrong_line);
     const char *wrong = measure_choice(entry);
+    if (wrong == NULL) wrong = use_partition(entry->partition);
     if (wrong != NULL) return wrong;
     if (entry->core.protocol == efi_program) return start_program(image, entry);
     find_firmware();
     wrong = read_files(entry);
+    use_partition(NULL);
     if (wrong == NULL) wrong = make_ready(entry);
     if (wrong != NULL) return wrong;
     if (menu.writes) say(write_handover(entry));
@@ -88,6 +90,14 @@ static const char *attempt(EFI_HANDLE image, menu_entry *entry) {
     if (restarts)
         print("    Before, the memory map changed as the firmware ended: restarts: %u.\n", (uint64_t)restarts);
     return leave_firmware(image, entry);
+}
+
+/* Only a person ends the machine so: one that starts alone might do it for ever. */
+static const char *end_machine(uint32_t how, int is_chosen) {
+    if (!is_chosen) return "This is done only if it is chosen by hand.";
+    if (how == firmware_setup && !ask_for_setup()) return "The firmware has no setup that can be asked for.";
+    ST->RuntimeServices->ResetSystem(how == power_off ? EfiResetShutdown : EfiResetCold, EFI_SUCCESS, 0, NULL);
+    return "The firmware does not do so.";
 }
 
 /* Fallbacks are for the machine that starts alone: who chose an entry wants no other, if the menu
@@ -104,8 +114,10 @@ static const char *boot_choice(EFI_HANDLE image, enum choice how) {
             entry.core.line = (bootcore_bytes){edited, strlen(edited)};
         print("\n");
         write_selected(menu.attempts[i]);
-        wrong = attempt(image, &entry);
+        if (entry.core.protocol < reboot) wrong = attempt(image, &entry);
+        else wrong = end_machine(entry.core.protocol, how != chosen_by_time && i == 0);
         if (wrong != NULL) print_sentence(entry.title, wrong);
+        use_partition(NULL);
         give_back(kept_count);
     }
     return wrong;

@@ -45,6 +45,11 @@ static void take_fallbacks(char *text) {
     }
 }
 
+static void take_end(uint32_t how, menu_entry *entry) {
+    if (check(entry->core.protocol == 0, "an entry has one protocol")) entry->core.protocol = how;
+    entry->paths[0] = ""; /* it wants no kernel */
+}
+
 static void take_program(char *path, menu_entry *entry) {
     if (!check(entry->core.protocol == 0, "an entry has one protocol")) return;
     entry->core.protocol = efi_program;
@@ -72,7 +77,7 @@ static void begin_entry(const char *title) {
 
 static void take(const char *word, char *rest) {
     menu_entry *entry = &menu.entries[menu.entry_count ? menu.entry_count - 1 : 0];
-    int has_protocol = entry->core.protocol != 0 && entry->core.protocol != efi_program;
+    int has_protocol = entry->core.protocol != 0 && entry->core.protocol < efi_program;
     if (is_word(word, "timeout")) menu.seconds = take_number(rest);
     else if (is_word(word, "default")) menu.chosen = take_number(rest);
     else if (is_word(word, "fallback")) take_fallbacks(rest);
@@ -85,10 +90,14 @@ static void take(const char *word, char *rest) {
     else if (is_word(word, "change")) menu.change = rest;
     else if (is_word(word, "title")) begin_entry(rest);
     else if (!check(menu.entry_count != 0, "an entry begins with its title")) return;
+    else if (is_word(word, "reboot")) take_end(reboot, entry);
+    else if (is_word(word, "power_off")) take_end(power_off, entry);
+    else if (is_word(word, "firmware_setup")) take_end(firmware_setup, entry);
     else if (is_word(word, "protocol")) take_protocol(rest, &entry->core);
     else if (is_word(word, "efi") && has_protocol && is_word(rest, "no")) entry->has_no_efi = 1;
     else if (is_word(word, "efi")) take_program(rest, entry);
     else if (!check(entry->core.protocol != 0, "the protocol comes behind the title")) return;
+    else if (!check(entry->core.protocol < reboot, "an entry that boots nothing has no such word")) return;
     else if (is_word(word, "partition")) take_partition(rest, entry);
     else if (is_word(word, "kernel")) take_kernel(rest, entry);
     else if (is_word(word, "module")) take_module(rest, entry);

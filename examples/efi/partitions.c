@@ -4,9 +4,7 @@
 
 enum { id_at = 24, id_kind_at = 41 /* in the node of a partition (UEFI 10.3.5.1) */ };
 
-#define PARTITION_INFO_PROTOCOL \
-    {0x8cf2f62c, 0xbc9b, 0x4821, {0x80, 0x8d, 0xec, 0x9e, 0xc4, 0x21, 0xa1, 0xa0}}
-enum { table_at = 4, of_gpt = 2, kind_at = 16 /* in what it tells (UEFI 13.18) */ };
+enum { table_at = 4, of_gpt = 2, kind_at = 16 /* in EFI_PARTITION_INFO_PROTOCOL (UEFI 13.18) */ };
 
 /* The last node of the way to a device, if it is that of a partition with a GUID; or NULL. */
 static const uint8_t *find_node(EFI_HANDLE device, const uint8_t **start) {
@@ -37,14 +35,14 @@ const char *partition_name(EFI_HANDLE device) {
 
 /* Whether it is the extended boot partition of a device's disk. */
 static int is_extended(EFI_HANDLE device, EFI_HANDLE own) {
-    static EFI_GUID id = PARTITION_INFO_PROTOCOL;
-    static const uint8_t extended[16] = {0xff, 0xc2, 0x13, 0xbc, 0xe6, 0x59, 0x62, 0x42,
-                                         0xa3, 0x52, 0xb2, 0x75, 0xfd, 0x6f, 0x71, 0x72};
+    static EFI_GUID id = {0x8cf2f62c, 0xbc9b, 0x4821, {0x80, 0x8d, 0xec, 0x9e, 0xc4, 0x21, 0xa1, 0xa0}};
+    static const EFI_GUID extended = {
+        0xbc13c2ff, 0x59e6, 0x4262, {0xa3, 0x52, 0xb2, 0x75, 0xfd, 0x6f, 0x71, 0x72}};
     const uint8_t *one_start, *one = find_node(own, &one_start), *start, *node = find_node(device, &start), *info;
     return one != NULL && node != NULL && one - one_start == node - start &&
            memcmp(one_start, start, (size_t)(node - start)) == 0 &&
            !EFI_ERROR(BS->HandleProtocol(device, &id, (void **)&info)) && info[table_at] == of_gpt &&
-           memcmp(info + kind_at, extended, sizeof extended) == 0;
+           memcmp(info + kind_at, &extended, sizeof extended) == 0;
 }
 
 EFI_HANDLE find_partition(const char *name, EFI_HANDLE own) {

@@ -39,10 +39,7 @@ const char *start_program(EFI_HANDLE image, const menu_entry *entry) {
     const bootcore_bytes *line = &entry->core.line;
     EFI_HANDLE program = NULL;
     EFI_LOADED_IMAGE *loaded;
-    const char *wrong = use_partition(entry->partition);
     EFI_DEVICE_PATH *way = find_way(used_disk(), entry->paths[0]);
-    use_partition(NULL);
-    if (wrong != NULL) return wrong;
     if (way == NULL || line->length > BOOTCORE_MAX_LINE) return "Its path or line is too long.";
     EFI_STATUS status = BS->LoadImage(FALSE, image, way, NULL, 0, &program);
     if (!EFI_ERROR(status)) status = BS->HandleProtocol(program, &id, (void **)&loaded);

@@ -85,7 +85,8 @@ static void show_wide(const char *text, size_t width) {
 }
 
 static void show_row(uint32_t index, int is_marked) {
-    static const char *const names[] = {"", "Multiboot2", "Linux", "Linux, 64 bits", "EFI program"};
+    static const char *const names[] = {"", "Multiboot2", "Linux", "Linux, 64 bits", "EFI program",
+                                        "Reboot",     "Power off",  "Firmware setup"};
     print("   ");
     if (is_marked) ST->ConOut->SetAttribute(ST->ConOut, EFI_TEXT_ATTR(EFI_WHITE, EFI_BLUE));
     print(" ");

@@ -8,6 +8,7 @@ static EFI_GUID vendor = {
 
 enum {
     told = EFI_VARIABLE_BOOTSERVICE_ACCESS | EFI_VARIABLE_RUNTIME_ACCESS,
+    kept_always = told | EFI_VARIABLE_NON_VOLATILE,
     max_letters = 4096 /* of a variable; firmware has a limit of its own */
 };
 
@@ -38,30 +39,25 @@ static void write_text(CHAR16 *name, const char *written) {
     write_added(name);
 }
 
-/* A variable's text in small letters, until the next call; or NULL. */
-static const char *read_variable(CHAR16 *name) {
+/* A variable's text in small letters, until the next call; or NULL. What is for one boot is removed; if it
+   can't be, it does not count, since it would at each boot. */
+static const char *read_variable(CHAR16 *name, int is_once) {
     UINTN size = sizeof letters - sizeof *letters, i = 0;
     if (EFI_ERROR(ST->RuntimeServices->GetVariable(name, &vendor, NULL, &size, letters))) return NULL;
     for (; i < size / sizeof *letters && letters[i]; i++)
         text[i] = letters[i] <= '~' ? small_letter((char)letters[i]) : '\n'; /* which no id has */
     text[i] = 0;
-    return text;
-}
-
-/* One that is for one boot. If it can't be removed it does not count, since it would at each boot. */
-static const char *take_variable(CHAR16 *name) {
-    const uint32_t attributes = told | EFI_VARIABLE_NON_VOLATILE;
-    const char *taken = read_variable(name);
-    if (taken == NULL) return NULL;
-    return EFI_ERROR(ST->RuntimeServices->SetVariable(name, &vendor, attributes, 0, NULL)) ? NULL : taken;
+    return is_once && EFI_ERROR(ST->RuntimeServices->SetVariable(name, &vendor, kept_always, 0, NULL)) ? NULL : text;
 }
 
 /* ---- entries, by their ids */
 
 /* systemd's logind takes an id that is no file's only if it begins so. */
 static const char *id_of(uint32_t index) {
-    const char *id = menu.entries[index].id;
-    return id != NULL ? id : compose("auto-menu-%u", (uint64_t)index);
+    static const char *const ends[] = {"auto-reboot", "auto-poweroff", "auto-reboot-to-firmware-setup"};
+    const menu_entry *entry = &menu.entries[index];
+    if (entry->core.protocol >= reboot) return ends[entry->core.protocol - reboot];
+    return entry->id != NULL ? entry->id : compose("auto-menu-%u", (uint64_t)index);
 }
 
 /* By the signs * and ?, as a shell has them. */
@@ -95,10 +91,10 @@ static void limit(const char *wanted, uint32_t zero) {
 }
 
 void read_variables(void) {
-    limit(read_variable(L"LoaderConfigTimeout"), 0);
-    limit(take_variable(L"LoaderConfigTimeoutOneShot"), no_limit);
-    mark(read_variable(L"LoaderEntryDefault"));
-    mark(take_variable(L"LoaderEntryOneShot"));
+    limit(read_variable(L"LoaderConfigTimeout", 0), 0);
+    limit(read_variable(L"LoaderConfigTimeoutOneShot", 1), no_limit);
+    mark(read_variable(L"LoaderEntryDefault", 0));
+    mark(read_variable(L"LoaderEntryOneShot", 1));
 }
 
 void write_variables(const EFI_LOADED_IMAGE *self) {
@@ -118,3 +114,19 @@ void write_variables(const EFI_LOADED_IMAGE *self) {
 }
 
 void write_selected(uint32_t index) { write_text(L"LoaderEntrySelected", id_of(index)); }
+
+/* ---- the firmware's setup */
+
+static EFI_GUID global = EFI_GLOBAL_VARIABLE;
+
+static uint64_t read_bits(CHAR16 *name) {
+    uint64_t bits = 0;
+    UINTN size = sizeof bits;
+    return EFI_ERROR(ST->RuntimeServices->GetVariable(name, &global, NULL, &size, &bits)) ? 0 : bits;
+}
+
+int ask_for_setup(void) {
+    uint64_t bits = read_bits(L"OsIndications") | EFI_OS_INDICATIONS_BOOT_TO_FW_UI;
+    return (read_bits(L"OsIndicationsSupported") & EFI_OS_INDICATIONS_BOOT_TO_FW_UI) &&
+           !EFI_ERROR(ST->RuntimeServices->SetVariable(L"OsIndications", &global, kept_always, sizeof bits, &bits));
+}
