@@ -96,7 +96,7 @@ enum { partition_letters = 36 };
 /* Its GUID as text, until the next call; empty if it has none. */
 const char *partition_name(EFI_HANDLE device);
 /* The partition with a file system that has this GUID; without one the extended boot partition
-   (XBOOTLDR) of a device's disk. NULL if it is not there. */
+   (XBOOTLDR) of the disk of a device, which is another one. NULL if it is not there. */
 EFI_HANDLE find_partition(const char *name, EFI_HANDLE own);
 
 /* ---- files.c: files of the disk that the application was started from, and of other partitions */
@@ -106,9 +106,10 @@ extern struct entry_files {
     size_t count;
 } files; /* of the entry that is attempted */
 
-/* The application's disk, whose files are meant from here on; 0 if it can't be read. */
+/* The application's disk; 0 if it can't be read. From here on its files are meant. */
 int open_disk(EFI_HANDLE device);
-/* The same of a partition, or with NULL of the application's disk again. NULL, or what is wrong. */
+/* From here on those of a partition, by its GUID, or with NULL of the application's disk again. NULL, or
+   what is wrong: then they are those of the application's disk. */
 const char *use_partition(const char *name);
 EFI_HANDLE used_disk(void);
 void close_disk(void);

@@ -48,8 +48,7 @@ CHAR16 *file_name(const char *path) {
 /* A file, or NULL. */
 static EFI_FILE *open(const char *path, uint64_t mode) {
     CHAR16 *name = file_name(path);
-    EFI_FILE *file;
-    EFI_FILE *root = roots[used];
+    EFI_FILE *file, *root = roots[used];
     return name == NULL || EFI_ERROR(root->Open(root, &file, name, mode, 0)) ? NULL : file;
 }
 

@@ -117,6 +117,12 @@ static void check_extended(void) {
     expect("one that the table does not show to be one does not count", find_partition(NULL, devices) == NULL);
     put(7, 2, 0xe0, gpt, extended);
     expect("the extended partition of the same disk is found", find_partition(NULL, devices) == devices + 6);
+    expect("from the extended partition there is no other one", find_partition(NULL, devices + 6) == NULL);
+    put(8, 2, 0xe0, gpt, extended);
+    expect("of a disk and its copy the own one counts",
+           find_partition("e3e2e1e0-e5e4-e7e6-e8e9-eaebecedeeef", devices) == devices + 6 &&
+               find_partition("e3e2e1e0-e5e4-e7e6-e8e9-eaebecedeeef", devices + 1) == devices + 7 &&
+               find_partition(NULL, devices) == devices + 6);
     free(devices[0].way);
     devices[0].way = way_of(disk, sizeof disk);
     expect("a disk without partitions has none", find_partition(NULL, devices) == NULL);
