@@ -49,8 +49,8 @@ int keep_restart(void) {
 int keep_choice(void) {
     char *title = (char *)(UINTN)menu.entries[menu.chosen].title;
     uint32_t attributes = EFI_VARIABLE_NON_VOLATILE | EFI_VARIABLE_BOOTSERVICE_ACCESS;
-    int is_end = menu.entries[menu.chosen].core.protocol >= reboot; /* no entry that boots something */
-    return !menu.keeps || is_end || is_kept(title) ||
+    /* what ends the machine is no choice for each boot */
+    return !menu.keeps || menu.entries[menu.chosen].core.protocol >= reboot || is_kept(title) ||
            !EFI_ERROR(ST->RuntimeServices->SetVariable(variable, &vendor, attributes,
                                                        kept_length(title), title));
 }

@@ -21,9 +21,7 @@ int begins_with(const char *text, const char *start) {
     return *start == 0;
 }
 
-char small_letter(char letter) {
-    return letter >= 'A' && letter <= 'Z' ? (char)(letter - 'A' + 'a') : letter;
-}
+char small_letter(char letter) { return letter >= 'A' && letter <= 'Z' ? (char)(letter - 'A' + 'a') : letter; }
 
 char *cut_word(char *line) {
     while (*line && !is_blank(*line)) line++;
