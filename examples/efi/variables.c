@@ -99,10 +99,11 @@ void read_variables(void) {
 void write_variables(const EFI_LOADED_IMAGE *self) {
     /* time limits, entries by ids, each always and once; XBOOTLDR; sort keys */
     static const uint64_t features = 1 | 1 << 1 | 1 << 2 | 1 << 3 | 1 << 5 | 1 << 8;
-    const uint64_t version = BOOTCORE_VERSION, high = ST->FirmwareRevision >> 16, low = ST->FirmwareRevision & 0xffff;
+    const uint64_t version = BOOTCORE_VERSION, uefi = ST->Hdr.Revision, revision = ST->FirmwareRevision;
     const EFI_DEVICE_PATH *file = self->FilePath;
     while (length < 64 && ST->FirmwareVendor[length]) letters[length] = ST->FirmwareVendor[length], length++;
-    write_text(L"LoaderFirmwareInfo", compose(" %u.%u%u", high, low / 10, low % 10));
+    write_text(L"LoaderFirmwareInfo", compose(" %u.%u", revision >> 16, revision & 0xffff));
+    write_text(L"LoaderFirmwareType", compose("UEFI %u.%u", uefi >> 16, (uefi & 0xffff) / 10));
     write_text(L"LoaderInfo", compose("bootcore %u.%u.%u", version / 10000, version / 100 % 100, version % 100));
     if (*partition_name(used_disk())) write_text(L"LoaderDevicePartUUID", partition_name(used_disk()));
     write(L"LoaderFeatures", &features, sizeof features);

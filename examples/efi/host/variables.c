@@ -62,7 +62,7 @@ static EFI_STATUS EFIAPI set(CHAR16 *name, EFI_GUID *id, UINT32 attributes, UINT
 
 static EFI_RUNTIME_SERVICES runtime = {.GetVariable = get, .SetVariable = set};
 static EFI_SYSTEM_TABLE firmware = {
-    .RuntimeServices = &runtime, .FirmwareVendor = L"A firm", .FirmwareRevision = 2 << 16 | 7};
+    .Hdr = {.Revision = 2 << 16 | 100}, .RuntimeServices = &runtime, .FirmwareVendor = L"A firm", .FirmwareRevision = 2 << 16 | 7};
 EFI_SYSTEM_TABLE *ST = &firmware;
 EFI_BOOT_SERVICES *BS;
 struct menu_file menu;
@@ -186,7 +186,7 @@ static void check_written(void) {
     write_selected(3);
     expect("the ids are listed", HAS(L"LoaderEntries", "auto-menu-0\0auto-menu-1\0Debian-6.10.conf\0debian-6.1.conf\0arch.conf"));
     expect("the entry is told", HAS(L"LoaderEntrySelected", "debian-6.1.conf"));
-    expect("the firmware is told", HAS(L"LoaderFirmwareInfo", "A firm 2.07"));
+    expect("the firmware is told", HAS(L"LoaderFirmwareInfo", "A firm 2.7") && HAS(L"LoaderFirmwareType", "UEFI 2.10"));
     expect("the program is told", HAS(L"LoaderImageIdentifier", "\\a\\b."));
     expect("features are told", variables[at_name(L"LoaderFeatures")].size == 8 &&
                                     memcmp(variables[at_name(L"LoaderFeatures")].bytes, features, 8) == 0);
