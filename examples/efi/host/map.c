@@ -186,6 +186,22 @@ static void check_alike(void) {
     expect("a list is not like one of another machine", !are_alike(&one, &other) && !are_alike(&other, &one));
 }
 
+/* As many ranges as the core takes, and one more: each of pages that adjoin and are free for another reason, or are listed
+   one by one. */
+static void check_limit(machine_map *map) {
+    static const uint32_t free_types[] = {EfiConventionalMemory, EfiBootServicesData, EfiLoaderData};
+    start = 0, step = 48, seed = 1;
+    for (size_t runs = BOOTCORE_MAX_REGIONS; runs <= BOOTCORE_MAX_REGIONS + 1; runs++) {
+        for (size_t i = 0; i < page_count; i++) {
+            uint32_t type = i / 3 % 2 ? EfiACPIReclaimMemory : free_types[i % 3];
+            pages[i] = (use){i / 3 < runs ? type : EfiMaxMemoryType, 0xf};
+        }
+        expect("pages are drawn of so many runs", run_count() == runs);
+        expect("at most as many ranges are told as the core takes", (read_map(map) == NULL) == (runs == BOOTCORE_MAX_REGIONS));
+        if (runs == BOOTCORE_MAX_REGIONS) check_regions(map);
+    }
+}
+
 int main(int count, char **words) {
     static EFI_BOOT_SERVICES services = {.GetMemoryMap = get_map};
     static machine_map map;
@@ -200,7 +216,8 @@ int main(int count, char **words) {
         check_alike();
         refused += !has_room;
     }
-    expect("maps of each sort are drawn", maps < 100 || (joined && refused));
+    expect("maps of each sort are drawn", maps < 60 || (joined && refused));
+    check_limit(&map);
     printf("%d maps, of which %d have too many ranges; in %zu ranges to avoid are joined\n", maps, refused, joined);
     return 0;
 }
