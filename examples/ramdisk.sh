@@ -58,9 +58,12 @@ hostname ramdisk
 END
 cat >"$room/etc/prompt" <<'END'
 #!/bin/sh
-# the kernel's last console: ttyS0 by console=ttyS0, hvc0 under Xen
+# the kernel's last console: ttyS0 by console=ttyS0, hvc0 under Xen; a serial port that is not there is one too
 read -r consoles </sys/class/tty/console/active
-exec getty -L 115200 "${consoles##* }" vt100
+for console in $consoles; do
+    if printf '\r' >"/dev/$console"; then last=$console; fi
+done 2>/dev/null
+exec getty -L 115200 "${last:-${consoles##* }}" vt100
 END
 chmod 755 "$room"/etc/{start,prompt} "$room/bin/busybox"
 echo 'root::0:0:root:/root:/bin/sh' >"$room/etc/passwd"

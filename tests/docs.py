@@ -19,6 +19,9 @@ MANUAL_PAGE = TOP / "docs/bootcore.1"
 
 LAID_OUT = ["layers", "session", "frame"]
 DRAWN_BY_PROGRAM = ["first", "second", "boot"]
+# pictures of what a run showed, which another run would show a bit otherwise: each with the command that makes it
+MADE_BY_RUNS = {"console.png": "examples/efi/check --picture"}
+MOST_BYTES = 40_000  # of such a picture
 TOOLS = [
     ("each link to a definition or a clause names one that its file declares", "tools/pages", "anchors"),
     ("no name is declared more than once but those of tools/checks/names.txt", "tools/pages", "names"),
@@ -201,12 +204,21 @@ class Pages(Checks):
 
     def test_pictures(self) -> None:
         drawn = run(TOP / "tools/pictures", "--help").out.decode().split("] [")[1].split(" ..]")[0].split("|")
-        with self.check("each picture of docs/pictures is one that tools/pictures draws, and no page shows another one"):
-            self.assertEqual(sorted(it.stem for it in (TOP / "docs/pictures").glob("*.svg")), sorted(drawn))
+        with self.check("each picture of docs/pictures is one that tools/pictures draws or that a run makes, and no page shows another one"):
+            allowed = sorted([*(f"{name}.svg" for name in drawn), *MADE_BY_RUNS])
+            there = [it.name for it in (TOP / "docs/pictures").iterdir() if it.suffix != ".memory"]
+            self.assertEqual(sorted(there), allowed)
             texts = {page: "\n".join(repository.lines(page)) for page in repository.pages()}
             shown = {page: re.findall(r"!\[[^]]*\]\(([^)]*)\)", text) for page, text in texts.items()}
-            others = [(page, it) for page, links in shown.items() for it in links if Path(it).name not in [f"{each}.svg" for each in drawn]]
+            others = [(page, it) for page, links in shown.items() for it in links if Path(it).name not in allowed]
             self.assertEqual(others, [])
+        for name, command in MADE_BY_RUNS.items():
+            with self.check(f"docs/pictures/{name} is small, and a page that shows it says that {command} makes it"):
+                self.assertLessEqual((TOP / "docs/pictures" / name).stat().st_size, MOST_BYTES)
+                showing = [page for page, links in shown.items() if name in map(os.path.basename, links)]
+                self.assertTrue([page for page in showing if command in texts[page]], f"pages that show it: {showing}")
+                script, option = command.split()
+                self.assertIn(option, run(TOP / script, "--help").out.decode().split(), f"{script} --help has no {option}")
         from_sources = [name for name in drawn if name not in DRAWN_BY_PROGRAM + LAID_OUT]
         self.passes("each picture that needs no program is what tools/pictures draws", TOP / "tools/pictures", "--check", *from_sources)
 

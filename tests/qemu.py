@@ -3,10 +3,11 @@
 import os
 import re
 import subprocess
+import sys
 import unittest
 from collections import Counter
 from pathlib import Path
-from typing import Callable, Dict, List, NamedTuple, Optional
+from typing import Dict, List, NamedTuple, Optional
 
 from tests.firmware_tables import PAGE, acpi, efi, efi_map
 from tests.support import PROGRAM, TOP, Checks, Ran, has_tomllib, is_at_hand, need_built, run
@@ -39,6 +40,7 @@ class Seen(NamedTuple):
 
     ran: Ran
     written: str
+    picture: Path
     width: int
     height: int
     pixels: bytes
@@ -80,7 +82,8 @@ class ScreenChecks(Checks):
         head = re.match(rb"P6\s(\d+)\s(\d+)\s255\s", picture.read_bytes()) if picture.exists() else None
         if head is None:
             self.fail(f"ran: {ran}\nstatus {ran.status}; no picture of the screen after these lines:\n{written[-2000:]!r}")
-        return Seen(ran, written.decode(errors="backslashreplace"), int(head[1]), int(head[2]), picture.read_bytes()[head.end():])
+        pixels = picture.read_bytes()[head.end():]
+        return Seen(ran, written.decode(errors="backslashreplace"), picture, int(head[1]), int(head[2]), pixels)
 
 
 # ---- a small kernel, which paints
@@ -99,8 +102,8 @@ MODES: Dict[str, Dict[str, str]] = {
         "red = [16, 8]": "red = [10, 5]", "green = [8, 8]": "green = [5, 5]", "blue = [0, 8]": "blue = [0, 5]",
     },
 }  # fmt: skip
-# what the kernel paints in column x and line y
-LEVELS: Dict[str, Callable[[int, int], int]] = {"red": lambda x, y: x, "green": lambda x, y: y, "blue": lambda x, y: x ^ y}
+# compares a picture of the screen with what the kernel paints
+LOOKS = TOP / "examples/efi/host/screen.py"
 
 
 class Painted(ScreenChecks):
@@ -120,20 +123,8 @@ class Painted(ScreenChecks):
             seen = self.seen(image, image.with_suffix(".toml"), "ended")
             with self.check(f"a small Multiboot2 kernel is told of a screen {name}, of UEFI and SMBIOS what the description says"):
                 self.assert_text(seen.ran, "\n".join([*told_lines(told), "ended", ""]), seen.written)
-            with self.check(f"and each pixel of QEMU's screen {name} is as the kernel painted it"):
-                self.assert_painted(seen, told["screen"])
-
-    def assert_painted(self, seen: Seen, screen: dict) -> None:
-        width, height = screen["width"], screen["height"]
-        self.assertEqual((seen.width, seen.height), (width, height), f"ran: {seen.ran}\nwidth and height")
-        for place, color in enumerate(COLORS):
-            bits, level = screen[color][1], LEVELS[color]
-            highest = bytes(shade >> (8 - bits) for shade in range(256))  # QEMU widens each color to 8 bits
-            came = seen.pixels[place::3].translate(highest)
-            wanted = bytes(level(x, y) & ((1 << bits) - 1) for y in range(height) for x in range(width))
-            if came != wanted:
-                at = next(at for at, (one, other) in enumerate(zip(came, wanted)) if one != other)
-                self.fail(f"ran: {seen.ran}\n{color} in column {at % width} of line {at // width} is {came[at]}, wanted {wanted[at]}")
+            sentence = f"and each pixel of QEMU's screen {name} is as the kernel painted it"
+            self.passes(sentence, sys.executable, LOOKS, "painted", seen.picture, image.with_suffix(".toml"))
 
 
 def told_lines(told: dict) -> List[str]:

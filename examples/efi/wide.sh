@@ -119,3 +119,47 @@ runs "memtest86+ of 32 bits" 'memtest86+' 'memtest86+ia32.bin' linux 'console=tt
 # it reads a BIOS's data, which there are none of, and ends before it says something
 runs "Xen" "$(newest xen-hypervisor '[0-9.]+-amd64')" 'xen-*-amd64.gz' multiboot2 'com1=115200,8n1 console=com1' \
     'Booting Xen' -m 1G
+
+# ---- screens
+
+# Cards whose frame buffer the firmware has, and one whose screen the firmware alone draws.
+for card in VGA cirrus-vga qxl-vga bochs-display ramfb virtio-vga; do
+    seen_painted "$card" -vga none -device "$card"
+done
+files=(told first second)
+disk < <(told_menu)
+tells "a kernel is told of no screen where the firmware alone draws" 3 -vga none -device virtio-gpu-pci
+
+# ---- memtest86+ on the screen
+
+# tested BITS FILE PROTOCOL: its 25 rows of 80 characters stand in the middle
+tested() {
+    local name="memtest86+ of $1 bits"
+    if ! fetched 'memtest86+' "$2"; then
+        echo "skipped: no $name is seen on a screen, since the package is not at hand"
+        return
+    fi
+    mv fetched kernel
+    files=(kernel)
+    disk <<END
+timeout 0
+title $name
+protocol $3
+kernel kernel
+END
+    start
+    if shown "$name stands on the screen" 300 'Memtest86\+ ' 80x25; then
+        shown "$name tests memory" 120 'Test #[0-9]' 80x25
+        is_no_blank "the screen of $name is not blank"
+    fi
+    stop
+}
+if [ ! -f "$linux" ] && fetched "$amd64" 'vmlinuz-*'; then
+    cp fetched vmlinuz-fetched
+    linux=$room/vmlinuz-fetched
+fi
+if has_console && console_starts; then
+    stop
+    tested 64 'memtest86+x64.bin' linux64
+    tested 32 'memtest86+ia32.bin' linux
+fi
