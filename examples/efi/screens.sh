@@ -292,7 +292,7 @@ screens() {
 }
 # make_picture: of a smaller screen, with more on it. The characters are learned in a boot before
 make_picture() {
-    local screen=(-vga none -device VGA,xres=800,yres=600)
+    local screen=(-vga none -device 'VGA,xres=800,yres=600')
     has_console && console_starts "${screen[@]}" || return
     stop
     console_disk initrd.img
