@@ -67,7 +67,7 @@ typed() {
         [A-Z]) key=shift-${key,} ;;
         esac
         ask "sendkey $key"
-        sleep 0.2
+        sleep 0.3 # it has to read them all
     done
     ask 'sendkey ret'
 }
@@ -293,7 +293,7 @@ screens() {
 # make_picture: of a smaller screen, with more on it. The characters are learned in a boot before
 make_picture() {
     local screen=(-vga none -device 'VGA,xres=800,yres=600')
-    has_console && console_starts "${screen[@]}" || return
+    if ! has_console || ! console_starts "${screen[@]}"; then return 1; fi
     stop
     console_disk initrd.img
     start "${screen[@]}"
@@ -303,7 +303,7 @@ make_picture() {
         typed 'dmesg | grep -e EFI -e DMI -e fb0'
         shown "it says what it knows of the firmware" 60 'fb0: '
         sleep 2
-        if shoot && look png "$picture"; then good "made $picture"; else bad "made $picture"; fi
+        if shoot && look png "$picture"; then good "$picture is made"; else bad "$picture is made"; fi
     fi
     stop
 }
