@@ -237,6 +237,10 @@ unsigned() {
 seen_painted() {
     local name="a Multiboot2 kernel paints the screen of $1, and each pixel is as it should be"
     shift
+    if ! command -v python3 >/dev/null 2>&1; then
+        echo "skipped: no kernel is seen to paint, since python3 is not at hand"
+        return
+    fi
     if ! gcc -m32 -c -I"$top/examples/kernels" "$top/examples/kernels/screen.S" -o screen.o ||
         ! ld -m elf_i386 -Ttext 0x100000 --oformat binary -e 0 --build-id=none screen.o -o paints; then
         bad "the kernel that paints is made"
@@ -262,6 +266,7 @@ END
     fi
     stop
 }
+
 # ---- all of these
 
 # has_console: or says why no console can be seen
@@ -278,11 +283,7 @@ has_console() {
     [ -z "${why:-}" ]
 }
 screens() {
-    if command -v python3 >/dev/null 2>&1; then
-        seen_painted "QEMU's card"
-    else
-        echo "skipped: no kernel is seen to paint, since python3 is not at hand"
-    fi
+    seen_painted "QEMU's card"
     if has_console; then
         seen_console
         if [ -f font ]; then seen_stick; fi
