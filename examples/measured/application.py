@@ -6,6 +6,7 @@ from typing import List, Tuple
 from event_log import digest
 from reading import BadInput, Fields
 
+SECURITY = 4  # of the header's directories that of signatures; a file may have fewer
 Ranges = List[Tuple[int, int]]  # starts and ends in the file
 
 
@@ -14,12 +15,11 @@ def application_digest(bank: str, held: bytes, name: str) -> bytes:
 
 
 def at(held: bytes, offset: int, length: int, name: str) -> int:
-    fields = Fields(held[offset:], f"the application {name}", "little")
-    return fields.number(length)
+    return Fields(held, f"the application {name}", "little", offset).number(length)
 
 
 def measured_ranges(held: bytes, name: str) -> Ranges:
-    """The headers but for checksum and the entry that tells where signatures are, the sections in the order of their places, and
+    """The headers but for checksum and the directory of signatures, the sections in the order of their places, and
     what lies behind them up to the signatures."""
     if held[:2] != b"MZ":
         raise BadInput(f"{name} is no EFI application")
@@ -29,12 +29,16 @@ def measured_ranges(held: bytes, name: str) -> Ranges:
     if held[head : head + 4] != b"PE\0\0" or magic not in (0x10B, 0x20B):
         raise BadInput(f"{name} is no EFI application")
     checksum = optional + 64
-    security = optional + (96 if magic == 0x10B else 112) + 4 * 8
+    directories = optional + (96 if magic == 0x10B else 112)
+    security = directories + SECURITY * 8
     header_end = at(held, optional + 60, 4, name)
-    ranges = [(0, checksum), (checksum + 4, security), (security + 8, header_end)]
+    ranges, signatures = [(0, checksum), (checksum + 4, header_end)], 0
+    if at(held, directories - 4, 4, name) > SECURITY:
+        ranges[1:] = [(checksum + 4, security), (security + 8, header_end)]
+        signatures = at(held, security + 4, 4, name)
     table = optional + at(held, head + 20, 2, name)
     sections = [table + 40 * i for i in range(at(held, head + 6, 2, name))]
     places = sorted((at(held, it + 20, 4, name), at(held, it + 16, 4, name)) for it in sections)
     ranges += [(start, start + length) for start, length in places if length]
     covered = header_end + sum(length for _, length in places)
-    return [*ranges, (covered, len(held) - at(held, security + 4, 4, name))]
+    return [*ranges, (covered, len(held) - signatures)]

@@ -13,6 +13,7 @@ from reading import fault, shown
 KINDS = ["usable", "reserved", "acpi", "nvs", "bad"]
 PROTOCOLS = ["multiboot2", "linux", "linux64"]
 FRAME = 0x1000
+SIZE = 1 << 32  # the boot manager's: the image tells of it only where a part would lie above
 ALL_FRAMES = 0xFFFFF000  # no part ends above it
 # what any line of the one form looks like: other TOML takes its reader up to a minute
 HEADER = r"\[\[(?:region|avoid|entry|entry\.module)\]\]|\[firmware(?:\.(?:screen|efi|smbios))?\]"
@@ -125,7 +126,10 @@ def read_description(text: bytes) -> Described:
     entries = tables(table, "entry")
     if len(entries) != 1:
         fault(f"it has {len(entries)} entries")
-    described = entry_of(entries[0], value(table, "size", int), regions_of(table), firmware_of(table))
+    size = value(table, "size", int)
+    if size != SIZE:
+        fault(f"its size is {size:#x}, and that of the boot manager is {SIZE:#x}")
+    described = entry_of(entries[0], size, regions_of(table), firmware_of(table))
     wanted = written(described)
     if text != wanted:
         came, should = text.split(b"\n"), wanted.split(b"\n")

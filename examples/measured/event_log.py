@@ -8,12 +8,15 @@ from typing import Any, Callable, Dict, Iterable, List, NamedTuple
 from limits import EVENTS
 from reading import BadInput, Fields
 
-# by their TCG numbers, those that Python can replay; a log may have others
+# by their TCG numbers, with tpm2-tools' names; a log may have others
 BANKS = {0x04: "sha1", 0x0B: "sha256", 0x0C: "sha384", 0x0D: "sha512", 0x27: "sha3_256", 0x28: "sha3_384", 0x29: "sha3_512"}
 STRONG = [bank for bank in BANKS.values() if bank != "sha1"]  # those that a verdict may rest on
 HASHES: Dict[str, Callable[[bytes], Any]] = {bank: getattr(hashlib, bank) for bank in BANKS.values()}
+BANKS[0x12] = "sm3_256"  # it is replayed beside them, where Python's OpenSSL has it
+if "sm3" in hashlib.algorithms_available:
+    HASHES["sm3_256"] = partial(hashlib.new, "sm3")
 HASHES["sha1"] = partial(hashlib.new, "sha1", usedforsecurity=False)  # a system that forbids SHA-1 has it for this
-SIZES = {"sha1": 20, "sha256": 32, "sha384": 48, "sha512": 64, "sha3_256": 32, "sha3_384": 48, "sha3_512": 64}
+SIZES = {"sha1": 20, "sha256": 32, "sha384": 48, "sha512": 64, "sha3_256": 32, "sha3_384": 48, "sha3_512": 64, "sm3_256": 32}
 NO_ACTION = 3  # EV_NO_ACTION: it tells something, and extends no PCR
 PCR_COUNT = 24
 LOCALITY = b"StartupLocality\0"

@@ -16,6 +16,7 @@ from tables import HEX, Table, hex_of, named, only, table_list, table_of, texts
 KEYS = ["managers", "drivers", "files", "texts", "revoked", "banks", "digests", "pcr", "machine", "entry"]
 BY_SIZE = {SIZES[bank]: bank for bank in reversed(list(BANKS.values()))}  # of equally long ones that of SHA-2
 SHORTEST = 64  # digits of a digest; a shorter word is a file's name
+LIKE_DIGEST = re.compile("(?:[0-9a-fA-F][ :]?){40}")
 
 
 class Known(NamedTuple):
@@ -23,6 +24,11 @@ class Known(NamedTuple):
 
     digest: bytes
     contents: Optional[bytes]
+
+
+class Machine(NamedTuple):
+    name: str
+    ek: str  # the fingerprint of its TPM's endorsement key; empty if none was named
 
 
 class Policy:
@@ -36,7 +42,8 @@ class Policy:
         self.entries = [entry_of(it) for it in table_list(table, "entry", "the policy")]
         self.pcrs = pcrs_of(table_of(table, "pcr", "the policy"))
         self.texts = {word.encode() for word in texts(table, "texts", "the policy")}
-        self.revoked = revoked_of(texts(table, "revoked", "the policy"))
+        words = texts(table, "revoked", "the policy")
+        self.revoked, self.revoked_titles = revoked_of(words, self.entries), {word.encode() for word in words}
         self.banks = banks_of(table)
         self.machines = machines_of(table)
         if not self.managers or not self.entries:
@@ -119,9 +126,14 @@ def pcrs_of(table: Table) -> Dict[int, List[bytes]]:
     return values
 
 
-def revoked_of(words: List[str]) -> Set[bytes]:
-    """Digests, and titles as they are measured. A title that looks like a digest counts as one."""
-    return {bytes.fromhex(word) if is_digest(word) else word.encode() for word in words}
+def revoked_of(words: List[str], entries: List[Entry]) -> Set[bytes]:
+    """The digests among them. What was meant as one and is none would revoke nothing, and nobody would see it."""
+    titles = [entry.title for entry in entries]
+    found = {word for word in words if is_digest(word) and len(word) // 2 in BY_SIZE}
+    wrong = [word for word in words if LIKE_DIGEST.search(word) and word not in found and word not in titles]
+    if wrong:
+        raise BadInput(f"the policy's revoked has {wrong[0][:80]!r}, which is no title, and no digest of SHA-2 or SHA-3 in digits alone")
+    return {bytes.fromhex(word) for word in found}
 
 
 def banks_of(table: Table) -> List[str]:
@@ -132,18 +144,29 @@ def banks_of(table: Table) -> List[str]:
     return banks
 
 
-def machines_of(table: Table) -> Dict[str, str]:
-    """Names of machines by their keys' fingerprints."""
-    machines: Dict[str, str] = {}
+def machines_of(table: Table) -> Dict[str, Machine]:
+    """By their keys' fingerprints. One machine may have several keys; one TPM is in one machine."""
+    machines: Dict[str, Machine] = {}
+    owners: Dict[str, str] = {}
     for it in table_list(table, "machine", "the policy"):
         name = named(it, "name", "a machine of the policy")
         where = f"the policy's machine {name!r}"
-        only(it, ["name", "key"], where)
-        key = hex_of(named(it, "key", where), where).hex()
-        if key in machines or len(key) != 64:
-            raise BadInput(f"{where} has another machine's key, or none of 32 bytes")
-        machines[key] = name
+        only(it, ["name", "key", "ek"], where)
+        key = fingerprint_of(named(it, "key", where), where)
+        ek = fingerprint_of(named(it, "ek", where), where) if "ek" in it else ""
+        if key in machines:
+            raise BadInput(f"{where} has another machine's key")
+        if ek and owners.setdefault(ek, name) != name:
+            raise BadInput(f"{where} has the endorsement key of {owners[ek]!r}")
+        machines[key] = Machine(name, ek)
     return machines
+
+
+def fingerprint_of(word: str, where: str) -> str:
+    held = hex_of(word, where)
+    if len(held) != 32:
+        raise BadInput(f"{where} has a key that is none of 32 bytes, as sha256sum tells it")
+    return held.hex()
 
 
 def digests_of(table: Table, names: List[str]) -> Dict[str, Dict[str, bytes]]:

@@ -48,7 +48,7 @@ def quoted_bank(quote: Quote) -> str:
 
 def check_quote(quote: Quote, nonce: bytes, values: Values, signature: Optional[Signature]) -> None:
     if quote.nonce != nonce or not nonce:
-        fault(f"the quote's nonce is {quote.nonce.hex() or 'empty'}, not {nonce.hex() or 'empty'}: it answers another question")
+        fault(f"the quote's nonce is {quote.nonce[:64].hex() or 'empty'}, not {nonce.hex() or 'empty'}: it answers another question")
     missing = [f"PCR {pcr} of {bank}" for bank, pcrs in quote.selection for pcr in pcrs if pcr not in values.get(bank, {})]
     if missing:
         fault(f"the quote is over {missing[0]}, which the PCR values lack")

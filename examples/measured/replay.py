@@ -3,7 +3,7 @@
 from typing import Dict, Iterable, List
 
 from choices import TEXTS
-from event_log import BANKS, Log, digest, is_replayed, replayed
+from event_log import HASHES, Log, digest, is_replayed, replayed
 from pcr_values import Values
 from policy import Policy
 from reading import Fault, fault
@@ -56,7 +56,7 @@ def check_banks(log: Log, values: Values, policy: Policy) -> None:
             alone = [bank for bank in banks if bank not in others]
             if alone:
                 fault(f"the bank {alone[0]} is {here} and not {there}: all banks that the TPM has are wanted in both")
-    unknown = [bank for bank in log.banks if bank not in BANKS.values()]
+    unknown = [bank for bank in log.banks if bank not in HASHES]
     if unknown:
         fault(f"the bank {unknown[0]} can't be replayed here")
 
@@ -80,8 +80,11 @@ def check_bank(log: Log, values: Dict[int, bytes], bank: str) -> None:
 
 def check_separator(log: Log, bank: str, pcr: int) -> None:
     separators = [digest(bank, it) for it in SEPARATORS]
-    if not any(event.digests[bank] in separators for event in log.of_pcr(pcr)):
+    count = sum(event.digests[bank] in separators for event in log.of_pcr(pcr))
+    if count == 0:
         fault(f"PCR {pcr}: there is no separator, which a firmware measures before it boots anything")
+    if count > 1:
+        fault(f"PCR {pcr}: there are {count} separators, so the log is of {count} boots: the TPM was not reset between them")
 
 
 def others_that_differ(log: Log, values: Values, bank: str) -> List[int]:

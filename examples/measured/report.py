@@ -3,10 +3,10 @@
 from argparse import Namespace
 from typing import Any, Dict, Iterator, List, NamedTuple, Optional
 
-from event_log import read_logs
+from event_log import SIZES, read_logs
 from limits import LOG_BYTES
 from pcr_values import Values, read_values
-from policy import Policy, read_policy
+from policy import Machine, Policy, read_policy
 from quote import Quote, check_counts, check_quote, quoted_bank, quoted_values, read_quote
 from reading import fault, file_bytes, shown
 from replay import WANTED, listed, others_that_differ
@@ -14,6 +14,7 @@ from signature import Key, check_signature, read_key, read_signature
 from verdict import Verdict, verdict
 
 MOST_REMARKS = 100
+NO_MACHINE = Machine("", "")
 
 
 class Vouched(NamedTuple):
@@ -22,7 +23,7 @@ class Vouched(NamedTuple):
     values: Values
     quote: Optional[Quote]
     key: Optional[Key]  # the one that signed it
-    machine: str  # whose key that is, if the policy says it
+    machine: Machine  # whose key that is, if the policy says it
 
 
 class Report(NamedTuple):
@@ -48,11 +49,11 @@ def vouched_values(words: Namespace, policy: Policy) -> Vouched:
     quote = read_quote(words.quote) if words.quote else None
     values = read_values(words.pcrs, quote.selection if quote else words.selection)
     if quote is None:
-        return Vouched(values, None, None, "")
+        return Vouched(values, None, None, NO_MACHINE)
     signature = read_signature(words.signature) if words.signature else None
     key = read_key(words.key) if words.key else None
     check_quote(quote, words.nonce, values, signature)
-    machine = ""
+    machine = NO_MACHINE
     if signature and key:
         check_signature(quote.message, signature.bank or quoted_bank(quote), signature, key, words.key)
         machine = machine_of(key, policy, words.machine)
@@ -60,12 +61,15 @@ def vouched_values(words: Namespace, policy: Policy) -> Vouched:
     return Vouched(quoted_values(quote, values), quote, key, machine)
 
 
-def machine_of(key: Key, policy: Policy, wanted: Optional[str]) -> str:
-    machine = policy.machines.get(key.fingerprint, "")
-    if policy.machines and not machine:
+def machine_of(key: Key, policy: Policy, wanted: Optional[str]) -> Machine:
+    machine = policy.machines.get(key.fingerprint, NO_MACHINE)
+    for what, fingerprint in (("key", key.fingerprint), ("endorsement key of the key's TPM", machine.ek)):
+        if bytes.fromhex(fingerprint) in policy.revoked:
+            fault(f"the {what} is revoked, by its fingerprint {fingerprint}")
+    if policy.machines and not machine.name:
         fault(f"the key is no machine's of the policy, by its fingerprint {key.fingerprint}")
-    if wanted is not None and machine != wanted:
-        fault(f"the key is {machine or 'no machine'}'s, not {wanted}'s")
+    if wanted is not None and machine.name != wanted:
+        fault(f"the key is {machine.name or 'no machine'}'s, not {wanted}'s")
     return machine
 
 
@@ -99,7 +103,7 @@ def lines_of(report: Report) -> Iterator[str]:
 
 
 def by(report: Report) -> str:
-    quote, machine = report.vouched.quote, report.vouched.machine
+    quote, machine = report.vouched.quote, report.vouched.machine.name
     others = [bank for bank in report.vouched.values if bank != report.policy.bank]
     told = f"PCR {listed(WANTED[:-1])} and {WANTED[-1]} of {report.policy.bank}" + (f", and of {listed(others)}" if others else "")
     if quote is None:
@@ -124,6 +128,10 @@ def all_remarks(report: Report) -> List[str]:
     unjudged = [pcr for pcr in (0, 7) if pcr not in policy.pcrs]
     if unjudged:
         made.append(f"PCR {listed(unjudged)}: any firmware and any Secure Boot, for the policy has no values of them")
+    lacking = sorted({len(came) for came in policy.revoked} - {SIZES[bank] for bank in ("sha256", *found.log.banks)})
+    if lacking:
+        told = listed(f"{8 * size} bits" for size in lacking)
+        made.append(f"what the policy revokes by a digest of {told} is not found here: the log has no such bank")
     differ = others_that_differ(found.log, report.vouched.values, policy.bank)
     if differ:
         made.append(f"PCR {listed(differ)}: not what the log gives; what ran later may have measured there")
@@ -158,6 +166,7 @@ def told_of(report: Report) -> Dict[str, Any]:
             "resets": quote.resets,
             "restarts": quote.restarts,
             "key": report.vouched.key.fingerprint if report.vouched.key else None,
-            "machine": report.vouched.machine or None,
+            "machine": report.vouched.machine.name or None,
+            "ek": report.vouched.machine.ek or None,
         }
     return told

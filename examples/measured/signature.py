@@ -28,8 +28,16 @@ class Signature(NamedTuple):
 
 
 class Key(NamedTuple):
-    pem: bytes
-    fingerprint: str  # the SHA-256 of its DER, as openssl pkey -pubin -outform DER | sha256sum says it
+    der: bytes
+
+    @property
+    def fingerprint(self) -> str:
+        """As openssl pkey -pubin -outform DER | sha256sum says it."""
+        return hashlib.sha256(self.der).hexdigest()
+
+    @property
+    def pem(self) -> bytes:
+        return b"-----BEGIN PUBLIC KEY-----\n" + base64.encodebytes(self.der) + b"-----END PUBLIC KEY-----\n"
 
 
 def read_signature(path: Path) -> Signature:
@@ -70,13 +78,12 @@ def is_pair(held: bytes) -> bool:
     return held == encoded(0x30, b"".join(encoded(2, part.lstrip(b"\0") or b"\0") for part in parts))
 
 
-
 def encoded(tag: int, content: bytes) -> bytes:
     """A value in DER; a whole number, which has the tag 2, gets a zero byte where it would be negative."""
     if tag == 2 and content[0] >= 0x80:
         content = b"\0" + content
-    length = bytes([len(content)]) if len(content) < 0x80 else bytes([0x81, len(content)])
-    return bytes([tag]) + length + content
+    length = len(content).to_bytes(3, "big").lstrip(b"\0") or b"\0"
+    return bytes([tag]) + (length if len(content) < 0x80 else bytes([0x80 | len(length)]) + length) + content
 
 
 # ---- the key
@@ -91,8 +98,7 @@ def read_key(path: Path) -> Key:
         der = b""
     if not der:
         raise BadInput(f"{path} is no public key in PEM, as tpm2_createak -f pem writes it")
-    pem = b"-----BEGIN PUBLIC KEY-----\n" + base64.encodebytes(der) + b"-----END PUBLIC KEY-----\n"
-    return Key(pem, hashlib.sha256(der).hexdigest())
+    return Key(der)
 
 
 def check_signature(message: bytes, bank: str, signature: Signature, key: Key, name: Path) -> None:

@@ -122,7 +122,7 @@ def check_other(event: Event, text: bytes, by: str, policy: Policy, is_late: boo
 
 
 def check_attempt(attempt: Attempt, policy: Policy) -> None:
-    if attempt.title in policy.revoked:
+    if attempt.title in policy.revoked_titles:
         fault(f"{attempt.event.name}: the entry {shown(attempt.title)} is revoked")
     titled = [entry for entry in policy.entries if entry.title.encode() == attempt.title]
     if not titled:

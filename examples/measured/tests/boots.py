@@ -11,9 +11,16 @@ from tests import examples
 from tests.support import TOP
 
 ALGORITHMS = {"sha1": 0x04, "sha256": 0x0B, "sha384": 0x0C, "sha512": 0x0D}
+HASHES = {}  # of banks whose hash has another name
+if "sm3" in hashlib.algorithms_available:
+    ALGORITHMS["sm3_256"], HASHES["sm3_256"] = 0x12, "sm3"
 NO_ACTION, SEPARATOR, TAG, VERSION, IPL = 0x03, 0x04, 0x06, 0x08, 0x0D
 TAGS = {4: 0x62630004, 8: 0x62630008, 12: 0x6263000C}  # of the boot manager's events
 VARIABLE, APPLICATION, DRIVER, RUNTIME_DRIVER, ACTION = 0x80000001, 0x80000003, 0x80000004, 0x80000005, 0x80000007
+
+
+def hashed(bank: str, held: bytes = b""):
+    return hashlib.new(HASHES.get(bank, bank), held)
 
 
 class Event(NamedTuple):
@@ -23,7 +30,7 @@ class Event(NamedTuple):
     data: bytes
 
     def digest(self, bank: str) -> bytes:
-        return hashlib.new(bank, self.measured).digest()
+        return hashed(bank, self.measured).digest()
 
 
 def told(pcr: int, kind: int, text: bytes) -> Event:
@@ -63,7 +70,7 @@ def spelled(event: Event, banks: Iterable[str]) -> bytes:
 def first_event(banks: Iterable[str]) -> bytes:
     """TCG_PCClientPCREvent with TCG_EfiSpecIdEvent."""
     names = list(banks)
-    sizes = b"".join(struct.pack("<HH", ALGORITHMS[bank], hashlib.new(bank).digest_size) for bank in names)
+    sizes = b"".join(struct.pack("<HH", ALGORITHMS[bank], hashed(bank).digest_size) for bank in names)
     content = b"Spec ID Event03\0" + struct.pack("<IBBBBI", 0, 0, 2, 105, 2, len(names)) + sizes + b"\0"
     return struct.pack("<II20sI", 0, NO_ACTION, bytes(20), len(content)) + content
 
@@ -82,7 +89,7 @@ def parted(log: bytes) -> Tuple[bytes, List[Tuple[int, bytes]]]:
     """A log's first event, and each one behind it with its PCR; without what fills up the log's room."""
     at = 32 + struct.unpack_from("<I", log, 28)[0]
     first, events = log[:at], []
-    sizes = {ALGORITHMS[bank]: hashlib.new(bank).digest_size for bank in ALGORITHMS}
+    sizes = {ALGORITHMS[bank]: hashed(bank).digest_size for bank in ALGORITHMS}
     while len(set(log[at : at + 12])) > 1:  # where bytes are alike, no event begins
         pcr, _, count = struct.unpack_from("<III", log, at)
         end = at + 12
@@ -96,15 +103,20 @@ def parted(log: bytes) -> Tuple[bytes, List[Tuple[int, bytes]]]:
 
 def data_start(event: bytes) -> int:
     """Where the length of an event's data stands."""
-    sizes = {ALGORITHMS[bank]: hashlib.new(bank).digest_size for bank in ALGORITHMS}
+    sizes = {ALGORITHMS[bank]: hashed(bank).digest_size for bank in ALGORITHMS}
     at = 12
     for _ in range(struct.unpack_from("<I", event, 8)[0]):
         at += 2 + sizes[struct.unpack_from("<H", event, at)[0]]
     return at
 
 
+# what an image need not tell of its description, by whether it is Linux's
+FREE = r'^(?:kernel|initrd|file) = "(.*)"$|^\[\[avoid\]\]\nbase = 0x(.*)\nlength = 0x(.*)$'
+UNTOLD = [FREE + r"|^(?:rsdp|map_address|secure_boot) = 0x(.*)$", FREE + r'|^(?:map|tables) = "(.*)"$|^(?:major|minor) = 0x(.*)$']
+
+
 def untold(events: Iterable[Event], banks: Iterable[str], text: str) -> Tuple[Set[int], Set[int]]:
-    """The places of a log's bytes that no PCR has: those that never matter, and those of paths in a description."""
+    """The places of a log's bytes that no PCR has: those that never matter, and those of a description that need not matter."""
     names = list(banks)
     free: Set[int] = {*range(8, 28), *range(48, 56)}  # of the first event: its digest; class, version and size of numbers
     paths: Set[int] = set()
@@ -116,7 +128,7 @@ def untold(events: Iterable[Event], banks: Iterable[str], text: str) -> Tuple[Se
             free.update(range(at, at + 4), range(data, end - 1))
             place = at + 12
             for bank in names:
-                size = hashlib.new(bank).digest_size
+                size = hashed(bank).digest_size
                 free.update(range(place + 2, place + 2 + size))
                 place += 2 + size
         else:
@@ -124,9 +136,9 @@ def untold(events: Iterable[Event], banks: Iterable[str], text: str) -> Tuple[Se
             if event.pcr not in (2, 4, 8, 12) or event.kind in (APPLICATION, DRIVER, RUNTIME_DRIVER):
                 free.update(range(data, end))
         if event.pcr == 12 and event.kind == TAG:
-            for value in re.findall(r'^(?:kernel|initrd|file) = "(.*)"$', text, re.M):
-                place = data + 8 + text.index(f'"{value}"') + 1
-                paths.update(range(place, place + len(value)))
+            for found in re.finditer(UNTOLD["linux" in text], text, re.M):
+                for group, value in enumerate(found.groups(), 1):
+                    paths.update(range(data + 8 + found.start(group), data + 8 + found.start(group) + len(value or "")))
         at = end
     return free, paths
 
@@ -137,12 +149,12 @@ Pcrs = Dict[str, List[bytes]]
 def pcrs_of(events: Iterable[Event], banks: Iterable[str]) -> Pcrs:
     pcrs = {}
     for bank in banks:
-        size = hashlib.new(bank).digest_size
+        size = hashed(bank).digest_size
         pcrs[bank] = [(b"\xff" if 17 <= pcr <= 22 else b"\0") * size for pcr in range(24)]
     for event in events:
         for bank, values in pcrs.items():
             if event.kind != NO_ACTION:
-                values[event.pcr] = hashlib.new(bank, values[event.pcr] + event.digest(bank)).digest()
+                values[event.pcr] = hashed(bank, values[event.pcr] + event.digest(bank)).digest()
     return pcrs
 
 
@@ -163,7 +175,7 @@ def quote_of(pcrs: Pcrs, selected: Selected, nonce: bytes, bank: str = "sha256")
     for name, chosen in selected:
         bits = bytes(sum(1 << pcr % 8 for pcr in chosen if pcr // 8 == byte) for byte in range(3))
         banks += struct.pack(">HB", ALGORITHMS[name], 3) + bits
-    digest = hashlib.new(bank, b"".join(pcrs[name][pcr] for name, chosen in selected for pcr in sorted(chosen))).digest()
+    digest = hashed(bank, b"".join(pcrs[name][pcr] for name, chosen in selected for pcr in sorted(chosen))).digest()
     start = struct.pack(">IH", 0xFF544347, 0x8018) + struct.pack(">H", 34) + b"\0\x0b" + bytes(32)
     clock = struct.pack(">QIIBQ", 123456, 7, 2, 1, 0x2020031200000000)
     rest = struct.pack(">I", len(selected)) + banks + struct.pack(">H", len(digest)) + digest
@@ -206,7 +218,7 @@ def signature_of(der: bytes) -> bytes:
 MANAGER_PARTS = [b"code".ljust(512, b"\x90"), b"data".ljust(512, b"\1")]
 
 
-def application(sections: List[bytes], signed: bytes = b"") -> bytes:
+def application(sections: List[bytes], signed: bytes = b"", directories: int = 16) -> bytes:
     """A PE32+ file with these sections, whose bytes lie in the file in the opposite order of their headers."""
     head, optional = 0x40, 0x40 + 24
     held = bytearray(512)
@@ -215,6 +227,7 @@ def application(sections: List[bytes], signed: bytes = b"") -> bytes:
     held[optional : optional + 2] = b"\x0b\x02"
     held[optional + 60 : optional + 68] = struct.pack("<II", 512, 0x12345678)  # the headers' length, the checksum
     end = 512 + 512 * len(sections)
+    held[optional + 108 : optional + 112] = struct.pack("<I", directories)
     held[optional + 144 : optional + 152] = struct.pack("<II", end if signed else 0, len(signed))
     for i, section in enumerate(sections):
         place = end - 512 * (i + 1)
@@ -232,7 +245,6 @@ def driver() -> bytes:
     struct.pack_into("<II", held, optional + 32, 0x1000, 0x200)  # how sections are aligned
     struct.pack_into("<I", held, optional + 56, 0x2000)  # its length in memory
     struct.pack_into("<H", held, optional + 68, 11)  # EFI_IMAGE_SUBSYSTEM_EFI_BOOT_SERVICE_DRIVER
-    struct.pack_into("<I", held, optional + 108, 16)  # of how many directories the header tells
     struct.pack_into("<I", held, optional + 240 + 36, 0x60000020)  # the section is code
     return bytes(held)
 

@@ -66,6 +66,10 @@ def measuring(measured: bytes) -> Callable[[Event], List[Event]]:
     return lambda event: [event._replace(measured=measured)]
 
 
+def measured_title(title: bytes) -> Callable[[Event], List[Event]]:
+    return lambda _: [text_told(b"bootcore_choice: " + title + b"\0")]
+
+
 def saying(old: str, new: str) -> Callable[[Event], List[Event]]:
     """Another text; what was measured is the same."""
     return lambda event: [boots.retold(event, boots.content_of(event).replace(old.encode(), new.encode()))]
@@ -112,7 +116,9 @@ OTHER_MAP = LINUX.replace("length = 0x8000\n", "length = 0x7000\n")
 NO_ROOM = LINUX.replace("[0x100000, 0x800000]", "[0x1000, 0x9f000]")
 for high in ("0x700000", "0x600000"):
     NO_ROOM = NO_ROOM.replace(f'length = {high}\nkind = "usable"', f'length = {high}\nkind = "bad"')
-TOO_LARGE = LINUX.replace("size = 0x100000000", "size = 0x200000000")
+TOO_HIGH = LINUX.replace(
+    "[[entry]]", '[[region]]\nbase = 0x10000000000000\nlength = 0x1000\nkind = "reserved"\n\n[[entry]]'
+)
 LONG = "A title that has more than sixty-four bytes, for which there is no room in a description"
 ODD = 'é"\\\t and more'
 ODD_TEXT = LINUX.replace("root=/dev/vda1 quiet", 'é\\"\\\\\\u0009 and more')
@@ -141,6 +147,8 @@ def lined(*lines: str, place: int = 1) -> Change:
     return changed
 
 
+LINUX_TOLD, MULTIBOOT2_TOLD = boots.with_firmware(LINUX), boots.with_firmware(MULTIBOOT2)
+LAST_AVOIDED = "[[avoid]]\nbase = 0x900000\nlength = 0x400000\n\n"
 UNTAGGED_TEXT = "is no text of the boot manager, by its tag and size"
 UNTAGGED_HANDOVER = "it is no handover of the boot manager, by its tag and size"
 # what a boot says before its last words
@@ -169,6 +177,10 @@ EMPTY = {"initrd.img": b"", "more.img": b""}
 DRIVER = Event(2, boots.DRIVER, b"driver", b"where it was loaded")
 OPTIONS = told(12, IPL, "quiet splash\0".encode("utf-16-le"))
 GRUB = Event(8, IPL, b"set root=hd0", b"grub_cmd: set root=hd0\0")
+
+
+NO_LINE, LINUX_LINE = LINUX.replace("root=/dev/vda1 quiet", ""), 'line = "root=/dev/vda1 quiet"\n'
+FEW_DIRECTORIES = boots.application([b"driver".ljust(512, b"\0")], directories=4)
 
 
 def digest_of(event: Event) -> str:
@@ -218,6 +230,18 @@ AS_IT_SHOULD_BE = [
     Case("what extends no PCR does not matter", LINUX_SAID, logged=ended(Event(12, boots.NO_ACTION, b"", b"more"))),
     Case("a file's path in the log does not matter", LINUX_SAID, logged=at(9, 1, with_data(b"elsewhere\0"))),
     Case("a path in a description does not matter", LINUX_SAID, logged=at(12, 0, saying('"vmlinuz"', '"elsewhere"'))),
+    *(
+        Case(f"{what} in the description does not matter", "kernel    ", boot=boot, text=text, logged=at(12, 0, saying(old, new)))
+        for what, boot, text, old, new in (
+            ("a range to avoid that moves no part", "linux", LINUX_TOLD, "length = 0x400000\n\n[[entry", "length = 0x300000\n\n[[entry"),
+            ("a range to avoid less, where no module would lie", "multiboot2", MULTIBOOT2_TOLD, LAST_AVOIDED, ""),
+            ("the RSDP's address, where a kernel gets copies,", "multiboot2", MULTIBOOT2_TOLD, "rsdp = 0x804014", "rsdp = 0x804015"),
+            ("the address of UEFI's map", "multiboot2", MULTIBOOT2_TOLD, "map_address = 0xf0000", "map_address = 0xf0008"),
+            ("Secure Boot, of which Multiboot2 does not tell,", "multiboot2", MULTIBOOT2_TOLD, "secure_boot = 0x2", "secure_boot = 0x3"),
+            ("what Linux is not told of SMBIOS", "linux", LINUX_TOLD, 'tables = "7f04fe', 'tables = "7f04ff'),
+            ("what UEFI's map had for Linux", "linux", LINUX_TOLD, 'map = "0001', 'map = "0101'),
+        )
+    ),
     Case("a log that was read before the firmware ended is enough", LINUX_SAID, logged=lambda it: it[:-2]),
     Case(
         "what was measured later into another PCR is a remark",
@@ -241,6 +265,12 @@ AS_IT_SHOULD_BE = [
         policy=SHELL_POLICY,
         happened=at(8, 0, before(*SHELL)),
     ),
+    Case(
+        "an entry that was chosen again is a remark",
+        '"Linux" was attempted before',
+        happened=ended(*attempt("Linux", ["root=/dev/vda1 quiet"], [], FILES)),
+    ),
+    Case("a line that is not told is empty", 'line      ""', happened=lined(""), text=NO_LINE, policy=POLICY.replace(LINUX_LINE, "")),
     Case("a PCR may have a value that the policy names", LINUX_SAID, policy=PCR_POLICY),
     verifying(
         "a kernel that was verified where Secure Boot is on is a remark",
@@ -254,6 +284,14 @@ AS_IT_SHOULD_BE = [
         LINUX_SAID,
         booted={"BOOTX64.EFI": boots.application(boots.MANAGER_PARTS, b"signed8.")},
     ),
+    Case(
+        "an application without a place for a signature is known by its file",
+        "drivers   driver.efi",
+        happened=at(2, 0, after(Event(2, boots.DRIVER, FEW_DIRECTORIES[:0x98] + FEW_DIRECTORIES[0x9C:], b""))),
+        known={"driver.efi": FEW_DIRECTORIES},
+        policy=with_key("drivers", "driver.efi"),
+    ),
+    Case("a log of SHA-384 alone is judged by it", LINUX_SAID, banks=["sha384"], words=["--bank", "sha384"]),
     Case(
         "ramdisks that are empty are none",
         "ramdisk   more.img",
@@ -280,12 +318,12 @@ AS_IT_SHOULD_BE = [
         happened=lined(ODD),
         policy=POLICY.replace('"root=/dev/vda1 quiet"', '"é\\"\\\\\\t and more"'),
     ),
-    Case("firmware tells a Linux kernel of all", 'kernel    vmlinuz', text=boots.with_firmware(LINUX)),
+    Case("firmware tells a Linux kernel of all", "kernel    vmlinuz", text=LINUX_TOLD),
     Case(
         "firmware tells a Multiboot2 kernel of all",
         "kernel    kernel.elf",
         boot="multiboot2",
-        text=boots.with_firmware(MULTIBOOT2),
+        text=MULTIBOOT2_TOLD,
     ),
     Case(
         "a driver is known by its digest",
@@ -343,6 +381,12 @@ AS_IT_SHOULD_BE = [
     ),
     Case("a policy's digest is that of the known file", LINUX_SAID, policy=with_digest("vmlinuz", sha256(FILES["vmlinuz"]))),
     Case("what was not measured may be revoked", LINUX_SAID, policy=with_key("revoked", "Linux 2", 32 * "00")),
+    Case(
+        "what is revoked in a bank that the log lacks is a remark",
+        "remark    what the policy revokes by a digest of 384 bits is not found here",
+        policy=with_key("revoked", hashlib.sha384(FILES["vmlinuz"]).hexdigest()),
+    ),
+    *(Case(f"the bank {bank} is replayed", LINUX_SAID, banks=["sha256", bank]) for bank in boots.HASHES),
     Case("a policy may name the banks", LINUX_SAID, banks=ALL_BANKS, policy=with_key("banks", *ALL_BANKS)),
     Case(
         "a separator may have the bytes 0xFF",
@@ -438,6 +482,19 @@ LOG = [
     *(
         Case(f"a PCR {pcr} without a separator", f"PCR {pcr}: there is no separator", happened=at(pcr, place, gone))
         for pcr, place in ((0, -1), (1, 0), (2, 0), (4, 1), (5, 0), (7, -1))
+    ),
+    Case(
+        "two boots without a reset between them",
+        "PCR 0: there are 2 separators, so the log is of 2 boots: the TPM was not reset between them",
+        happened=lambda it: [*it, *(event for event in it if event.kind != boots.NO_ACTION)],
+    ),
+    Case("a second separator", "PCR 7: there are 2 separators", happened=at(7, -1, after(told(7, boots.SEPARATOR, b"\xff" * 4)))),
+    Case("a log of another bank alone", "the bank sha256 is not in the log, only sha384", banks=["sha384"]),
+    Case(
+        "handovers in another order in the log",
+        "PCR 12 of sha256 is not what the log gives",
+        happened=at(12, 0, lambda it: [boots.handover(OTHER_MAP, FILES), it]),
+        logged=swapped(12, 0),
     ),
     Case(
         "a separator that tells an error",
@@ -574,6 +631,40 @@ MACHINE = [
         )
     ),
     Case("a line without a choice", "is not the text that follows there", happened=at(8, 0, gone)),
+    *(
+        Case(f"a title {what}", f"PCR 8, event 15: the policy has no entry {said}", happened=at(8, 0, measured_title(title)), policy=policy)
+        for what, title, said, policy in (
+            ("with a blank behind it", b"Linux ", '"Linux "', POLICY),
+            ("that is empty", b"", '""', POLICY),
+            ("in another normal form of Unicode", "Ba\u0308r".encode(), '"Ba\\xcc\\x88r"', POLICY.replace("Linux", "B\u00e4r")),
+            ("with another alphabet's letter", "L\u0456nux".encode(), '"L\\xd1\\x96nux"', POLICY),
+            ("with a letter in too many bytes", b"\xc1\x8cinux", '"\\xc1\\x8cinux"', POLICY),
+        )
+    ),
+    Case(
+        "an entry that is revoked, whose title looks like a digest",
+        f'PCR 8, event 15: the entry "{64 * "a"}" is revoked',
+        happened=titled(64 * "a", 64 * "a"),
+        policy=with_key("revoked", 64 * "a").replace("Linux", 64 * "a"),
+    ),
+    Case(
+        "an empty line that is not measured",
+        'other lines than those measured: "say "hello"", "first @ last"',
+        boot="multiboot2",
+        happened=at(8, -1, gone),
+    ),
+    Case(
+        "an empty line more",
+        'other lines than those measured: "say "hello"", "first @ last", "", ""',
+        boot="multiboot2",
+        happened=at(8, -1, after(text_told(b"module_cmdline: \0"))),
+    ),
+    Case(
+        "a program whose line is not measured",
+        'PCR 8, event 15: the policy\'s entry "Shell" has other lines than those measured: none',
+        policy=SHELL_POLICY,
+        happened=at(8, 0, before(SHELL[0])),
+    ),
     Case("a choice without a line", "has other lines than those measured: none", happened=at(8, 1, gone)),
     Case(
         "a module's line before the kernel's",
@@ -590,6 +681,16 @@ MACHINE = [
         "a choice behind the handover",
         '"Linux" was handed over, and "Kernel" was chosen last',
         happened=ended(*GIVEN_UP),
+    ),
+    Case(
+        "a menu that was read again behind the handover",
+        "its files are not those that were read last",
+        happened=ended(Event(9, IPL, FILES["menu.txt"], b"menu.txt\0")),
+    ),
+    Case(
+        "a ramdisk that a kernel's EFI stub measured",
+        'PCR 9, event 23: no known file is what was measured; the event\'s text is "\\xec";\\x8f',
+        happened=ended(Event(9, boots.TAG, b"ramdisk", struct.pack("<II", 0x8F3B22EC, 13) + b"Linux initrd\0")),
     ),
     Case(
         "a program that was chosen last",
@@ -692,6 +793,12 @@ MACHINE = [
         policy=with_key("texts", "grub_cmd: set root=hd0"),
     ),
     Case(
+        "GRUB's commands between a choice and its line",
+        '"grub_cmd: set root=hd0" is a text of GRUB\'s behind those of the boot manager',
+        happened=at(8, 0, after(GRUB)),
+        policy=with_key("texts", "grub_cmd: set root=hd0"),
+    ),
+    Case(
         "GRUB's commands without their zero byte",
         UNTAGGED_TEXT,
         logged=at(8, 0, with_data(b"grub_cmd: set root=hd0x")),
@@ -759,7 +866,7 @@ HANDOVER = [
             f"{what} in the description of what firmware tells",
             "is not the image",
             boot=boot,
-            text=boots.with_firmware(LINUX if boot == "linux" else MULTIBOOT2),
+            text=LINUX_TOLD if boot == "linux" else MULTIBOOT2_TOLD,
             logged=at(12, 0, saying(old, new)),
         )
         for what, boot, old, new in (
@@ -805,6 +912,27 @@ HANDOVER = [
     ),
     Case("a description that is no text", "it is no text of TOML", logged=at(12, 0, retold(b"\xff"))),
     Case(
+        "a description of a smaller machine, whose image is the same",
+        "its size is 0xf0000000, and that of the boot manager is 0x100000000",
+        logged=at(12, 0, saying(SIZE, "size = 0xf0000000\n")),
+    ),
+    Case(
+        "two handovers whose descriptions are exchanged",
+        "is not the image of its description",
+        happened=at(12, 0, lambda it: [boots.handover(OTHER_MAP, FILES), it]),
+        logged=lambda it: at(12, 0, retold(LINUX.encode()))(at(12, 1, retold(OTHER_MAP.encode()))(it)),
+    ),
+    Case(
+        "a handover of an entry that was not chosen, before the right one",
+        '"Kernel" was handed over, and "Linux" was chosen last',
+        happened=at(12, 0, before(boots.handover(MULTIBOOT2, FILES))),
+    ),
+    Case(
+        "something behind the handover",
+        "PCR 12, event 23: its description is refused",
+        happened=ended(tagged(12, b"more", b"more")),
+    ),
+    Case(
         "a machine without room for the kernel",
         "bootcore refuses this entry on this machine, by the number",
         logged=at(12, 0, retold(NO_ROOM.encode())),
@@ -812,7 +940,7 @@ HANDOVER = [
     Case(
         "a machine that the rules do not allow",
         "bootcore refuses the machine",
-        logged=at(12, 0, retold(TOO_LARGE.encode())),
+        logged=at(12, 0, retold(TOO_HIGH.encode())),
     ),
     Case(
         "a wrong handover before the right one",

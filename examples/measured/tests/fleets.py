@@ -13,6 +13,11 @@ from tests.support import Ran, is_at_hand, run
 
 SELECTED: boots.Selected = [("sha256", [0, 1, 2, 3, 4, 5, 6, 7, 8, 9, 12])]
 MACHINES = "\n[[machine]]\nname = \"{0}\"\nkey = \"{1}\"\n"
+EK = 64 * "e"
+
+
+def revoked(word: str) -> str:
+    return f'revoked = ["{word}"]\n'
 
 
 class Json(CheckerChecks):
@@ -71,12 +76,16 @@ class Machines(CheckerChecks):
         signed = run("openssl", "dgst", "-sha256", "-sign", "one.secret", "quote", cwd=folder).out
         (folder / "signature").write_bytes(signed)
         listed = POLICY + "".join(MACHINES.format(f"rack-{name}", keys[name]) for name in ("one", "two"))
+        with_ek = listed.replace(f'"{keys["one"]}"\n', f'"{keys["one"]}"\nek = "{EK}"\n')
         other = POLICY + MACHINES.format("rack-three", keys["three"])
         for sentence, policy, machine, status, said in (
             ("a key's machine is told", listed, None, GOOD, "the signature is by one.pem, the key of rack-one"),
             ("a key is that of the machine that is asked for", listed, "rack-one", GOOD, "the key of rack-one"),
             ("a key of another machine", listed, "rack-two", WRONG, "the key is rack-one's, not rack-two's"),
             ("a key of no machine", other, None, WRONG, f"the key is no machine's of the policy, by its fingerprint {keys['one']}"),
+            ("a key that is revoked", revoked(keys["one"]) + listed, None, WRONG, "the key is revoked, by its fingerprint"),
+            ("a TPM that is revoked", revoked(EK) + with_ek, None, WRONG, f"the key's TPM is revoked, by its fingerprint {EK}"),
+            ("another TPM that is revoked", revoked(64 * "f") + with_ek, None, GOOD, "the key of rack-one"),
             ("a machine where the policy has none", POLICY, "rack-one", WRONG, "the key is no machine's, not rack-one's"),
         ):
             (folder / "policy").write_text(policy, encoding="utf-8")
@@ -84,7 +93,7 @@ class Machines(CheckerChecks):
         (folder / "policy").write_text(listed, encoding="utf-8")
         with self.check("a signed quote is told in JSON"):
             told = json.loads(self.checked(folder, "--json").out)["quote"]
-            wanted = {"nonce": "c0ffee", "clock": 123456, "resets": 7, "restarts": 2, "key": keys["one"], "machine": "rack-one"}
+            wanted = {"nonce": "c0ffee", "clock": 123456, "resets": 7, "restarts": 2, "key": keys["one"], "machine": "rack-one", "ek": None}
             self.assertEqual(told, wanted)
 
     def checked(self, folder: Path, *words: str, machine: Optional[str] = None) -> Ran:

@@ -29,7 +29,7 @@ class Form(Within):
 
     def test_accepted(self) -> None:
         """descriptions in their one form are read, and the writer makes them of what they say"""
-        for text in (LINUX, MULTIBOOT2, *TOLD, cases.OTHER_MAP, cases.NO_ROOM, cases.TOO_LARGE, cases.ODD_TEXT):
+        for text in (LINUX, MULTIBOOT2, *TOLD, cases.OTHER_MAP, cases.NO_ROOM, cases.TOO_HIGH, cases.ODD_TEXT):
             described = self.described(text.encode())
             self.assertIsNotNone(described, text)
             self.assert_text("the writer", text, self.description.written(described))

@@ -79,7 +79,7 @@ class Fuzz(Within):
     def base(self, name: str, text: str, status: int, policy: str = POLICY, values: Callable = cases.same) -> Base:
         """All five inputs of one boot; the log ends before the firmware does, and the final events go on, or begin with its last two."""
         folder = self.folder(name, Case("", "", policy=policy))
-        make = boots.linux_boot if text == LINUX else boots.multiboot2_boot
+        make = boots.linux_boot if "linux" in text else boots.multiboot2_boot
         events = full(make(FILES, text))
         pcrs = values(boots.pcrs_of(events, BANKS))
         held = {"log": boots.log_of(events[:-2], BANKS), "final": boots.final_of(events[-4 if text == MULTIBOOT2 else -2 :], BANKS)}
@@ -101,6 +101,7 @@ class Fuzz(Within):
             self.assertEqual(run("openssl", *words, cwd=self.room).status, 0)
         other = cases.valued("sha256", 9, b"\1" * 32)
         made = [self.base("linux", LINUX, GOOD), self.base("multiboot2", MULTIBOOT2, GOOD)]
+        made += [self.base("firmware and linux", cases.LINUX_TOLD, GOOD), self.base("firmware and multiboot2", cases.MULTIBOOT2_TOLD, GOOD)]
         made += [self.base("another TPM", LINUX, WRONG, values=other)]
         made += [self.base("no known driver", LINUX, WRONG, policy=POLICY.replace(cases.digest_of(cases.DRIVER), cases.DIGEST))]
         made += [self.base("a revoked entry", MULTIBOOT2, WRONG, policy='revoked = ["Kernel"]\n' + POLICY)]
@@ -125,9 +126,9 @@ class Fuzz(Within):
         return GOOD, self.told(report)
 
     def told(self, report: Any) -> Any:
-        """What the verdict says, but for what no PCR has: the paths of a description."""
+        """What the verdict says, but for what no PCR has: of a description its paths, and what the image does not tell."""
         told = self.report.told_of(report)
-        described = [it.described._replace(kernel="", initrd=None, modules=[]) for it in report.found.handovers]
+        described = [confirmed(it.described) for it in report.found.handovers]
         attempts = [(it.title, it.lines) for it in report.found.attempts]
         return {**told, "handovers": described, "attempts": attempts}
 
@@ -176,6 +177,21 @@ class Fuzz(Within):
             places = [place for place, pair in enumerate(zip(base.held["log"], changed)) if pair[0] != pair[1]]
             if len(places) == 1 and len(changed) == len(base.held["log"]):
                 self.assertTrue(places[0] in base.free, f"{where}: byte {places[0]}, which a PCR tells, was changed")
+
+
+def confirmed(described: Any) -> Any:
+    """Without what the image of such a kernel does not tell."""
+    tables = {name: dict(values) for name, values in described.firmware.tables.items()}
+    if described.protocol == "multiboot2":
+        firmware = described.firmware._replace(rsdp=None, avoided=[], tables=tables)
+        untold = {"map_address": 0, "secure_boot": 0}
+    else:
+        tables.pop("smbios", None)
+        firmware = described.firmware._replace(avoided=[], tables=tables)
+        untold = {"map": len(tables.get("efi", {}).get("map", ""))}
+    if "efi" in tables:
+        tables["efi"].update(untold)
+    return described._replace(kernel="", initrd=None, modules=[], firmware=firmware)
 
 
 def extends(events: List[Tuple[int, bytes]]) -> Dict[int, List[bytes]]:

@@ -1,12 +1,36 @@
 """Inputs that are none, and bad words."""
 
+import struct
 import time
 from pathlib import Path
+from typing import Optional
 
 from examples.measured.tests import boots, cases
 from examples.measured.tests.boots import FILES, POLICY
 from examples.measured.tests.cases import BAD_WORDS, DIGEST, GOOD, UNREADABLE, WRONG, Case
 from examples.measured.tests.checker import CheckerChecks, Within
+
+
+# what was meant to be a digest
+SLIPS = [
+    ("digest that is cut", DIGEST[:-1]),
+    ("digest with a bank before it", f"sha256:{DIGEST}"),
+    ("digest with a blank", f"{DIGEST} "),
+    ("digest in pairs", ":".join(DIGEST[i : i + 2] for i in range(0, 64, 2))),
+    ("digest of SHA-1", boots.hashed("sha1", FILES["vmlinuz"]).hexdigest()),
+    ("digest of no bank", f"{DIGEST}00"),
+]
+
+
+def machine(name: str, key: int = 0) -> str:
+    """A machine of a policy; those with keys of their own have one endorsement key."""
+    return f"\n[[machine]]\nname = '{name}'\nkey = '{key:064x}'\n" + (f"ek = '{DIGEST}'\n" if key else "")
+
+
+def first_with(banks: bytes = b"\x0b\0\x20\0", count: int = 1, vendor: bytes = b"\0", length: Optional[int] = None) -> bytes:
+    """A log's first event with another content."""
+    content = b"Spec ID Event03\0" + struct.pack("<IBBBBI", 0, 0, 2, 105, 2, count) + banks + vendor
+    return struct.pack("<II20sI", 0, boots.NO_ACTION, bytes(20), len(content) if length is None else length) + content
 
 
 class Inputs(CheckerChecks):
@@ -33,6 +57,26 @@ class Inputs(CheckerChecks):
         ):
             (folder / "log").write_bytes(changed)
             self.says(sentence, self.checker(folder), UNREADABLE, said)
+        behind = held[len(first) :]
+        for sentence, changed, said in (
+            ("that counts four thousand million banks", first_with(count=0xFFFFFFFF), " ends too early"),
+            ("that counts a bank more", first_with(count=2), " ends too early"),
+            ("that counts a bank less", first_with(count=0), " ends too early"),
+            ("that has a bank twice", first_with(banks=2 * b"\x0b\0\x20\0", count=2), " has the bank sha256 twice"),
+            ("with more of the vendor's than there is", first_with(vendor=b"\2v"), " ends too early"),
+            ("with less of the vendor's than there is", first_with(vendor=b"\1vw"), " goes on behind its end"),
+            ("without what the vendor has", first_with(vendor=b""), " ends too early"),
+            ("that is empty", first_with(length=0), " ends too early"),
+        ):
+            (folder / "log").write_bytes(changed + behind)
+            self.says(f"a first event {sentence}", self.checker(folder), UNREADABLE, f"the log's first event{said}")
+        (folder / "log").write_bytes(first_with(length=0xFFFFFFFF) + behind)
+        self.says("a first event that is longer than the log", self.checker(folder), UNREADABLE, "the log ends too early")
+        (folder / "log").write_bytes(first_with(banks=b"\x0b\0\x20\0\x99\0\xff\xff", count=2) + behind)
+        ran = self.checker(folder)
+        self.says("an event without the digest of an unknown bank", ran, UNREADABLE, "event 1 of the log lacks a bank's digest")
+        (folder / "log").write_bytes(first_with(vendor=b"\xff" + bytes(255)) + behind)
+        self.says("a first event may have what is the vendor's", self.checker(folder), GOOD, cases.LINUX_SAID)
         for sentence, rest in (("zeros", bytes(1000)), ("bytes 0xFF", b"\xff" * 1000)):
             (folder / "log").write_bytes(held + rest)
             self.says(f"{sentence} behind a log are no events", self.checker(folder), GOOD, cases.LINUX_SAID)
@@ -126,10 +170,28 @@ class Inputs(CheckerChecks):
             ("a policy's digest of another file", "\n[[entry]]", f"\ndigests.vmlinuz = '{DIGEST}'\n[[entry]]", "has another digest"),
             ("a policy without a manager of this bank", '["BOOTX64.EFI"]', f'["{2 * DIGEST}"]', "has no managers that sha256 tells"),
             ("a policy's machine without a key", "\n[[entry]]", "\n[[machine]]\nname = 'a'\n[[entry]]", "machine 'a' has no key"),
-            ("a policy's machine with a short key", "\n[[entry]]", "\n[[machine]]\nname = 'a'\nkey = '00'\n[[entry]]", "none of 32"),
+            ("a policy's machine with a short key", "\n[[entry]]", "\n[[machine]]\nname = 'a'\nkey = '00'\n[[entry]]", "none of 32 bytes"),
+            *(
+                (f"a policy's revoked {what}", "files =", f'revoked = ["{word}"]\nfiles =', f"the policy's revoked has '{word[:40]}")
+                for what, word in SLIPS
+            ),
+            ("a policy that has a key twice", "files =", "files = []\nfiles =", "the policy is no TOML: Cannot overwrite a value"),
+            ("a policy with a number of many digits", "files =", f"banks = [{'9' * 5000}]\nfiles =", "the policy is no TOML: Exceeds"),
+            ("a policy with a number in place of a text", "files =", f"banks = [0x{'9' * 50000}]\nfiles =", "banks is no array of texts"),
+            ("a policy with arrays in arrays", "files =", f"banks = {'[' * 5000}{']' * 5000}\nfiles =", "the policy is no TOML"),
+            ("a policy with a text in place of an array", "files =", 'revoked = "Linux"\nfiles =', "revoked is no array of texts"),
+            ("a policy's title that is a truth value", 'title = "Linux"', "title = true", "an entry of the policy: title is no text"),
+            ("a policy's entry that is a table", "managers =", "entry.title = 'x'\nmanagers =", "the policy is no TOML"),
+            ("a policy's PCRs in an array", "\n[[entry]]", "\npcr = []\n[[entry]]", "the policy: pcr is no table"),
+            ("a policy's PCR value that is no array", "\n[[entry]]", "\npcr.7 = 'aa'\n[[entry]]", "7 is no array of texts"),
+            ("a policy's machine that is a table", "\n[[entry]]", "\nmachine.name = 'a'\n[[entry]]", "machine is no array of tables"),
+            ("a key of two machines", "\n[[entry]]", f"{machine('a')}{machine('b')}\n[[entry]]", "'b' has another machine's key"),
+            ("a TPM of two machines", "\n[[entry]]", f"{machine('a', 1)}{machine('b', 2)}\n[[entry]]", "the endorsement key of 'a'"),
+            ("a short endorsement key", "\n[[entry]]", f"{machine('a')}ek = '00'\n[[entry]]", "a key that is none of 32 bytes"),
+            ("a policy with letters that are no UTF-8", "files =", "# \udcff\nfiles =", "the policy is no TOML"),
             ("a policy's PCR value that is none", "\n[[entry]]", "\npcr.7 = ['g']\n[[entry]]", "none in hexadecimal digits"),
         ):
-            (folder / "policy").write_text(POLICY.replace(old, new, 1), encoding="utf-8")
+            (folder / "policy").write_text(POLICY.replace(old, new, 1), encoding="utf-8", errors="surrogateescape")
             self.says(sentence, self.checker(folder), UNREADABLE, said)
 
     def test_program(self) -> None:

@@ -1,6 +1,7 @@
 """Texts that say what a description in its one form says, or nothing: what stands in place of what."""
 
 OTHER_FORMS = [
+    ("size = 0x100000000\n", "size = 0xf0000000\n"),
     ("size = ", "size  = "),
     ("size = ", "size="),
     ("size = ", " size = "),

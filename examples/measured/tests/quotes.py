@@ -1,8 +1,6 @@
 """Quotes, their values and signatures; those of a TPM, too."""
 
-import subprocess
 import sys
-import time
 from pathlib import Path
 from typing import Dict, Optional
 
@@ -10,7 +8,8 @@ from examples.measured.tests import boots, cases
 from examples.measured.tests.boots import FILES
 from examples.measured.tests.cases import GOOD, UNREADABLE, UNSIGNED, WRONG, Case
 from examples.measured.tests.checker import CheckerChecks
-from tests.support import TOP, Ran, is_at_hand, run
+from examples.measured.tests.tpm import AK, TpmChecks
+from tests.support import Ran, is_at_hand, run
 
 PCRS = [0, 1, 2, 3, 4, 5, 6, 7, 8, 9, 12]
 QUOTED: boots.Selected = [(bank, PCRS) for bank in cases.ALL_BANKS]
@@ -29,6 +28,8 @@ KEYS = [
 
 class Quotes(CheckerChecks):
     """Quotes that the test makes."""
+
+    BANKS_AT = 6 + 2 + 34 + 2 + len(NONCE) // 2 + 25  # where a quote counts its banks
 
     @classmethod
     def setUpClass(cls) -> None:
@@ -53,6 +54,8 @@ class Quotes(CheckerChecks):
             ("a signature that is not given is told", self.room / "quote", GOOD, "; the signature was not checked"),
             ("a bank may be quoted in two parts", self.quoted("parts", PARTS), GOOD, "quoted with the nonce"),
             ("a quote with another nonce", self.quoted("nonce", nonce="c0"), WRONG, f"nonce is c0, not {NONCE}: it answers"),
+            ("a quote with a long nonce", self.quoted("long", nonce=60000 * "00"), WRONG, f"nonce is {64 * '00'}, not {NONCE}"),
+            ("a quote whose nonce begins so", self.quoted("begins", nonce=f"{NONCE}00"), WRONG, f"nonce is {NONCE}00, not {NONCE}"),
             ("a quote without a nonce", self.quoted("empty", nonce=""), WRONG, "the quote's nonce is empty, not"),
             ("a quote of one bank alone", self.quoted("one", over("sha256")), WRONG, "sha1 is in the log and not among the PCR"),
             ("a quote without one bank", self.quoted("three", over(*cases.ALL_BANKS[1:])), WRONG, "the bank sha1 is in the log and"),
@@ -105,9 +108,22 @@ class Quotes(CheckerChecks):
             ("a quote that goes on", held + b"\0"),
             ("a message that is no quote", b"\0" + held[1:]),
             ("a message of another kind", held[:5] + b"\x17" + held[6:]),
+            ("a message of a TPM in the other order of bytes", held[3::-1] + held[4:]),
+            ("a quote of four thousand million banks", held[: self.BANKS_AT] + b"\xff" * 4 + held[self.BANKS_AT + 4 :]),
+            ("a quote of a bank less than it has", held[: self.BANKS_AT] + b"\0\0\0\3" + held[self.BANKS_AT + 4 :]),
         ):
             (folder / "quote").write_bytes(changed)
             self.says(sentence, self.checked(folder), UNREADABLE, "the quote ")
+        before, bank, rest = held[: self.BANKS_AT + 5], held[self.BANKS_AT + 5 :][:5], held[self.BANKS_AT + 10 :]
+        for sentence, changed, said in (
+            ("a quote of an unknown bank's PCRs", before + b"\x99" + bank[1:] + rest, "0x0099"),
+            ("a quote of a PCR that there is not", before + bank[:1] + b"\4" + bank[2:] + b"\1" + rest, "PCR 24 of sha1"),
+        ):
+            (folder / "quote").write_bytes(changed)
+            self.says(sentence, self.checked(folder), WRONG, f"{said}, which the PCR values lack")
+        for length in (0, 20, 31):
+            (folder / "quote").write_bytes(held[:-34] + bytes([0, length]) + held[-32:][:length])
+            self.says(f"a quote whose digest has {length} bytes", self.checked(folder), WRONG, "not those that were quoted")
         (folder / "quote").write_bytes(held)
         values = (folder / "pcrs").read_bytes()
         for sentence, changed in (
@@ -163,6 +179,8 @@ class Quotes(CheckerChecks):
         for sentence, held, said in (
             ("a signature with a number of 256 bytes", longer, " has a number that is too long"),
             ("a signature of another scheme", b"\0\5" + signature[2:], "'s scheme is none of"),
+            ("a signature without a scheme", b"\0\x10", " ends too early"),
+            ("an empty signature", b"", " ends too early"),
             ("a signature by SHA-1", b"\0\x14\0\4\0\1s", "'s scheme is none of"),
             ("a signature that is cut", signature[:-1], " ends too early"),
             ("a signature that goes on", signature + b"\0", " goes on behind its end"),
@@ -186,52 +204,21 @@ class Quotes(CheckerChecks):
         return ran.out
 
 
-class Tpm(CheckerChecks):
+class Tpm(TpmChecks):
     """A TPM that is told what the test's boot measures, and quotes it."""
 
-    TOOLS = ("swtpm", "tpm2_pcrread", "openssl")
-
     def test_tpm(self) -> None:
-        missing = [tool for tool in self.TOOLS if not is_at_hand(tool)]
-        if missing:
-            self.leave_out("quotes of a TPM are checked", f"{missing[0]} is not at hand")
-            return
-        state = self.room / "tpm"
-        state.mkdir()
-        channel = f"type=unixio,path={state}/control"
-        words = ["--tpm2", "--tpmstate", f"dir={state}", "--ctrl", channel, "--flags", "not-need-init,startup-clear"]
-        with subprocess.Popen(["swtpm", "socket", *words], stdin=subprocess.DEVNULL, stderr=subprocess.DEVNULL) as swtpm:
-            try:
-                self.wait_for(state / "control")
+        if not self.lacks_tools("quotes of a TPM are checked"):
+            with self.tpm("tpm") as state:
                 self.check_quotes(state)
-            finally:
-                swtpm.terminate()
-
-    def wait_for(self, path: Path) -> None:
-        for _ in range(100):
-            if path.exists():
-                return
-            time.sleep(0.1)
-        self.fail(f"swtpm has not made {path}")
-
-    def tool(self, state: Path, folder: Path, *words: str) -> Ran:
-        """A command that leaves no object in the TPM, which has room for three."""
-        ran = run(TOP / "examples/efi/tpm", state, *words, cwd=folder)
-        self.assertEqual(ran.status, 0, f"ran: {ran}\n{ran.err.decode(errors='replace')}")
-        if "-c" in words:
-            run(TOP / "examples/efi/tpm", state, "tpm2_flushcontext", "-t", cwd=folder)
-        return ran
 
     def check_quotes(self, state: Path) -> None:
         folder = self.folder("quotes", Case("", "", banks=cases.ALL_BANKS))
-        events = [event for event in boots.linux_boot(FILES) if event.kind != boots.NO_ACTION]
-        digests = [",".join(f"{bank}={event.digest(bank).hex()}" for bank in cases.ALL_BANKS) for event in events]
-        self.tool(state, folder, "tpm2_pcrextend", *(f"{event.pcr}:{each}" for event, each in zip(events, digests)))
+        self.tell_boot(state, folder)
         (folder / "printed").write_bytes(self.tool(state, folder, "tpm2_pcrread").out)
         self.says("a TPM's PCRs are those of the log", self.checker(folder, pcrs="printed"), GOOD, cases.LINUX_SAID)
         self.tool(state, folder, "tpm2_createek", "-c", "ek", "-G", "ecc", "-u", "ek.pub")
-        key = ["-G", "ecc", "-g", "sha256", "-s", "ecdsa", "-u", "key.pem", "-f", "pem", "-n", "name"]
-        self.tool(state, folder, "tpm2_createak", "-C", "ek", "-c", "key", *key)
+        self.tool(state, folder, "tpm2_createak", "-C", "ek", "-c", "key", *AK, "-u", "key.pem", "-f", "pem", "-n", "name")
         enough = "2,4,8,9,12"
         for selected, status in (
             (f"sha1:{enough}+sha256:{enough},0,7+sha384:{enough}+sha512:{enough}", GOOD),
