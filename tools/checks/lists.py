@@ -40,7 +40,7 @@ def lines_of_refusal(name: str, number: str) -> List[str]:
 def lines_of_key(name: str) -> List[str]:
     # in the crates that read descriptions every such word is about the key, which is a constant of its table too
     lines = found(rf"\b({name}|{name.upper()})\b", "crates/program_desc/src/**", "crates/program_desc/specs/**",
-                  "crates/program_desc/proofs/**", "crates/program_document/src/**", "crates/program_document/proofs/**")
+                  "crates/program_desc/proofs/**", "crates/program_commands/src/document.rt", "crates/program_commands/proofs/document/**")
     lines += found(rf"\bdescription\.{name}\b", "crates/*/src/**", "crates/*/specs/**")
     lines += found(f'"{name}"', "model/rules/**", "model/drawing/**")
     return lines + found(f"`{name}`", "docs/FORMATS.md")

@@ -230,7 +230,7 @@ def printed(name: str, words: str) -> str:
 
 def rows_of_screen() -> List[Tuple[str, str]]:
     """The rows of the screen, each with the kind of its entry."""
-    kinds = re.findall(r'"([^"]*)"', one_place("examples/efi/screen.c", r"names\[\] = \{(.*)\};"))
+    kinds = re.findall(r'"([^"]*)"', one_place("examples/efi/screen.c", r"names\[\] = \{((?:.|\n)*?)\};"))
     name, meaning = one_place("docs/REFUSALS.md", rf"## Of an entry(?s:.*?)\n\| {REFUSAL} \| (\w+) \| ([^|]*) \|")
     refused = f"{ENTRIES[MARKED][0]}: refused {REFUSAL} {name}: {meaning}"
     rows = [(printed("screen.c", "bootcore: [^\\\\]*"), ""), ("", "")]
