@@ -74,16 +74,19 @@ class Policy:
             raise BadInput(f"{self.folder / name} has another digest than the policy says")
         return Known(digest(self.bank, held), held)
 
-    def kernels(self) -> Dict[bytes, str]:
-        """By what a firmware measures of those that are EFI applications too."""
-        found = {}
-        for name in (entry.files[0] for entry in self.entries if entry.files):
-            held = self.files[name].contents or b""
+    def kernels(self) -> Dict[bytes, List[str]]:
+        """By what a firmware measures of those that are EFI applications too; equal ones may have several names."""
+        found: Dict[bytes, List[str]] = {}
+        for name in dict.fromkeys(entry.files[0] for entry in self.entries if entry.files):
             try:
-                found[application_digest(self.bank, held, name)] = name
+                came = application_digest(self.bank, self.files[name].contents or b"", name)
             except BadInput:
                 continue
+            found.setdefault(came, []).append(name)
         return found
+
+    def has_kernel(self, title: bytes, names: List[str]) -> bool:
+        return any(entry.title.encode() == title and entry.files and entry.files[0] in names for entry in self.entries)
 
     def contents(self, name: str) -> bytes:
         held = self.files[name].contents

@@ -28,8 +28,10 @@ def verdict(logs: List[Log], values: Values, policy: Policy) -> Verdict:
     said: Dict[str, None] = {}
     check_revoked(log, policy)
     drivers = drivers_loaded(log, policy, said)
-    managers = started(log, policy, said)
+    applications = parted(log.of_pcr(STARTED), policy.bank)
+    managers = started(applications.started, policy, said)
     made = attempts(log, policy, said)
+    check_verified(applications.verified, made, policy, said)
     read = files_read(log, policy)
     over = handovers(handover_events(log, policy, said), policy, made[-1], read)
     return Verdict(log, over, made, managers, drivers, list(said))
@@ -69,14 +71,12 @@ def drivers_loaded(log: Log, policy: Policy, said: Dict[str, None]) -> List[str]
     return names
 
 
-def started(log: Log, policy: Policy, said: Dict[str, None]) -> List[str]:
+def started(events: List[Event], policy: Policy, said: Dict[str, None]) -> List[str]:
     """The names of what was started. The kind of an event is in no PCR: so what is no text of the firmware is an application. What
     was started last did not return: the firmware may have programs of its own, which it does not measure."""
     names: List[str] = []
     is_back = True
-    applications = parted(log.of_pcr(STARTED), policy.bank)
-    check_verified(applications.verified, policy, said)
-    for event in applications.started:
+    for event in events:
         came, text = event.digests[policy.bank], firmware_text(event, policy.bank)
         is_back = came not in policy.managers
         if not is_back:
@@ -90,13 +90,17 @@ def started(log: Log, policy: Policy, said: Dict[str, None]) -> List[str]:
     return names
 
 
-def check_verified(events: List[Event], policy: Policy, said: Dict[str, None]) -> None:
+def check_verified(events: List[Event], made: List[Attempt], policy: Policy, said: Dict[str, None]) -> None:
+    """A kernel is verified where its entry is attempted: so each is of an attempt, in their order."""
     kernels = policy.kernels() if events else {}
+    left = iter(made)
     for event in events:
         came = event.digests[policy.bank]
         if came not in kernels:
             fault(f"{event.name}: a kernel was verified that is none of the policy's, with the digest {came.hex()}")
-        said[f"PCR 4 has the kernel {kernels[came]}, which was verified there"] = None
+        if not any(policy.has_kernel(attempt.title, kernels[came]) for attempt in left):
+            fault(f"{event.name}: the kernel {kernels[came][0]} was verified, and it is no attempted entry's, in their order")
+        said[f"PCR 4 has the kernel {kernels[came][0]}, which was verified there"] = None
 
 
 # ---- what was chosen, and read

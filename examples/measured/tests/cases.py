@@ -591,6 +591,13 @@ MACHINE = [
         Event(4, boots.APPLICATION, b"shell", b""),
         VERIFIED[2],
     ),
+    Case(
+        "a kernel that was verified and is not the attempted entry's",
+        "the kernel kernel.elf was verified, and it is no attempted entry's, in their order",
+        happened=at(9, 1, after(*VERIFIED)),
+        known={"kernel.elf": SIGNABLE["vmlinuz"]},
+    ),
+    verifying("a kernel that was verified twice for one attempt", "no attempted entry's, in their order", *VERIFIED, *VERIFIED),
     verifying("a kernel's verification without an end", "PCR 4: a kernel's verification has no end", *VERIFIED[:2]),
     verifying("a kernel's verification that begins twice", "does not begin or end there", VERIFIED[0], *VERIFIED),
     verifying("a kernel's verification without a beginning", "does not begin or end there", VERIFIED[2]),
