@@ -12,6 +12,7 @@ sys.dont_write_bytecode = True
 
 FREE = {1, 2, 3, 4, 7}  # the firmware's numbers of the types whose memory is free after its end: loader, boot services, conventional
 LOADER_DATA = 2
+PAGE = 4096
 HEAD, RECORD = 272, struct.Struct("<IIQQ")  # of an image: where its records begin, and one of them
 
 
