@@ -11,9 +11,8 @@ from .boots import BadInput
 
 sys.path.append(str(Path(__file__).resolve().parent.parent.parent / "examples/efi/host"))
 
-from memory import FREE, Memory, Range, faults, read_memory  # noqa: E402
+from memory import FREE, PAGE, Memory, Range, faults, read_memory  # noqa: E402
 
-PAGE = 4096
 TOP, ROW = 122, 30
 AXIS, FIRST, WIDTH, GAP = 112, 128, 200, 66
 ROLES = {
