@@ -6,7 +6,7 @@
    order they are made. A file whose step ends where it lies already is not copied at all. */
 #include "app.h"
 
-enum { of_no_file = UINT32_MAX };
+#define of_no_file UINT32_MAX
 
 /* Whether a step takes these bytes, of a file, to where they lie. */
 static int is_in_place(const bootcore_step *step, uint64_t start, uint32_t file) {
