@@ -16,6 +16,9 @@ from tables import HEX, Table, hex_of, named, only, table_list, table_of, texts
 KEYS = ["managers", "drivers", "files", "texts", "revoked", "banks", "digests", "pcr", "machine", "entry"]
 BY_SIZE = {SIZES[bank]: bank for bank in reversed(list(BANKS.values()))}  # of equally long ones that of SHA-2
 SHORTEST = 64  # digits of a digest; a shorter word is a file's name
+# for a key of many parts the reader of TOML takes minutes; where texts and comments are left out, dots stand in keys and numbers alone
+TEXTS = re.compile(r"""\"{3}(?:[^\\]|\\.)*?(?:\"{3}|\Z)|'{3}.*?(?:'{3}|\Z)|"(?:[^"\\\n]|\\.)*+"?|'[^'\n]*+'?|\#[^\n]*+""", re.S)
+DOTTED = re.compile(r"\.(?:[ \t]*+[\w-]*+[ \t]*+\.){7}")
 LIKE_DIGEST = re.compile("(?:[0-9a-fA-F][ :]?){40}")
 
 
@@ -104,7 +107,10 @@ class Policy:
 
 def read_policy(path: Path, folder: Path, bank: str) -> Policy:
     try:
-        table = tomllib.loads(file_bytes(path, POLICY_BYTES).decode())
+        text = file_bytes(path, POLICY_BYTES).decode()
+        if DOTTED.search(TEXTS.sub("", text)):
+            raise BadInput("the policy has a key of more than eight parts")
+        table = tomllib.loads(text)
     except (ValueError, RecursionError) as error:
         raise BadInput(f"the policy is no TOML: {error}") from None
     return Policy(table, folder, bank)

@@ -176,6 +176,16 @@ class Inputs(CheckerChecks):
                 for what, word in SLIPS
             ),
             ("a policy that has a key twice", "files =", "files = []\nfiles =", "the policy is no TOML: Cannot overwrite a value"),
+            *(
+                (f"a policy with a key of many parts {where}", "files =", f"{key}\nfiles =", "the policy has a key of more than eight parts")
+                for where, key in (
+                    ("", "a" + 20000 * ".a" + " = 1"),
+                    ("in quotes", "a" + 20000 * '."a"' + " = 1"),
+                    ("with blanks", "a" + 20000 * " . a" + " = 1"),
+                    ("in a table", "a = {a" + 20000 * ".a" + " = 1}"),
+                    ("of a table", "[a" + 20000 * ".a" + "]"),
+                )
+            ),
             ("a policy with a number of many digits", "files =", f"banks = [{'9' * 5000}]\nfiles =", "the policy is no TOML: Exceeds"),
             ("a policy with a number in place of a text", "files =", f"banks = [0x{'9' * 50000}]\nfiles =", "banks is no array of texts"),
             ("a policy with arrays in arrays", "files =", f"banks = {'[' * 5000}{']' * 5000}\nfiles =", "the policy is no TOML"),
