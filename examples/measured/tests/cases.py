@@ -273,7 +273,7 @@ AS_IT_SHOULD_BE = [
     Case(
         "a policy's texts and comments may have dots",
         LINUX_SAID,
-        policy=with_key("revoked", "a.b.c.d.e.f.g.h.i.j.k", "it's 1.2.3.4.5.6.7.8.9.10").replace("files", "# a.b.c.d.e.f.g.h.i.j\nfiles", 1),
+        policy="# a.b.c.d.e.f.g.h.i.j.k\n" + with_key("revoked", "a.b.c.d.e.f.g.h.i.j.k", "it's 1.2.3.4.5.6.7.8.9.10"),
     ),
     Case("a line that is not told is empty", 'line      ""', happened=lined(""), text=NO_LINE, policy=POLICY.replace(LINUX_LINE, "")),
     Case("a PCR may have a value that the policy names", LINUX_SAID, policy=PCR_POLICY),

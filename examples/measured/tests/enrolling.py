@@ -115,7 +115,7 @@ class Areas(CheckerChecks):
             ("a public area named by SHA-1", good[:4] + b"\0\4" + good[6:], UNREADABLE, "by no strong hash"),
             ("an empty public area", b"", UNREADABLE, "the key's public area ends too early"),
             ("a public area that goes on", good + b"\0", UNREADABLE, "the key's public area goes on behind its end"),
-            ("a public area that goes on within", struct.pack(">H", len(good) - 1) + good[2:] + b"\0", UNREADABLE, "goes on behind its end"),
+            ("a public area that goes on within", struct.pack(">H", len(good) - 1) + good[2:] + b"\0", UNREADABLE, "goes on behind"),
         ):
             self.says(sentence, self.challenged(area, "none"), status, said)
         for sentence, ek, said in (
@@ -242,7 +242,8 @@ class Tpms(TpmChecks):
         made_key(folder, "ek", "-algorithm", "rsa", "-pkeyopt", "rsa_keygen_bits:2048")
         request = ["-new", "-x509", "-key", "root.secret", "-subj", "/CN=maker of TPMs", "-days", "9", "-out", "roots.pem"]
         signed = ["-new", "-key", "ek.secret", "-subj", "/CN=a TPM", "-out", "request"]
-        made = ["-req", "-in", "request", "-CA", "roots.pem", "-CAkey", "root.secret", "-CAcreateserial", "-extfile", "usage", "-out", "ek.crt"]
+        made = ["-req", "-in", "request", "-CA", "roots.pem", "-CAkey", "root.secret", "-CAcreateserial"]
+        made += ["-extfile", "usage", "-out", "ek.crt"]
         for words in (["req", *request], ["req", *signed], ["x509", *made]):
             ran = run("openssl", *words, cwd=folder)
             self.assertEqual(ran.status, 0, f"ran: {ran}\n{ran.err!r}")

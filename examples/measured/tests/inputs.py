@@ -177,7 +177,7 @@ class Inputs(CheckerChecks):
             ),
             ("a policy that has a key twice", "files =", "files = []\nfiles =", "the policy is no TOML: Cannot overwrite a value"),
             *(
-                (f"a policy with a key of many parts {where}", "files =", f"{key}\nfiles =", "the policy has a key of more than eight parts")
+                (f"a policy with a key of many parts {where}", "files =", f"{key}\nfiles =", "has a key of more than eight parts")
                 for where, key in (
                     ("", "a" + 20000 * ".a" + " = 1"),
                     ("in quotes", "a" + 20000 * '."a"' + " = 1"),
