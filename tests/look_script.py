@@ -27,7 +27,7 @@ end() { # STATUS [LINE [LAST]]: as rt says how the program ended; its interprete
     exit "$1"
 }
 until_gone() { while [ -e "$1" ]; do sleep 0.02; done; }
-stay() { echo $$ >"$STAYS.new" && mv "$STAYS.new" "$STAYS" && exec sleep 20; } # until a signal ends it
+stay() { echo $$ >"$STAYS.new" && mv "$STAYS.new" "$STAYS" && exec sleep 90; } # until a signal ends it
 make() { note && mkdir -p "${BUILT%/*}" && cp "$0" "$BUILT"; }
 act=ACT_$name
 eval "${!act}"
