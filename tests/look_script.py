@@ -158,8 +158,7 @@ class StandIns(Checks):
         self.did("--look proves and builds nothing", "rt")
         for status, err in ((1, ""), (2, "bad description\n"), (64, "bad command line\n")):
             ran = self.script("--look", *self.BOOT, rt=f"echo a line; printf '{err}' >&2; end {status}")
-            sentence = f"--look reports the program's lines and its status {status}, and no line of rt"
-            self.ends(sentence, ran, status, "a line\n", f"{COMPILES}{err}{LOOKED}")
+            self.ends(f"--look reports the program's lines, its status {status}, no line of rt", ran, status, "a line\n", COMPILES + err + LOOKED)
 
     def test_no_answer(self) -> None:
         for what, act, why in NO_ANSWERS:
@@ -190,10 +189,11 @@ class StandIns(Checks):
             write_script(self.built, STAND_IN)
             os.utime(self.built, (newest + seconds,) * 2)
             which, called = ("newer", "bootcore") if seconds > 0 else ("older", "build bootcore")
-            ran = self.script(*options, *self.BOOT)
             sentence = f"a program {which} than its sources is run{'' if seconds > 0 else ' once it is built anew'}, with {options}"
+            ran = self.script(*options, *self.BOOT, build='until_gone "$2"; touch "${BUILT%/out/*}/src"; sleep 0.1; make')
             self.ends(sentence, ran, 0, OUT, "" if seconds > 0 else BUILDS_CHANGED)
             self.did(f"{sentence}, without a look", called)
+        self.ends("what is edited during a build is built by the next call", self.script(*self.BOOT), 0, OUT, BUILDS_CHANGED)
 
     def test_without_rt(self) -> None:
         bare = self.room / "bare"
