@@ -78,7 +78,8 @@ def cells(picture: Picture) -> Iterator[List[bytes]]:
     places = {color: min(at, 255) for at, (color, _) in enumerate(colors(picture))}
     numbers = bytes(places[color] for color in pixels_of(picture))
     for top in range(0, picture.height - HEIGHT + 1, HEIGHT):
-        lines = [numbers[(top + line) * picture.width :][: picture.width] for line in range(HEIGHT)]
+        starts = range(top * picture.width, (top + HEIGHT) * picture.width, picture.width)
+        lines = [numbers[start : start + picture.width] for start in starts]
         yield [drawn(b"".join(line[left : left + WIDTH] for line in lines)) for left in range(0, picture.width - WIDTH + 1, WIDTH)]
 
 
