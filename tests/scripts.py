@@ -7,7 +7,7 @@ from concurrent.futures import ThreadPoolExecutor
 from pathlib import Path
 from typing import Callable, Iterable, List, NamedTuple
 
-from tests import repository
+from tests import repository, runner
 from tests.support import TOP, Checks, Ran, has_tomllib, is_at_hand, run
 
 # what has no --help of the form of the others, and why
@@ -71,6 +71,15 @@ class Calls(Checks):
         ran = run(TOP / ".ci/run", "--help", cwd=Path("/"))
         self.assert_ended(ran, 0, None)
         self.assert_text(ran, "usage: ./test [PART..]", ran.out.split(b"\n")[0], "first line")
+
+    def test_modules(self) -> None:
+        """each module with tests is a part of the test, or one that a part names"""
+        parts = [*map(runner.module_of, [*runner.PARTS, "quick_look", "quick_rows"])]
+        named = {each.__name__ for part in parts for each in (part, *getattr(part, "MODULES", ()))}
+        sources = [name for name in repository.files() if re.fullmatch(r"(tests|examples/.*/tests)/\w+\.py", name)]
+        with_tests = [name for name in sources if re.search(r"^    def test_", (TOP / name).read_text(encoding="utf-8"), re.M)]
+        run_by_none = [name for name in with_tests if name[:-3].replace("/", ".") not in named]
+        self.assertEqual(run_by_none, [], "modules with tests that no part runs")
 
     def test_exceptions(self) -> None:
         """each file that is excepted from a check of this part stands"""
