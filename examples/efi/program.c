@@ -6,9 +6,10 @@ EFI_DEVICE_PATH *find_way(EFI_HANDLE disk, const char *path) {
     static EFI_GUID id = DEVICE_PATH_PROTOCOL;
     static uint8_t made[4096];
     const CHAR16 *name = file_name(path);
-    size_t size = (strlen(path) + 2) * sizeof *name; /* with the first backslash, and the end */
+    size_t size = sizeof *name; /* with the end; a path may begin with its partition, which the name lacks */
     EFI_DEVICE_PATH *first, *end, *node;
     if (name == NULL || EFI_ERROR(BS->HandleProtocol(disk, &id, (void **)&first))) return NULL;
+    for (const CHAR16 *letter = name; *letter; letter++) size += sizeof *name;
     for (end = first; !IsDevicePathEnd(end); end = NextDevicePathNode(end)) continue;
     size_t length = (size_t)((uint8_t *)end - (uint8_t *)first);
     if (length + size + 2 * sizeof *node > sizeof made) return NULL;
