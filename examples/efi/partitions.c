@@ -14,7 +14,7 @@ static const uint8_t *find_node(EFI_HANDLE device, const uint8_t **start) {
     *start = (const uint8_t *)node;
     for (; !IsDevicePathEnd(node); node = NextDevicePathNode(node)) last = (const uint8_t *)node;
     int has_id = last != NULL && last[0] == MEDIA_DEVICE_PATH && last[1] == MEDIA_HARDDRIVE_DP &&
-                 last[id_kind_at] == SIGNATURE_TYPE_GUID;
+                 (last[2] | last[3] << 8) > id_kind_at && last[id_kind_at] == SIGNATURE_TYPE_GUID;
     return has_id ? last : NULL;
 }
 

@@ -101,13 +101,15 @@ void write_variables(const EFI_LOADED_IMAGE *self) {
     static const uint64_t features = 1 | 1 << 1 | 1 << 2 | 1 << 3 | 1 << 5 | 1 << 8;
     const uint64_t version = BOOTCORE_VERSION, uefi = ST->Hdr.Revision, revision = ST->FirmwareRevision;
     const EFI_DEVICE_PATH *file = self->FilePath;
-    while (length < 64 && ST->FirmwareVendor[length]) letters[length] = ST->FirmwareVendor[length], length++;
+    const CHAR16 *maker = ST->FirmwareVendor != NULL ? ST->FirmwareVendor : L"";
+    while (length < 64 && maker[length]) letters[length] = maker[length], length++;
     write_text(L"LoaderFirmwareInfo", compose(" %u.%u", revision >> 16, revision & 0xffff));
     write_text(L"LoaderFirmwareType", compose("UEFI %u.%u", uefi >> 16, (uefi & 0xffff) / 10));
     write_text(L"LoaderInfo", compose("bootcore %u.%u.%u", version / 10000, version / 100 % 100, version % 100));
     if (*partition_name(used_disk())) write_text(L"LoaderDevicePartUUID", partition_name(used_disk()));
     write(L"LoaderFeatures", &features, sizeof features);
-    if (file != NULL && DevicePathType(file) == MEDIA_DEVICE_PATH && DevicePathSubType(file) == MEDIA_FILEPATH_DP)
+    if (file != NULL && DevicePathType(file) == MEDIA_DEVICE_PATH && DevicePathSubType(file) == MEDIA_FILEPATH_DP &&
+        number16(file->Length) > sizeof *file)
         write(L"LoaderImageIdentifier", file + 1, number16(file->Length) - sizeof *file);
     for (uint32_t i = 0; i < menu.entry_count; i++) add(id_of(i));
     write_added(L"LoaderEntries");
