@@ -49,11 +49,13 @@ class BootManager(Checks):
         super().setUpClass()
         if C_ARCHIVE.exists():
             cls.built = run(TOP / "examples/efi/build", timeout=1800)
+            if cls.built.status == 0:
+                cls.built = run(TOP / "examples/efi/build", env={"TESTS": "yes"}, timeout=1800)
         else:
             cls.built = Ran(["examples/efi/build"], TOP, NOT_AT_HAND, b"", b"the core for C is not built\n")
 
     def test_build(self) -> None:
-        """the boot manager is built"""
+        """the boot manager is built, as it is shipped and for tests"""
         if self.built.status == NOT_AT_HAND:
             written = (self.built.out + self.built.err).decode(errors="replace")
             self.skipTest((written.splitlines() or ["examples/efi/build does not say what it needs"])[-1])

@@ -48,8 +48,6 @@ extern struct menu_file {
     int keeps;        /* the choice is kept for the next boot */
     int falls_back;   /* also after a choice by hand */
     int boots_unmeasured; /* also what the TPM fails to measure */
-    int writes;           /* for tests: the handover is written to the disk as well */
-    const char *change;   /* for tests: when the memory map changes, NULL for never */
     uint8_t text[max_text];
     size_t text_length;
 } menu;
@@ -125,9 +123,6 @@ char *read_text(const char *path, const char **wrong);
 const char *read_files(menu_entry *entry);
 /* The core is told where they lie. */
 void give_files(menu_entry *entry);
-/* For tests: a new file, and bytes at its end. */
-EFI_FILE *create_file(const char *path);
-int append(EFI_FILE *file, const void *bytes, uint64_t length);
 
 /* ---- pages.c: pages of the firmware's memory, and page tables of our own. NULL: there are none */
 
@@ -365,9 +360,24 @@ enum choice choose_entry(void);
 /* Whether a key is pressed before so many seconds are over, or no_limit. */
 int wait_key(uint32_t seconds);
 
-/* ---- write.c: for tests: the handover, and where all lies, as files on the disk */
+/* ---- write.c: what a build for tests alone has */
 
-/* What came of it, in words. */
-const char *write_handover(const menu_entry *entry);
+#ifdef FOR_TESTS
+/* In files.c: a new file, and bytes at its end. */
+EFI_FILE *create_file(const char *path);
+int append(EFI_FILE *file, const void *bytes, uint64_t length);
+/* Takes a word of the menu's that is for tests; 0: it is none. */
+int take_for_tests(const char *word, const char *rest);
+/* Where the menu wants it: writes the handover, and where all lies, as files on the disk; changes the
+   memory map, now; or a byte that was measured. */
+void write_handover(const menu_entry *entry);
+void change(const char *when);
+void change_byte(void);
+#else
+#define take_for_tests(word, rest) 0
+#define write_handover(entry) (void)0
+#define change(when) (void)0
+#define change_byte() (void)0
+#endif
 
 #endif

@@ -90,23 +90,6 @@ const char *plan_entry(const menu_entry *entry) {
 
 enum { most_tries = 8 };
 
-/* For tests: once, another map, or the same with another key. */
-static void change(const char *when) {
-    if (menu.change == NULL || !is_word(menu.change, when)) return;
-    menu.change = NULL;
-    void *free = take_low_pages(1);
-    give_back(taken_count - 1);
-    if (!is_word(when, "key")) take_pages_as(AllocateAddress, EfiReservedMemoryType, 1, (UINTN)free);
-}
-
-/* For tests: a byte that was measured is another one when it is copied. */
-static void change_byte(void) {
-    if (menu.change == NULL || !is_word(menu.change, "byte")) return;
-    const move *each = last_moves() + 1; /* behind the head */
-    while (each->from == 0) each++;
-    *(uint8_t *)(UINTN)each->from ^= 1;
-}
-
 /* Whether the firmware's map is still that of the plan: then its new key is known. */
 static int is_same_map(void) {
     static machine_map now;

@@ -210,6 +210,8 @@ const char *read_files(menu_entry *entry) {
 
 /* ---- writing, for tests */
 
+#ifdef FOR_TESTS
+
 EFI_FILE *create_file(const char *path) {
     uint64_t mode = EFI_FILE_MODE_READ | EFI_FILE_MODE_WRITE;
     EFI_FILE *file = open(path, mode);
@@ -221,3 +223,4 @@ int append(EFI_FILE *file, const void *bytes, uint64_t length) {
     UINTN size = length;
     return !EFI_ERROR(file->Write(file, &size, (void *)(UINTN)bytes)) && size == length;
 }
+#endif

@@ -81,7 +81,7 @@ static const char *attempt(EFI_HANDLE image, menu_entry *entry) {
     use_partition(NULL);
     if (wrong == NULL) wrong = make_ready(entry);
     if (wrong != NULL) return wrong;
-    if (menu.writes) say(write_handover(entry));
+    write_handover(entry);
     print("    Booting %s. It is told of %u KiB of usable memory, the core took %u bytes.\n",
           entry->title, boot.map.usable / 1024, (uint64_t)bootcore_arena_peak());
     say_plan();

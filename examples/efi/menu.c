@@ -86,8 +86,7 @@ static void take(const char *word, char *rest) {
     else if (is_word(word, "keep")) menu.keeps = 1;
     else if (is_word(word, "entries")) menu.lists_entries = 1;
     else if (is_word(word, "boot_unmeasured")) menu.boots_unmeasured = 1;
-    else if (is_word(word, "write")) menu.writes = 1;
-    else if (is_word(word, "change")) menu.change = rest;
+    else if (take_for_tests(word, rest)) return;
     else if (is_word(word, "title")) begin_entry(rest);
     else if (!check(menu.entry_count != 0, "an entry begins with its title")) return;
     else if (is_word(word, "reboot")) take_end(reboot, entry);

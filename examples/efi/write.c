@@ -1,7 +1,19 @@
-/* For tests: the handover as an image, and the description of the same boot, as files on the disk.
-   `bootcore boot` of that description, with the same files beside it, must write the same image.
-   docs/FORMATS.md has both forms. And a file that says where all lies as the firmware is to end. */
+/* For tests, and in no other build: the handover as an image, and the description of the same boot, as
+   files on the disk. `bootcore boot` of that description, with the same files beside it, must write the
+   same image. docs/FORMATS.md has both forms. And a file that says where all lies as the firmware is to
+   end; and changes while it ends. */
 #include "app.h"
+
+static int writes;
+static const char *changed; /* when, or what; NULL for nothing */
+
+int take_for_tests(const char *word, const char *rest) {
+    if (is_word(word, "write")) return writes = 1;
+    if (is_word(word, "change")) return changed = rest, 1;
+    return 0;
+}
+
+/* ---- the description, and where all lies */
 
 static int write_description(EFI_FILE *file, const menu_entry *entry) {
     static char text[max_text];
@@ -72,10 +84,29 @@ static int write_by(int (*write)(EFI_FILE *, const menu_entry *), const char *pa
 
 /* By the plan that was made last: it is made again, on a map that must be this one still, as the
    firmware ends. */
-const char *write_handover(const menu_entry *entry) {
-    return write_by(write_description, "bootcore/handover.toml", entry) &&
-                   write_by(write_image, "bootcore/handover.image", entry) &&
-                   write_by(write_memory, "bootcore/handover.memory", entry)
-               ? "The handover was written to bootcore/."
-               : "The handover can't be written.";
+void write_handover(const menu_entry *entry) {
+    if (!writes) return;
+    int good = write_by(write_description, "bootcore/handover.toml", entry) &&
+               write_by(write_image, "bootcore/handover.image", entry) &&
+               write_by(write_memory, "bootcore/handover.memory", entry);
+    print("\n    The handover %s.\n", good ? "was written to bootcore/" : "can't be written");
+}
+
+/* ---- changes */
+
+/* Once, another map, or the same with another key. */
+void change(const char *when) {
+    if (changed == NULL || !is_word(changed, when)) return;
+    changed = NULL;
+    void *free = take_low_pages(1);
+    give_back(taken_count - 1);
+    if (!is_word(when, "key")) take_pages_as(AllocateAddress, EfiReservedMemoryType, 1, (UINTN)free);
+}
+
+/* A byte that was measured is another one when it is copied. */
+void change_byte(void) {
+    if (changed == NULL || !is_word(changed, "byte")) return;
+    const move *each = last_moves() + 1; /* behind the head */
+    while (each->from == 0) each++;
+    *(uint8_t *)(UINTN)each->from ^= 1;
 }
