@@ -3,6 +3,14 @@
 
 /* ---- descriptors to regions */
 
+/* What memory is for whose type says that it is free: no kernel should take that which is slow to write,
+   stays over a restart, or is kept for drivers. */
+enum { is_persistent = 0x8000, has_purpose = 0x40000 /* EFI_MEMORY_NV, EFI_MEMORY_SP */ };
+
+static int is_common(const EFI_MEMORY_DESCRIPTOR *d) {
+    return (d->Attribute & (EFI_MEMORY_WB | is_persistent | has_purpose)) == EFI_MEMORY_WB;
+}
+
 /* Memory of boot services and of the loader is free once they have ended. So what the application
    takes changes no region, and a plan does not depend on where its files lie. */
 static uint32_t kind_of(const EFI_MEMORY_DESCRIPTOR *d) {
@@ -11,7 +19,7 @@ static uint32_t kind_of(const EFI_MEMORY_DESCRIPTOR *d) {
     case EfiBootServicesCode:
     case EfiBootServicesData:
     case EfiLoaderCode:
-    case EfiLoaderData: return BOOTCORE_KIND_USABLE;
+    case EfiLoaderData: return is_common(d) ? BOOTCORE_KIND_USABLE : BOOTCORE_KIND_RESERVED;
     case EfiACPIReclaimMemory: return BOOTCORE_KIND_ACPI;
     case EfiACPIMemoryNVS: return BOOTCORE_KIND_NVS;
     case EfiUnusableMemory: return BOOTCORE_KIND_BAD;
@@ -46,6 +54,17 @@ static int add_region(machine_map *map, const EFI_MEMORY_DESCRIPTOR *d) {
 
 /* ---- the machine */
 
+/* Whether a range goes on beyond all addresses, or another one begins in it. */
+static int is_met_by_other(const memory_list *list, const EFI_MEMORY_DESCRIPTOR *d) {
+    if (d->NumberOfPages > (UINT64_MAX - d->PhysicalStart) / page) return 1;
+    for (UINTN at = 0; at + list->step <= list->size; at += list->step) {
+        const EFI_MEMORY_DESCRIPTOR *e = (const void *)((const uint8_t *)list->descriptors + at);
+        uint64_t beyond = e->PhysicalStart - d->PhysicalStart; /* great where it begins before */
+        if (e != d && e->NumberOfPages != 0 && beyond < d->NumberOfPages * page) return 1;
+    }
+    return 0;
+}
+
 const char *read_map(machine_map *map) {
     static EFI_MEMORY_DESCRIPTOR listed[4096];
     memory_list *list = &map->list;
@@ -56,8 +75,10 @@ const char *read_map(machine_map *map) {
         list->step == 0)
         return "The firmware gives no memory map, or one above 160 KiB.";
     const EFI_MEMORY_DESCRIPTOR *d = first_range(list, 0);
-    for (; d != NULL; d = first_range(list, d->PhysicalStart + 1))
+    for (; d != NULL; d = first_range(list, d->PhysicalStart + 1)) {
+        if (is_met_by_other(list, d)) return "The firmware's map has ranges that overlap.";
         if (!add_region(map, d)) return "The firmware's map has more than 128 ranges.";
+    }
     return NULL;
 }
 

@@ -70,7 +70,8 @@ static menu_entry entry;
 
 /* Of a map of so many ranges, of which each one lies behind a hole. */
 static const bootcore_firmware *told_of(UINTN count) {
-    for (UINTN i = 0; i < count; i++) ranges[i].PhysicalStart = 2 * i * page, ranges[i].NumberOfPages = 1;
+    for (UINTN i = 0; i < count; i++)
+        ranges[i].PhysicalStart = 2 * i * page, ranges[i].NumberOfPages = 1, ranges[i].Attribute = EFI_MEMORY_WB;
     map.list = (memory_list){ranges, sizeof *ranges, count * sizeof *ranges, 1};
     tell_firmware(&map, &entry);
     return &map.firmware;

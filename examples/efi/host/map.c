@@ -1,5 +1,6 @@
 /* On the host: what the boot manager's own code makes of the firmware's memory map. The word is how
-   many maps are drawn; each is compared with its pages, one by one. */
+   many maps are drawn; each is compared with its pages, one by one, and refused once two of its ranges
+   overlap. */
 #include "app.h"
 
 #include <stdio.h>
@@ -31,7 +32,8 @@ typedef struct {
 static use pages[page_count];
 static uint64_t start; /* of the first page */
 static UINTN step;
-static uint8_t list_bytes[2][64 * most_listed];
+static uint8_t list_bytes[2][64 * (most_listed + 1)];
+static EFI_MEMORY_DESCRIPTOR more; /* one that is listed too, if it has pages */
 
 /* As the firmware may list these pages: in any order, ranges cut anywhere, some without a page. */
 static memory_list listed(const use *of, uint8_t *bytes) {
@@ -54,22 +56,41 @@ static memory_list listed(const use *of, uint8_t *bytes) {
 
 static EFI_STATUS EFIAPI get_map(UINTN *size, EFI_MEMORY_DESCRIPTOR *map, UINTN *key, UINTN *each, UINT32 *version) {
     memory_list list = listed(pages, list_bytes[0]);
+    if (more.NumberOfPages) {
+        uint8_t *end = list_bytes[0] + list.size, *at = list_bytes[0] + draw(list.size / step + 1) * step;
+        memmove(at + step, at, (size_t)(end - at));
+        memcpy(at, &more, sizeof more);
+        list.size += step;
+    }
     if (list.size > *size) return EFI_BUFFER_TOO_SMALL;
     memcpy(map, list.descriptors, list.size);
     *size = list.size, *key = 7, *each = step, *version = 1;
     return EFI_SUCCESS;
 }
 
-static int is_free(const use *of) {
+/* By the numbers of the UEFI specification: write-back; persistent; for a purpose; more reliable. */
+enum { wb = 1 << 3, nv = 1 << 15, sp = 1 << 18, more_reliable = 1 << 16 };
+
+static int has_free_type(const use *of) {
     return of->type == EfiConventionalMemory || of->type == EfiLoaderCode || of->type == EfiLoaderData ||
            of->type == EfiBootServicesCode || of->type == EfiBootServicesData;
+}
+
+static int is_free(const use *of) {
+    return has_free_type(of) && (of->attribute & wb) && !(of->attribute & nv) && !(of->attribute & sp);
+}
+
+static uint64_t draw_attribute(void) {
+    static const uint64_t attributes[] = {0x7, 0xf | nv, 0xf | sp, 0xf | nv | sp, wb | more_reliable, 0x800000000000000f, 0};
+    return draw(8) ? 0xf : attributes[draw(sizeof attributes / sizeof *attributes)];
 }
 
 static use draw_use(int mostly_free) {
     static const uint32_t free_types[] = {EfiConventionalMemory, EfiBootServicesData, EfiBootServicesCode, EfiLoaderData,
                                           EfiLoaderCode};
-    if (draw(mostly_free ? 60 : 2)) return (use){free_types[draw(draw(2) ? 2 : 5)], 0xf};
-    return (use){(uint32_t)draw(EfiMaxMemoryType + 1), draw(2) ? 0xf : 0x800000000000000f};
+    uint64_t attribute = mostly_free && draw(30) ? 0xf : draw_attribute();
+    if (draw(mostly_free ? 60 : 2)) return (use){free_types[draw(draw(2) ? 2 : 5)], attribute};
+    return (use){(uint32_t)draw(EfiMaxMemoryType + 1), attribute};
 }
 
 static void draw_pages(void) {
@@ -186,6 +207,31 @@ static void check_alike(void) {
     expect("a list is not like one of another machine", !are_alike(&one, &other) && !are_alike(&other, &one));
 }
 
+/* A map is refused once another range has a page of one that is listed: the first one, the last one, or
+   all; of the same type, or of another one. Beside them it is not. One that goes on beyond all addresses
+   is refused too. */
+static void check_overlap(machine_map *map) {
+    size_t at = draw(page_count), beside = 0;
+    const char *words = "The firmware's map has ranges that overlap.", *wrong;
+    while (pages[at].type == EfiMaxMemoryType) at = draw(page_count);
+    size_t length = 1 + draw(draw(2) ? 3 : page_count), before = draw(length);
+    if (start + at * page < before * page) before = 0;
+    uint32_t type = draw(2) ? pages[at].type : (uint32_t)draw(EfiMaxMemoryType);
+    more = (EFI_MEMORY_DESCRIPTOR){.Type = type, .PhysicalStart = start + (at - before) * page,
+                                   .NumberOfPages = length, .Attribute = 0xf};
+    wrong = read_map(map);
+    expect("a map is refused where two ranges have one page", wrong != NULL && strcmp(wrong, words) == 0);
+    more.PhysicalStart = start + page_count * page;
+    wrong = read_map(map);
+    beside = run_count() + 1;
+    expect("a range beside all others does not overlap",
+           wrong == NULL || (beside > BOOTCORE_MAX_REGIONS && strcmp(wrong, words) != 0));
+    more.NumberOfPages = draw(2) ? UINT64_MAX / page + 1 - more.PhysicalStart / page : UINT64_MAX;
+    wrong = read_map(map);
+    expect("a range that goes on beyond all addresses is refused", wrong != NULL);
+    more.NumberOfPages = 0;
+}
+
 /* As many ranges as the core takes, and one more: each of pages that adjoin and are free for another reason, or are listed
    one by one. */
 static void check_limit(machine_map *map) {
@@ -214,6 +260,7 @@ int main(int count, char **words) {
         expect("a map of too many ranges is refused, and no other", (read_map(&map) == NULL) == has_room);
         if (has_room) check_regions(&map), check_avoided(&map);
         check_alike();
+        if (has_room) check_overlap(&map);
         refused += !has_room;
     }
     expect("maps of each sort are drawn", maps < 60 || (joined && refused));
