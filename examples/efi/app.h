@@ -47,7 +47,7 @@ extern struct menu_file {
     int lists_entries;
     int keeps;        /* the choice is kept for the next boot */
     int falls_back;   /* also after a choice by hand */
-    int boots_unmeasured; /* also what the TPM fails to measure */
+    int boots_unmeasured; /* also what the TPM fails to measure; set until it is known what the menu says */
     uint8_t text[max_text];
     size_t text_length;
 } menu;
@@ -299,6 +299,8 @@ int ask_for_setup(void);
 void find_tpm(void);
 /* `measured`, or `not measured` and why. */
 const char *measured_words(void);
+/* If nothing is started since it was not measured: the screen says what can be done. */
+void say_unmeasured(int has_menu);
 /* A file as it was read. */
 const char *measure_file(const char *path, const void *bytes, uint64_t length);
 /* An entry's title and lines. */
@@ -369,15 +371,13 @@ int append(EFI_FILE *file, const void *bytes, uint64_t length);
 /* Takes a word of the menu's that is for tests; 0: it is none. */
 int take_for_tests(const char *word, const char *rest);
 /* Where the menu wants it: writes the handover, and where all lies, as files on the disk; changes the
-   memory map, now; or a byte that was measured. */
+   memory map, or a byte that was measured. */
 void write_handover(const menu_entry *entry);
 void change(const char *when);
-void change_byte(void);
 #else
 #define take_for_tests(word, rest) 0
 #define write_handover(entry) (void)0
 #define change(when) (void)0
-#define change_byte() (void)0
 #endif
 
 #endif

@@ -144,7 +144,7 @@ const char *leave_firmware(EFI_HANDLE image, menu_entry *entry) {
         change("key");
         if (!EFI_ERROR(BS->ExitBootServices(image, boot.map.key))) {
             keep_log();
-            change_byte();
+            change("byte");
             enter_alone();
         }
         if (!is_same_map() && (is_handover_measured() || make_ready(entry) != NULL)) break;

@@ -26,6 +26,7 @@ static int has_instructions(void) {
    goes on with what it boots next. */
 enum { shown_seconds = 30, most_restarts = 3 };
 static uint32_t restarts;
+static int has_menu; /* a file, not only loader/entries */
 
 /* The menu, and memory that is taken once. */
 static int begin(EFI_HANDLE image) {
@@ -42,13 +43,13 @@ static int begin(EFI_HANDLE image) {
         !open_disk(self->DeviceHandle))
         return say("The disk that this was started from can't be read.");
     find_tpm();
-    int has_menu = has_file("bootcore/menu.txt");
+    has_menu = has_file("bootcore/menu.txt");
     char *text = has_menu ? read_text("bootcore/menu.txt", &wrong) : no_menu;
     if (text != NULL) wrong = read_menu(text, &line);
     if (wrong != NULL) {
         print("\n    %s", has_menu ? "bootcore/menu.txt" : "No bootcore/menu.txt; loader/entries");
         if (line) print(", line %u", (uint64_t)line);
-        return print(": %s\n", wrong), 0;
+        return print(": %s\n", wrong), say_unmeasured(has_menu), 0;
     }
     mark_kept();
     read_variables();
@@ -120,6 +121,7 @@ static const char *boot_choice(EFI_HANDLE image, enum choice how) {
         use_partition(NULL);
         give_back(kept_count);
     }
+    if (wrong != NULL) say_unmeasured(has_menu);
     return wrong;
 }
 

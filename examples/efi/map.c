@@ -3,23 +3,19 @@
 
 /* ---- descriptors to regions */
 
-/* What memory is for whose type says that it is free: no kernel should take that which is slow to write,
-   stays over a restart, or is kept for drivers. */
-enum { is_persistent = 0x8000, has_purpose = 0x40000 /* EFI_MEMORY_NV, EFI_MEMORY_SP */ };
-
-static int is_common(const EFI_MEMORY_DESCRIPTOR *d) {
-    return (d->Attribute & (EFI_MEMORY_WB | is_persistent | has_purpose)) == EFI_MEMORY_WB;
-}
+enum { is_persistent = 0x8000, has_purpose = 0x40000 }; /* EFI_MEMORY_NV, EFI_MEMORY_SP */
 
 /* Memory of boot services and of the loader is free once they have ended. So what the application
-   takes changes no region, and a plan does not depend on where its files lie. */
+   takes changes no region, and a plan does not depend on where its files lie. But whatever its type is,
+   no kernel should take what is slow to write, stays over a restart, or is kept for a driver. */
 static uint32_t kind_of(const EFI_MEMORY_DESCRIPTOR *d) {
+    int is_common = (d->Attribute & (EFI_MEMORY_WB | is_persistent | has_purpose)) == EFI_MEMORY_WB;
     switch (d->Type) {
     case EfiConventionalMemory:
     case EfiBootServicesCode:
     case EfiBootServicesData:
     case EfiLoaderCode:
-    case EfiLoaderData: return is_common(d) ? BOOTCORE_KIND_USABLE : BOOTCORE_KIND_RESERVED;
+    case EfiLoaderData: return is_common ? BOOTCORE_KIND_USABLE : BOOTCORE_KIND_RESERVED;
     case EfiACPIReclaimMemory: return BOOTCORE_KIND_ACPI;
     case EfiACPIMemoryNVS: return BOOTCORE_KIND_NVS;
     case EfiUnusableMemory: return BOOTCORE_KIND_BAD;
@@ -54,15 +50,15 @@ static int add_region(machine_map *map, const EFI_MEMORY_DESCRIPTOR *d) {
 
 /* ---- the machine */
 
-/* Whether a range goes on beyond all addresses, or another one begins in it. */
+/* Whether another range begins in this one, or it goes on beyond all addresses. A difference is great where
+   the other one begins before. */
 static int is_met_by_other(const memory_list *list, const EFI_MEMORY_DESCRIPTOR *d) {
-    if (d->NumberOfPages > (UINT64_MAX - d->PhysicalStart) / page) return 1;
     for (UINTN at = 0; at + list->step <= list->size; at += list->step) {
         const EFI_MEMORY_DESCRIPTOR *e = (const void *)((const uint8_t *)list->descriptors + at);
-        uint64_t beyond = e->PhysicalStart - d->PhysicalStart; /* great where it begins before */
-        if (e != d && e->NumberOfPages != 0 && beyond < d->NumberOfPages * page) return 1;
+        if (e == d || e->NumberOfPages == 0) continue;
+        if (e->PhysicalStart - d->PhysicalStart < d->NumberOfPages * page) return 1;
     }
-    return 0;
+    return d->NumberOfPages > (UINT64_MAX - d->PhysicalStart) / page;
 }
 
 const char *read_map(machine_map *map) {

@@ -12,7 +12,7 @@ tcg2 *tpm;
 int has_agile_log;
 
 static const char *fault;  /* why something was not measured; NULL so far */
-static int is_in_pcr;      /* whether the last event is in its PCR */
+static int is_in_pcr, is_begun; /* whether the last event is in its PCR, and whether any is */
 
 static struct __attribute__((packed)) {
     tcg2_event head;
@@ -44,10 +44,18 @@ static const char *fault_words(EFI_STATUS status) {
     }
 }
 
-/* NULL if what was to be measured may be used all the same. */
+/* NULL if what was to be measured may be used all the same. The menu is measured first: if nothing is in a
+   PCR, its word is not there either, and who runs next could measure another one. */
 static const char *fail(const char *why) {
     if (fault == NULL) fault = why;
-    return menu.boots_unmeasured ? NULL : fault;
+    return menu.boots_unmeasured && is_begun ? NULL : fault;
+}
+
+void say_unmeasured(int has_menu) {
+    const char *lines = has_menu ? "Write the line boot_unmeasured into bootcore/menu.txt."
+                                 : "Write the lines boot_unmeasured and entries into bootcore/menu.txt.";
+    if (fault == NULL || fail(fault) == NULL) return;
+    print_sentence("To boot all the same", is_begun ? lines : "Turn the TPM off in the firmware's setup.");
 }
 
 /* Measures bytes as an event, whose data stand there already. If the log is full, only the event is
@@ -57,9 +65,10 @@ static const char *extend(uint32_t pcr, uint32_t type, const void *bytes, uint64
     const uint32_t size = (uint32_t)(sizeof event.head + data_length);
     event.head = (tcg2_event){size, sizeof event.head - 4, 1, pcr, type};
     if (tpm == NULL) return NULL;
-    if (fault != NULL && !menu.boots_unmeasured) return fault;
+    if (fault != NULL && fail(fault) != NULL) return fault;
     EFI_STATUS status = tpm->HashLogExtendEvent(tpm, 0, (UINTN)bytes, length, &event.head);
     is_in_pcr = !EFI_ERROR(status) || status == EFI_VOLUME_FULL;
+    is_begun |= is_in_pcr;
     return EFI_ERROR(status) ? fail(fault_words(status)) : NULL;
 }
 

@@ -1,7 +1,7 @@
 /* The menu file: a line is a word and what it is about. docs/EFI.md has the words. */
 #include "app.h"
 
-struct menu_file menu;
+struct menu_file menu = {.boots_unmeasured = 1};
 const char *const protocols[4] = {"", "multiboot2", "linux", "linux64"};
 
 /* ---- what an entry is made of */
@@ -117,6 +117,7 @@ static void forget_missing(void) {
 }
 
 const char *read_menu(char *text, uint32_t *line) {
+    menu.boots_unmeasured = 0;
     menu.seconds = no_limit;
     menu.arena = BOOTCORE_ARENA;
     *line = take_lines(text, take);

@@ -94,19 +94,18 @@ void write_handover(const menu_entry *entry) {
 
 /* ---- changes */
 
-/* Once, another map, or the same with another key. */
+/* Once: another map, or the same with another key; or a byte that was measured, before it is copied. Then
+   the firmware has ended. */
 void change(const char *when) {
     if (changed == NULL || !is_word(changed, when)) return;
     changed = NULL;
+    if (is_word(when, "byte")) {
+        const move *each = last_moves() + 1; /* behind the head */
+        while (each->from == 0) each++;
+        *(uint8_t *)(UINTN)each->from ^= 1;
+        return;
+    }
     void *free = take_low_pages(1);
     give_back(taken_count - 1);
     if (!is_word(when, "key")) take_pages_as(AllocateAddress, EfiReservedMemoryType, 1, (UINTN)free);
-}
-
-/* A byte that was measured is another one when it is copied. */
-void change_byte(void) {
-    if (changed == NULL || !is_word(changed, "byte")) return;
-    const move *each = last_moves() + 1; /* behind the head */
-    while (each->from == 0) each++;
-    *(uint8_t *)(UINTN)each->from ^= 1;
 }
