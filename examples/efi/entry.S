@@ -10,10 +10,11 @@
     .set code, 0x10                 # the selectors of the entry state
     .set data, 0x18
 
-    # The registers, as bootcore.h has them: the address of each, and its offset in the page
+    # The registers, as bootcore.h has them, which `build` looks at: the address of each, and its offset in
+    # the page
     .set offset, 0
     .irp name, bits, rip, rax, rbx, rcx, rdx, rsi, rdi, rbp, rsp, r8, r9, r10, r11, r12, r13, r14, \
-        r15, flags, cr0, cr3, cr4, efer, cs, ds, es, fs, gs, ss, gdt_base, gdt_limit, a20
+        r15, rflags, cr0, cr3, cr4, efer, cs, ds, es, fs, gs, ss, gdt_base, gdt_limit, a20
     .set \name, trampoline_registers + offset
     .set at_\name, trampoline_registers - trampoline + offset
     .set offset, offset + 8
@@ -128,7 +129,7 @@ leave64:                            # physical addresses are those of before, so
     movl at_cr0(%ebx), %eax
     movl %eax, %cr0
     lgdt (gdt_at - trampoline)(%ebx)
-    leal at_flags(%ebx), %esp
+    leal at_rflags(%ebx), %esp
     popfl
     movl %ebx, %esp                 # the last register to be given its own value
     movl at_rax(%esp), %eax
@@ -165,7 +166,7 @@ enter64:
     .code64
 enter:
     lgdt gdt_at(%rip)
-    leaq flags(%rip), %rsp
+    leaq rflags(%rip), %rsp
     popfq
     movq rax(%rip), %rax
     movq rbx(%rip), %rbx
@@ -203,7 +204,8 @@ gdt_at:
 
     .balign 8, 0
 trampoline_registers:
-    .fill offset / 8, 8, 0
+    .fill offset / 8 + 4, 8, 0      # with those that are reserved
+    .fill 4, 8, 0                   # room below the stack's end, for what is pushed
     .org trampoline + 4096          # if this is an error, all is longer than a page
 stack_end:
 trampoline_end:
