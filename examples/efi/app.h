@@ -79,6 +79,15 @@ char *cut_word(char *line);
 /* Calls this for each line, with its word and the rest, until one is wrong: its number, or 0. */
 uint32_t take_lines(char *text, void (*take)(const char *word, char *rest));
 uint32_t take_number(const char *text);
+/* How many bytes the character of UTF-8 has that begins here; 0: it is none (RFC 3629, 4). */
+size_t character_length(const void *text, size_t left);
+/* The same in a text with its zero byte: 1 for a byte that is of none, 0 at the end. */
+size_t step_length(const char *text);
+/* Such characters and bytes before a place in the text. */
+size_t count_characters(const char *text, const char *end);
+/* The text in UTF-16, with a zero behind it, where there is room for a letter of each byte, and for that. A byte that
+   is of no character is U+FFFD. How many letters it has with the zero; 0: not all was UTF-8. */
+size_t widen(const void *text, size_t length, CHAR16 *to);
 /* These are kept in menu.text, one behind the other. */
 bootcore_bytes take_bytes(const void *bytes, size_t length);
 bootcore_bytes take_line(const char *text);
@@ -111,7 +120,8 @@ int open_disk(EFI_HANDLE device);
 const char *use_partition(const char *name);
 EFI_HANDLE used_disk(void);
 void close_disk(void);
-/* A path as the firmware has it: 16-bit letters and backslashes, until the next call; or NULL. */
+/* A path as the firmware has it: 16-bit letters and backslashes, until the next call. NULL: it is too long, or
+   no UTF-8. */
 CHAR16 *file_name(const char *path);
 int has_file(const char *path);
 /* Calls this for each file of a folder whose name is ASCII. */
@@ -331,7 +341,7 @@ size_t describe(const bootcore_machine *machine, const menu_entry *entry, char *
 
 /* ---- program.c: another EFI program */
 
-/* The way to a disk's file, as the firmware has it, until the next call. NULL: it is too long. */
+/* The way to a disk's file, as the firmware has it, until the next call. NULL: it is too long, or no UTF-8. */
 EFI_DEVICE_PATH *find_way(EFI_HANDLE disk, const char *path);
 /* Starts an entry's program from the disk that is used. NULL if it ended well, or what is wrong. */
 const char *start_program(EFI_HANDLE image, const menu_entry *entry);
@@ -353,13 +363,15 @@ const char *compose(const char *form, ...);
 void print_sentence(const char *about, const char *sentence);
 extern char *kept, *kept_end; /* room where text is kept; it is shown if there is none */
 
-enum choice { chosen_by_time, chosen_by_hand, chosen_with_line, to_firmware };
+enum { shown_seconds = 30 }; /* of what nobody may read */
+/* By hand to the firmware, or since nobody can choose, to what it boots next. */
+enum choice { chosen_by_time, chosen_by_hand, chosen_with_line, to_firmware, to_next };
 extern char edited[BOOTCORE_MAX_LINE + 1]; /* the line that an entry was chosen with, for once */
 int open_screen(void);
 void close_screen(void);
 /* The choice, in menu.chosen. */
 enum choice choose_entry(void);
-/* Whether a key is pressed before so many seconds are over, or no_limit. */
+/* Whether a key is pressed before so many seconds are over, or no_limit: where no key can be, that is shown_seconds. */
 int wait_key(uint32_t seconds);
 
 /* ---- write.c: what a build for tests alone has */

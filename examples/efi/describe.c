@@ -4,20 +4,6 @@
 
 /* ---- texts */
 
-/* How many bytes the character has that begins here; 0: it is none of UTF-8 (RFC 3629, 4). */
-static size_t character_length(const uint8_t *bytes, size_t left) {
-    uint8_t first = bytes[0], lowest = 0x80, highest = 0xbf; /* of the second byte */
-    size_t length = first < 0x80 ? 1 : first < 0xe0 ? 2 : first < 0xf0 ? 3 : 4;
-    if ((first >= 0x80 && first < 0xc2) || first > 0xf4 || length > left) return 0;
-    if (first == 0xe0) lowest = 0xa0;  /* else it had a shorter form */
-    if (first == 0xed) highest = 0x9f; /* else it were a surrogate */
-    if (first == 0xf0) lowest = 0x90;
-    if (first == 0xf4) highest = 0x8f; /* else it were above U+10FFFF */
-    for (size_t i = 1; i < length; i++, lowest = 0x80, highest = 0xbf)
-        if (bytes[i] < lowest || bytes[i] > highest) return 0;
-    return length;
-}
-
 static int is_utf8; /* all so far */
 
 static void add_text(const void *text, size_t length) {

@@ -37,12 +37,11 @@ EFI_HANDLE used_disk(void) { return devices[used]; }
 
 CHAR16 *file_name(const char *path) {
     static CHAR16 name[512] = {'\\'};
-    UINTN i = 0;
     if (used && begins_with(path, used_name)) path += partition_letters + 1;
-    for (; path[i] && i < 510; i++)
-        name[1 + i] = path[i] == '/' ? '\\' : (CHAR16)(unsigned char)path[i];
-    name[1 + i] = 0;
-    return path[i] ? NULL : name;
+    if (strlen(path) > 510 || widen(path, strlen(path), name + 1) == 0) return NULL;
+    for (UINTN i = 1; name[i]; i++)
+        if (name[i] == '/') name[i] = '\\';
+    return name;
 }
 
 /* A file, or NULL. */

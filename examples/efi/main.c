@@ -24,7 +24,7 @@ static int has_instructions(void) {
 
 /* A machine that starts alone neither shows what is wrong for ever, nor restarts for ever: the firmware
    goes on with what it boots next. */
-enum { shown_seconds = 30, most_restarts = 3 };
+enum { most_restarts = 3 };
 static uint32_t restarts;
 static int has_menu; /* a file, not only loader/entries */
 
@@ -126,14 +126,14 @@ static const char *boot_choice(EFI_HANDLE image, enum choice how) {
 }
 
 EFI_STATUS efi_main(EFI_HANDLE image, EFI_SYSTEM_TABLE *table) {
-    enum choice how;
+    enum choice how = to_next;
     ST = table;
     application = image;
     BS = table->BootServices;
     BS->SetWatchdogTimer(0, 0, 0, NULL);
     int is_good = begin(image);
     if (!is_good) wait_key(shown_seconds);
-    while (is_good && (how = choose_entry()) != to_firmware) {
+    while (is_good && (how = choose_entry()) < to_firmware) {
         uint32_t seconds = menu.seconds > shown_seconds ? menu.seconds : shown_seconds;
         if (boot_choice(image, how) != NULL)
             is_good = wait_key(how == chosen_by_time ? seconds : no_limit);
@@ -142,5 +142,5 @@ EFI_STATUS efi_main(EFI_HANDLE image, EFI_SYSTEM_TABLE *table) {
     close_screen();
     close_disk();
     give_back(0);
-    return is_good ? EFI_SUCCESS : EFI_LOAD_ERROR;
+    return is_good && how == to_firmware ? EFI_SUCCESS : EFI_LOAD_ERROR;
 }

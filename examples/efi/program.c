@@ -41,7 +41,8 @@ const char *start_program(EFI_HANDLE image, const menu_entry *entry) {
     EFI_HANDLE program = NULL;
     EFI_LOADED_IMAGE *loaded;
     EFI_DEVICE_PATH *way = find_way(used_disk(), entry->paths[0]);
-    if (way == NULL || line->length > BOOTCORE_MAX_LINE) return "Its path or line is too long.";
+    size_t letters = line->length > BOOTCORE_MAX_LINE ? 0 : widen(line->bytes, line->length, options);
+    if (way == NULL || letters == 0) return "Its path or line is too long, or no UTF-8.";
     EFI_STATUS status = BS->LoadImage(FALSE, image, way, NULL, 0, &program);
     if (!EFI_ERROR(status)) status = BS->HandleProtocol(program, &id, (void **)&loaded);
     if (EFI_ERROR(status)) {
@@ -52,10 +53,8 @@ const char *start_program(EFI_HANDLE image, const menu_entry *entry) {
         BS->UnloadImage(program);
         return "It is a driver, and no program.";
     }
-    for (size_t i = 0; i < line->length; i++) options[i] = ((const uint8_t *)line->bytes)[i];
-    options[line->length] = 0;
     loaded->LoadOptions = options;
-    loaded->LoadOptionsSize = line->length ? (UINT32)(line->length + 1) * sizeof *options : 0;
+    loaded->LoadOptionsSize = line->length ? (UINT32)letters * sizeof *options : 0;
     status = BS->StartImage(program, NULL, NULL);
     if (!EFI_ERROR(status)) return NULL;
     return compose("The program ended with the status 0x%x.", (uint64_t)status);

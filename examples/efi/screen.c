@@ -7,11 +7,25 @@
 
 char *kept, *kept_end;
 
+static char run[256]; /* what is shown next, since one call of the firmware's for each letter is slow */
+static size_t run_length;
+
+/* A machine without a console has no ConOut: nothing is shown there. */
+static void show_run(void) {
+    CHAR16 letters[sizeof run + 1];
+    widen(run, run_length, letters);
+    if (run_length && ST->ConOut != NULL) ST->ConOut->OutputString(ST->ConOut, letters);
+    run_length = 0;
+}
+
+/* A run is ended before its last bytes, where no character goes on. */
 static void put(char letter) {
-    CHAR16 shown[3] = {(CHAR16)(unsigned char)letter, 0, 0};
-    if (letter == '\n') shown[0] = '\r', shown[1] = '\n';
-    if (kept == NULL) ST->ConOut->OutputString(ST->ConOut, shown);
-    else if (kept < kept_end) *kept++ = letter;
+    int is_first = (letter & 0xc0) != 0x80;
+    if (kept == NULL) {
+        if (run_length == sizeof run || (run_length >= sizeof run - 4 && is_first)) show_run();
+        if (letter == '\n') run[run_length++] = '\r';
+        run[run_length++] = letter;
+    } else if (kept < kept_end) *kept++ = letter;
 }
 
 static void put_number(uint64_t number, uint64_t base) {
@@ -34,6 +48,7 @@ void print(const char *form, ...) {
     va_start(given, form);
     print_list(form, given);
     va_end(given);
+    if (kept == NULL) show_run();
 }
 
 const char *compose(const char *form, ...) {
@@ -51,68 +66,103 @@ const char *compose(const char *form, ...) {
 
 /* No screen of a firmware's is smaller than 80 by 25. */
 static void measure_screen(UINTN *columns, UINTN *rows) {
-    UINTN mode = (UINTN)ST->ConOut->Mode->Mode;
-    if (EFI_ERROR(ST->ConOut->QueryMode(ST->ConOut, mode, columns, rows)) || *columns < 80 ||
+    SIMPLE_TEXT_OUTPUT_INTERFACE *out = ST->ConOut;
+    if (out == NULL || EFI_ERROR(out->QueryMode(out, (UINTN)out->Mode->Mode, columns, rows)) || *columns < 80 ||
         *rows < 25)
         *columns = 80, *rows = 25;
 }
 
+static void move_to(UINTN column, UINTN row) {
+    show_run();
+    if (ST->ConOut != NULL) ST->ConOut->SetCursorPosition(ST->ConOut, column, row);
+}
+
+static void set_colors(UINTN letters, UINTN ground) {
+    show_run();
+    if (ST->ConOut != NULL) ST->ConOut->SetAttribute(ST->ConOut, EFI_TEXT_ATTR(letters, ground));
+}
+
+/* A program may have left it in other colours. */
+static void clear_screen(int has_cursor) {
+    set_colors(EFI_LIGHTGRAY, EFI_BLACK);
+    if (ST->ConOut == NULL) return;
+    ST->ConOut->EnableCursor(ST->ConOut, (BOOLEAN)has_cursor);
+    ST->ConOut->ClearScreen(ST->ConOut);
+}
+
 /* A row that is full ends before a word, which begins the next one. */
 void print_sentence(const char *about, const char *sentence) {
-    UINTN columns, rows, column = 6 + strlen(about);
+    UINTN columns, rows, column = 6 + count_characters(about, about + strlen(about));
     size_t length;
     measure_screen(&columns, &rows);
     print("    %s: ", about);
     for (; *sentence; sentence += length) {
         for (length = 1; sentence[length] && sentence[length] != ' '; length++) continue;
-        if (column + length >= columns) {
+        if (column + count_characters(sentence, sentence + length) >= columns) {
             print("\n      ");
             column = 6;
             if (*sentence == ' ') sentence++, length--;
         }
         for (size_t i = 0; i < length; i++) put(sentence[i]);
-        column += length;
+        column += count_characters(sentence, sentence + length);
     }
     print("\n");
 }
 
 /* ---- the menu */
 
-/* In so many columns: a longer text is cut. */
+/* In so many columns, one a character, with blanks behind a text that is shorter: where it is cut. */
 static void show_wide(const char *text, size_t width) {
-    size_t length = strlen(text);
-    for (size_t i = 0; i < width; i++) put(i < length && text[i] != '\t' ? text[i] : ' ');
+    for (; width > 0; width--) {
+        const char *next = text + step_length(text);
+        if ((unsigned char)*text < ' ') put(' '), text = next;
+        while (text < next) put(*text++);
+    }
 }
 
-static void show_row(uint32_t index, int is_marked) {
+static uint32_t first, end; /* of the entries that are shown; the first one's row is the fourth */
+
+static void show_row(uint32_t index) {
     static const char *const names[] = {"", "Multiboot2", "Linux", "Linux, 64 bits", "EFI program",
                                         "Reboot",     "Power off",  "Firmware setup"};
-    print("   ");
-    if (is_marked) ST->ConOut->SetAttribute(ST->ConOut, EFI_TEXT_ATTR(EFI_WHITE, EFI_BLUE));
-    print(" ");
+    move_to(3, 3 + index - first);
+    if (index == menu.chosen) set_colors(EFI_WHITE, EFI_BLUE);
+    put(' ');
     show_wide(menu.entries[index].title, 49);
     put(' ');
     show_wide(names[menu.entries[index].core.protocol], 16);
-    ST->ConOut->SetAttribute(ST->ConOut, EFI_TEXT_ATTR(EFI_LIGHTGRAY, EFI_BLACK));
+    set_colors(EFI_LIGHTGRAY, EFI_BLACK);
     print("\n");
 }
 
-/* How many entries are shown at once, so that nothing scrolls: beside them there are seven rows. */
-static uint32_t count_rows(void) {
-    UINTN columns, rows;
-    measure_screen(&columns, &rows);
-    return (uint32_t)rows - 7;
-}
-
-static void show_menu(uint32_t marked, uint32_t left) {
-    uint32_t room = count_rows(), first = marked < room ? 0 : marked - room + 1;
-    ST->ConOut->SetCursorPosition(ST->ConOut, 0, 0);
-    print("\n    bootcore: a boot manager on a proved loader core\n\n");
-    for (uint32_t i = first; i < menu.entry_count && i - first < room; i++)
-        show_row(i, i == marked);
-    print("\n    Up and Down choose, Enter boots, e edits the line, Escape leaves.\n    ");
+/* The cursor stands below it then, where all else is shown. */
+static void show_limit(uint32_t left) {
+    move_to(4, 5 + end - first);
     print(left ? "The marked entry is booted in %u seconds.  \n"
                : "                                               \n", (uint64_t)left);
+}
+
+/* As many entries as there is room for beside seven rows, so that nothing scrolls. */
+static void show_menu(uint32_t left) {
+    UINTN columns, rows;
+    measure_screen(&columns, &rows);
+    uint32_t room = (uint32_t)rows - 7;
+    first = menu.chosen < room ? 0 : menu.chosen - room + 1;
+    end = menu.entry_count - first < room ? menu.entry_count : first + room;
+    move_to(0, 0);
+    print("\n    bootcore: a boot manager on a proved loader core\n\n");
+    for (uint32_t i = first; i < end; i++) show_row(i);
+    print("\n    Up and Down choose, Enter boots, e edits the line, Escape leaves.\n");
+    show_limit(left);
+}
+
+/* A line as slow as a serial one gets no more than the two rows that change. */
+static void mark(uint32_t index) {
+    uint32_t before = menu.chosen;
+    menu.chosen = index;
+    if (index < first || index >= end) show_menu(0);
+    else show_row(before), show_row(index);
+    move_to(0, 6 + end - first);
 }
 
 /* ---- keys */
@@ -129,31 +179,30 @@ void close_screen(void) {
     if (timer != NULL) BS->CloseEvent(timer);
 }
 
-static int read_key(void) { return !EFI_ERROR(ST->ConIn->ReadKeyStroke(ST->ConIn, &key)); }
+/* Without a ConIn no key is ever pressed. */
+static int read_key(void) {
+    return ST->ConIn != NULL && !EFI_ERROR(ST->ConIn->ReadKeyStroke(ST->ConIn, &key));
+}
 
 /* Whether a key is pressed within this time. A Shift alone ends a wait too, and is no key: the time
-   goes on. */
+   goes on. Where the firmware can't wait, a key is looked for once the time is over. */
 static int is_pressed_within(uint64_t milliseconds) {
-    EFI_EVENT events[2] = {timer, ST->ConIn->WaitForKey};
-    UINTN index;
-    BS->SetTimer(timer, TimerRelative, milliseconds * 10000); /* in steps of 100 ns */
+    UINTN index = 0, count = ST->ConIn == NULL ? 1 : 2;
+    EFI_EVENT events[2] = {timer, count == 2 ? ST->ConIn->WaitForKey : NULL};
+    EFI_STATUS status = BS->SetTimer(timer, TimerRelative, milliseconds * 10000); /* in steps of 100 ns */
     do {
-        if (EFI_ERROR(BS->WaitForEvent(2, events, &index))) { /* no keyboard, say */
+        if (!EFI_ERROR(status)) status = BS->WaitForEvent(count, events, &index);
+        if (EFI_ERROR(status)) {
             BS->Stall(milliseconds * 1000);
-            return 0;
+            return read_key();
         }
         if (read_key()) return 1;
     } while (index != 0);
     return 0;
 }
 
-static void await_key(void) {
-    UINTN index;
-    do BS->WaitForEvent(1, &ST->ConIn->WaitForKey, &index);
-    while (!read_key());
-}
-
 int wait_key(uint32_t seconds) {
+    if (ST->ConIn == NULL && seconds == no_limit) seconds = shown_seconds;
     print(seconds == no_limit ? "\n    Press a key.\n"
                               : "\n    Press a key, or the firmware goes on in %u seconds.\n",
           (uint64_t)seconds);
@@ -171,23 +220,37 @@ static void insert_letter(size_t at, char letter) {
     edited[at] = letter;
 }
 
-static void remove_letter(size_t at) {
-    for (; edited[at]; at++) edited[at] = edited[at + 1];
+static void remove_character(size_t at) {
+    const size_t length = step_length(edited + at);
+    do edited[at] = edited[at + length];
+    while (edited[at++]);
 }
 
-/* The page of the line with the cursor's letter, so far as the screen may show something else. */
-static void show_edited(size_t at) {
+static size_t before(size_t at) {
+    size_t found = 0;
+    while (found + step_length(edited + found) < at) found += step_length(edited + found);
+    return found;
+}
+
+static size_t shown; /* the first character of the page that is shown; SIZE_MAX: none is */
+
+/* The page of the line with the cursor's character: all of it if another one was shown, or from a change on what it
+   may have moved, and a blank for what was removed. */
+static void show_edited(size_t from, size_t at) {
     UINTN columns, rows;
     measure_screen(&columns, &rows);
-    size_t width = columns - 8, height = rows - 6, length = strlen(edited);
-    size_t first = at / (width * height) * (width * height);
-    for (size_t row = 0; row < height && (first || row * width <= length + width); row++) {
-        size_t start = first + row * width;
-        ST->ConOut->SetCursorPosition(ST->ConOut, 4, 4 + row);
-        show_wide(start < length ? edited + start : "", width);
+    const size_t width = columns - 8, room = width * (rows - 6), cursor = count_characters(edited, edited + at);
+    const size_t start = cursor / room * room;
+    size_t next = count_characters(edited, edited + from), last = count_characters(edited, edited + strlen(edited)) + 1;
+    if (start != shown) next = start;
+    if ((start != shown && shown != SIZE_MAX) || last > start + room) last = start + room;
+    shown = start;
+    const char *text = edited;
+    for (size_t i = 0; i < last; text += step_length(text), i++) {
+        if (i == next || (i > next && i % width == 0)) move_to(4 + i % width, 4 + (i - start) / width);
+        if (i >= next) show_wide(text, 1);
     }
-    at -= first;
-    ST->ConOut->SetCursorPosition(ST->ConOut, 4 + at % width, 4 + at / width);
+    move_to(4 + cursor % width, 4 + (cursor - start) / width);
 }
 
 /* Whether the entry is to be booted with the line that is in `edited` then. */
@@ -196,59 +259,58 @@ static int edit_line(const menu_entry *entry) {
     size_t at = line.length < BOOTCORE_MAX_LINE ? line.length : BOOTCORE_MAX_LINE;
     memcpy(edited, line.bytes, at);
     edited[at] = 0;
-    ST->ConOut->ClearScreen(ST->ConOut);
-    ST->ConOut->EnableCursor(ST->ConOut, TRUE);
+    clear_screen(1);
     print("\n    ");
     show_wide(entry->title, 72);
     print("\n    Enter boots once with this line, Escape leads back.");
-    for (;;) {
-        size_t length = strlen(edited);
-        show_edited(at);
-        await_key();
+    shown = SIZE_MAX;
+    for (size_t from = at, length;; from = length) {
+        show_edited(from, at);
+        while (!is_pressed_within(1000)) continue;
+        length = strlen(edited);
         if (key.UnicodeChar == '\r') return 1;
         if (key.ScanCode == SCAN_ESC) return 0;
         if (key.ScanCode == SCAN_HOME) at = 0;
         if (key.ScanCode == SCAN_END) at = length;
-        if (key.ScanCode == SCAN_LEFT && at > 0) at--;
-        if (key.ScanCode == SCAN_RIGHT && at < length) at++;
-        if (key.ScanCode == SCAN_DELETE) remove_letter(at);
-        if (key.UnicodeChar == '\b' && at > 0) remove_letter(--at);
+        if (key.ScanCode == SCAN_LEFT) at = before(at);
+        if (key.ScanCode == SCAN_RIGHT) at += step_length(edited + at);
+        if (key.UnicodeChar == '\b' && at > 0) key.ScanCode = SCAN_DELETE, at = before(at);
+        if (key.ScanCode == SCAN_DELETE) remove_character(length = at);
         if (key.UnicodeChar >= ' ' && key.UnicodeChar <= '~' && length < BOOTCORE_MAX_LINE)
-            insert_letter(at++, (char)key.UnicodeChar);
+            insert_letter(length = at++, (char)key.UnicodeChar);
     }
 }
 
 /* ---- the choice */
 
-/* A program may have left it in other colours. */
-static void clear_screen(void) {
-    ST->ConOut->EnableCursor(ST->ConOut, FALSE);
-    ST->ConOut->SetAttribute(ST->ConOut, EFI_TEXT_ATTR(EFI_LIGHTGRAY, EFI_BLACK));
-    ST->ConOut->ClearScreen(ST->ConOut);
-}
-
 /* The menu until a key ends it or the time is over. */
 static enum choice ask(uint32_t left) {
-    for (;;) {
-        show_menu(menu.chosen, left);
+    for (show_menu(left);;) {
         if (!is_pressed_within(1000)) {
-            if (left && --left == 0) return chosen_by_time;
+            if (left == 0) continue;
+            if (--left == 0) return chosen_by_time;
+            show_limit(left);
             continue;
         }
-        left = 0; /* a key ends the time limit */
+        if (left) show_limit(left = 0); /* a key ends the time limit */
         if (key.UnicodeChar == '\r') return chosen_by_hand;
         if (key.ScanCode == SCAN_ESC) return to_firmware;
-        if (key.ScanCode == SCAN_UP && menu.chosen > 0) menu.chosen--;
-        if (key.ScanCode == SCAN_DOWN && menu.chosen + 1 < menu.entry_count) menu.chosen++;
+        if (key.ScanCode == SCAN_UP && menu.chosen > 0) mark(menu.chosen - 1);
+        if (key.ScanCode == SCAN_DOWN && menu.chosen + 1 < menu.entry_count) mark(menu.chosen + 1);
         if (key.UnicodeChar != 'e') continue;
         if (edit_line(&menu.entries[menu.chosen])) return chosen_with_line;
-        clear_screen();
+        clear_screen(0);
+        show_menu(0);
     }
 }
 
 /* Without time to choose the menu is shown to who holds a key down, which repeats in this time. */
 enum choice choose_entry(void) {
-    clear_screen();
+    clear_screen(0);
     if (menu.seconds == 0 && !is_pressed_within(100)) return chosen_by_time;
+    if (menu.seconds == no_limit && ST->ConIn == NULL) {
+        print("\n    There is no keyboard to choose by, and no time limit.\n");
+        return wait_key(no_limit), to_next;
+    }
     return ask(menu.seconds == no_limit ? 0 : menu.seconds);
 }

@@ -56,6 +56,50 @@ uint32_t take_lines(char *text, void (*take)(const char *word, char *rest)) {
     return 0;
 }
 
+/* ---- UTF-8 */
+
+size_t character_length(const void *text, size_t left) {
+    const uint8_t *bytes = text, first = bytes[0];
+    uint8_t lowest = 0x80, highest = 0xbf; /* of the second byte */
+    size_t length = first < 0x80 ? 1 : first < 0xe0 ? 2 : first < 0xf0 ? 3 : 4;
+    if ((first >= 0x80 && first < 0xc2) || first > 0xf4 || length > left) return 0;
+    if (first == 0xe0) lowest = 0xa0;  /* else it had a shorter form */
+    if (first == 0xed) highest = 0x9f; /* else it were a surrogate */
+    if (first == 0xf0) lowest = 0x90;
+    if (first == 0xf4) highest = 0x8f; /* else it were above U+10FFFF */
+    for (size_t i = 1; i < length; i++, lowest = 0x80, highest = 0xbf)
+        if (bytes[i] < lowest || bytes[i] > highest) return 0;
+    return length;
+}
+
+/* No character goes on with a zero byte, so the text's end is no matter. */
+size_t step_length(const char *text) {
+    size_t length = character_length(text, 4);
+    return *text == 0 ? 0 : length == 0 ? 1 : length;
+}
+
+size_t count_characters(const char *text, const char *end) {
+    size_t count = 0;
+    for (; text < end && *text; text += step_length(text)) count++;
+    return count;
+}
+
+size_t widen(const void *text, size_t length, CHAR16 *to) {
+    const uint8_t *bytes = text;
+    size_t count = 0, size;
+    int is_good = 1;
+    for (; length; bytes += size, length -= size) {
+        size = character_length(bytes, length);
+        uint32_t code = size > 1 ? bytes[0] & (0x7fu >> size) : size == 1 ? bytes[0] : 0xfffd;
+        if (size == 0) is_good = 0, size = 1;
+        for (size_t i = 1; i < size; i++) code = code << 6 | (bytes[i] & 0x3f);
+        if (code > 0xffff) to[count++] = (CHAR16)(0xd7c0 + (code >> 10)), code = 0xdc00 | (code & 0x3ff); /* a pair */
+        to[count++] = (CHAR16)code;
+    }
+    to[count++] = 0;
+    return is_good ? count : 0;
+}
+
 /* ---- what is kept */
 
 const char *take_path(char *path) {
