@@ -22,6 +22,7 @@ static EFI_STATUS EFIAPI find_protocol(EFI_HANDLE handle, EFI_GUID *id, VOID **f
 }
 static EFI_BOOT_SERVICES services = {.HandleProtocol = find_protocol};
 EFI_BOOT_SERVICES *BS = &services;
+struct menu_file menu; /* text.c puts texts there, none of which is made here */
 
 EFI_HANDLE used_disk(void) { return NULL; }
 const char *compose(const char *form, ...) { return form; }
