@@ -8,13 +8,13 @@
  * Archive. libbootcore.a wants memmove, memset and memcpy, and malloc, realloc and free, which
  * align as the C library's and always return; nothing else: no file, no clock, no thread. For
  * firmware and kernels, libbootcore_freestanding.a wants nothing: bootcore_arena.h gives it memory.
- * Of both only the functions of the headers are global symbols. These are hidden: a shared object
- * that links an archive does not export them.
+ * Of both the headers' functions alone are global, and hidden: no shared object exports them.
  *
  * Target. x86-64 (x86-64-v2, with SSE enabled) and the System V calling convention: a call changes
  * XMM registers, but neither MXCSR nor the x87's state. It needs at most BOOTCORE_STACK bytes of
  * stack. libbootcore.a keeps values in the 128 bytes below the stack pointer (the red zone): where
- * an interrupt may use the same stack, link the other one, since NMIs can't be turned off.
+ * an interrupt may use the same stack, link the other one, since NMIs can't be turned off. Archives
+ * of the plain source, whose header defines BOOTCORE_FROM_SOURCE, may be for aarch64 too.
  *
  * Units. Addresses and lengths are in bytes, and addresses are those of the machine that is booted.
  * A frame is 4096 bytes at a multiple of 4096. An index counts from 0.
@@ -25,15 +25,15 @@
  * nothing but parts, the pool and what is said here that it tells.
  *
  * Threads. Two calls at once know nothing of each other, if they share nothing that either may
- * change; but all that use an arena share it. Call from no signal handler.
+ * change; but all that use an arena share it. On one session, or one digest, make one call at a
+ * time, also of those that take it as const. Call from no signal handler.
  *
  * What the caller keeps; no call can test it:
  * - a pointer that is not null points to as many elements as are told, of its type, aligned as it
  *   is there, that nobody else changes during the call;
  * - what a call may change overlaps nothing else that it is given, and nothing of the program;
  * - a session's struct and pool, a digest's struct, between two calls: see there.
- * An array without elements may be null. Whatever else the values are, a call ends, and each
- * mistake in them has a status.
+ * An array without elements may be null. Whatever else is given, a call ends, and has a status.
  *
  * Versions. BOOTCORE_VERSION is this file's, bootcore_version() the archive's. Within 1.x a
  * function keeps its name and arguments, a struct its size and fields, a number its meaning. New
@@ -53,11 +53,15 @@ extern "C" {
 
 /* The convention of calls, also where the compiler's own is another, as for UEFI. Of a
  * BOOTCORE_CHECKED one the answer must be looked at: it says whether anything was done. */
-#if !defined(__x86_64__) || defined(__ILP32__) || !(defined(__GNUC__) || defined(__clang__))
-#error "bootcore is for x86-64, and for compilers with the attributes of GCC and Clang"
-#endif
+#if defined(__x86_64__) && !defined(__ILP32__) && (defined(__GNUC__) || defined(__clang__))
 #define BOOTCORE_CALL __attribute__((sysv_abi))
 #define BOOTCORE_CHECKED __attribute__((sysv_abi, warn_unused_result))
+#elif defined(__AARCH64EL__) && defined(__LP64__) && defined(BOOTCORE_FROM_SOURCE)
+#define BOOTCORE_CALL
+#define BOOTCORE_CHECKED __attribute__((warn_unused_result))
+#else
+#error "bootcore is for x86-64, and for compilers with the attributes of GCC and Clang"
+#endif
 
 #define BOOTCORE_VERSION 10000 /* major * 10000 + minor * 100 + patch */
 BOOTCORE_CALL uint32_t bootcore_version(void);
@@ -74,7 +78,7 @@ enum {
     BOOTCORE_MAX_REFUSALS = 32, /* a boot refuses no more entries */
     BOOTCORE_MAX_AVOIDED = 128, /* ranges in which nothing is placed */
     BOOTCORE_PIECE = 4096,      /* bytes of each piece of a file, but for the last one */
-    BOOTCORE_STACK = 24576      /* with libbootcore.a 16384 is enough */
+    BOOTCORE_STACK = 24576      /* with the proved libbootcore.a 16384 is enough */
 };
 
 /* What a call answers, in comments without BOOTCORE_STATUS_. A misuse, from 101 on, has changed
@@ -149,9 +153,7 @@ typedef struct bootcore_color { uint8_t position, size; } bootcore_color;
 typedef struct bootcore_screen {
     uint64_t base; /* 0: no screen is told */
     uint32_t pitch, width, height;
-    uint8_t depth, reserved8;
-    bootcore_color red, green, blue;
-    uint32_t reserved32;
+    uint8_t depth, reserved8; bootcore_color red, green, blue; uint32_t reserved32;
 } bootcore_screen;
 
 /* UEFI: its system table, with 32 bits below 4 GiB, and the memory map of GetMemoryMap, 64 KiB at
@@ -161,8 +163,7 @@ typedef struct bootcore_efi {
     uint64_t system_table; /* its address; 0: no UEFI is told */
     bootcore_bytes map;
     uint64_t map_address; /* where it lies, whatever the protocol */
-    uint32_t bits; /* 32 or 64 */
-    uint32_t descriptor_size, descriptor_version;
+    uint32_t bits, descriptor_size, descriptor_version; /* 32 or 64 bits */
     uint32_t secure_boot; /* 0 not told, 1 not known, 2 disabled, 3 enabled */
 } bootcore_efi;
 
@@ -216,8 +217,7 @@ enum {
 };
 
 typedef struct bootcore_module {
-    bootcore_bytes file, line; /* the line without a zero byte */
-    uint64_t reserved[2];
+    bootcore_bytes file, line; uint64_t reserved[2]; /* the line without a zero byte */
 } bootcore_module;
 
 /* An entry. What its protocol has no use for is not looked at. A Multiboot2 kernel is an ELF file,
@@ -248,8 +248,7 @@ typedef struct bootcore_memory {
  * hold, and so on; r8 to r15, cr3, cr4 and efer are 0 then: no rule gives them, so choose them, and
  * under each protocol TR, LDTR, IDTR and the debug registers: no kernel may count on them. A
  * segment register's number is its selector: bootcore_segments has the rest. A20 is 1 if the gate
- * is to be open. gdt_limit is the offset of the table's last byte; under Multiboot2 there is no
- * table, and base and limit are 0. */
+ * is to be open. gdt_limit is the offset of the table's last byte; under Multiboot2 both are 0. */
 typedef struct bootcore_registers {
     uint64_t bits; /* 32 or 64 */
     uint64_t rip, rax, rbx, rcx, rdx, rsi, rdi, rbp, rsp;
@@ -386,7 +385,8 @@ BOOTCORE_CHECKED uint32_t bootcore_carry_out(const bootcore_layout *layout,
 
 /* How the address of a part is chosen: `address` alone; the least or the greatest permitted one; or
  * `address` if it is permitted, and else the least. Permitted are the multiples of `alignment` from
- * `low` on where the part ends at `high` at most, and is usable and in no other part. */
+ * `low` on where the part ends at `high` at most, and each byte is usable, not avoided and in no
+ * other part. */
 enum {
     BOOTCORE_CHOICE_FIXED = 1,   BOOTCORE_CHOICE_LOWEST = 2,
     BOOTCORE_CHOICE_HIGHEST = 3, BOOTCORE_CHOICE_PREFERRED = 4

@@ -1,7 +1,7 @@
 /* Digests of a handoff: the SHA-256 of its image, and of each part, for one who measures or attests
  * what a machine is handed. No image is made, and no memory of the machine's is needed: files come
- * in pieces of any length. docs/EMBED.md shows it, docs/MEASURED.md says what a digest proves. This
- * file is a part of bootcore.h: include that. */
+ * in pieces of any length. docs/EMBED.md shows it, docs/MEASURED.md of the repository says what a
+ * digest proves. This file is a part of bootcore.h: include that. */
 #ifndef BOOTCORE_DIGEST_H
 #define BOOTCORE_DIGEST_H
 
@@ -13,7 +13,8 @@ extern "C" {
 
 /* The digest of what an entry hands over, as its files come. Set `kept` to null at first; after
  * that only these calls write it. The struct may be moved, but use no copy of it. Call
- * bootcore_digest_free in the end. Make one call at a time on a digest, on whichever thread. */
+ * bootcore_digest_free in the end. Make one call at a time on it, also of those that take it as
+ * const, on whichever thread. */
 typedef struct bootcore_digest { void *kept; } bootcore_digest;
 
 /* `length` bytes of a file of the entry, at least 1, from `offset` on. */

@@ -1,5 +1,5 @@
-/* Images of a handoff: what a machine was handed, in one file or in memory. docs/FORMATS.md has the
- * format. This file is a part of bootcore.h: include that. */
+/* Images of a handoff: what a machine was handed, in one file or in memory. docs/FORMATS.md of the
+ * repository has the format. This file is a part of bootcore.h: include that. */
 #ifndef BOOTCORE_IMAGE_H
 #define BOOTCORE_IMAGE_H
 

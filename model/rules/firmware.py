@@ -6,6 +6,7 @@ from typing import List, NamedTuple, Optional, Tuple
 U16_LIMIT, GIB4 = 1 << 16, 1 << 32
 END_LIMIT = 1 << 52  # as that of a region
 RSDP_LENGTH = 36
+SYSTEM_TABLE_LENGTH = 120  # with 64 bits
 LEAST_DESCRIPTOR, DESCRIPTOR_VERSION = 40, 1
 MAX_EFI_MAP = MAX_SMBIOS = 1 << 16
 MAX_AVOIDED = 128

@@ -3,8 +3,8 @@ machine", "What firmware tells"."""
 
 from typing import List, NamedTuple, Optional, Tuple
 
-from .firmware import (END_LIMIT, MAX_AVOIDED, NO_FIRMWARE, RSDP_LENGTH, Firmware, efi_fault,
-                       is_smbios_size, screen_fault)
+from .firmware import (END_LIMIT, MAX_AVOIDED, NO_FIRMWARE, RSDP_LENGTH, SYSTEM_TABLE_LENGTH,
+                       Firmware, efi_fault, is_smbios_size, screen_fault)
 from .numbers import FRAME
 from .refusals import refuse
 
@@ -65,15 +65,18 @@ def check(machine: Machine) -> Machine:
 
 
 def check_firmware(machine: Machine, told: Firmware) -> None:
-    """What firmware tells lies apart from the usable bytes, or else a part could lie there."""
+    """What firmware tells lies apart from what a kernel is told of as usable memory, also above the
+    machine's size: neither a part nor what a kernel lays into its memory lies there."""
     if told.screen is not None:
         refuse_for(screen_fault(told.screen))
         refuse_usable(machine, told.screen.base, told.screen.end, 10)
     if told.rsdp is not None:
-        if told.rsdp == 0:
+        if told.rsdp == 0 or told.rsdp + RSDP_LENGTH > END_LIMIT:
             refuse(11)
         refuse_usable(machine, told.rsdp, told.rsdp + RSDP_LENGTH, 11)
     if told.efi is not None:
+        if told.efi.system_table + SYSTEM_TABLE_LENGTH > END_LIMIT:
+            refuse(12)
         refuse_for(efi_fault(told.efi.info))
         refuse_usable(machine, told.efi.map_address, told.efi.map_address + len(told.efi.map), 15)
     if told.smbios is not None and not is_smbios_size(len(told.smbios.tables)):
@@ -93,8 +96,9 @@ def refuse_for(fault: Optional[int]) -> None:
 
 
 def refuse_usable(machine: Machine, start: int, end: int, number: int) -> None:
-    """Refused with this number if a byte of these is usable."""
-    if any(meets((start, end), range_) for range_ in usable_ranges(machine)):
+    """Refused with this number if a byte of these is told as usable memory."""
+    told = [(run.start, run.end) for run in normal_map(machine.regions) if run.kind == USABLE]
+    if any(meets((start, end), range_) for range_ in told):
         refuse(number)
 
 

@@ -13,7 +13,8 @@ use Rattle.bl_load.specs.declared.step.StepSource.{StepSource}
 use Rattle.bl_load.specs.declared.step.StepSource.TheVariants.{File}
 use Rattle.bl_digest.specs.declared.file_range.FileRange.{FileRange}
 use Rattle.bl_digest.specs.Ranges.{ranges_of, source_ranges, range_behind, wanted_after}
-use Rattle.bl_digest.specs.internal.Filling.{filled, filled_behind, source_fill, fed_behind}
+use Rattle.bl_digest.specs.PlanInSteps.{filled, source_fill, fed_behind}
+use Rattle.bl_digest.specs.internal.Filling.{filled_behind}
 use Rattle.bl_digest.specs.internal.Filling.{length_of_steps, TakesUpTo}
 use Rattle.bl_digest.specs.internal.Hashing.{HashedFacts}
 

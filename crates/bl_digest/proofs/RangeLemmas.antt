@@ -25,7 +25,7 @@ use Rattle.bl_digest.specs.PlanInSteps.{bytes_of_steps, CanBeLoadedFrom}
 use Rattle.bl_digest.specs.Ranges.{ranges_of, source_ranges, bytes_of_ranges, range_behind}
 use Rattle.bl_digest.specs.Ranges.{wanted_after}
 use Rattle.bl_digest.specs.internal.Coming.{length_of_ranges, LiesInFiles, AreFirstOf}
-use Rattle.bl_digest.specs.internal.Filling.{filled, source_fill, fed_behind}
+use Rattle.bl_digest.specs.PlanInSteps.{filled, source_fill, fed_behind}
 use Rattle.bl_digest.proofs.FillingLemmas.{wanted_here, wanted_later}
 
 abbrev range_bytes : List (List ℕ) → FileRange → List ℕ

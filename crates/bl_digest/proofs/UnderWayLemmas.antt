@@ -25,11 +25,12 @@ use Rattle.bl_image.specs.ImageHandover.{part_place}
 use Rattle.bl_digest.specs.declared.file_range.FileRange.{FileRange}
 use Rattle.bl_digest.specs.Digests.{digests_of}
 use Rattle.bl_digest.specs.PlanInSteps.{PlanInSteps, plan_in_steps, bytes_of_steps}
-use Rattle.bl_digest.specs.PlanInSteps.{handover_in_steps}
+use Rattle.bl_digest.specs.PlanInSteps.{handover_in_steps, handover_fed, parts_along}
 use Rattle.bl_digest.specs.Ranges.{ranges_of, bytes_of_ranges, range_behind, wanted_after}
 use Rattle.bl_digest.specs.Ranges.{IsWithinWanted}
 use Rattle.bl_digest.specs.internal.Coming.{length_of_ranges}
-use Rattle.bl_digest.specs.internal.Filling.{filled, filled_behind, length_of_steps, IsFrontOf}
+use Rattle.bl_digest.specs.PlanInSteps.{filled}
+use Rattle.bl_digest.specs.internal.Filling.{filled_behind, length_of_steps, IsFrontOf}
 use Rattle.bl_digest.specs.internal.Filling.{TakesUpTo, IsFed, IsUnderWay, TakesWhatIsThere, HasOwn}
 use Rattle.bl_digest.specs.internal.Filling.{plan_kept}
 use Rattle.bl_digest.specs.internal.Hashing.{total_of, digests_along}
@@ -171,22 +172,24 @@ module _ (plan : PlanInSteps) (fed front taken : List ℕ) (range : FileRange) (
         ap length_of_steps (none_left empty) in
         omega (arith, is.is_fed.count, empty, none)
 
-    -- and it is digested as what the plan hands over, out of all files that have these bytes
-    pub fed_digests : (texts : List (List ℕ))
-        → fed ≡ bytes_of_ranges texts (ranges_of plan.steps)
+    -- where the bytes of the parts are these, it is digested as the parts of these bytes
+    digests_of_bytes : (bytes : List ℕ) → taken ≡ bytes
         → digests_along (record { front = front; places = plan.places; taken = taken })
-        ≡ digests_of (handover_in_steps texts plan)
-    fed_digests texts are =
-        let ranges : List FileRange = ranges_of plan.steps in
-        let size = ap length are in
-        let whole : length_of_ranges ranges ≤ length (bytes_of_ranges texts ranges) =
-        omega (arith, none_wanted ranges (length fed) ended, size) in
-        let bytes : List ℕ = bytes_of_steps plan.own texts plan.steps in
-        let taken_is : taken ≡ bytes =
-        sym all_filled ∙ ap (filled plan.own plan.steps) are
-        ∙ filled_by_files plan.own texts plan.steps whole in
+        ≡ digests_of
+        (record {
+          protocol = plan.protocol;
+          registers = plan.registers;
+          parts = parts_along plan.places bytes;
+        })
+    digests_of_bytes bytes taken_is =
         let all : length bytes ≡ total_of plan.places = ap length (sym taken_is) ∙ all_taken in
-        let h : Handover = handover_in_steps texts plan in
+        let h : Handover =
+        record {
+          protocol = plan.protocol;
+          registers = plan.registers;
+          parts = parts_along plan.places bytes;
+        }
+        in
         let places_are : map part_place h.parts ≡ plan.places = along_places plan.places bytes all in
         let front_is =
         is.is_fed.fronted h
@@ -196,6 +199,25 @@ module _ (plan : PlanInSteps) (fed front taken : List ℕ) (range : FileRange) (
         places_are) in
         digests_are h front plan.places taken front_is (sym places_are)
         (taken_is ∙ sym (along_bytes plan.places bytes all))
+
+    -- it is digested as what the plan hands over by the bytes that came
+    pub came_digests : digests_along (record { front = front; places = plan.places; taken = taken })
+        ≡ digests_of (handover_fed (record { plan = plan; fed = fed }))
+    came_digests = digests_of_bytes (filled plan.own plan.steps fed) (sym all_filled)
+
+    -- and so as what it hands over out of all files that have these bytes
+    pub fed_digests : (texts : List (List ℕ))
+        → fed ≡ bytes_of_ranges texts (ranges_of plan.steps)
+        → digests_along (record { front = front; places = plan.places; taken = taken })
+        ≡ digests_of (handover_in_steps texts plan)
+    fed_digests texts are =
+        let ranges : List FileRange = ranges_of plan.steps in
+        let size = ap length are in
+        let whole : length_of_ranges ranges ≤ length (bytes_of_ranges texts ranges) =
+        omega (arith, none_wanted ranges (length fed) ended, size) in
+        digests_of_bytes (bytes_of_steps plan.own texts plan.steps)
+        (sym all_filled ∙ ap (filled plan.own plan.steps) are
+        ∙ filled_by_files plan.own texts plan.steps whole)
 
 -- as the code has it
 pub under_way : (protocol : Protocol) (registers : Registers) (places places' : List Place)

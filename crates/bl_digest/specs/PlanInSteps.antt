@@ -1,10 +1,12 @@
 -- A plan as it is fed: its steps, and what a handover has beside bytes. Own.
-use Rattle.std.specs.Prelude.{ℕ, List, [], ◌∷◌, ◌++◌, take, drop}
+use Rattle.std.specs.Prelude.{ℕ, ◌+◌, List, [], ◌∷◌, ◌++◌, take, drop, replicate, slice_range}
 use Rattle.bl_plan.specs.declared.part.Place.{Place}
 use Rattle.bl_plan.specs.declared.protocol.Protocol.{Protocol}
 use Rattle.bl_load.specs.declared.plan.Plan.{Plan}
 use Rattle.bl_load.specs.declared.registers.Registers.{Registers}
 use Rattle.bl_load.specs.declared.step.Step.{Step}
+use Rattle.bl_load.specs.declared.step.StepSource.{StepSource}
+use Rattle.bl_load.specs.declared.step.StepSource.TheVariants.{File, Own, Zeros}
 use Rattle.bl_load.specs.Handover.{Part, Handover, placed_part}
 use Rattle.bl_load.specs.Loadable.{IsLoadable}
 use Rattle.bl_load.specs.PlanContents.{places_of}
@@ -58,3 +60,30 @@ handover_in_steps texts plan = record {
 pub record DigestingFacts : Type 0 where
   pub plan : PlanInSteps
   pub fed : List ℕ
+
+-- so many bytes of a source, where the bytes of files come in this order
+abbrev pub source_fill : List ℕ → StepSource → ℕ → List ℕ → List ℕ
+source_fill own (File file offset) count fed = take count fed
+source_fill own (Own offset) count fed = slice_range own offset (offset + count)
+source_fill own Zeros count fed = replicate count 0
+
+-- the bytes of files that come after them
+abbrev pub fed_behind : StepSource → ℕ → List ℕ → List ℕ
+fed_behind (File file offset) count fed = drop count fed
+fed_behind (Own offset) count fed = fed
+fed_behind Zeros count fed = fed
+
+-- the bytes that steps write, where the bytes of files come in this order
+abbrev pub filled : List ℕ → List Step → List ℕ → List ℕ
+filled own [] fed = []
+filled own (step ∷ steps) fed =
+    source_fill own step.source step.length fed
+    ++ filled own steps (fed_behind step.source step.length fed)
+
+-- what it hands over by the bytes that came, whatever the files hold
+abbrev pub handover_fed : DigestingFacts → Handover
+handover_fed digest = record {
+  protocol = digest.plan.protocol;
+  registers = digest.plan.registers;
+  parts = parts_along digest.plan.places (filled digest.plan.own digest.plan.steps digest.fed);
+}

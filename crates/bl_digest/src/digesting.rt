@@ -80,7 +80,7 @@ impl<A: Allocator + Copy> Digesting<A> {
 impl<A: Allocator> Digesting<A> {
     ghost use Rattle.std.specs.Prelude.{◌≡◌, ℕ, ◌++◌, List, length, None};
     ghost use Rattle.bl_digest.specs.Digests.{digests_of};
-    ghost use Rattle.bl_digest.specs.PlanInSteps.{handover_in_steps};
+    ghost use Rattle.bl_digest.specs.PlanInSteps.{handover_in_steps, handover_fed};
     ghost use Rattle.bl_digest.specs.Ranges.{ranges_of, bytes_of_ranges, wanted_after};
     ghost use Rattle.bl_digest.specs.Ranges.{IsWithinWanted};
 
@@ -115,10 +115,12 @@ impl<A: Allocator> Digesting<A> {
     }
 
     /// The digests of the image and of its front, once nothing is wanted: those of what the plan
-    /// hands over, out of all files whose ranges have the bytes that were fed.
+    /// hands over by the bytes that were fed. That is what it hands over out of all files whose
+    /// ranges have these bytes.
     pub fn image(&self) -> ImageDigest
         requires { wanted_after (ranges_of self.now.plan.steps) (length self.now.fed) ≡ None }
-        ensures { (texts : List (List ℕ))
+        ensures fed { result ≡ (digests_of (handover_fed self.now)).image }
+        ensures files { (texts : List (List ℕ))
             → self.now.fed ≡ bytes_of_ranges texts (ranges_of self.now.plan.steps)
             → result ≡ (digests_of (handover_in_steps texts self.now.plan)).image }
     {
@@ -128,7 +130,8 @@ impl<A: Allocator> Digesting<A> {
     /// The digests of the parts, in address order, once nothing is wanted; as `image`.
     pub fn parts(&self) -> &[PartDigest]
         requires { wanted_after (ranges_of self.now.plan.steps) (length self.now.fed) ≡ None }
-        ensures { (texts : List (List ℕ))
+        ensures fed { result.now ≡ (digests_of (handover_fed self.now)).parts }
+        ensures files { (texts : List (List ℕ))
             → self.now.fed ≡ bytes_of_ranges texts (ranges_of self.now.plan.steps)
             → result.now ≡ (digests_of (handover_in_steps texts self.now.plan)).parts }
     {
@@ -138,7 +141,8 @@ impl<A: Allocator> Digesting<A> {
     /// The digests, once nothing is wanted; as `image` and `parts`.
     pub fn end(self) -> Digests<A>
         requires { wanted_after (ranges_of self.plan.steps) (length self.fed) ≡ None }
-        ensures { (texts : List (List ℕ))
+        ensures fed { result ≡ digests_of (handover_fed self) }
+        ensures files { (texts : List (List ℕ))
             → self.fed ≡ bytes_of_ranges texts (ranges_of self.plan.steps)
             → result ≡ digests_of (handover_in_steps texts self.plan) }
     {

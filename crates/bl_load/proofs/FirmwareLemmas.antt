@@ -13,6 +13,7 @@ use Rattle.bl_map.specs.declared.fault.MapFault.{MapFault}
 use Rattle.bl_map.specs.declared.firmware.efi.EfiInfo.{EfiInfo}
 use Rattle.bl_map.specs.declared.firmware.screen.Screen.{Screen}
 use Rattle.bl_map.specs.declared.region.Region.{Region}
+use Rattle.bl_map.proofs.FirmwareLemmas.{machine_efi_is_sound}
 use Rattle.bl_mbi.specs.InfoToWriteFacts.{efi_tables, IsToldScreen, IsToldEfi}
 use Rattle.bl_mbi.specs.InfoToWriteFacts.{IsToldSmbios}
 
@@ -35,22 +36,22 @@ efi_limits efi sound =
 
 -- ---- each kind
 
-screen_told : (regions : List Region) (size : ℕ) (screen : Option Screen)
-    → IfSome screen (IsScreen regions size) → IfSome screen IsToldScreen
-screen_told regions size None is = tt
-screen_told regions size (Some s) is = is.sound
+screen_told : (regions : List Region) (screen : Option Screen)
+    → IfSome screen (IsScreen regions) → IfSome screen IsToldScreen
+screen_told regions None is = tt
+screen_told regions (Some s) is = is.sound
 
-rsdp_told : (regions : List Region) (size : ℕ) (rsdp : Option ℕ)
-    → IfSome rsdp (IsRsdp regions size) → IfSome rsdp (λ a. 1 ≤ a)
-rsdp_told regions size None is = tt
-rsdp_told regions size (Some a) is = is.told
+rsdp_told : (regions : List Region) (rsdp : Option ℕ)
+    → IfSome rsdp (IsRsdp regions) → IfSome rsdp (λ a. 1 ≤ a)
+rsdp_told regions None is = tt
+rsdp_told regions (Some a) is = is.told
 
-efi_told : (regions : List Region) (size : ℕ) (efi : Option EfiFacts)
-    → IfSome efi (IsEfi regions size) → IfSome efi FitsEfiFields
+efi_told : (regions : List Region) (efi : Option EfiFacts)
+    → IfSome efi (IsEfi regions) → IfSome efi FitsEfiFields
     → IfSome (option_map efi_tables efi) IsToldEfi
-efi_told regions size None is fits = tt
-efi_told regions size (Some e) is fits =
-    let limits = efi_limits (efi_info e) is.sound in
+efi_told regions None is fits = tt
+efi_told regions (Some e) is fits =
+    let limits = efi_limits (efi_info e) (machine_efi_is_sound (efi_info e) is.sound) in
     record {
       system_table = limits.0;
       descriptors = limits.1;
@@ -58,10 +59,10 @@ efi_told regions size (Some e) is fits =
       map = fits.map;
     }
 
-info_told : (regions : List Region) (size : ℕ) (efi : Option EfiFacts)
-    → IfSome efi (IsEfi regions size) → IfSome (option_map efi_info efi) (λ e. efi_fault e ≡ None)
-info_told regions size None is = tt
-info_told regions size (Some e) is = is.sound
+info_told : (regions : List Region) (efi : Option EfiFacts)
+    → IfSome efi (IsEfi regions) → IfSome (option_map efi_info efi) (λ e. efi_fault e ≡ None)
+info_told regions None is = tt
+info_told regions (Some e) is = machine_efi_is_sound (efi_info e) is.sound
 
 smbios_told : (smbios : Option SmbiosFacts) → IfSome smbios IsSmbios
     → IfSome smbios FitsSmbiosFields → IfSome smbios IsToldSmbios
@@ -69,12 +70,12 @@ smbios_told None is fits = tt
 smbios_told (Some s) is fits =
     record { size = is; fields = fits }
 
-map_few : (regions : List Region) (size : ℕ) (efi : Option EfiFacts)
-    → IfSome efi (IsEfi regions size)
+map_few : (regions : List Region) (efi : Option EfiFacts)
+    → IfSome efi (IsEfi regions)
     → IfSome (option_map (λ told. length told.map) efi) (λ n. n ≤ 65536)
-map_few regions size None is = tt
-map_few regions size (Some e) is =
-    let limit = (efi_limits (efi_info e) is.sound).2 in grind (arith, nat_tests)
+map_few regions None is = tt
+map_few regions (Some e) is =
+    let limit = (efi_limits (efi_info e) (machine_efi_is_sound (efi_info e) is.sound)).2 in grind (arith, nat_tests)
 
 tables_few : (smbios : Option SmbiosFacts) → IfSome smbios IsSmbios
     → IfSome (option_map (λ told. length told.tables) smbios) (λ n. n ≤ 65536)
@@ -97,17 +98,17 @@ told_smbios same = ap (λ (x : FirmwareFacts). x.smbios) same
 module _ (facts : MachineFacts) (machine : IsWellFormedMachine facts) where
   pub machine_screen : IfSome facts.firmware.screen IsToldScreen
   machine_screen =
-      screen_told facts.runs facts.size facts.firmware.screen machine.firmware.screen
+      screen_told facts.runs facts.firmware.screen machine.firmware.screen
 
   pub machine_rsdp : IfSome facts.firmware.rsdp (λ a. 1 ≤ a)
-  machine_rsdp = rsdp_told facts.runs facts.size facts.firmware.rsdp machine.firmware.rsdp
+  machine_rsdp = rsdp_told facts.runs facts.firmware.rsdp machine.firmware.rsdp
 
   pub machine_efi : IfSome (option_map efi_tables facts.firmware.efi) IsToldEfi
   machine_efi =
-      efi_told facts.runs facts.size facts.firmware.efi machine.firmware.efi machine.fits.efi
+      efi_told facts.runs facts.firmware.efi machine.firmware.efi machine.fits.efi
 
   pub machine_efi_info : IfSome (option_map efi_info facts.firmware.efi) (λ e. efi_fault e ≡ None)
-  machine_efi_info = info_told facts.runs facts.size facts.firmware.efi machine.firmware.efi
+  machine_efi_info = info_told facts.runs facts.firmware.efi machine.firmware.efi
 
   pub machine_smbios : IfSome facts.firmware.smbios IsToldSmbios
   machine_smbios = smbios_told facts.firmware.smbios machine.firmware.smbios machine.fits.smbios
@@ -115,7 +116,7 @@ module _ (facts : MachineFacts) (machine : IsWellFormedMachine facts) where
   -- the memory map of UEFI and the tables of SMBIOS have at most 64 KiB each
   pub efi_map_few : IfSome (option_map (λ told. length told.map) facts.firmware.efi)
       (λ n. n ≤ 65536)
-  efi_map_few = map_few facts.runs facts.size facts.firmware.efi machine.firmware.efi
+  efi_map_few = map_few facts.runs facts.firmware.efi machine.firmware.efi
 
   pub smbios_few : IfSome (option_map (λ told. length told.tables) facts.firmware.smbios)
       (λ n. n ≤ 65536)

@@ -27,6 +27,7 @@ pub mod FrameLemmas
 pub mod ReadingLemmas
 pub mod PlacingLemmas
 pub mod PrepareLemmas
+mod UnplacedLaws
 pub mod UnplacedLemmas
 pub mod OneKernelLaws
 pub mod OneReadingLaws

@@ -1,16 +1,19 @@
 //! Laws of the definitions: an entry has one handover or one first refusal; a handover is legal.
-ghost use Rattle.std.specs.Prelude.{◌≡◌, ◌≤◌, ◌⊎◌, ℕ, Bool, length, All, AllPairs};
+ghost use Rattle.std.specs.Prelude.{◌≡◌, ◌≤◌, ◌⊎◌, ℕ, Bool, length, All, AllPairs, Some, None};
 ghost use Rattle.std.specs.List.{count_by};
 ghost use Rattle.bl_map.specs.MachineFacts.{MachineFacts, AllUsable};
 ghost use Rattle.bl_plan.specs.Permitted.{AreUnavoided};
 ghost use Rattle.bl_plan.specs.declared.part.Role.{Role};
+ghost use Rattle.bl_plan.specs.declared.part.Row.{Row};
 ghost use Rattle.bl_load.specs.declared.refusal.Refusal.{Refusal};
-ghost use Rattle.bl_load.specs.EntryValue.{EntryValue};
+ghost use Rattle.bl_load.specs.declared.refusal.Refusal.TheVariants.{NotUsable, NoRoom};
+ghost use Rattle.bl_load.specs.EntryValue.{EntryValue, lines_fault, lines_of};
 ghost use Rattle.bl_load.specs.Handover.{Handover, end_of};
-ghost use Rattle.bl_load.specs.Parts.{IsHandover, IsRefusal};
+ghost use Rattle.bl_load.specs.Parts.{IsHandover, IsRefusal, HasPlaceFault};
 ghost use Rattle.bl_load.specs.Legal.{IsLegal};
 ghost use Rattle.bl_load.specs.KernelReading.{KernelReading, IsKernelReading};
 ghost use Rattle.bl_load.specs.Rows.{rows_of};
+ghost use Rattle.bl_load.specs.Unplaced.{IsUnplaced};
 
 /// Equal facts and equal values give one handover, or one first refusal, and never both: nothing
 /// else decides, such as what memory held or where the files lay.
@@ -63,4 +66,18 @@ pub fn parts_are_apart_and_usable()
     ensures apart { (facts : MachineFacts) (value : EntryValue) (h : Handover)
         → IsHandover facts value h
         → AllPairs (λ p q. end_of p ≤ q.address) h.parts }
+{}
+
+/// What `unplaced` tells goes with what `prepare` refuses: a part that finds no place is refused by
+/// `NotUsable` or `NoRoom`; where placing is refused, a part is told; where none is, the entry is
+/// handed over.
+pub fn unplaced_parts_are_refused()
+    ensures refused { (facts : MachineFacts) (value : EntryValue) (which : Row)
+        → IsUnplaced facts value (Some which)
+        → IsRefusal facts value NotUsable ⊎ IsRefusal facts value NoRoom }
+    ensures told { (facts : MachineFacts) (value : EntryValue) (r : Refusal)
+        → lines_fault (lines_of value) ≡ None → HasPlaceFault facts value r
+        → (which : Row) × IsUnplaced facts value (Some which) }
+    ensures placed { (facts : MachineFacts) (value : EntryValue)
+        → IsUnplaced facts value None → (h : Handover) × IsHandover facts value h }
 {}

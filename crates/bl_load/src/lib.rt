@@ -46,7 +46,7 @@ pub use entry_loading::load_entry;
 pub use handoff::Handoff;
 pub use laws::{
     each_entry_has_an_answer, handovers_are_determined, handovers_are_legal,
-    parts_are_apart_and_usable, parts_are_of_the_rows,
+    parts_are_apart_and_usable, parts_are_of_the_rows, unplaced_parts_are_refused,
 };
 pub use length_laws::files_after_the_kernel_count_by_length;
 pub use loading::load;

@@ -13,7 +13,7 @@ use Rattle.bl_map.specs.Firmware.{no_firmware, FitsFirmwareFields}
 use Rattle.bl_map.specs.FirmwareLimits.{has_screen_size, is_depth, has_colors, has_pitch}
 use Rattle.bl_map.specs.FirmwareLimits.{is_screen_placed, screen_end, screen_fault, is_system_table}
 use Rattle.bl_map.specs.FirmwareLimits.{are_descriptors, is_efi_map_size, is_efi_map_place}
-use Rattle.bl_map.specs.FirmwareLimits.{efi_fault}
+use Rattle.bl_map.specs.FirmwareLimits.{efi_fault, is_low_table, machine_efi_fault}
 use Rattle.bl_map.specs.MachineFacts.{IsFirmware, IsAvoidable, MissesPool}
 
 -- where no fault stands, the first limit is kept, and no fault of the rest stands
@@ -74,10 +74,14 @@ sound_efi efi none =
       place = place.0;
     }
 
+pub machine_efi_is_sound : (efi : EfiInfo) → machine_efi_fault efi ≡ None → efi_fault efi ≡ None
+unfolding machine_efi_fault
+machine_efi_is_sound efi none = (kept (is_low_table efi.system_table) _ _ none).1
+
 -- where firmware tells nothing, each limit is kept
-pub no_firmware_is : (regions : List Region) (size : ℕ) (pool : Range ℕ)
-    → IsFirmware regions size pool no_firmware
-no_firmware_is regions size pool =
+pub no_firmware_is : (regions : List Region) (pool : Range ℕ)
+    → IsFirmware regions pool no_firmware
+no_firmware_is regions pool =
     record {
       screen = tt;
       rsdp = tt;

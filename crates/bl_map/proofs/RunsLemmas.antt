@@ -17,20 +17,6 @@ module _ (regions runs : List Region) (normal : IsNormalMap regions runs) (size 
         below = usable.below;
       }
 
-  usable_in_regions : (a : ℕ) → IsUsableAmong runs size a → IsUsableAmong regions size a
-  usable_in_regions a usable =
-      record {
-        kind = sym (normal.same_kinds a) ∙ usable.kind;
-        above = usable.above;
-        in_size = usable.in_size;
-        below = usable.below;
-      }
-
-  unusable_in_runs : (start end : ℕ) → AreUnusable regions size start end
-      → AreUnusable runs size start end
-  unusable_in_runs start end none a from below usable =
-      none a from below (usable_in_regions a usable)
-
   pub pool_in_runs : (pool : Range ℕ) → IsPool regions size pool → IsPool runs size pool
   pool_in_runs pool is =
       record {
@@ -40,8 +26,13 @@ module _ (regions runs : List Region) (normal : IsNormalMap regions runs) (size 
         usable = λ a from below. usable_in_runs a (is.usable a from below);
       }
 
+module _ (regions runs : List Region) (normal : IsNormalMap regions runs) where
+  unusable_in_runs : (start end : ℕ) → AreUnusable regions start end → AreUnusable runs start end
+  unusable_in_runs start end none a from below usable =
+      none a from below (sym (normal.same_kinds a) ∙ usable)
+
   pub firmware_in_runs : (pool : Range ℕ) (firmware : FirmwareFacts)
-      → IsFirmware regions size pool firmware → IsFirmware runs size pool firmware
+      → IsFirmware regions pool firmware → IsFirmware runs pool firmware
   firmware_in_runs pool firmware is =
       record {
         screen =
@@ -50,7 +41,7 @@ module _ (regions runs : List Region) (normal : IsNormalMap regions runs) (size 
         rsdp =
             IfSome_then firmware.rsdp is.rsdp
             (λ a p.
-            record { told = p.told; short = p.short; apart = unusable_in_runs _ _ p.apart });
+            record { told = p.told; low = p.low; apart = unusable_in_runs _ _ p.apart });
         efi =
             IfSome_then firmware.efi is.efi
             (λ efi p. record { sound = p.sound; apart = unusable_in_runs _ _ p.apart });

@@ -4,7 +4,8 @@ use Rattle.std.specs.Prelude.{Option, Some, None, IfSome, IsSomeAnd}
 use Rattle.std.specs.declared.ops.Range.{Range}
 use Rattle.bl_map.specs.Faults.{HasFirstMapFault, IsAccepted}
 use Rattle.bl_map.specs.Firmware.{FirmwareFacts, EfiFacts, SmbiosFacts, efi_info}
-use Rattle.bl_map.specs.FirmwareLimits.{screen_fault, screen_end, efi_fault, max_avoided}
+use Rattle.bl_map.specs.FirmwareLimits.{screen_fault, screen_end, machine_efi_fault}
+use Rattle.bl_map.specs.FirmwareLimits.{max_avoided}
 use Rattle.bl_map.specs.MachineFacts.{AreUnusable, IsScreen, IsRsdp, IsEfi, IsSmbios, IsAvoidable}
 use Rattle.bl_map.specs.MachineFacts.{MissesPool}
 use Rattle.bl_map.specs.declared.fault.MapFault.{MapFault}
@@ -21,18 +22,18 @@ abbrev pub HasPlacedFault : Option MapFault → MapFault → Type 0 → MapFault
 HasPlacedFault (Some broken) place IsApart fault = fault ≡ broken
 HasPlacedFault None place IsApart fault = (¬ IsApart) × (fault ≡ place)
 
-abbrev pub HasScreenFault : List Region → ℕ → Screen → MapFault → Type 0
-HasScreenFault regions size screen fault =
+abbrev pub HasScreenFault : List Region → Screen → MapFault → Type 0
+HasScreenFault regions screen fault =
     HasPlacedFault (screen_fault screen) BadScreenPlace
-    (AreUnusable regions size screen.base (screen_end screen)) fault
+    (AreUnusable regions screen.base (screen_end screen)) fault
 
-abbrev pub HasRsdpFault : List Region → ℕ → ℕ → MapFault → Type 0
-HasRsdpFault regions size a fault = (¬ IsRsdp regions size a) × (fault ≡ BadRsdp)
+abbrev pub HasRsdpFault : List Region → ℕ → MapFault → Type 0
+HasRsdpFault regions a fault = (¬ IsRsdp regions a) × (fault ≡ BadRsdp)
 
-abbrev pub HasEfiFault : List Region → ℕ → EfiFacts → MapFault → Type 0
-HasEfiFault regions size efi fault =
-    HasPlacedFault (efi_fault (efi_info efi)) BadEfiMapPlace
-    (AreUnusable regions size efi.map_address (efi.map_address + length efi.map)) fault
+abbrev pub HasEfiFault : List Region → EfiFacts → MapFault → Type 0
+HasEfiFault regions efi fault =
+    HasPlacedFault (machine_efi_fault (efi_info efi)) BadEfiMapPlace
+    (AreUnusable regions efi.map_address (efi.map_address + length efi.map)) fault
 
 abbrev pub HasSmbiosFault : SmbiosFacts → MapFault → Type 0
 HasSmbiosFault smbios fault = (¬ IsSmbios smbios) × (fault ≡ BadSmbiosSize)
@@ -55,11 +56,11 @@ HasFaultThen told IsSound HasFault RestHas fault =
 
 -- the first fault of what firmware tells, in the order of these lines
 abbrev pub HasFirmwareFault :
-    List Region → ℕ → Range ℕ → FirmwareFacts → MapFault → Type 0
-HasFirmwareFault regions size pool firmware fault =
-    HasFaultThen firmware.screen (IsScreen regions size) (HasScreenFault regions size)
-    (HasFaultThen firmware.rsdp (IsRsdp regions size) (HasRsdpFault regions size)
-    (HasFaultThen firmware.efi (IsEfi regions size) (HasEfiFault regions size)
+    List Region → Range ℕ → FirmwareFacts → MapFault → Type 0
+HasFirmwareFault regions pool firmware fault =
+    HasFaultThen firmware.screen (IsScreen regions) (HasScreenFault regions)
+    (HasFaultThen firmware.rsdp (IsRsdp regions) (HasRsdpFault regions)
+    (HasFaultThen firmware.efi (IsEfi regions) (HasEfiFault regions)
     (HasFaultThen firmware.smbios IsSmbios HasSmbiosFault
     (HasAvoidedFault pool firmware.avoided)))) fault
 
@@ -68,4 +69,4 @@ abbrev pub HasFirstMachineFault :
     ℕ → List Region → Range ℕ → FirmwareFacts → MapFault → Type 0
 HasFirstMachineFault size regions pool firmware fault =
     HasFirstMapFault size regions pool fault
-    ⊎ (IsAccepted size regions pool × HasFirmwareFault regions size pool firmware fault)
+    ⊎ (IsAccepted size regions pool × HasFirmwareFault regions pool firmware fault)

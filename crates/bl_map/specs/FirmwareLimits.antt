@@ -67,6 +67,14 @@ abbrev pub is_system_table : EfiBits → ℕ → Bool
 is_system_table Efi32 a = nat_le 1 a && nat_lt a (2 ^ 32)
 is_system_table Efi64 a = nat_le 1 a && nat_lt a (2 ^ 64)
 
+-- UEFI Specification 4.3: an EFI_SYSTEM_TABLE has so many bytes with 64 bits; with 32 it has fewer
+abbrev pub system_table_length : ℕ
+system_table_length = 120
+
+-- a machine's system table ends where a region may end at most
+abbrev pub is_low_table : ℕ → Bool
+is_low_table a = nat_le (a + system_table_length) max_region_end
+
 -- UEFI Specification 7.2: an EFI_MEMORY_DESCRIPTOR has 40 bytes, and version 1; later ones may have
 -- more, so that the size is told
 abbrev pub are_descriptors : ℕ → ℕ → Bool
@@ -95,6 +103,11 @@ efi_fault efi =
     if not (is_efi_map_size efi.descriptor_size efi.map_size) then Some fault.BadEfiMapSize else
     if not (is_efi_map_place efi.map_address efi.map_size) then Some fault.BadEfiMapPlace else
     None
+
+-- the first limit that they break in a machine
+unfoldable pub machine_efi_fault : EfiInfo → Option MapFault
+machine_efi_fault efi =
+    if not (is_low_table efi.system_table) then Some fault.BadSystemTable else efi_fault efi
 
 -- the tables of SMBIOS have at most so many bytes
 abbrev pub max_smbios : ℕ

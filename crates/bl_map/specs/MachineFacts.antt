@@ -1,5 +1,5 @@
 -- What is known of a machine, and which of its bytes are usable. Own.
-use Rattle.std.specs.Prelude.{◌≡◌, ◌+◌, ◌%◌, ◌^◌, ◌<◌, ◌≤◌, ℕ, List, length, All, IfSome, None}
+use Rattle.std.specs.Prelude.{◌≡◌, ◌≢◌, ◌+◌, ◌%◌, ◌<◌, ◌≤◌, ℕ, List, length, All, IfSome, None}
 use Rattle.std.specs.Prelude.{true}
 use Rattle.std.specs.declared.ops.Range.{Range}
 use Rattle.bl_map.specs.declared.region.Region.{Region}
@@ -9,8 +9,8 @@ use Rattle.bl_map.specs.NormalMap.{kind_at, AreRuns}
 use Rattle.bl_map.specs.declared.firmware.screen.Screen.{Screen}
 use Rattle.bl_map.specs.Firmware.{FirmwareFacts, EfiFacts, SmbiosFacts, efi_info}
 use Rattle.bl_map.specs.Firmware.{FitsFirmwareFields}
-use Rattle.bl_map.specs.FirmwareLimits.{screen_fault, screen_end, rsdp_length, efi_fault}
-use Rattle.bl_map.specs.FirmwareLimits.{is_smbios_size, max_avoided}
+use Rattle.bl_map.specs.FirmwareLimits.{screen_fault, screen_end, rsdp_length}
+use Rattle.bl_map.specs.FirmwareLimits.{machine_efi_fault, is_smbios_size, max_avoided}
 
 -- a machine's facts: its size, its normal map, its pool, what firmware tells beside them
 pub record MachineFacts : Type 0 where
@@ -47,27 +47,26 @@ pub record IsPool (regions : List Region) (size : ℕ) (pool : Range ℕ) : Type
   pub end_frame : pool.end % frame_size ≡ 0
   pub usable : (a : ℕ) → pool.start ≤ a → a < pool.end → IsUsableAmong regions size a
 
--- none of these bytes is usable, so that no part lies on them
-abbrev pub AreUnusable : List Region → ℕ → ℕ → ℕ → Type 0
-AreUnusable regions size start end =
-    (a : ℕ) → start ≤ a → a < end → ¬ IsUsableAmong regions size a
+-- no kernel is told that one of these bytes is usable memory, whatever the machine's size: so no
+-- part lies on them, nor what a kernel lays into its memory
+abbrev pub AreUnusable : List Region → ℕ → ℕ → Type 0
+AreUnusable regions start end = (a : ℕ) → start ≤ a → a < end → kind_at regions a ≢ 1
 
--- a screen within its limits, on whose memory no part lies
-pub record IsScreen (regions : List Region) (size : ℕ) (screen : Screen) : Type 0 where
+-- a screen within its limits, whose memory is not usable
+pub record IsScreen (regions : List Region) (screen : Screen) : Type 0 where
   pub sound : screen_fault screen ≡ None
-  pub apart : AreUnusable regions size screen.base (screen_end screen)
+  pub apart : AreUnusable regions screen.base (screen_end screen)
 
--- the address of an ACPI root pointer, of 64 bits, on which no part lies
-pub record IsRsdp (regions : List Region) (size a : ℕ) : Type 0 where
+-- the address of an ACPI root pointer that ends at 2^52 at most and is not usable
+pub record IsRsdp (regions : List Region) (a : ℕ) : Type 0 where
   pub told : 1 ≤ a
-  pub short : a < 2 ^ 64
-  pub apart : AreUnusable regions size a (a + rsdp_length)
+  pub low : a + rsdp_length ≤ max_region_end
+  pub apart : AreUnusable regions a (a + rsdp_length)
 
--- UEFI within its limits, on whose memory map no part lies
-pub record IsEfi (regions : List Region) (size : ℕ) (efi : EfiFacts) : Type 0 where
-  pub sound : efi_fault (efi_info efi) ≡ None
-  pub apart :
-      AreUnusable regions size efi.map_address (efi.map_address + length efi.map)
+-- UEFI within its limits, whose system table ends at 2^52 at most; its memory map is not usable
+pub record IsEfi (regions : List Region) (efi : EfiFacts) : Type 0 where
+  pub sound : machine_efi_fault (efi_info efi) ≡ None
+  pub apart : AreUnusable regions efi.map_address (efi.map_address + length efi.map)
 
 -- tables of SMBIOS that can be told
 abbrev pub IsSmbios : SmbiosFacts → Type 0
@@ -93,11 +92,11 @@ pub record AreAvoided (pool : Range ℕ) (avoided : List (Range ℕ)) : Type 0 w
   pub apart : All (MissesPool pool) avoided
 
 -- what firmware tells is within its limits
-pub record IsFirmware (regions : List Region) (size : ℕ) (pool : Range ℕ)
-    (firmware : FirmwareFacts) : Type 0 where
-  pub screen : IfSome firmware.screen (IsScreen regions size)
-  pub rsdp : IfSome firmware.rsdp (IsRsdp regions size)
-  pub efi : IfSome firmware.efi (IsEfi regions size)
+pub record IsFirmware (regions : List Region) (pool : Range ℕ) (firmware : FirmwareFacts) :
+    Type 0 where
+  pub screen : IfSome firmware.screen (IsScreen regions)
+  pub rsdp : IfSome firmware.rsdp (IsRsdp regions)
+  pub efi : IfSome firmware.efi (IsEfi regions)
   pub smbios : IfSome firmware.smbios IsSmbios
   pub avoided : AreAvoided pool firmware.avoided
 
@@ -107,5 +106,5 @@ pub record IsWellFormedMachine (facts : MachineFacts) : Type 0 where
   pub runs : AreRuns facts.runs
   pub few : length facts.runs ≤ max_runs
   pub pool : IsPool facts.runs facts.size facts.pool
-  pub firmware : IsFirmware facts.runs facts.size facts.pool facts.firmware
+  pub firmware : IsFirmware facts.runs facts.pool facts.firmware
   pub fits : FitsFirmwareFields facts.firmware

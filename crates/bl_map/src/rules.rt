@@ -6,7 +6,7 @@ ghost use Rattle.bl_map.specs.Faults.{HasAllowedEnd};
 ghost use Rattle.bl_map.specs.NormalMap as normal_map;
 
 use crate::kind::Kind;
-use crate::limits::{FIRST_USABLE, FRAME_SIZE, MAX_SIZE, MIN_SIZE, USABLE_LIMIT};
+use crate::limits::{FIRST_USABLE, FRAME_SIZE, MAX_REGION_END, MAX_SIZE, MIN_SIZE, USABLE_LIMIT};
 use crate::normalization::{greatest_kind, kind_number_at, run_end};
 use crate::region::Region;
 use std::ops::Range;
@@ -56,16 +56,15 @@ pub fn is_usable_among(regions: &[Region], size: u64, start: u64, end: u64) -> b
     }
 }
 
-/// Whether none of the `bytes` bytes from `start` on is usable in a machine of this size and these
-/// regions.
-pub fn are_unusable(regions: &[Region], size: u64, start: u64, bytes: u64) -> bool
+/// Whether none of the `bytes` bytes from `start` on is usable memory by these regions.
+pub fn are_unusable(regions: &[Region], start: u64, bytes: u64) -> bool
     requires low { All HasAllowedEnd regions.now }
     ensures { MatchBool result
-        (AreUnusable regions.now size start (start + bytes))
-        (¬ AreUnusable regions.now size start (start + bytes)) }
+        (AreUnusable regions.now start (start + bytes))
+        (¬ AreUnusable regions.now start (start + bytes)) }
 {
-    let end = start.saturating_add(bytes).min(size).min(USABLE_LIMIT);
-    let mut at = start.max(FIRST_USABLE);
+    let end = start.saturating_add(bytes).min(MAX_REGION_END);
+    let mut at = start;
     while at < end {
         if kind_number_at(regions, at) == 1 {
             return false;

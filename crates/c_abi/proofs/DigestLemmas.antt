@@ -1,5 +1,5 @@
 -- A digest is that of all files of an entry.
-use Rattle.std.proofs.Common.{◌≡◌, ◌≤◌, ℕ, List, [], ◌∷◌, All, length}
+use Rattle.std.proofs.Common.{◌≡◌, ◌≤◌, ℕ, List, [], ◌∷◌, All, length, map}
 use Rattle.std.proofs.Common.{ap, sym, subst, refl, arith}
 use Rattle.std.proofs.Common.{Result, Ok, Err, IfOk, IfErr, OnOk}
 use Rattle.std.proofs.lemmas.List.Elements.{All-nil, All-cons, All-head, All-tail, All-append}
@@ -10,11 +10,14 @@ use Rattle.bl_load.specs.declared.step.Step.{Step}
 use Rattle.bl_load.specs.declared.step.StepSource.{StepSource}
 use Rattle.bl_load.specs.declared.step.StepSource.TheVariants.{File, Own, Zeros}
 use Rattle.bl_load.specs.EntryValue.{EntryValue, value_of}
+use Rattle.bl_load.specs.LeanPlans.{IsLean}
 use Rattle.bl_load.specs.Loadable.{lengths_of, IsLoadable}
+use Rattle.bl_load.specs.Origins.{planned_origin, AreOrigins}
 use Rattle.bl_load.specs.Parts.{IsHandover}
 use Rattle.bl_load.specs.PlanContents.{handover_by}
 use Rattle.bl_load.specs.PlanSteps.{own_bytes, steps_from}
 use Rattle.bl_load.specs.Steps.{IsStep, IsThere}
+use Rattle.bl_load.proofs.StepOriginLemmas.{by_origins, lean_origins}
 use Rattle.bl_load.proofs.StepSourceLemmas.{plan_sound}
 use Rattle.bl_digest.specs.DigestsFacts.{DigestsFacts}
 use Rattle.bl_digest.specs.PlanInSteps.{DigestingFacts, handover_in_steps, plan_in_steps}
@@ -28,7 +31,7 @@ use Rattle.c_records.specs.Given.{entry_without_files, texts_given, value_with}
 use Rattle.c_abi.specs.Load.{bad_entry, IsEntryFault}
 use Rattle.c_records.specs.EntryFaults.{IsEntrySound}
 use Rattle.c_records.specs.Machines.{IsMachineGiven, IsMachineSound}
-use Rattle.c_abi.specs.Plan.{file_lengths}
+use Rattle.c_abi.specs.Plan.{file_lengths, HasStepsOf}
 use Rattle.c_abi.specs.Prepare.{AreFilesOf}
 use Rattle.c_abi.specs.internal.Digests.{AreDigestsOn, IsDigestOn}
 use Rattle.c_abi.proofs.LoadLemmas.{given_value}
@@ -69,15 +72,38 @@ module _ {A B : Type 0} (facts : MachineFacts) (r : EntryRecord) (entry : Entry 
       (steps_from 0 plan.parts.items)
       (plan_sound (file_lengths r) facts.size plan (by_lengths facts r entry plan loadable)))
 
-  pub is_digest_on : value_of [] entry ≡ entry_without_files r
+  has_steps : value_of [] entry ≡ entry_without_files r → IsLean plan.parts.items
+      → ((texts : List (List ℕ)) → AreFilesOf r texts
+      → AreOrigins facts (value_of texts entry) (map planned_origin plan.parts.items))
+      → (texts : List (List ℕ)) → AreFilesOf r texts
+      → HasStepsOf facts (value_with r texts) digest.plan.steps digest.plan.own
+  has_steps is lean come texts files =
+      let parts = map planned_origin plan.parts.items in
+      subst
+      (λ (d : DigestingFacts). HasStepsOf facts (value_with r texts) d.plan.steps d.plan.own)
+      (sym begun)
+      (record {
+        parts = parts;
+        come_from =
+            subst (λ (v : EntryValue). AreOrigins facts v parts)
+            (given_value r entry texts texts is refl) (come texts files);
+        lean = lean_origins plan.parts.items lean;
+        steps_are = (by_origins 0 plan.parts.items).0;
+        own_is = (by_origins 0 plan.parts.items).1;
+      })
+
+  pub is_digest_on : value_of [] entry ≡ entry_without_files r → IsLean plan.parts.items
+      → ((texts : List (List ℕ)) → AreFilesOf r texts
+      → AreOrigins facts (value_of texts entry) (map planned_origin plan.parts.items))
       → ((texts : List (List ℕ)) → AreFilesOf r texts
       → IsHandover facts (value_of texts entry) (handover_by texts plan))
       → ((texts : List (List ℕ)) (size : ℕ) → IsLoadable (lengths_of texts) size plan
       → handover_in_steps texts digest.plan ≡ handover_by texts plan)
       → IsDigestOn facts r digest
-  is_digest_on is handed same = record {
+  is_digest_on is lean come handed same = record {
     begins = ap (λ (d : DigestingFacts). d.fed) begun;
     inside = inside;
+    is_plan = has_steps is lean come;
     handed = λ texts files.
         subst (IsHandover facts (value_with r texts))
         (sym (same texts facts.size (loadable texts files)))
@@ -101,6 +127,7 @@ module _ (machine : MachineRecord) (entry : EntryRecord) (facts : MachineFacts)
     entry_sound = sound;
     begins = on.begins;
     inside = on.inside;
+    is_plan = on.is_plan;
     handed = on.handed;
   }
   given_digest_end (Err found) on sound fault = λ texts files.

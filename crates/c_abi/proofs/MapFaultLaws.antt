@@ -12,7 +12,7 @@ use Rattle.bl_map.specs.Firmware.{FirmwareFacts, EfiFacts, SmbiosFacts, efi_info
 use Rattle.bl_map.specs.FirmwareFaults.{HasPlacedFault, HasScreenFault, HasEfiFault}
 use Rattle.bl_map.specs.FirmwareFaults.{HasAvoidedFault}
 use Rattle.bl_map.specs.FirmwareFaults.{HasFirmwareFault, HasFirstMachineFault}
-use Rattle.bl_map.specs.FirmwareLimits.{max_avoided, screen_fault, screen_end, efi_fault}
+use Rattle.bl_map.specs.FirmwareLimits.{max_avoided, screen_fault, screen_end, machine_efi_fault}
 use Rattle.bl_map.specs.Limits.{max_regions}
 use Rattle.bl_map.specs.MachineFacts.{IsSize, IsPool, IsFirmware, IsScreen, IsRsdp, IsEfi, IsSmbios}
 use Rattle.bl_map.specs.MachineFacts.{AreUnusable, IsAvoidable, AreAvoided, MissesPool}
@@ -242,32 +242,32 @@ module _ (pool : Range ℕ) (avoided : List (Range ℕ)) where
         first_checked_range.none f (sound.few, (sound.avoidable, sound.apart)) (checked_range f a);
   }
 
-module _ (regions : List Region) (size : ℕ) where
+module _ (regions : List Region) where
   first_screen : (screen : Screen)
-      → IsFirst (IsScreen regions size screen) (HasScreenFault regions size screen)
+      → IsFirst (IsScreen regions screen) (HasScreenFault regions screen)
   first_screen screen =
       first_placed fault.BadScreenPlace
-      (AreUnusable regions size screen.base (screen_end screen)) (IsScreen regions size screen)
+      (AreUnusable regions screen.base (screen_end screen)) (IsScreen regions screen)
       (λ sound. sound.apart) (screen_fault screen) (λ sound. sound.sound)
 
-  first_efi : (efi : EfiFacts) → IsFirst (IsEfi regions size efi) (HasEfiFault regions size efi)
+  first_efi : (efi : EfiFacts) → IsFirst (IsEfi regions efi) (HasEfiFault regions efi)
   first_efi efi =
       first_placed fault.BadEfiMapPlace
-      (AreUnusable regions size efi.map_address (efi.map_address + length efi.map))
-      (IsEfi regions size efi) (λ sound. sound.apart) (efi_fault (efi_info efi))
+      (AreUnusable regions efi.map_address (efi.map_address + length efi.map))
+      (IsEfi regions efi) (λ sound. sound.apart) (machine_efi_fault (efi_info efi))
       (λ sound. sound.sound)
 
   module _ (pool : Range ℕ) (firmware : FirmwareFacts) where
     first_firmware :
-        IsFirst (IfSome firmware.screen (IsScreen regions size)
-        × (IfSome firmware.rsdp (IsRsdp regions size)
-        × (IfSome firmware.efi (IsEfi regions size)
+        IsFirst (IfSome firmware.screen (IsScreen regions)
+        × (IfSome firmware.rsdp (IsRsdp regions)
+        × (IfSome firmware.efi (IsEfi regions)
         × (IfSome firmware.smbios IsSmbios × AreAvoided pool firmware.avoided))))
-        (HasFirmwareFault regions size pool firmware)
+        (HasFirmwareFault regions pool firmware)
     first_firmware =
         first_then _ _ _ _ (first_told Screen _ _ first_screen firmware.screen)
         (first_then _ _ _ _ (first_told ℕ _ _
-        (λ a. first_last (IsRsdp regions size a) fault.BadRsdp) firmware.rsdp)
+        (λ a. first_last (IsRsdp regions a) fault.BadRsdp) firmware.rsdp)
         (first_then _ _ _ _ (first_told EfiFacts _ _ first_efi firmware.efi)
         (first_then _ _ _ _ (first_told SmbiosFacts _ _
         (λ a. first_last (IsSmbios a) fault.BadSmbiosSize) firmware.smbios)
@@ -287,13 +287,13 @@ module _ (size : ℕ) (regions : List Region) (pool : Range ℕ) (firmware : Fir
   one_machine_fault f g told said (inr a) (inl b) =
       absurd (said (no_map_fault size regions pool g a.0 b))
   one_machine_fault f g told said (inr a) (inr b) =
-      (first_firmware regions size pool firmware).one f g a.1 b.1
+      (first_firmware regions pool firmware).one f g a.1 b.1
 
   -- of a machine that is accepted, with what firmware may tell, memory alone may run out
   pub no_machine_fault : (f : MapFault) → IsAccepted size regions pool
-      → IsFirmware regions size pool firmware
+      → IsFirmware regions pool firmware
       → HasFirstMachineFault size regions pool firmware f → f ≡ fault.NoMemory
   no_machine_fault f sound told (inl a) = no_map_fault size regions pool f sound a
   no_machine_fault f sound told (inr a) =
-      absurd ((first_firmware regions size pool firmware).none f
+      absurd ((first_firmware regions pool firmware).none f
       (told.screen, (told.rsdp, (told.efi, (told.smbios, told.avoided)))) a.1)

@@ -8,7 +8,7 @@ use Rattle.bl_load.specs.Handover.{Handover}
 use Rattle.bl_load.specs.Parts.{IsHandover}
 use Rattle.bl_digest.specs.Digests.{digests_of}
 use Rattle.bl_digest.specs.DigestsFacts.{DigestsFacts}
-use Rattle.bl_digest.specs.PlanInSteps.{DigestingFacts, handover_in_steps}
+use Rattle.bl_digest.specs.PlanInSteps.{DigestingFacts, handover_in_steps, handover_fed}
 use Rattle.bl_digest.specs.Ranges.{bytes_of_ranges, ranges_of}
 use Rattle.bl_digest.specs.declared.file_range.FileRange.{FileRange}
 use Rattle.c_records.specs.declared.given_records.MachineRecord.{MachineRecord}
@@ -17,7 +17,7 @@ use Rattle.c_records.specs.declared.load_fault.LoadFault.{LoadFault}
 use Rattle.c_records.specs.Given.{texts_given, value_given, value_with}
 use Rattle.c_records.specs.EntryFaults.{IsEntrySound}
 use Rattle.c_records.specs.Machines.{IsMachineGiven, IsMachineSound}
-use Rattle.c_abi.specs.Plan.{file_lengths}
+use Rattle.c_abi.specs.Plan.{file_lengths, HasStepsOf}
 use Rattle.c_abi.specs.Prepare.{AreFilesOf, IsNotPrepared}
 
 -- ---- as files come
@@ -33,8 +33,9 @@ pub record IsInFile (lengths : List ℕ) (range : FileRange) : Type 0 where
   pub inside : range.offset + range.length ≤ slice_index lengths range.file
 
 -- on the machine that is given, where no misuse stands: nothing was fed, and the ranges that are
--- wanted lie in the files. It is the digest for all files of the entry: fed these ranges of them,
--- it is of what the entry hands over then
+-- wanted lie in the files. It is the digest for all files of the entry: its steps are those of the
+-- entry's plan, so that no byte of a file but a setup header's is its own, and no range is wanted
+-- beside the plan's; fed these ranges of them, it is of what the entry hands over then
 pub record IsDigestMade (machine : MachineRecord) (entry : EntryRecord) (digest : DigestingFacts) :
     Type 0 where
   pub facts : MachineFacts
@@ -43,6 +44,9 @@ pub record IsDigestMade (machine : MachineRecord) (entry : EntryRecord) (digest 
   pub entry_sound : IsEntrySound entry
   pub begins : digest.fed ≡ []
   pub inside : All (IsInFile (file_lengths entry)) (ranges_wanted digest)
+  pub is_plan :
+      (texts : List (List ℕ)) → AreFilesOf entry texts
+      → HasStepsOf facts (value_with entry texts) digest.plan.steps digest.plan.own
   pub handed :
       (texts : List (List ℕ)) → AreFilesOf entry texts
       → IsHandover facts (value_with entry texts) (handover_in_steps texts digest.plan)
@@ -55,12 +59,13 @@ IsGivenDigestEnd machine entry (Err fault) =
     (texts : List (List ℕ)) → AreFilesOf entry texts
     → IsNotPrepared machine entry texts max_parts fault
 
--- what a digest was fed for: the digests of what is handed over, whatever texts the files hold of
--- which the ranges were fed
-abbrev pub AreDigestsFed : DigestingFacts → DigestsFacts → Type 0
-AreDigestsFed digest digests =
-    (texts : List (List ℕ)) → digest.fed ≡ bytes_of_ranges texts (ranges_wanted digest)
-    → digests ≡ digests_of (handover_in_steps texts digest.plan)
+-- what a digest was fed for: the digests of what is handed over by the bytes that came; so they are
+-- those of files, whatever else these hold, of which the ranges were fed
+pub record AreDigestsFed (digest : DigestingFacts) (digests : DigestsFacts) : Type 0 where
+  pub came : digests ≡ digests_of (handover_fed digest)
+  pub files :
+      (texts : List (List ℕ)) → digest.fed ≡ bytes_of_ranges texts (ranges_wanted digest)
+      → digests ≡ digests_of (handover_in_steps texts digest.plan)
 
 -- ---- at once
 

@@ -30,20 +30,21 @@ pub record PlanFacts : Type 0 where
   pub steps : List Step
   pub own : List ℕ
 
--- its steps and its own bytes are those of an entry's parts, each of which lies and comes from
--- where the rules say: so facts and value decide both. Its own bytes are made, and no file's but
--- the setup header of a Linux kernel
-pub record HasStepsOf (facts : MachineFacts) (value : EntryValue) (plan : PlanFacts) : Type 0 where
+-- these steps and a plan's own bytes are those of an entry's parts, each of which lies and comes
+-- from where the rules say: so facts and value decide both. The own bytes are made, and no file's
+-- but the setup header of a Linux kernel
+pub record HasStepsOf (facts : MachineFacts) (value : EntryValue) (steps : List Step)
+    (own : List ℕ) : Type 0 where
   pub parts : List PartOrigin
   pub come_from : AreOrigins facts value parts
   pub lean : AreLeanOrigins parts
-  pub steps_are : plan.steps ≡ steps_by 0 parts
-  pub own_is : plan.own ≡ own_by parts
+  pub steps_are : steps ≡ steps_by 0 parts
+  pub own_is : own ≡ own_by parts
 
 -- it is the plan of an entry of this value: its steps load the entry, and its handoff is that of
 -- what they write
 pub record IsPlanOf (facts : MachineFacts) (value : EntryValue) (plan : PlanFacts) : Type 0 where
-  pub is : HasStepsOf facts value plan
+  pub is : HasStepsOf facts value plan.steps plan.own
   pub loads : LoadsEntry facts value plan.steps plan.own
   pub handoff_is : plan.handoff ≡ handoff_of loads.handover
 

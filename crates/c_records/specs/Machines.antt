@@ -52,8 +52,7 @@ pub record IsMachineSound (machine : MachineRecord) : Type 0 where
   pub numbers : machine_misuse machine ≡ None
   pub accepted : IsAccepted machine.size (regions_given machine) (pool_given machine)
   pub told :
-      IsFirmware (regions_given machine) machine.size (pool_given machine)
-      (machine_firmware machine)
+      IsFirmware (regions_given machine) (pool_given machine) (machine_firmware machine)
 
 -- a fault of a machine's parts, or of what firmware tells, as a misuse
 abbrev pub given_fault_of_map : MapFault → GivenFault

@@ -79,12 +79,12 @@ machine_facts description facts is =
     few_runs regions facts.runs 0 is.runs.runs_are (λ a _. is.runs.same_kinds a)
     (λ k d _. omega arith) in
     let pool = pool_in_runs regions facts.runs is.runs _ _ is.accepted.pool_is in
-    let told = firmware_in_runs regions facts.runs is.runs _ _ _ is.told in
+    let told = firmware_in_runs regions facts.runs is.runs _ _ is.told in
     record {
       size = subst IsSize (sym is.size) is.accepted.size_is;
       runs = is.runs.runs_are;
       few = omega arith;
       pool = rw (is.size, is.pool) pool;
-      firmware = rw (is.size, is.pool, is.firmware) told;
+      firmware = rw (is.pool, is.firmware) told;
       fits = rw is.firmware is.fits;
     }

@@ -73,7 +73,8 @@ refusal_meaning refusals.EntryOutside =
     ++ codes "entry: the payload has at most 0x200 bytes"
 refusal_meaning refusals.BadAlign =
     codes "the alignment is no power of two: kernel_alignment of a relocatable kernel"
-refusal_meaning refusals.NotUsable = codes "a part at a fixed address has a byte that is not usable"
+refusal_meaning refusals.NotUsable =
+    codes "a part at a fixed address has a byte that is not usable, or is avoided"
 refusal_meaning refusals.NoRoom = codes "no address is permitted for a part"
 refusal_meaning refusals.NoPool =
     codes "the pool is too small for the files: in all, or beside the parts"

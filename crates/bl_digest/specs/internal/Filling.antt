@@ -1,6 +1,6 @@
 -- What the code keeps as ranges of files come. Own.
 use Rattle.std.specs.Prelude.{◌≡◌, ℕ, ◌+◌, ◌<◌, ◌≤◌, ◌^◌, List, [], ◌∷◌, ◌++◌, length, take, drop}
-use Rattle.std.specs.Prelude.{replicate, slice_range, All}
+use Rattle.std.specs.Prelude.{All}
 use Rattle.bl_plan.specs.declared.part.Place.{Place}
 use Rattle.bl_plan.specs.declared.protocol.Protocol.{Protocol}
 use Rattle.bl_load.specs.declared.step.Step.{Step}
@@ -12,28 +12,9 @@ use Rattle.bl_image.specs.Front.{front_of}
 use Rattle.bl_image.specs.ImageHandover.{handoff_of}
 use Rattle.bl_image.specs.Versions.{written_version}
 use Rattle.bl_digest.specs.declared.file_range.FileRange.{FileRange}
-use Rattle.bl_digest.specs.PlanInSteps.{PlanInSteps}
+use Rattle.bl_digest.specs.PlanInSteps.{PlanInSteps, filled}
 use Rattle.bl_digest.specs.Ranges.{ranges_of, wanted_after}
 use Rattle.bl_digest.specs.internal.Hashing.{total_of}
-
--- so many bytes of a source, where the bytes of files come in this order
-abbrev pub source_fill : List ℕ → StepSource → ℕ → List ℕ → List ℕ
-source_fill own (File file offset) count fed = take count fed
-source_fill own (Own offset) count fed = slice_range own offset (offset + count)
-source_fill own Zeros count fed = replicate count 0
-
--- the bytes of files that come after them
-abbrev pub fed_behind : StepSource → ℕ → List ℕ → List ℕ
-fed_behind (File file offset) count fed = drop count fed
-fed_behind (Own offset) count fed = fed
-fed_behind Zeros count fed = fed
-
--- the bytes that steps write, where the bytes of files come in this order
-abbrev pub filled : List ℕ → List Step → List ℕ → List ℕ
-filled own [] fed = []
-filled own (step ∷ steps) fed =
-    source_fill own step.source step.length fed
-    ++ filled own steps (fed_behind step.source step.length fed)
 
 -- and of these so many of a file first
 abbrev pub filled_behind : List ℕ → ℕ → List Step → List ℕ → List ℕ

@@ -17,10 +17,10 @@ use crate::region::Region;
 use crate::rules::are_unusable;
 use std::ops::Range;
 
-fn screen_fault(regions: &[Region], size: u64, told: Option<Screen>) -> Option<MapFault>
+fn screen_fault(regions: &[Region], told: Option<Screen>) -> Option<MapFault>
     requires { All HasAllowedEnd regions.now }
-    ensures { MatchOption result (IfSome told (IsScreen regions.now size))
-        (λ fault. IsSomeAnd told (λ screen. HasScreenFault regions.now size screen fault)) }
+    ensures { MatchOption result (IfSome told (IsScreen regions.now))
+        (λ fault. IsSomeAnd told (λ screen. HasScreenFault regions.now screen fault)) }
 {
     let Some(screen) = told else {
         return None;
@@ -28,42 +28,42 @@ fn screen_fault(regions: &[Region], size: u64, told: Option<Screen>) -> Option<M
     if let Some(fault) = screen.fault() {
         return Some(fault);
     }
-    if !are_unusable(regions, size, screen.base, screen.size()) {
+    if !are_unusable(regions, screen.base, screen.size()) {
         return Some(MapFault::BadScreenPlace);
     }
     None
 }
 
-fn rsdp_fault(regions: &[Region], size: u64, told: Option<u64>) -> Option<MapFault>
+fn rsdp_fault(regions: &[Region], told: Option<u64>) -> Option<MapFault>
     requires { All HasAllowedEnd regions.now }
-    ensures { MatchOption result (IfSome told (IsRsdp regions.now size))
-        (λ fault. IsSomeAnd told (λ a. HasRsdpFault regions.now size a fault)) }
+    ensures { MatchOption result (IfSome told (IsRsdp regions.now))
+        (λ fault. IsSomeAnd told (λ a. HasRsdpFault regions.now a fault)) }
 {
     let Some(a) = told else {
         return None;
     };
-    if a == 0 {
+    if a == 0 || MAX_REGION_END < a.saturating_add(RSDP_LENGTH) {
         return Some(MapFault::BadRsdp);
     }
-    if !are_unusable(regions, size, a, RSDP_LENGTH) {
+    if !are_unusable(regions, a, RSDP_LENGTH) {
         return Some(MapFault::BadRsdp);
     }
     None
 }
 
-fn efi_fault(regions: &[Region], size: u64, told: &Option<Efi<'_>>) -> Option<MapFault>
+fn efi_fault(regions: &[Region], told: &Option<Efi<'_>>) -> Option<MapFault>
     requires { All HasAllowedEnd regions.now }
-    ensures { MatchOption result (IfSome told.now (IsEfi regions.now size))
-        (λ fault. IsSomeAnd told.now (λ efi. HasEfiFault regions.now size efi fault)) }
+    ensures { MatchOption result (IfSome told.now (IsEfi regions.now))
+        (λ fault. IsSomeAnd told.now (λ efi. HasEfiFault regions.now efi fault)) }
 {
     let Some(efi) = told else {
         return None;
     };
     let info = efi.info();
-    if let Some(fault) = info.fault() {
+    if let Some(fault) = info.machine_fault() {
         return Some(fault);
     }
-    if !are_unusable(regions, size, info.map_address, info.map_size) {
+    if !are_unusable(regions, info.map_address, info.map_size) {
         return Some(MapFault::BadEfiMapPlace);
     }
     None
@@ -142,24 +142,23 @@ fn avoided_fault(pool: &Range<u64>, avoided: &[Range<u64>]) -> Option<MapFault>
     None
 }
 
-/// The first fault of what firmware tells of a machine of these regions, this size and this pool.
+/// The first fault of what firmware tells of a machine of these regions and this pool.
 pub fn firmware_fault(
     regions: &[Region],
-    size: u64,
     pool: &Range<u64>,
     firmware: &Firmware<'_>,
 ) -> Option<MapFault>
     requires { All HasAllowedEnd regions.now }
-    ensures { MatchOption result (IsFirmware regions.now size pool.now firmware.now)
-        (HasFirmwareFault regions.now size pool.now firmware.now) }
+    ensures { MatchOption result (IsFirmware regions.now pool.now firmware.now)
+        (HasFirmwareFault regions.now pool.now firmware.now) }
 {
-    if let Some(fault) = screen_fault(regions, size, firmware.screen) {
+    if let Some(fault) = screen_fault(regions, firmware.screen) {
         return Some(fault);
     }
-    if let Some(fault) = rsdp_fault(regions, size, firmware.rsdp) {
+    if let Some(fault) = rsdp_fault(regions, firmware.rsdp) {
         return Some(fault);
     }
-    if let Some(fault) = efi_fault(regions, size, &firmware.efi) {
+    if let Some(fault) = efi_fault(regions, &firmware.efi) {
         return Some(fault);
     }
     if let Some(fault) = smbios_fault(&firmware.smbios) {

@@ -3,7 +3,7 @@ ghost use Rattle.std.specs.Prelude.{◌≡◌};
 
 use crate::fault::MapFault;
 use crate::firmware::limits::{
-    are_descriptors, is_efi_map_place, is_efi_map_size, is_system_table,
+    are_descriptors, is_efi_map_place, is_efi_map_size, is_low_table, is_system_table,
 };
 use std::marker::Model;
 
@@ -94,7 +94,7 @@ pub struct EfiInfo {
 }
 
 impl EfiInfo {
-    ghost use Rattle.bl_map.specs.FirmwareLimits.{efi_fault};
+    ghost use Rattle.bl_map.specs.FirmwareLimits.{efi_fault, machine_efi_fault};
 
     /// The first of these limits that is broken, if one is; those of `Efi` are meant.
     /// - `BadSystemTable`: where the system table lies.
@@ -118,6 +118,18 @@ impl EfiInfo {
             return Some(MapFault::BadEfiMapPlace);
         }
         None
+    }
+
+    /// The first of them that is broken in a machine, whose system table ends at 2^52 at most:
+    /// where it does not, this is `BadSystemTable`.
+    #[tactic(auto, unfolding(crate::specs::FirmwareLimits::machine_efi_fault))]
+    pub(crate) fn machine_fault(&self) -> Option<MapFault>
+        ensures { result ≡ machine_efi_fault self.now }
+    {
+        if !is_low_table(self.system_table) {
+            return Some(MapFault::BadSystemTable);
+        }
+        self.fault()
     }
 }
 

@@ -3,9 +3,13 @@ ghost use Rattle.std.specs.Prelude.{◌≡◌};
 ghost use Rattle.bl_map.specs.FirmwareLimits as limits;
 
 use crate::firmware::efi::EfiBits;
+use crate::limits::MAX_REGION_END;
 
 /// The length of ACPI's root pointer (ACPI Specification 5.2.5.3, RSDP Structure).
 pub const RSDP_LENGTH: u64 = 36;
+
+/// The length of UEFI's system table with 64 bits (UEFI Specification 4.3, EFI_SYSTEM_TABLE).
+const SYSTEM_TABLE_LENGTH: u64 = 120;
 
 /// The most bytes of a memory map of UEFI.
 pub const MAX_EFI_MAP: u64 = 0x1_0000;
@@ -26,6 +30,13 @@ pub fn is_system_table(bits: EfiBits, a: u64) -> bool
         EfiBits::Efi32 => 1 <= a && a < FOUR_GIB,
         EfiBits::Efi64 => 1 <= a,
     }
+}
+
+/// Whether the system table of a machine's UEFI, at this address, ends at 2^52 at most.
+pub(crate) fn is_low_table(a: u64) -> bool
+    ensures { result ≡ limits.is_low_table a }
+{
+    a.saturating_add(SYSTEM_TABLE_LENGTH) <= MAX_REGION_END
 }
 
 /// Whether descriptors of a memory map of UEFI may have this size and version: at least 40 bytes, a

@@ -18,9 +18,11 @@ impl<A: Allocator> Machine<A> {
     /// copy.
     ///
     /// The first of these faults that stands refuses it: those of `new`; then
-    /// - those of `Screen::fault`; `BadScreenPlace` too if a byte of the screen is usable;
-    /// - `BadRsdp`: the address is 0, or one of the 36 bytes there is usable;
-    /// - those of `EfiInfo::fault`; `BadEfiMapPlace` too if a byte of the map is usable;
+    /// - those of `Screen::fault`; `BadScreenPlace` too if a byte of the screen is usable memory,
+    ///   as a kernel is told it: also above the machine's size;
+    /// - `BadRsdp`: the address is 0, the 36 bytes there end above 2^52, or one is usable memory;
+    /// - those of `EfiInfo::fault`; `BadSystemTable` too if the table's 120 bytes end above 2^52;
+    ///   `BadEfiMapPlace` too if a byte of the map is usable memory;
     /// - `BadSmbiosSize`: the tables do not have 1 byte to 64 KiB;
     /// - `TooManyAvoided`: more than 128 ranges are avoided;
     /// - `BadAvoided(i)`: range `i`, the first such one from 0, has its start above its end, or
@@ -37,7 +39,7 @@ impl<A: Allocator> Machine<A> {
     where
         A: Copy,
         ensures accepted { OnOk result (IsAccepted size regions.now pool) }
-        ensures told { OnOk result (IsFirmware regions.now size pool firmware.now) }
+        ensures told { OnOk result (IsFirmware regions.now pool firmware.now) }
         ensures size { IfOk result (λ m. m.size ≡ size) }
         ensures runs { IfOk result (λ m. IsNormalMap regions.now m.runs) }
         ensures pool { IfOk result (λ m. m.pool ≡ pool) }
@@ -46,7 +48,7 @@ impl<A: Allocator> Machine<A> {
             (HasFirstMachineFault size regions.now pool firmware.now) }
     {
         check_parts(size, regions, &pool)?;
-        if let Some(fault) = firmware_fault(regions, size, &pool, firmware) {
+        if let Some(fault) = firmware_fault(regions, &pool, firmware) {
             return Err(fault);
         }
         let runs = normal_map(alloc, regions)?;

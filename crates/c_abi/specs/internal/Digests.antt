@@ -8,7 +8,7 @@ use Rattle.bl_digest.specs.DigestsFacts.{DigestsFacts}
 use Rattle.bl_digest.specs.PlanInSteps.{DigestingFacts, handover_in_steps}
 use Rattle.c_abi.specs.Digest.{IsInFile, ranges_wanted}
 use Rattle.c_records.specs.Given.{value_given, value_with}
-use Rattle.c_abi.specs.Plan.{file_lengths}
+use Rattle.c_abi.specs.Plan.{file_lengths, HasStepsOf}
 use Rattle.c_abi.specs.Prepare.{AreFilesOf}
 use Rattle.c_records.specs.declared.given_records.EntryRecord.{EntryRecord}
 
@@ -17,6 +17,9 @@ pub record IsDigestOn (facts : MachineFacts) (entry : EntryRecord) (digest : Dig
     : Type 0 where
   pub begins : digest.fed ≡ []
   pub inside : All (IsInFile (file_lengths entry)) (ranges_wanted digest)
+  pub is_plan :
+      (texts : List (List ℕ)) → AreFilesOf entry texts
+      → HasStepsOf facts (value_with entry texts) digest.plan.steps digest.plan.own
   pub handed :
       (texts : List (List ℕ)) → AreFilesOf entry texts
       → IsHandover facts (value_with entry texts) (handover_in_steps texts digest.plan)

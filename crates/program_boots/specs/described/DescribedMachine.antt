@@ -15,7 +15,7 @@ use Rattle.program_desc.specs.declared.fault.DescFault.TheVariants.{BadDescripti
 pub record IsMachineOf (description : DescriptionFacts) (facts : MachineFacts) : Type 0 where
   pub accepted : IsAccepted description.size description.regions description.pool
   pub told :
-      IsFirmware description.regions description.size description.pool description.firmware
+      IsFirmware description.regions description.pool description.firmware
   pub fits : FitsFirmwareFields description.firmware
   pub size : facts.size ≡ description.size
   pub runs : IsNormalMap description.regions facts.runs

@@ -52,9 +52,11 @@ map_fault_meaning faults.BadScreenPitch =
 map_fault_meaning faults.BadScreenPlace =
     codes "a bad place of the screen: at 0, with an end above 2^52, or over a usable byte"
 map_fault_meaning faults.BadRsdp =
-    codes "a bad address of the RSDP: 0, or its 36 bytes are over a usable one"
+    codes "a bad address of the RSDP: 0, with an end of its 36 bytes above 2^52, or over a usable "
+    ++ codes "byte"
 map_fault_meaning faults.BadSystemTable =
-    codes "a bad address of the UEFI system table: 0, or with 32 bits at 4 GiB or above"
+    codes "a bad address of the UEFI system table: 0, with 32 bits at 4 GiB or above, or with an "
+    ++ codes "end above 2^52"
 map_fault_meaning faults.BadDescriptors =
     codes "bad descriptors of the UEFI memory map: another version than 1, or a size below 40 or "
     ++ codes "no multiple of 8"

@@ -57,9 +57,13 @@ fn map_fault_meaning(fault: MapFault) -> &'static str
         MapFault::BadScreenPlace => {
             "a bad place of the screen: at 0, with an end above 2^52, or over a usable byte"
         }
-        MapFault::BadRsdp => "a bad address of the RSDP: 0, or its 36 bytes are over a usable one",
+        MapFault::BadRsdp => {
+            "a bad address of the RSDP: 0, with an end of its 36 bytes above 2^52, or over a \
+             usable byte"
+        }
         MapFault::BadSystemTable => {
-            "a bad address of the UEFI system table: 0, or with 32 bits at 4 GiB or above"
+            "a bad address of the UEFI system table: 0, with 32 bits at 4 GiB or above, or with an \
+             end above 2^52"
         }
         MapFault::BadDescriptors => {
             "bad descriptors of the UEFI memory map: another version than 1, or a size below 40 or \

@@ -87,7 +87,9 @@ pub fn refusal_meaning(refusal: Refusal) -> &'static str
         Refusal::BadAlign => {
             "the alignment is no power of two: kernel_alignment of a relocatable kernel"
         }
-        Refusal::NotUsable => "a part at a fixed address has a byte that is not usable",
+        Refusal::NotUsable => {
+            "a part at a fixed address has a byte that is not usable, or is avoided"
+        }
         Refusal::NoRoom => "no address is permitted for a part",
         Refusal::NoPool => "the pool is too small for the files: in all, or beside the parts",
         Refusal::NotBzImage => "not a bzImage",

@@ -24,7 +24,7 @@ returns g c =
     let texts = map g.V.ByteView.bytes c.args.files.now in
     let digesting = c.loop-range.digesting in
     let none : wanted_after (ranges_of digesting.plan.steps) (length digesting.fed) ≡ None = cc in
-    c.end.ensures texts
+    c.end.ensures.files texts
     (all_came texts (ranges_of digesting.plan.steps) digesting.fed none c.loop-range.invariant.first)
     ∙ ap (λ (p : PlanInSteps). digests_of (handover_in_steps texts p)) c.loop-range.invariant.plan
     ∙ ap digests_of (steps_hand_over texts c.requires.0 c.args.plan.now c.requires.1)

@@ -4,7 +4,8 @@ use Rattle.std.proofs.lemmas.List.{drop_more, places, length-replicate}
 use Rattle.bl_load.specs.declared.step.Step.{Step}
 use Rattle.bl_load.specs.declared.step.StepSource.{StepSource}
 use Rattle.bl_digest.specs.declared.file_range.FileRange.{FileRange}
-use Rattle.bl_digest.specs.internal.Filling.{source_fill, fed_behind, TakesWhatIsThere, HasOwn}
+use Rattle.bl_digest.specs.PlanInSteps.{source_fill, fed_behind}
+use Rattle.bl_digest.specs.internal.Filling.{TakesWhatIsThere, HasOwn}
 use Rattle.bl_digest.specs.internal.Hashing.{HashedFacts, total_of}
 use Rattle.bl_digest.specs.Ranges.{source_ranges}
 use Rattle.bl_load.specs.declared.step.StepSource.TheVariants.{Own, Zeros}

@@ -19,7 +19,7 @@ returns-clause-fed c = λ machine entry made fed digests m files is told.
       entry_sound = m.entry_sound;
       handover = handover_in_steps (texts_given entry) made.plan;
       handed = m.handed (texts_given entry) files;
-      digests_are = told (texts_given entry) refl;
+      digests_are = told.files (texts_given entry) refl;
     }
 
 pub returns-clause-loaded : goal.returns-clause-loaded

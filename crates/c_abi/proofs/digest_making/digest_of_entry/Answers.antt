@@ -23,7 +23,7 @@ returns-in-Ok-begin-clause-begun g c =
     let begun = c.in-Ok-begin.ensures in
     is_digest_on c.args.machine.now c.args.row.now c.args.entry.now c.in-Ok.plan
     c.in-Ok.ensures.loadable c.in-Ok-begin.digest begun.begun c.requires.value
-    c.in-Ok.ensures.handover begun.handover
+    c.in-Ok.ensures.lean c.in-Ok.ensures.origins c.in-Ok.ensures.handover begun.handover
 
 pub returns-clause-fault : goal.returns-clause-fault
 returns-clause-fault g c = search rules

@@ -34,6 +34,6 @@ invariant_of-result g c =
       runs = normal.normal.runs_are;
       few = omega (arith, normal.few, accepted.few);
       pool = pool_in_runs _ _ normal.normal _ _ accepted.pool_is;
-      firmware = rw copy.copy (firmware_in_runs _ _ normal.normal _ _ _ c.in_default.ensures);
+      firmware = rw copy.copy (firmware_in_runs _ _ normal.normal _ _ c.in_default.ensures);
       fits = rw copy.copy copy.fits;
     }
