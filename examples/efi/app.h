@@ -16,7 +16,7 @@ extern EFI_HANDLE application; /* this one, as the firmware knows it */
 
 enum {
     page = 4096,
-    max_text = 65536 /* bytes of all lines, and copies of the RSDP */
+    max_text = 65536 /* bytes of a menu's lines with copies of the RSDP, of an event */
 };
 #define no_limit UINT32_MAX
 
@@ -34,6 +34,7 @@ typedef struct {
        what is wrong with it */
     const char *file, *id, *name, *version, *sort_key, *machine, *wrong;
     uint32_t wrong_line;
+    uint8_t *room; /* of all these texts */
 } menu_entry;
 
 extern struct menu_file {
@@ -48,12 +49,9 @@ extern struct menu_file {
     int keeps;        /* the choice is kept for the next boot */
     int falls_back;   /* also after a choice by hand */
     int boots_unmeasured; /* also what the TPM fails to measure; set until it is known what the menu says */
-    uint8_t text[max_text];
-    size_t text_length;
 } menu;
 extern const char *const protocols[4]; /* their words, by the core's numbers */
-/* In a protocol's place, and no matter of the core's. From the second one on nothing is booted. */
-enum { efi_program = BOOTCORE_PROTOCOL_LINUX64 + 1, reboot, power_off, firmware_setup };
+enum { efi_program = BOOTCORE_PROTOCOL_LINUX64 + 1 }; /* in a protocol's place, and no matter of the core's */
 
 /* Reads the menu out of a text, which it keeps and changes. NULL, or what is wrong: in a line, or
    with line 0 in the whole. */
@@ -77,8 +75,8 @@ char small_letter(char letter);
 /* Cuts a line at its first blank: the word before, and the rest without blanks around it. */
 char *cut_word(char *line);
 /* Calls this for each line, with its word and the rest, until one is wrong: its number, or 0. */
-uint32_t take_lines(char *text, void (*take)(const char *word, char *rest));
-uint32_t take_number(const char *text);
+uint32_t each_line(char *text, void (*call)(const char *word, char *rest));
+uint32_t number_of(const char *text);
 /* How many bytes the character of UTF-8 has that begins here; 0: it is none (RFC 3629, 4). */
 size_t character_length(const void *text, size_t left);
 /* The same in a text with its zero byte: 1 for a byte that is of none, 0 at the end. */
@@ -88,12 +86,15 @@ size_t count_characters(const char *text, const char *end);
 /* The text in UTF-16, with a zero behind it, where there is room for a letter of each byte, and for that. A byte that
    is of no character is U+FFFD. How many letters it has with the zero; 0: not all was UTF-8. */
 size_t widen(const void *text, size_t length, CHAR16 *to);
-/* These are kept in menu.text, one behind the other. */
-bootcore_bytes take_bytes(const void *bytes, size_t length);
-bootcore_bytes take_line(const char *text);
-const char *take_path(char *path);
-void take_kernel(char *path, menu_entry *entry);
-void take_ramdisk(char *path, menu_entry *entry);
+extern struct text_room {
+    uint8_t *next;
+    size_t left;
+} text_room; /* what is taken is kept there, one behind the other */
+bootcore_bytes keep_bytes(const void *bytes, size_t length);
+bootcore_bytes keep_line(const char *text);
+const char *path_of(char *path);
+void set_kernel(char *path, menu_entry *entry);
+void add_ramdisk(char *path, menu_entry *entry);
 /* A file of another partition has that one's GUID before its path, as a folder. */
 void name_partition(menu_entry *entry);
 
@@ -125,10 +126,10 @@ void close_disk(void);
 CHAR16 *file_name(const char *path);
 int has_file(const char *path);
 /* Calls this for each file of a folder whose name is ASCII. */
-void each_file(const char *folder, void (*take)(const char *name));
-/* A whole file, which has no zero byte, with one behind it; or NULL, and what is wrong with it. All
-   that is read is measured first. */
-char *read_text(const char *path, const char **wrong);
+void each_file(const char *folder, void (*call)(const char *name));
+/* A whole file, which has no zero byte, with one behind it; or NULL, and what is wrong with it. It is kept in
+   this room, or without one in pages. All that is read is measured first. */
+char *read_text(const char *path, struct text_room *room, const char **wrong);
 /* Reads an entry's kernel, plans the entry, and reads its other files. NULL, or what is wrong. */
 const char *read_files(menu_entry *entry);
 /* The core is told where they lie. */
@@ -201,8 +202,10 @@ void find_firmware(void);
 /* Tells it of a map that was just read, for an entry. Within an attempt lists that are alike are told as
    the first of them. The firmware is asked for nothing. */
 void tell_firmware(machine_map *map, const menu_entry *entry);
-/* As it was found; on is also a state that the firmware does not tell. */
+/* As it was found; on is also a state that the firmware does not tell, and off one that shim ignores. */
 int is_secure_boot_on(void);
+/* shim's protocol, and the vendor of its variables. */
+#define SHIM_LOCK {0x605dab50, 0xe046, 0x4300, {0xab, 0xb6, 0x3d, 0xd8, 0x10, 0xdd, 0x8b, 0x23}}
 
 /* ---- memory.c */
 
@@ -288,7 +291,7 @@ void mark_kept(void);
 /* 0 if the choice can't be kept. */
 int keep_choice(void);
 /* How often in a row the machine was restarted, which is forgotten then. */
-uint32_t take_restarts(void);
+uint32_t forget_restarts(void);
 /* Keeps that it is restarted, by runtime services alone, which serve also as the firmware ends. 0 if
    that can't be kept. */
 int keep_restart(void);
@@ -301,14 +304,14 @@ void read_variables(void);
 void write_variables(const EFI_LOADED_IMAGE *self);
 /* Writes which entry is attempted. */
 void write_selected(uint32_t index);
-/* Asks the firmware for its setup at the next start; 0 if it has none that can be asked for. */
-int ask_for_setup(void);
 
 /* ---- measure.c: the TPM. NULL, or why what is to be measured must not be used */
 
 void find_tpm(void);
 /* `measured`, or `not measured` and why. */
 const char *measured_words(void);
+/* Says that of a handover, and of the log; again only what is new of the log. */
+void say_measured(int is_again);
 /* If nothing is started since it was not measured: the screen says what can be done. */
 void say_unmeasured(int has_menu);
 /* A file as it was read. */
@@ -335,9 +338,11 @@ void keep_log(void);
 
 /* ---- describe.c */
 
-/* Writes the description of what is handed over for an entry, whose files were read, on a machine.
-   How long it is; 0: a line or a path is no UTF-8, or there is too little room. */
-size_t describe(const bootcore_machine *machine, const menu_entry *entry, char *text, size_t room);
+/* Writes the description of what is handed over for an entry, whose files were read, on a machine: as
+   it is measured, with lengths of UEFI's map and SMBIOS's tables alone, or as a program takes it. How
+   long it is; 0: a line or a path is no UTF-8, or there is too little room. */
+size_t describe(const bootcore_machine *machine, const menu_entry *entry, int is_measured, char *text,
+                size_t room);
 
 /* ---- program.c: another EFI program */
 
@@ -348,7 +353,8 @@ const char *start_program(EFI_HANDLE image, const menu_entry *entry);
 
 /* ---- verify.c: Secure Boot */
 
-/* Of an entry's kernel, as it was read. NULL, or why it must not be booted. */
+/* Of an entry's kernel, as it was read, whose file has no more than what was verified then. NULL, or why
+   it must not be booted. */
 const char *verify_kernel(const menu_entry *entry);
 /* Whether its kernel must be told that Secure Boot is on, and is not. */
 int hides_secure_boot(const menu_entry *entry);
@@ -365,8 +371,7 @@ extern char *kept, *kept_end; /* room where text is kept; it is shown if there i
 
 enum { shown_seconds = 30 }; /* of what nobody may read */
 /* By hand to the firmware, or since nobody can choose, to what it boots next. */
-enum choice { chosen_by_time, chosen_by_hand, chosen_with_line, to_firmware, to_next };
-extern char edited[BOOTCORE_MAX_LINE + 1]; /* the line that an entry was chosen with, for once */
+enum choice { chosen_by_time, chosen_by_hand, to_firmware, to_next };
 int open_screen(void);
 void close_screen(void);
 /* The choice, in menu.chosen. */
@@ -381,13 +386,13 @@ int wait_key(uint32_t seconds);
 EFI_FILE *create_file(const char *path);
 int append(EFI_FILE *file, const void *bytes, uint64_t length);
 /* Takes a word of the menu's that is for tests; 0: it is none. */
-int take_for_tests(const char *word, const char *rest);
+int is_for_tests(const char *word, const char *rest);
 /* Where the menu wants it: writes the handover, and where all lies, as files on the disk; changes the
    memory map, or a byte that was measured. */
 void write_handover(const menu_entry *entry);
 void change(const char *when);
 #else
-#define take_for_tests(word, rest) 0
+#define is_for_tests(word, rest) 0
 #define write_handover(entry) (void)0
 #define change(when) (void)0
 #endif

@@ -77,8 +77,9 @@ const char *plan_entry(const menu_entry *entry) {
     uint32_t status = plan(entry);
     while (leave_out(status)) status = plan(entry);
     boot.avoids_nothing = lacks_room(status) && boot.map.firmware.avoided_count != 0;
-    if (boot.avoids_nothing) {
+    if (boot.avoids_nothing) { /* parts may come over tables to which UEFI's lead, and Linux would read them */
         boot.map.firmware.avoided_count = 0;
+        boot.map.firmware.efi = (bootcore_efi){.bits = 0};
         status = plan(entry);
     }
     if (status == BOOTCORE_STATUS_DONE && hides_secure_boot(entry))
@@ -90,12 +91,21 @@ const char *plan_entry(const menu_entry *entry) {
 
 enum { most_tries = 8 };
 
+/* Whether a part is planned where the firmware has come to use memory that is to be avoided. */
+static int meets_avoided(machine_map *now) {
+    const size_t count = boot.avoids_nothing ? 0 : list_avoided(now, now->avoided);
+    for (size_t i = 0; i < count; i++)
+        for (size_t k = 0; k < boot.layout.step_count; k++)
+            if (is_met(&boot.layout.steps[k], now->avoided[i].base, now->avoided[i].length)) return 1;
+    return 0;
+}
+
 /* Whether the firmware's map is still that of the plan: then its new key is known. */
 static int is_same_map(void) {
     static machine_map now;
     size_t count = boot.map.machine.region_count;
     if (read_map(&now) != NULL || now.machine.region_count != count ||
-        memcmp(now.regions, boot.map.regions, count * sizeof now.regions[0]) != 0)
+        memcmp(now.regions, boot.map.regions, count * sizeof now.regions[0]) != 0 || meets_avoided(&now))
         return 0;
     int is_kept = boot.map.list.descriptors != now.list.descriptors; /* and not read over */
     if (is_kept && !are_alike(&now.list, &boot.map.list)) return 0;
@@ -118,7 +128,9 @@ static const char *make_measured(menu_entry *entry) {
         const char *wrong = make_ready(entry);
         if (wrong == NULL) wrong = measure_handover(entry);
         if (wrong != NULL) return wrong;
+        say_measured(tries != 0);
         change("measured");
+        change("used");
         if (is_same_map()) return NULL;
     }
     return "The firmware's memory map does not stay as it is.";

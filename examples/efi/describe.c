@@ -144,33 +144,39 @@ static void add_screen(const bootcore_screen *screen) {
     add_color("blue", screen->blue);
 }
 
-static void add_efi(const bootcore_efi *efi) {
+/* What is long is measured by itself, where an image has it: so its length is enough. */
+static void add_long(const char *key, bootcore_bytes held, int is_measured) {
+    if (!is_measured) add_bytes(key, held);
+    else print("%s_size = 0x%x\n", key, held.length);
+}
+
+static void add_efi(const bootcore_efi *efi, int is_measured) {
     if (efi->system_table == 0) return;
     print("\n[firmware.efi]\n");
     add_number("bits", efi->bits);
     add_number("system_table", efi->system_table);
-    add_bytes("map", efi->map);
+    add_long("map", efi->map, is_measured);
     add_number("map_address", efi->map_address);
     add_number("descriptor_size", efi->descriptor_size);
     add_number("descriptor_version", efi->descriptor_version);
     add_number("secure_boot", efi->secure_boot);
 }
 
-static void add_smbios(const bootcore_smbios *smbios) {
+static void add_smbios(const bootcore_smbios *smbios, int is_measured) {
     if (smbios->tables.length == 0) return;
     print("\n[firmware.smbios]\n");
     add_number("major", smbios->major);
     add_number("minor", smbios->minor);
-    add_bytes("tables", smbios->tables);
+    add_long("tables", smbios->tables, is_measured);
 }
 
 /* The ranges to avoid ascend, and none adjoins another one: map.c lists them so. */
-static void add_firmware(const bootcore_firmware *firmware) {
+static void add_firmware(const bootcore_firmware *firmware, int is_measured, int is_linux) {
     if (firmware == NULL) return;
     if (firmware->rsdp != 0) print("\n[firmware]\nrsdp = 0x%x\n", firmware->rsdp);
     add_screen(&firmware->screen);
-    add_efi(&firmware->efi);
-    add_smbios(&firmware->smbios);
+    add_efi(&firmware->efi, is_measured);
+    if (!is_measured || !is_linux) add_smbios(&firmware->smbios, is_measured);
     for (size_t i = 0; i < firmware->avoided_count; i++)
         print("\n[[avoid]]\nbase = 0x%x\nlength = 0x%x\n", firmware->avoided[i].base,
               firmware->avoided[i].length);
@@ -211,12 +217,13 @@ static void add_entry(const menu_entry *entry) {
     } else add_ramdisks(entry);
 }
 
-size_t describe(const bootcore_machine *machine, const menu_entry *entry, char *text, size_t room) {
+size_t describe(const bootcore_machine *machine, const menu_entry *entry, int is_measured, char *text,
+                size_t room) {
     is_utf8 = 1;
     kept = text;
     kept_end = text + room;
     add_machine(machine);
-    add_firmware(machine->firmware);
+    add_firmware(machine->firmware, is_measured, entry->core.protocol != BOOTCORE_PROTOCOL_MULTIBOOT2);
     add_entry(entry);
     size_t length = (size_t)(kept - text);
     kept = NULL;

@@ -28,7 +28,7 @@ void begin_digest(digest_work *work, const move *moves) {
 INSIDE uint32_t turned(uint32_t word, int by) { return word >> by | word << (32 - by); }
 
 /* The first 16 words are the block. */
-INSIDE void take_block(uint32_t *words, const uint32_t *numbers, uint32_t *state) {
+INSIDE void add_block(uint32_t *words, const uint32_t *numbers, uint32_t *state) {
     uint32_t now[8];
     for (int i = 16; i < 64; i++) {
         uint32_t old = words[i - 15], late = words[i - 2];
@@ -65,7 +65,7 @@ __attribute__((section(".text.alone"))) int digest_moves(digest_work *work, int 
         for (uint64_t left = is_end ? pad(work->padding, taken) : length, at = start; left; left--, at++) {
             word = word << 8 | (is_zero ? 0 : *(const uint8_t *)(UINTN)at);
             if (++taken % 4 == 0) work->words[(taken - 1) / 4 % 16] = word;
-            if (taken % 64 == 0) take_block(work->words, work->constants, work->state);
+            if (taken % 64 == 0) add_block(work->words, work->constants, work->state);
         }
     }
     for (int k = 0; k < 8; k++) wrong |= work->state[k] ^ work->wanted[k];

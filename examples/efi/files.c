@@ -119,10 +119,15 @@ static uint32_t read_joined(const char *const *paths, uint32_t from, uint32_t to
     return 0;
 }
 
-char *read_text(const char *path, const char **wrong) {
+char *read_text(const char *path, struct text_room *room, const char **wrong) {
     uint64_t length = 0;
     uint32_t fault = find_lengths(&path, 0, 1, &length);
-    char *text = fault ? NULL : take_pages(length / page + 1);
+    char *text = NULL;
+    if (!fault && room == NULL) text = take_pages(length / page + 1);
+    else if (!fault && length < room->left) {
+        text = (char *)room->next;
+        room->next += length + 1, room->left -= length + 1;
+    }
     if (text != NULL) fault = read_joined(&path, 0, 1, (uint8_t *)text);
     *wrong = fault == unmeasured ? why_unmeasured : "it can't be read, or is no text";
     if (text == NULL || fault) return NULL;
@@ -136,7 +141,7 @@ int has_file(const char *path) {
 }
 
 /* The bytes of a folder are the records of its files. */
-void each_file(const char *folder, void (*take)(const char *name)) {
+void each_file(const char *folder, void (*call)(const char *name)) {
     static uint64_t room[256];
     static char name[256];
     EFI_FILE_INFO *info = (EFI_FILE_INFO *)room;
@@ -148,7 +153,7 @@ void each_file(const char *folder, void (*take)(const char *name)) {
         for (; i < sizeof name - 1 && info->FileName[i] >= ' ' && info->FileName[i] <= '~'; i++)
             name[i] = (char)info->FileName[i];
         name[i] = 0;
-        if (!(info->Attribute & EFI_FILE_DIRECTORY) && info->FileName[i] == 0) take(name);
+        if (!(info->Attribute & EFI_FILE_DIRECTORY) && info->FileName[i] == 0) call(name);
         size = sizeof room;
     }
     opened->Close(opened);
@@ -184,7 +189,6 @@ static const char *read_file(menu_entry *entry, uint32_t index, uint32_t from, u
     for (uint32_t i = from; i < to; i++) print("    Reading %s.\n", entry->paths[i]);
     uint32_t fault = bytes ? read_joined(entry->paths, from, to, bytes) : no_room;
     files.read[index].bytes = bytes;
-    if (!fault) give_files(entry);
     return fault_words(fault);
 }
 
@@ -199,6 +203,7 @@ const char *read_files(menu_entry *entry) {
     if (fault) return fault_words(fault);
     const char *wrong = read_file(entry, 0, 0, take_pages(files.read[0].length / page + 1));
     if (wrong == NULL) wrong = verify_kernel(entry);
+    give_files(entry);
     if (wrong == NULL) wrong = plan_entry(entry);
     for (uint32_t i = 1; i < entry->file_count && wrong == NULL; i = joined_end(entry, i)) {
         index++;

@@ -75,20 +75,29 @@ static bootcore_screen screen_of(const EFI_GRAPHICS_OUTPUT_PROTOCOL_MODE *mode) 
 enum { unknown = 1, disabled, enabled }; /* as the core has them */
 static uint32_t secure_boot;
 
-static EFI_STATUS read_byte(CHAR16 *name, uint8_t *byte) {
-    static EFI_GUID global = EFI_GLOBAL_VARIABLE;
+static EFI_STATUS read_byte(CHAR16 *name, EFI_GUID vendor, UINT32 *attributes, uint8_t *byte) {
     UINTN size = sizeof *byte;
-    return ST->RuntimeServices->GetVariable(name, &global, NULL, &size, byte);
+    return ST->RuntimeServices->GetVariable(name, &vendor, attributes, &size, byte);
+}
+
+/* Who sits before the machine may have told shim to check nothing. shim says so anew at each start, by a
+   variable that is volatile: one that stays may be an operating system's. So Linux's EFI stub has it. */
+static int is_off_in_shim(void) {
+    static const EFI_GUID shim = SHIM_LOCK;
+    uint8_t is_off = 0;
+    UINT32 attributes = 0;
+    return !EFI_ERROR(read_byte(L"MokSBStateRT", shim, &attributes, &is_off)) && is_off == 1 &&
+           !(attributes & EFI_VARIABLE_NON_VOLATILE);
 }
 
 /* A firmware without the variable has no Secure Boot; in its setup mode it checks nothing. */
 static uint32_t find_secure_boot(void) {
-    static CHAR16 state[] = L"SecureBoot", setup[] = L"SetupMode";
+    static const EFI_GUID global = EFI_GLOBAL_VARIABLE;
     uint8_t is_on = 0, is_setup = 0;
-    EFI_STATUS status = read_byte(state, &is_on);
+    EFI_STATUS status = read_byte(L"SecureBoot", global, NULL, &is_on);
     if (status == EFI_NOT_FOUND) return disabled;
-    if (EFI_ERROR(status) || EFI_ERROR(read_byte(setup, &is_setup))) return unknown;
-    return is_on == 1 && is_setup == 0 ? enabled : disabled;
+    if (EFI_ERROR(status) || EFI_ERROR(read_byte(L"SetupMode", global, NULL, &is_setup))) return unknown;
+    return is_on == 1 && is_setup == 0 && !is_off_in_shim() ? enabled : disabled;
 }
 
 int is_secure_boot_on(void) { return secure_boot != disabled; }
@@ -164,9 +173,10 @@ void find_firmware(void) {
 }
 
 /* Memory of boot services is free once they have ended. But devices may still write to it, and firmware
-   may use it when Linux asks for its runtime services: so it is avoided. */
+   may use it when Linux asks for its runtime services: so it is avoided, as it is used now. */
 void tell_firmware(machine_map *map, const menu_entry *entry) {
     bootcore_firmware *told = &map->firmware;
+    const size_t avoided_count = list_avoided(map, map->avoided);
     if (kept_list.size == 0 || !are_alike(&kept_list, &map->list)) keep_list(&map->list);
     if (kept_list.size != 0) map->list = kept_list;
     const uint8_t *rsdp = find_rsdp(1) != NULL ? find_rsdp(1) : find_rsdp(0);
@@ -174,6 +184,6 @@ void tell_firmware(machine_map *map, const menu_entry *entry) {
     if (output != NULL && !entry->has_no_screen) told->screen = screen_of(output->Mode);
     if (!entry->has_no_efi) told->efi = efi_of(&map->list);
     told->avoided = map->avoided;
-    told->avoided_count = list_avoided(map, map->avoided);
+    told->avoided_count = avoided_count;
     map->machine.firmware = told;
 }

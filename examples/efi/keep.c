@@ -31,7 +31,7 @@ enum { kept_always = EFI_VARIABLE_NON_VOLATILE | EFI_VARIABLE_BOOTSERVICE_ACCESS
 
 static uint8_t restarts;
 
-uint32_t take_restarts(void) {
+uint32_t forget_restarts(void) {
     UINTN size = sizeof restarts;
     if (EFI_ERROR(ST->RuntimeServices->GetVariable(restarts_variable, &vendor, NULL, &size, &restarts)))
         return restarts = 0;
@@ -49,8 +49,7 @@ int keep_restart(void) {
 int keep_choice(void) {
     char *title = (char *)(UINTN)menu.entries[menu.chosen].title;
     uint32_t attributes = EFI_VARIABLE_NON_VOLATILE | EFI_VARIABLE_BOOTSERVICE_ACCESS;
-    /* what ends the machine is no choice for each boot */
-    return !menu.keeps || menu.entries[menu.chosen].core.protocol >= reboot || is_kept(title) ||
+    return !menu.keeps || is_kept(title) ||
            !EFI_ERROR(ST->RuntimeServices->SetVariable(variable, &vendor, attributes,
                                                        kept_length(title), title));
 }

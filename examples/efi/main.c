@@ -35,7 +35,7 @@ static int begin(EFI_HANDLE image) {
     const char *wrong = NULL;
     uint32_t line = 0;
     if (!open_screen()) return say("There is too little memory.");
-    restarts = take_restarts();
+    restarts = forget_restarts();
     if (restarts >= most_restarts)
         return say("The memory map changed as the firmware ended, at each of the last three boots.");
     if (!has_instructions()) return say("This processor is older than x86-64-v2.");
@@ -43,8 +43,9 @@ static int begin(EFI_HANDLE image) {
         !open_disk(self->DeviceHandle))
         return say("The disk that this was started from can't be read.");
     find_tpm();
+    menu.boots_unmeasured = 1;
     has_menu = has_file("bootcore/menu.txt");
-    char *text = has_menu ? read_text("bootcore/menu.txt", &wrong) : no_menu;
+    char *text = has_menu ? read_text("bootcore/menu.txt", NULL, &wrong) : no_menu;
     if (text != NULL) wrong = read_menu(text, &line);
     if (wrong != NULL) {
         print("\n    %s", has_menu ? "bootcore/menu.txt" : "No bootcore/menu.txt; loader/entries");
@@ -64,7 +65,7 @@ static void say_plan(void) {
     for (uint32_t i = 0; i < boot.left_out_count; i++)
         print_sentence("It is not told all of the firmware", bootcore_status_text(boot.left_out[i]));
     if (boot.avoids_nothing)
-        print("    It has room only where memory of boot services is not avoided.\n");
+        print("    It has room only where memory of boot services is not avoided, so it is not told of UEFI.\n");
 }
 
 /* Returns only if the entry can't be booted, with the reason; or NULL after a program. The entry is
@@ -86,19 +87,9 @@ static const char *attempt(EFI_HANDLE image, menu_entry *entry) {
     print("    Booting %s. It is told of %u KiB of usable memory, the core took %u bytes.\n",
           entry->title, boot.map.usable / 1024, (uint64_t)bootcore_arena_peak());
     say_plan();
-    print(log_address() == 0 ? "    It is %s.\n" : "    It is %s. The log is at 0x%x.\n",
-          measured_words(), log_address());
     if (restarts)
         print("    Before, the memory map changed as the firmware ended: restarts: %u.\n", (uint64_t)restarts);
     return leave_firmware(image, entry);
-}
-
-/* Only a person ends the machine so: one that starts alone might do it for ever. */
-static const char *end_machine(uint32_t how, int is_chosen) {
-    if (!is_chosen) return "This is done only if it is chosen by hand.";
-    if (how == firmware_setup && !ask_for_setup()) return "The firmware has no setup that can be asked for.";
-    ST->RuntimeServices->ResetSystem(how == power_off ? EfiResetShutdown : EfiResetCold, EFI_SUCCESS, 0, NULL);
-    return "The firmware does not do so.";
 }
 
 /* Fallbacks are for the machine that starts alone: who chose an entry wants no other, if the menu
@@ -111,12 +102,9 @@ static const char *boot_choice(EFI_HANDLE image, enum choice how) {
         menu_entry entry = menu.entries[menu.attempts[i]];
         uint32_t kept_count = taken_count;
         entry.core.modules = entry.modules;
-        if (how == chosen_with_line && i == 0)
-            entry.core.line = (bootcore_bytes){edited, strlen(edited)};
         print("\n");
         write_selected(menu.attempts[i]);
-        if (entry.core.protocol < reboot) wrong = attempt(image, &entry);
-        else wrong = end_machine(entry.core.protocol, how != chosen_by_time && i == 0);
+        wrong = attempt(image, &entry);
         if (wrong != NULL) print_sentence(entry.title, wrong);
         use_partition(NULL);
         give_back(kept_count);
@@ -135,8 +123,9 @@ EFI_STATUS efi_main(EFI_HANDLE image, EFI_SYSTEM_TABLE *table) {
     if (!is_good) wait_key(shown_seconds);
     while (is_good && (how = choose_entry()) < to_firmware) {
         uint32_t seconds = menu.seconds > shown_seconds ? menu.seconds : shown_seconds;
-        if (boot_choice(image, how) != NULL)
-            is_good = wait_key(how == chosen_by_time ? seconds : no_limit);
+        const char *wrong = boot_choice(image, how);
+        if (how == chosen_by_time) is_good = wait_key(seconds); /* also behind a program that ended well */
+        else if (wrong != NULL) wait_key(no_limit);
         menu.seconds = no_limit; /* from here on a person decides */
     }
     close_screen();

@@ -7,6 +7,8 @@
 enum { started_pcr = 4, text_pcr = 8, file_pcr = 9, handover_pcr = 12 };
 /* Our own, by which a checker knows these events: "bc" and the PCR. */
 enum { own_tag = 0x62630000 };
+/* In a PCR's place: what a Multiboot2 kernel gets a copy of, by the types of its tags. */
+enum { smbios_tag = 13, efi_map_tag = 17 };
 
 tcg2 *tpm;
 int has_agile_log;
@@ -74,8 +76,9 @@ static const char *extend(uint32_t pcr, uint32_t type, const void *bytes, uint64
 
 /* The same as an event with a tag, whose content stands there already. An event of the type boot_event
    would be taken for one of another loader's in these PCRs. */
-static const char *extend_tagged(uint32_t pcr, const void *bytes, uint64_t length, size_t content_length) {
-    const tcg2_tag head = {own_tag + pcr, (uint32_t)content_length};
+static const char *extend_tagged(uint32_t pcr, uint32_t tag, const void *bytes, uint64_t length,
+                                 size_t content_length) {
+    const tcg2_tag head = {own_tag + tag, (uint32_t)content_length};
     memcpy(event.data, &head, sizeof head);
     return extend(pcr, tag_event, bytes, length, sizeof head + content_length);
 }
@@ -95,7 +98,7 @@ static const char too_long[] = "not measured: it is too long for an event";
 /* All of the content is measured, so that no part of the text is the log's word alone. */
 static const char *measure_text(uint32_t pcr, const char *what, const void *text, size_t length) {
     length = put_text(content, what, text, length);
-    return length ? extend_tagged(pcr, content, length, length) : fail(too_long);
+    return length ? extend_tagged(pcr, pcr, content, length, length) : fail(too_long);
 }
 
 const char *measure_file(const char *path, const void *bytes, uint64_t length) {
@@ -122,27 +125,40 @@ const char *measure_verifying(int is_over) {
 }
 
 /* A log that can't be kept whole is for a checker to complain of: the PCRs have all. */
-static void say_of_log(void) {
+void say_measured(int is_again) {
     static const char *said;
-    const char *words = find_log();
-    if (words == said) return;
+    const char *words = tpm == NULL ? NULL : find_log();
+    if (is_again && words == said) return;
     said = words;
-    if (words != NULL)
-        print(log_address() == 0 ? "    %s\n" : "    %s The log is at 0x%x.\n", words, log_address());
+    print("    It is %s.", measured_words());
+    if (words != NULL) print(" %s", words);
+    print(log_address() == 0 ? "\n" : " The log is at 0x%x.\n", log_address());
+}
+
+/* What is long in a handover, and copied to its image: it is measured as it is. */
+static const char *measure_copied(uint32_t tag, bootcore_bytes copied) {
+    if (copied.length == 0) return NULL;
+    if (copied.length > max_text) return fail(too_long);
+    memcpy(content, copied.bytes, copied.length);
+    return extend_tagged(handover_pcr, tag, content, copied.length, copied.length);
 }
 
 /* The image is not one piece of memory, so the firmware can't hash it: its digest is what is
    measured. */
 const char *measure_handover(const menu_entry *entry) {
     uint8_t digest[32];
+    const char *wrong = NULL;
     if (tpm == NULL) return NULL;
+    if (entry->core.protocol == BOOTCORE_PROTOCOL_MULTIBOOT2) {
+        wrong = measure_copied(efi_map_tag, boot.map.firmware.efi.map);
+        if (wrong == NULL) wrong = measure_copied(smbios_tag, boot.map.firmware.smbios.tables);
+    }
     is_in_pcr = 0;
-    size_t length = describe(&boot.map.machine, entry, content, max_text);
+    if (wrong != NULL) return wrong;
+    size_t length = describe(&boot.map.machine, entry, 1, content, max_text);
     if (length == 0) return fail("not measured: a line or path is no UTF-8, or all is too long");
     digest_image(digest);
-    const char *wrong = extend_tagged(handover_pcr, digest, sizeof digest, length);
-    if (wrong == NULL) say_of_log();
-    return wrong;
+    return extend_tagged(handover_pcr, handover_pcr, digest, sizeof digest, length);
 }
 
 int is_handover_measured(void) { return tpm != NULL && is_in_pcr; }

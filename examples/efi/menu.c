@@ -1,13 +1,13 @@
 /* The menu file: a line is a word and what it is about. docs/EFI.md has the words. */
 #include "app.h"
 
-struct menu_file menu = {.boots_unmeasured = 1};
+struct menu_file menu;
 const char *const protocols[4] = {"", "multiboot2", "linux", "linux64"};
 
 /* ---- what an entry is made of */
 
 /* A Multiboot2 kernel is given copies of the RSDPs, in the tags 14 and 15 of its information. */
-static void take_protocol(const char *word, bootcore_entry *core) {
+static void set_protocol(const char *word, bootcore_entry *core) {
     const uint8_t *old = find_rsdp(0), *new = find_rsdp(1);
     uint32_t length = new ? *(const uint32_t *)(new + 20) : 0; /* the table's own field */
     if (!check(core->protocol == 0, "an entry has one protocol")) return;
@@ -15,56 +15,51 @@ static void take_protocol(const char *word, bootcore_entry *core) {
         if (is_word(word, protocols[i])) core->protocol = i;
     check(core->protocol != 0, "no such protocol");
     if (core->protocol != BOOTCORE_PROTOCOL_MULTIBOOT2) return;
-    if (old) core->rsdp_old = take_bytes(old, 20);
-    if (length >= 36 && length <= BOOTCORE_MAX_RSDP) core->rsdp_new = take_bytes(new, length);
+    if (old) core->rsdp_old = keep_bytes(old, 20);
+    if (length >= 36 && length <= BOOTCORE_MAX_RSDP) core->rsdp_new = keep_bytes(new, length);
 }
 
-static void take_partition(char *name, menu_entry *entry) {
+static void set_partition(char *name, menu_entry *entry) {
     check(entry->partition == NULL, "an entry has one partition");
     check(strlen(name) == partition_letters, "the GUID of a partition is wanted, of 36 letters");
     for (size_t i = 0; name[i]; i++) name[i] = small_letter(name[i]);
     entry->partition = name;
 }
 
-static void take_module(char *text, menu_entry *entry) {
+static void add_module(char *text, menu_entry *entry) {
     check(entry->core.protocol == BOOTCORE_PROTOCOL_MULTIBOOT2, "only a multiboot2 kernel has modules");
     check(entry->core.module_count < BOOTCORE_MAX_MODULES, "too many modules of an entry");
     if (mistake != NULL) return;
     entry->core.modules = entry->modules;
-    entry->modules[entry->core.module_count++].line = take_line(cut_word(text));
-    entry->paths[entry->file_count++] = take_path(text);
+    entry->modules[entry->core.module_count++].line = keep_line(cut_word(text));
+    entry->paths[entry->file_count++] = path_of(text);
 }
 
 /* ---- lines */
 
-static void take_fallbacks(char *text) {
+static void add_fallbacks(char *text) {
     while (*text && check(menu.fallback_count < BOOTCORE_MAX_ENTRIES, "too many fallbacks")) {
         char *rest = cut_word(text);
-        menu.fallbacks[menu.fallback_count++] = take_number(text);
+        menu.fallbacks[menu.fallback_count++] = number_of(text);
         text = rest;
     }
 }
 
-static void take_end(uint32_t how, menu_entry *entry) {
-    if (check(entry->core.protocol == 0, "an entry has one protocol")) entry->core.protocol = how;
-    entry->paths[0] = ""; /* it wants no kernel */
-}
-
-static void take_program(char *path, menu_entry *entry) {
+static void set_program(char *path, menu_entry *entry) {
     if (!check(entry->core.protocol == 0, "an entry has one protocol")) return;
     entry->core.protocol = efi_program;
-    take_kernel(path, entry);
+    set_kernel(path, entry);
 }
 
-static void take_linux_ramdisk(char *path, menu_entry *entry) {
+static void add_linux_ramdisk(char *path, menu_entry *entry) {
     check(entry->core.protocol == BOOTCORE_PROTOCOL_LINUX || entry->core.protocol == BOOTCORE_PROTOCOL_LINUX64,
           "only a Linux kernel has ramdisks");
-    take_ramdisk(path, entry);
+    add_ramdisk(path, entry);
 }
 
-static void take_entry_line(const char *text, bootcore_entry *core) {
+static void set_line(const char *text, bootcore_entry *core) {
     check(*text != 0, "a line is wanted");
-    if (check(core->line.bytes == NULL, "an entry has one line")) core->line = take_line(text);
+    if (check(core->line.bytes == NULL, "an entry has one line")) core->line = keep_line(text);
 }
 
 static void begin_entry(const char *title) {
@@ -75,35 +70,31 @@ static void begin_entry(const char *title) {
     entry->file_count = 1; /* the kernel, which is named somewhere below */
 }
 
-static void take(const char *word, char *rest) {
+static void read_line(const char *word, char *rest) {
     menu_entry *entry = &menu.entries[menu.entry_count ? menu.entry_count - 1 : 0];
     int has_protocol = entry->core.protocol != 0 && entry->core.protocol < efi_program;
-    if (is_word(word, "timeout")) menu.seconds = take_number(rest);
-    else if (is_word(word, "default")) menu.chosen = take_number(rest);
-    else if (is_word(word, "fallback")) take_fallbacks(rest);
-    else if (is_word(word, "arena")) menu.arena = (uint64_t)take_number(rest) * 1024;
+    if (is_word(word, "timeout")) menu.seconds = number_of(rest);
+    else if (is_word(word, "default")) menu.chosen = number_of(rest);
+    else if (is_word(word, "fallback")) add_fallbacks(rest);
+    else if (is_word(word, "arena")) menu.arena = (uint64_t)number_of(rest) * 1024;
     else if (is_word(word, "fallback_always")) menu.falls_back = 1;
     else if (is_word(word, "keep")) menu.keeps = 1;
     else if (is_word(word, "entries")) menu.lists_entries = 1;
     else if (is_word(word, "boot_unmeasured")) menu.boots_unmeasured = 1;
-    else if (take_for_tests(word, rest)) return;
+    else if (is_for_tests(word, rest)) return;
     else if (is_word(word, "title")) begin_entry(rest);
     else if (!check(menu.entry_count != 0, "an entry begins with its title")) return;
-    else if (is_word(word, "reboot")) take_end(reboot, entry);
-    else if (is_word(word, "power_off")) take_end(power_off, entry);
-    else if (is_word(word, "firmware_setup")) take_end(firmware_setup, entry);
-    else if (is_word(word, "protocol")) take_protocol(rest, &entry->core);
+    else if (is_word(word, "protocol")) set_protocol(rest, &entry->core);
     else if (is_word(word, "efi") && has_protocol && is_word(rest, "no")) entry->has_no_efi = 1;
-    else if (is_word(word, "efi")) take_program(rest, entry);
+    else if (is_word(word, "efi")) set_program(rest, entry);
     else if (!check(entry->core.protocol != 0, "the protocol comes behind the title")) return;
-    else if (!check(entry->core.protocol < reboot, "an entry that boots nothing has no such word")) return;
-    else if (is_word(word, "partition")) take_partition(rest, entry);
-    else if (is_word(word, "kernel")) take_kernel(rest, entry);
-    else if (is_word(word, "module")) take_module(rest, entry);
-    else if (is_word(word, "ramdisk")) take_linux_ramdisk(rest, entry);
+    else if (is_word(word, "partition")) set_partition(rest, entry);
+    else if (is_word(word, "kernel")) set_kernel(rest, entry);
+    else if (is_word(word, "module")) add_module(rest, entry);
+    else if (is_word(word, "ramdisk")) add_linux_ramdisk(rest, entry);
     else if (is_word(word, "screen"))
         entry->has_no_screen = check(is_word(rest, "no"), "the only value is no");
-    else if (check(is_word(word, "line"), "no such word")) take_entry_line(rest, &entry->core);
+    else if (check(is_word(word, "line"), "no such word")) set_line(rest, &entry->core);
 }
 
 /* How many entries loader/entries has changes as kernels come and go: a number that has become too
@@ -117,10 +108,12 @@ static void forget_missing(void) {
 }
 
 const char *read_menu(char *text, uint32_t *line) {
+    static uint8_t room[max_text];
+    text_room = (struct text_room){room, sizeof room};
     menu.boots_unmeasured = 0;
     menu.seconds = no_limit;
     menu.arena = BOOTCORE_ARENA;
-    *line = take_lines(text, take);
+    *line = each_line(text, read_line);
     for (uint32_t i = 0; i < menu.entry_count && mistake == NULL; i++) name_partition(&menu.entries[i]);
     if (mistake != NULL) return mistake;
     if (menu.lists_entries) {

@@ -8,7 +8,7 @@
 
 /* ---- pages */
 
-enum { max_taken = 4096 }; /* more than there are files of loader/entries whose names fit into menu.text */
+enum { max_taken = 1024 }; /* some hundred are taken: for files, texts, page tables */
 #define highest_mapped (((uint64_t)1 << 47) - 1) /* by page tables of four levels */
 
 static struct {

@@ -83,10 +83,10 @@ static void set_colors(UINTN letters, UINTN ground) {
 }
 
 /* A program may have left it in other colours. */
-static void clear_screen(int has_cursor) {
+static void clear_screen(void) {
     set_colors(EFI_LIGHTGRAY, EFI_BLACK);
     if (ST->ConOut == NULL) return;
-    ST->ConOut->EnableCursor(ST->ConOut, (BOOLEAN)has_cursor);
+    ST->ConOut->EnableCursor(ST->ConOut, FALSE);
     ST->ConOut->ClearScreen(ST->ConOut);
 }
 
@@ -123,8 +123,7 @@ static void show_wide(const char *text, size_t width) {
 static uint32_t first, end; /* of the entries that are shown; the first one's row is the fourth */
 
 static void show_row(uint32_t index) {
-    static const char *const names[] = {"", "Multiboot2", "Linux", "Linux, 64 bits", "EFI program",
-                                        "Reboot",     "Power off",  "Firmware setup"};
+    static const char *const names[] = {"", "Multiboot2", "Linux", "Linux, 64 bits", "EFI program"};
     move_to(3, 3 + index - first);
     if (index == menu.chosen) set_colors(EFI_WHITE, EFI_BLUE);
     put(' ');
@@ -152,7 +151,7 @@ static void show_menu(uint32_t left) {
     move_to(0, 0);
     print("\n    bootcore: a boot manager on a proved loader core\n\n");
     for (uint32_t i = first; i < end; i++) show_row(i);
-    print("\n    Up and Down choose, Enter boots, e edits the line, Escape leaves.\n");
+    print("\n    Up and Down choose, Enter boots, Escape leaves.\n");
     show_limit(left);
 }
 
@@ -211,76 +210,6 @@ int wait_key(uint32_t seconds) {
     return 0;
 }
 
-/* ---- an entry's line, for one boot */
-
-char edited[BOOTCORE_MAX_LINE + 1];
-
-static void insert_letter(size_t at, char letter) {
-    for (size_t i = strlen(edited) + 1; i > at; i--) edited[i] = edited[i - 1];
-    edited[at] = letter;
-}
-
-static void remove_character(size_t at) {
-    const size_t length = step_length(edited + at);
-    do edited[at] = edited[at + length];
-    while (edited[at++]);
-}
-
-static size_t before(size_t at) {
-    size_t found = 0;
-    while (found + step_length(edited + found) < at) found += step_length(edited + found);
-    return found;
-}
-
-static size_t shown; /* the first character of the page that is shown; SIZE_MAX: none is */
-
-/* The page of the line with the cursor's character: all of it if another one was shown, or from a change on what it
-   may have moved, and a blank for what was removed. */
-static void show_edited(size_t from, size_t at) {
-    UINTN columns, rows;
-    measure_screen(&columns, &rows);
-    const size_t width = columns - 8, room = width * (rows - 6), cursor = count_characters(edited, edited + at);
-    const size_t start = cursor / room * room;
-    size_t next = count_characters(edited, edited + from), last = count_characters(edited, edited + strlen(edited)) + 1;
-    if (start != shown) next = start;
-    if ((start != shown && shown != SIZE_MAX) || last > start + room) last = start + room;
-    shown = start;
-    const char *text = edited;
-    for (size_t i = 0; i < last; text += step_length(text), i++) {
-        if (i == next || (i > next && i % width == 0)) move_to(4 + i % width, 4 + (i - start) / width);
-        if (i >= next) show_wide(text, 1);
-    }
-    move_to(4 + cursor % width, 4 + (cursor - start) / width);
-}
-
-/* Whether the entry is to be booted with the line that is in `edited` then. */
-static int edit_line(const menu_entry *entry) {
-    bootcore_bytes line = entry->core.line;
-    size_t at = line.length < BOOTCORE_MAX_LINE ? line.length : BOOTCORE_MAX_LINE;
-    memcpy(edited, line.bytes, at);
-    edited[at] = 0;
-    clear_screen(1);
-    print("\n    ");
-    show_wide(entry->title, 72);
-    print("\n    Enter boots once with this line, Escape leads back.");
-    shown = SIZE_MAX;
-    for (size_t from = at, length;; from = length) {
-        show_edited(from, at);
-        while (!is_pressed_within(1000)) continue;
-        length = strlen(edited);
-        if (key.UnicodeChar == '\r') return 1;
-        if (key.ScanCode == SCAN_ESC) return 0;
-        if (key.ScanCode == SCAN_HOME) at = 0;
-        if (key.ScanCode == SCAN_END) at = length;
-        if (key.ScanCode == SCAN_LEFT) at = before(at);
-        if (key.ScanCode == SCAN_RIGHT) at += step_length(edited + at);
-        if (key.UnicodeChar == '\b' && at > 0) key.ScanCode = SCAN_DELETE, at = before(at);
-        if (key.ScanCode == SCAN_DELETE) remove_character(length = at);
-        if (key.UnicodeChar >= ' ' && key.UnicodeChar <= '~' && length < BOOTCORE_MAX_LINE)
-            insert_letter(length = at++, (char)key.UnicodeChar);
-    }
-}
-
 /* ---- the choice */
 
 /* The menu until a key ends it or the time is over. */
@@ -297,16 +226,12 @@ static enum choice ask(uint32_t left) {
         if (key.ScanCode == SCAN_ESC) return to_firmware;
         if (key.ScanCode == SCAN_UP && menu.chosen > 0) mark(menu.chosen - 1);
         if (key.ScanCode == SCAN_DOWN && menu.chosen + 1 < menu.entry_count) mark(menu.chosen + 1);
-        if (key.UnicodeChar != 'e') continue;
-        if (edit_line(&menu.entries[menu.chosen])) return chosen_with_line;
-        clear_screen(0);
-        show_menu(0);
     }
 }
 
 /* Without time to choose the menu is shown to who holds a key down, which repeats in this time. */
 enum choice choose_entry(void) {
-    clear_screen(0);
+    clear_screen();
     if (menu.seconds == 0 && !is_pressed_within(100)) return chosen_by_time;
     if (menu.seconds == no_limit && ST->ConIn == NULL) {
         print("\n    There is no keyboard to choose by, and no time limit.\n");

@@ -31,7 +31,7 @@ char *cut_word(char *line) {
     return line;
 }
 
-uint32_t take_number(const char *text) {
+uint32_t number_of(const char *text) {
     uint32_t number = 0;
     check(*text != 0 && strlen(text) <= 9, "a number of at most nine digits is wanted");
     for (; *text >= '0' && *text <= '9'; text++) number = number * 10 + (uint32_t)(*text - '0');
@@ -39,7 +39,7 @@ uint32_t take_number(const char *text) {
     return number;
 }
 
-uint32_t take_lines(char *text, void (*take)(const char *word, char *rest)) {
+uint32_t each_line(char *text, void (*call)(const char *word, char *rest)) {
     uint32_t line = 1;
     mistake = NULL;
     if (begins_with(text, "\xef\xbb\xbf")) text += 3; /* a mark of UTF-8 */
@@ -49,7 +49,7 @@ uint32_t take_lines(char *text, void (*take)(const char *word, char *rest)) {
         if (*next) *next++ = 0;
         while (is_blank(*text)) text++;
         char *rest = cut_word(text);
-        if (*text && *text != '#') take(text, rest);
+        if (*text && *text != '#') call(text, rest);
         if (mistake != NULL) return line;
         text = next;
     }
@@ -102,39 +102,42 @@ size_t widen(const void *text, size_t length, CHAR16 *to) {
 
 /* ---- what is kept */
 
-const char *take_path(char *path) {
+const char *path_of(char *path) {
     while (*path == '/') path++;
     check(*path != 0, "a file is wanted");
     return path;
 }
 
-bootcore_bytes take_bytes(const void *bytes, size_t length) {
-    bootcore_bytes taken = {menu.text + menu.text_length, 0};
-    if (!check(length <= max_text - menu.text_length, "too much text")) return taken;
-    memcpy(menu.text + menu.text_length, bytes, length);
-    menu.text_length += length;
+struct text_room text_room;
+
+bootcore_bytes keep_bytes(const void *bytes, size_t length) {
+    bootcore_bytes taken = {text_room.next, 0};
+    if (!check(length <= text_room.left, "too much text")) return taken;
+    memcpy(text_room.next, bytes, length);
+    text_room.next += length;
+    text_room.left -= length;
     taken.length = length;
     return taken;
 }
 
-bootcore_bytes take_line(const char *text) { return take_bytes(text, strlen(text)); }
+bootcore_bytes keep_line(const char *text) { return keep_bytes(text, strlen(text)); }
 
-void take_kernel(char *path, menu_entry *entry) {
+void set_kernel(char *path, menu_entry *entry) {
     if (check(entry->paths[0] == NULL, "an entry has one kernel or program"))
-        entry->paths[0] = take_path(path);
+        entry->paths[0] = path_of(path);
 }
 
-void take_ramdisk(char *path, menu_entry *entry) {
+void add_ramdisk(char *path, menu_entry *entry) {
     if (check(entry->file_count <= BOOTCORE_MAX_MODULES, "too many ramdisks of an entry"))
-        entry->paths[entry->file_count++] = take_path(path);
+        entry->paths[entry->file_count++] = path_of(path);
 }
 
 void name_partition(menu_entry *entry) {
     for (uint32_t i = 0; i < entry->file_count && entry->partition != NULL; i++) {
         const char *path = entry->paths[i];
         if (path == NULL) continue;
-        entry->paths[i] = take_bytes(entry->partition, partition_letters).bytes;
-        take_bytes("/", 1);
-        take_bytes(path, strlen(path) + 1);
+        entry->paths[i] = keep_bytes(entry->partition, partition_letters).bytes;
+        keep_bytes("/", 1);
+        keep_bytes(path, strlen(path) + 1);
     }
 }

@@ -53,10 +53,8 @@ static const char *read_variable(CHAR16 *name, int is_once) {
 
 /* systemd's logind takes an id that is no file's only if it begins so. */
 static const char *id_of(uint32_t index) {
-    static const char *const ends[] = {"auto-reboot", "auto-poweroff", "auto-reboot-to-firmware-setup"};
-    const menu_entry *entry = &menu.entries[index];
-    if (entry->core.protocol >= reboot) return ends[entry->core.protocol - reboot];
-    return entry->id != NULL ? entry->id : compose("auto-menu-%u", (uint64_t)index);
+    const char *id = menu.entries[index].id;
+    return id != NULL ? id : compose("auto-menu-%u", (uint64_t)index);
 }
 
 /* By the signs * and ?, as a shell has them. */
@@ -83,7 +81,7 @@ static void mark(const char *pattern) {
 static void limit(const char *wanted, uint32_t zero) {
     if (wanted == NULL) return;
     mistake = NULL;
-    uint32_t seconds = take_number(wanted);
+    uint32_t seconds = number_of(wanted);
     if (is_word(wanted, "menu-force")) menu.seconds = no_limit;
     else if (is_word(wanted, "menu-hidden")) menu.seconds = 0;
     else if (mistake == NULL) menu.seconds = seconds ? seconds : zero;
@@ -116,19 +114,3 @@ void write_variables(const EFI_LOADED_IMAGE *self) {
 }
 
 void write_selected(uint32_t index) { write_text(L"LoaderEntrySelected", id_of(index)); }
-
-/* ---- the firmware's setup */
-
-static EFI_GUID global = EFI_GLOBAL_VARIABLE;
-
-static uint64_t read_bits(CHAR16 *name) {
-    uint64_t bits = 0;
-    UINTN size = sizeof bits;
-    return EFI_ERROR(ST->RuntimeServices->GetVariable(name, &global, NULL, &size, &bits)) ? 0 : bits;
-}
-
-int ask_for_setup(void) {
-    uint64_t bits = read_bits(L"OsIndications") | EFI_OS_INDICATIONS_BOOT_TO_FW_UI;
-    return (read_bits(L"OsIndicationsSupported") & EFI_OS_INDICATIONS_BOOT_TO_FW_UI) &&
-           !EFI_ERROR(ST->RuntimeServices->SetVariable(L"OsIndications", &global, kept_always, sizeof bits, &bits));
-}

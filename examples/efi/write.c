@@ -7,7 +7,7 @@
 static int writes;
 static const char *changed; /* when, or what; NULL for nothing */
 
-int take_for_tests(const char *word, const char *rest) {
+int is_for_tests(const char *word, const char *rest) {
     if (is_word(word, "write")) return writes = 1;
     if (is_word(word, "change")) return changed = rest, 1;
     return 0;
@@ -17,7 +17,7 @@ int take_for_tests(const char *word, const char *rest) {
 
 static int write_description(EFI_FILE *file, const menu_entry *entry) {
     static char text[max_text];
-    size_t length = describe(&boot.map.machine, entry, text, sizeof text);
+    size_t length = describe(&boot.map.machine, entry, 0, text, sizeof text);
     return length != 0 && append(file, text, length);
 }
 
@@ -94,8 +94,8 @@ void write_handover(const menu_entry *entry) {
 
 /* ---- changes */
 
-/* Once: another map, or the same with another key; or a byte that was measured, before it is copied. Then
-   the firmware has ended. */
+/* Once: another map, the same with another key, or one in which the firmware uses what is the first part's; or a byte
+   that was measured, before it is copied. Then the firmware has ended. */
 void change(const char *when) {
     if (changed == NULL || !is_word(changed, when)) return;
     changed = NULL;
@@ -103,6 +103,10 @@ void change(const char *when) {
         const move *each = last_moves() + 1; /* behind the head */
         while (each->from == 0) each++;
         *(uint8_t *)(UINTN)each->from ^= 1;
+        return;
+    }
+    if (is_word(when, "used")) {
+        take_pages_as(AllocateAddress, EfiBootServicesData, 1, boot.layout.places[0].address);
         return;
     }
     void *free = take_low_pages(1);

@@ -1,7 +1,7 @@
 /* On the host: the description that the boot manager's own code writes. The words are the machine's
    size, then `BASE LENGTH KIND` for each region, by their numbers, and with the kind 0 for each range
-   to avoid. Behind --told the firmware tells the rest too; behind --cut it is written with each room
-   that is too small for it, of which none must be enough. The entry comes from standard input, as a
+   to avoid. Behind --measured it is written as it is measured, behind --told the firmware tells the rest
+   too; behind --cut it is written with each room that is too small for it, of which none must be enough. The entry comes from standard input, as a
    menu; each of its files has a byte, but for those whose names end in 0. */
 #include "app.h"
 
@@ -14,16 +14,19 @@ static EFI_SYSTEM_TABLE firmware = {.ConfigurationTable = tables, .NumberOfTable
 EFI_SYSTEM_TABLE *ST = &firmware;
 EFI_BOOT_SERVICES *BS;
 
-void each_file(const char *folder, void (*take)(const char *name)) { (void)folder, (void)take; }
-char *read_text(const char *path, const char **wrong) { return (void)path, (void)wrong, NULL; }
+void each_file(const char *folder, void (*call)(const char *name)) { (void)folder, (void)call; }
+char *read_text(const char *path, struct text_room *room, const char **wrong) { return (void)path, (void)room, (void)wrong, NULL; }
+void *take_pages(uint64_t count) { return (void)count, NULL; }
 EFI_HANDLE used_disk(void) { return NULL; }
 EFI_HANDLE find_partition(const char *name, EFI_HANDLE own) { return (void)name, (void)own, NULL; }
 const char *partition_name(EFI_HANDLE device) { return (void)device, ""; }
 const char *use_partition(const char *name) { return (void)name, NULL; }
 
+static int is_measured;
+
 static void show(const bootcore_machine *machine, const menu_entry *entry) {
     char *text = malloc(1 << 20);
-    size_t length = describe(machine, entry, text, 1 << 20);
+    size_t length = describe(machine, entry, is_measured, text, 1 << 20);
     if (length == 0) puts("not described");
     fwrite(text, 1, length, stdout);
     free(text);
@@ -34,7 +37,7 @@ static int cut(const bootcore_machine *machine, const menu_entry *entry) {
     size_t room = 0, length = 0;
     while (length == 0) {
         char *text = malloc(++room);
-        length = describe(machine, entry, text, room);
+        length = describe(machine, entry, is_measured, text, room);
         free(text);
     }
     return length + 1 == room ? 0 : 1;
@@ -59,6 +62,8 @@ int main(int count, char **words) {
     uint32_t line;
     int cuts = count > 1 && strcmp(words[1], "--cut") == 0;
     words += 1 + cuts, count -= 1 + cuts;
+    is_measured = count > 0 && strcmp(words[0], "--measured") == 0;
+    words += is_measured, count -= is_measured;
     int is_told = count > 0 && strcmp(words[0], "--told") == 0;
     words += is_told, count -= is_told;
     bootcore_firmware *firmware = is_told ? &all : &nothing;

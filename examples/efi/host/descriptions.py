@@ -44,6 +44,9 @@ major = 0x3
 minor = 0x0
 tables = "7f040a"
 """  # as host/describe.c has it
+# as it is measured: a Linux image has of UEFI's map its size and address, and nothing of SMBIOS
+MEASURED = TOLD.replace('map = "0001feff"', "map_size = 0x4").replace('tables = "7f040a"', "tables_size = 0x3")
+MEASURED_LINUX = MEASURED[: MEASURED.index("\n[firmware.smbios]")]
 NEW = bytes(36 if i == 20 else 0 if 21 <= i <= 23 else i * 17 & 255 for i in range(36))
 
 
@@ -161,7 +164,7 @@ def main(program: str) -> int:
     compared = 0
     for size, regions, avoided in machines():
         words = [size, *(word for region in regions for word in region), *(word for each in avoided for word in (*each, 0))]
-        for told, text in (([], ""), (["--told"], TOLD)):
+        for told, text in (([], ""), (["--told"], TOLD), (["--measured", "--told"], MEASURED_LINUX)):
             status, came = describe(program, [*told, *words], b"title T\nprotocol linux\nkernel k")
             wanted = (machine_text(size, regions, avoided) + text + avoided_text(avoided)).encode()
             if status or came.partition(b"\n[[entry]]")[0] != wanted.rstrip(b"\n") + b"\n":
@@ -170,13 +173,15 @@ def main(program: str) -> int:
             compared += 1
     machine = 0x100000, [(0x1000, 0x9000, 1)], [(0x3000, 0x1000)]
     for menu, text in entries():
-        words = ["--told", machine[0], *machine[1][0], *machine[2][0], 0]
-        wanted = (machine_text(*machine) + TOLD + avoided_text(machine[2]) + text if text else "not described\n").encode()
-        status, came = describe(program, words, menu)
-        if status or came != wanted or (text and describe(program, ["--cut", *words], menu)[0]):
-            print(f"{menu!r}: {came.decode(errors='replace')}, and not {wanted.decode()}")
-            return 1
-        compared += 1
+        for told in (["--told"], ["--measured", "--told"]):
+            words = [*told, machine[0], *machine[1][0], *machine[2][0], 0]
+            firmware = TOLD if len(told) == 1 else MEASURED if b"multiboot2" in menu else MEASURED_LINUX
+            wanted = (machine_text(*machine) + firmware + avoided_text(machine[2]) + text if text else "not described\n").encode()
+            status, came = describe(program, words, menu)
+            if status or came != wanted or (text and describe(program, ["--cut", *words], menu)[0]):
+                print(f"{menu!r}: {came.decode(errors='replace')}, and not {wanted.decode()}")
+                return 1
+            compared += 1
     print(f"{compared} descriptions")
     return 0
 

@@ -1,6 +1,7 @@
 """For the test: replays an event log, compares with the PCRs that tpm2_pcrread printed, and prints what the boot manager
 measured. A line is the PCR and the event's content; behind a file's path comes the digest that the event has for it, and of
-the handover the digest alone: its content, the description, is written to a file.
+the handover the digest alone: its content, the description, is written to a file, as a program takes it: with what the events
+before it have of UEFI's map and SMBIOS's tables, or, for Linux, with zeros in the map's place.
 
 Of PCR 4 it prints what stands between the two texts of a kernel that is verified, by its digest, and these.
 
@@ -19,6 +20,7 @@ BANKS = {0x04: "sha1", 0x0B: "sha256", 0x0C: "sha384", 0x0D: "sha512"}
 NO_ACTION, TAG_EVENT, BOOT_EVENT, APPLICATION = 0x03, 0x06, 0x0D, 0x80000003
 KINDS = {4: TAG_EVENT, 8: TAG_EVENT, 9: BOOT_EVENT, 12: TAG_EVENT}
 TAGS = {4: 0x62630004, 8: 0x62630008, 12: 0x6263000C}  # of texts and handovers
+COPIED = {0x62630011: b"map", 0x6263000D: b"tables"}  # what a Multiboot2 kernel gets a copy of, by its key, in this order
 
 
 class Event(NamedTuple):
@@ -56,6 +58,22 @@ def content_of(event: Event) -> bytes:
     return event.data[8:]
 
 
+def completed(description: bytes, copied: Dict[bytes, bytes]) -> bytes:
+    is_linux = b'protocol = "linux' in description
+
+    def put(told: "re.Match[bytes]") -> bytes:
+        length = int(told[2], 16)
+        held = bytes(length) if is_linux and told[1] == b"map" else copied.pop(told[1])
+        if len(held) != length:
+            raise ValueError(f"what was measured of {told[1]!r} has not the length that the handover tells")
+        return b'%s = "%s"' % (told[1], held.hex().encode())
+
+    whole = re.sub(rb"^(map|tables)_size = (0x[0-9a-f]+)$", put, description, flags=re.M)
+    if copied:
+        raise ValueError(f"the handover tells nothing of {sorted(copied)}")
+    return whole
+
+
 def replayed(events: List[Event], bank: str) -> List[bytes]:
     size = hashlib.new(bank).digest_size
     pcrs = [(b"\xff" if 17 <= pcr <= 22 else b"\0") * size for pcr in range(24)]
@@ -71,6 +89,7 @@ def main(log: str, pcrs: str, description: str) -> int:
     events = list(events_of(Path(log).read_bytes()))
     faults, compared, bank, is_verified = [], 0, "", False
     wanted: Dict[str, List[bytes]] = {}
+    copied: Dict[bytes, bytes] = {}
     for line in Path(pcrs).read_text().splitlines():
         if named := re.fullmatch(r" *(sha\d+):", line):
             bank = named[1]
@@ -84,6 +103,12 @@ def main(log: str, pcrs: str, description: str) -> int:
             print(4, event.digests["sha256"].hex())
         if event.kind != KINDS.get(event.pcr):
             continue
+        if event.pcr == 12 and (key := COPIED.get(struct.unpack_from("<I", event.data)[0])):
+            copied[key] = event.data[8:]
+            if list(copied) != [it for it in COPIED.values() if it in copied]:
+                faults.append("UEFI's map and SMBIOS's tables are measured in another order")
+            faults += [f"{key!r}: another {bank}" for bank, it in event.digests.items() if hashlib.new(bank, copied[key]).digest() != it]
+            continue
         content = content_of(event)
         text, sha256 = content.rstrip(b"\0").decode(errors="backslashreplace"), event.digests["sha256"].hex()
         if event.pcr in (4, 8):
@@ -94,7 +119,8 @@ def main(log: str, pcrs: str, description: str) -> int:
             print(9, text, sha256)
         else:
             print(12, sha256)
-            Path(description).write_bytes(content)
+            Path(description).write_bytes(completed(content, copied))
+            copied = {}
     length = 32 + struct.unpack_from("<I", Path(log).read_bytes(), 28)[0] + sum(event.length for event in events)
     good = f"replayed {compared} PCRs of {' '.join(wanted)}, from {length} bytes" if compared else "no PCRs"
     print("\n".join(faults or [good]))

@@ -20,8 +20,9 @@ static EFI_GRAPHICS_OUTPUT_PROTOCOL_MODE modes[most_handles];
 static EFI_GRAPHICS_OUTPUT_PROTOCOL outputs[most_handles];
 static UINTN handle_count;
 static int console_at, has_pages, freed;
-static EFI_STATUS state_status, setup_status;
-static uint8_t state, setup;
+static EFI_STATUS state_status, setup_status, shim_status = EFI_NOT_FOUND;
+static uint8_t state, setup, shim;
+static UINT32 shim_attributes;
 
 static EFI_STATUS EFIAPI find_handles(EFI_LOCATE_SEARCH_TYPE how, EFI_GUID *id, VOID *key, UINTN *count,
                                       EFI_HANDLE **handles) {
@@ -41,10 +42,13 @@ static EFI_STATUS EFIAPI find_protocol(EFI_HANDLE handle, EFI_GUID *id, VOID **f
 }
 static EFI_STATUS EFIAPI release(VOID *handles) { return freed++, free(handles), EFI_SUCCESS; }
 static EFI_STATUS EFIAPI get_variable(CHAR16 *name, EFI_GUID *vendor, UINT32 *attributes, UINTN *size, VOID *byte) {
-    (void)vendor, (void)attributes, (void)size;
-    int is_setup = name[1] == 'e' && name[2] == 't';
-    *(uint8_t *)byte = is_setup ? setup : state;
-    return is_setup ? setup_status : state_status;
+    static const EFI_GUID shim_vendor = {0x605dab50, 0xe046, 0x4300, {0xab, 0xb6, 0x3d, 0xd8, 0x10, 0xdd, 0x8b, 0x23}};
+    int is_setup = name[1] == 'e' && name[2] == 't', is_shim = *name == 'M';
+    expect("a byte is asked for", *size == 1);
+    *(uint8_t *)byte = is_shim ? shim : is_setup ? setup : state;
+    if (is_shim) expect("shim's variable has its vendor", memcmp(vendor, &shim_vendor, sizeof shim_vendor) == 0);
+    if (is_shim) *attributes = shim_attributes;
+    return is_shim ? shim_status : is_setup ? setup_status : state_status;
 }
 
 static uint64_t kept_pages[65536 / 8];
@@ -174,6 +178,22 @@ static void check_secure_boot(void) {
         find_firmware();
         expect("the state of Secure Boot", told_of(1)->efi.secure_boot == cases[i].wanted);
     }
+    /* also turned off in shim; of shim, only what is volatile, there, and 1 counts */
+    static const struct { EFI_STATUS status; uint8_t state, is_off; UINT32 attributes; } of_shim[] = {
+        {EFI_SUCCESS, 1, 1, EFI_VARIABLE_BOOTSERVICE_ACCESS | EFI_VARIABLE_RUNTIME_ACCESS}, {EFI_SUCCESS, 1, 1, EFI_VARIABLE_BOOTSERVICE_ACCESS},
+        {EFI_SUCCESS, 1, 0, EFI_VARIABLE_BOOTSERVICE_ACCESS | EFI_VARIABLE_NON_VOLATILE}, {EFI_SUCCESS, 1, 0, 7}, {EFI_SUCCESS, 0, 0, 6},
+        {EFI_SUCCESS, 2, 0, 6}, {EFI_NOT_FOUND, 1, 0, 6}, {EFI_BUFFER_TOO_SMALL, 1, 0, 6},
+    };
+    state_status = setup_status = EFI_SUCCESS, setup = 0;
+    for (size_t i = 0; i < 2 * sizeof of_shim / sizeof *of_shim; i++) {
+        state = i % 2;
+        shim_status = of_shim[i / 2].status, shim = of_shim[i / 2].state, shim_attributes = of_shim[i / 2].attributes;
+        find_firmware();
+        const int is_on = state && !of_shim[i / 2].is_off;
+        expect("who turned shim's checks off turned Secure Boot off", told_of(1)->efi.secure_boot == (is_on ? 3 : 2));
+        expect("and then nobody is asked for a kernel", is_secure_boot_on() == is_on);
+    }
+    shim_status = EFI_NOT_FOUND;
 }
 
 static int is_kept(const bootcore_efi *efi, UINTN count) {
@@ -194,7 +214,11 @@ static void check_map(void) {
     ranges[7].Type = EfiBootServicesData;
     told_of(40);
     expect("a map that is alike stays as it was", is_kept(efi, 40) && kept_pages[7 * sizeof *ranges / 8] % 256 == EfiConventionalMemory);
-    expect("what is avoided stays too", map.firmware.avoided_count == 0);
+    expect("what is avoided is what the firmware uses now", map.firmware.avoided_count == 1 && map.firmware.avoided[0].base == 14 * page);
+    ranges[7].Type = EfiConventionalMemory;
+    told_of(40);
+    expect("and no more what it used before", is_kept(efi, 40) && map.firmware.avoided_count == 0);
+    ranges[7].Type = EfiBootServicesData;
     find_firmware();
     told_of(40);
     expect("another attempt begins with the map as it is", is_kept(efi, 40) && memcmp(kept_pages, ranges, 40 * sizeof *ranges) == 0);

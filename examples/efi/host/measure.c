@@ -1,5 +1,5 @@
 /* On the host: what comes of each way in which a TPM fails, with and without a menu file: whether something
-   may be started all the same, and what the screen says. */
+   may be started all the same, and what the screen says; and the events of a handover. */
 #define _GNU_SOURCE
 #include "app.h"
 #include "tcg2.h"
@@ -21,9 +21,30 @@ static void expect(const char *what, int is_good) {
 static size_t event_count, failed_from; /* events; the first one that fails, and how it does */
 static EFI_STATUS failure;
 
+enum { most_noted = 4 };
+static struct noted {
+    uint32_t tag;
+    size_t length;      /* of the content */
+    int measures_itself; /* or else the image's digest */
+} noted[most_noted];
+static size_t noted_count;
+
+static void note(UINT64 bytes, UINT64 length, const tcg2_event *event) {
+    const uint8_t *data = (const uint8_t *)(event + 1);
+    tcg2_tag tag;
+    memcpy(&tag, data, sizeof tag);
+    struct noted *made = &noted[noted_count++ % most_noted];
+    *made = (struct noted){tag.id, tag.size, bytes == (UINTN)(data + sizeof tag) && length == tag.size};
+    expect("a tag has the event's size, and its content is measured, or a digest",
+           event->type == tag_event && event->size == sizeof *event + sizeof tag + tag.size &&
+           (made->measures_itself || (length == 32 && *(const uint8_t *)(UINTN)bytes == 7)));
+    if (made->measures_itself) expect("the content is what is copied", data[sizeof tag] == 'a' + tag.id % 2);
+}
+
 static EFI_STATUS EFIAPI extend_event(tcg2 *this, UINT64 flags, UINT64 bytes, UINT64 length, tcg2_event *event) {
-    (void)flags, (void)bytes, (void)length;
+    (void)flags;
     expect("an event is one of the protocol's version, of this TPM", this == tpm && event->size >= sizeof *event);
+    if (event->pcr == 12) note(bytes, length, event);
     return event_count++ < failed_from ? EFI_SUCCESS : failure;
 }
 
@@ -49,8 +70,9 @@ struct boot_state boot;
 static char said[256]; /* the last sentence of the screen */
 void print_sentence(const char *about, const char *sentence) { snprintf(said, sizeof said, "%s: %s", about, sentence); }
 void print(const char *form, ...) { (void)form; }
-size_t describe(const bootcore_machine *machine, const menu_entry *entry, char *text, size_t room) {
+size_t describe(const bootcore_machine *machine, const menu_entry *entry, int is_measured, char *text, size_t room) {
     (void)machine, (void)entry;
+    expect("a handover is described as it is measured", is_measured);
     memset(text, '#', room > 4 ? 4 : 0);
     return room > 4 ? 4 : 0;
 }
@@ -94,6 +116,42 @@ static void check_boot(enum menu_kind kind, const char *words) {
     expect("all is measured that can be", !is_booted || event_count == all);
 }
 
+/* ---- a handover's events */
+
+static void check_handover(uint32_t protocol, size_t map_length, size_t smbios_length) {
+    static uint8_t map[max_text + 1], tables[max_text + 1];
+    const menu_entry entry = {.title = "T", .core = {.protocol = protocol}};
+    const int is_copied = protocol == BOOTCORE_PROTOCOL_MULTIBOOT2;
+    const size_t count = 1u + (is_copied && map_length != 0) + (is_copied && smbios_length != 0);
+    const int is_too_long = is_copied && (map_length > max_text || smbios_length > max_text);
+    *map = 'a' + (0x62630011 & 1), *tables = 'a' + (0x6263000d & 1);
+    failed_from = SIZE_MAX, noted_count = 0;
+    boot.map.firmware.efi.map = (bootcore_bytes){map, map_length};
+    boot.map.firmware.smbios.tables = (bootcore_bytes){tables, smbios_length};
+    find_tpm();
+    const char *wrong = measure_handover(&entry);
+    expect("what is too long for an event is not measured", (wrong != NULL) == is_too_long);
+    expect("a handover counts as measured by its own event", is_handover_measured() == !is_too_long);
+    if (is_too_long) return;
+    expect("Multiboot2's copies are events of their own, and Linux has none", noted_count == count);
+    if (is_copied && map_length) expect("UEFI's map is the first one", noted[0].tag == 0x62630011 && noted[0].length == map_length);
+    if (is_copied && smbios_length)
+        expect("SMBIOS comes behind it", noted[count - 2].tag == 0x6263000d && noted[count - 2].length == smbios_length);
+    expect("the description is the last one, with the image's digest",
+           noted[count - 1].tag == 0x6263000c && !noted[count - 1].measures_itself && noted[count - 1].length == 4);
+}
+
+static void check_handovers(void) {
+    static const size_t lengths[] = {0, 1, 5000, max_text, max_text + 1};
+    for (uint32_t protocol = 1; protocol <= 3; protocol++)
+        for (int at = 0; at < 25; at++) {
+            int status = 1;
+            pid_t boot_id = fork();
+            if (boot_id == 0) exit((check_handover(protocol, lengths[at / 5], lengths[at % 5]), 0));
+            expect("a process of a handover ends well", waitpid(boot_id, &status, 0) == boot_id && status == 0);
+        }
+}
+
 int main(void) {
     static const struct {
         EFI_STATUS status;
@@ -112,5 +170,6 @@ int main(void) {
         }
         expect("a process ends well", waitpid(boot_id, &status, 0) == boot_id && status == 0);
     }
+    check_handovers();
     return 0;
 }

@@ -37,25 +37,36 @@ static char *read_path(const char *path) {
 
 /* ---- what files.c has in the boot manager */
 
-static char *texts[64];
-static int text_count;
+/* A room is a block of its own, so that a byte beyond its end is found. */
+static void *rooms[BOOTCORE_MAX_ENTRIES + 1];
+static size_t room_count;
+
+void *take_pages(uint64_t count) {
+    if (room_count == sizeof rooms / sizeof rooms[0] || count * page != 2 * max_text) exit(4);
+    return rooms[room_count++] = malloc(2 * max_text);
+}
 
 static const char *used; /* the partition, NULL: none is */
 
 static int is_extended(const char *path) { return strstr(path, "extended/") != NULL; }
 
-void each_file(const char *folder, void (*take)(const char *name)) {
+void each_file(const char *folder, void (*call)(const char *name)) {
     (void)folder;
     for (int i = 1; i < path_count; i++)
-        if (is_extended(paths[i]) == (used != NULL)) take(name_of(paths[i]));
+        if (is_extended(paths[i]) == (used != NULL)) call(name_of(paths[i]));
 }
 
-char *read_text(const char *path, const char **wrong) {
+char *read_text(const char *path, struct text_room *room, const char **wrong) {
     *wrong = "it is no text";
     if (used != NULL && strncmp(path, used, strlen(used)) != 0) exit(3);
-    for (int i = 1; i < path_count; i++)
-        if (strcmp(name_of(paths[i]), name_of(path)) == 0 && is_extended(paths[i]) == (used != NULL))
-            return texts[text_count++] = read_path(paths[i]);
+    for (int i = 1; i < path_count; i++) {
+        if (strcmp(name_of(paths[i]), name_of(path)) != 0 || is_extended(paths[i]) != (used != NULL)) continue;
+        char *text = read_path(paths[i]), *kept_there = (char *)room->next;
+        if (text == NULL || strlen(text) >= room->left) return free(text), NULL;
+        strcpy(kept_there, text);
+        room->next += strlen(text) + 1, room->left -= strlen(text) + 1;
+        return free(text), kept_there;
+    }
     return NULL;
 }
 
@@ -100,7 +111,7 @@ static void read_all(int shows) {
     const char *wrong = text ? read_menu(text, &line) : "no text";
     if (wrong == NULL) list_attempts(1);
     if (shows) show(wrong, line);
-    while (text_count > 0) free(texts[--text_count]);
+    while (room_count > 0) free(rooms[--room_count]);
     free(text);
 }
 
@@ -108,7 +119,7 @@ int main(int count, char **words) {
     int cuts = count > 1 && strcmp(words[1], "--cut") == 0;
     paths = words + 1 + cuts;
     path_count = count - 1 - cuts;
-    if (path_count < 1 || path_count > 64) return 2;
+    if (path_count < 1) return 2;
     firmware.NumberOfTableEntries = 2;
     for (most = 0; cuts && most <= longest; most++) read_all(0);
     most = 1 << 20;

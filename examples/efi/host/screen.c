@@ -104,7 +104,7 @@ static void begin(uint32_t entries, uint32_t seconds) {
     for (menu.entry_count = 0; menu.entry_count < entries; menu.entry_count++) {
         sprintf(titles[menu.entry_count], "Entry %u", menu.entry_count);
         menu.entries[menu.entry_count].title = titles[menu.entry_count];
-        menu.entries[menu.entry_count].core.protocol = 1 + menu.entry_count % 7;
+        menu.entries[menu.entry_count].core.protocol = 1 + menu.entry_count % 4;
         menu.entries[menu.entry_count].core.line.bytes = "";
     }
     menu.seconds = seconds;
@@ -213,75 +213,6 @@ static void check_menu(uint32_t entries) {
     expect("without a key the time runs out", choose_entry() == chosen_by_time && now == 30000000);
 }
 
-/* ---- the line editor, against a line of one number a character */
-
-static uint32_t model[BOOTCORE_MAX_LINE];
-static size_t model_length, cursor;
-
-static void look_at_line(void) {
-    enum { room = 72 * 19 };
-    const size_t start = cursor / room * room;
-    if (column == 0) return; /* the menu, before and behind */
-    for (size_t i = 0; i < room; i++) {
-        uint32_t code = start + i < model_length ? model[start + i] : ' ';
-        expect("the line stands on the screen", cells[4 + i / 72][4 + i % 72] == code);
-    }
-    expect("the cursor stands at its letter", row == 4 + (cursor - start) / 72 && column == 4 + cursor % 72);
-    if (next_key == key_count) return;
-    const EFI_INPUT_KEY *key = &keys[next_key];
-    if (key->ScanCode == SCAN_LEFT) cursor -= cursor > 0;
-    if (key->ScanCode == SCAN_RIGHT) cursor += cursor < model_length;
-    if (key->ScanCode == SCAN_HOME) cursor = 0;
-    if (key->ScanCode == SCAN_END) cursor = model_length;
-    if (key->UnicodeChar == '\b' ? cursor > 0 : key->ScanCode == SCAN_DELETE && cursor < model_length) {
-        cursor -= key->UnicodeChar == '\b';
-        model_length--;
-        for (size_t i = cursor; i < model_length; i++) model[i] = model[i + 1];
-    }
-    if (key->UnicodeChar >= ' ') {
-        for (size_t i = model_length++; i > cursor; i--) model[i] = model[i - 1];
-        model[cursor++] = key->UnicodeChar;
-    }
-}
-
-static void check_editor(size_t characters) {
-    static const uint32_t drawn[] = {'a', ' ', 0xe9, 0x20ac, 0xffff, 0x7ff, 0x800};
-    static const UINT16 codes[] = {SCAN_LEFT, SCAN_RIGHT, SCAN_HOME, SCAN_END, SCAN_DELETE};
-    static char text[BOOTCORE_MAX_LINE + 1], wanted[BOOTCORE_MAX_LINE + 1];
-    size_t length = 0;
-    begin(3, no_limit);
-    for (model_length = 0; model_length < characters; model_length++) {
-        model[model_length] = drawn[rand() % 7];
-        length += write_utf8(model[model_length], text + length);
-    }
-    menu.entries[0].core.line = (bootcore_bytes){text, length};
-    cursor = model_length;
-    press(0, 'e');
-    for (int i = 0; i < 1000; i++) {
-        int drawn_key = rand() % (characters > 1000 ? 200 : 30); /* a long line is not at one end always */
-        if (drawn_key == 2 || drawn_key == 3) press(codes[drawn_key], 0);
-        else if (drawn_key % 4 == 0) press(0, '\b');
-        else if (drawn_key % 4 == 1) press(0, (CHAR16)(' ' + rand() % 95));
-        else press(codes[rand() % 3 == 2 ? 4 : rand() % 2], 0);
-    }
-    press(0, '\r');
-    look = look_at_line;
-    expect("a line is edited", choose_entry() == chosen_with_line && next_key == key_count);
-    expect("no row of the line goes beyond the screen", wraps == 0);
-    for (size_t i = length = 0; i < model_length; i++) length += write_utf8(model[i], wanted + length);
-    wanted[length] = 0;
-    expect("each key does to the line what it says, whole characters at a time", strcmp(edited, wanted) == 0);
-}
-
-/* Bytes that are no UTF-8 are kept, and each is edited as one. */
-static void check_other_bytes(void) {
-    begin(1, no_limit);
-    menu.entries[0].core.line = (bootcore_bytes){"\xc3x\xff\xe2\x82y", 6};
-    press(0, 'e');
-    press(SCAN_LEFT, 0), press(0, '\b'), press(0, '\b'), press(SCAN_HOME, 0), press(SCAN_DELETE, 0), press(0, '\r');
-    expect("a line that is no UTF-8 is edited", choose_entry() == chosen_with_line && strcmp(edited, "x\xffy") == 0);
-}
-
 /* ---- machines that lack something */
 
 static void check_lacking(void) {
@@ -293,14 +224,14 @@ static void check_lacking(void) {
             if (has_no_in) table.ConIn = NULL;
             wait_fails = fails, timer_fails = has_no_timer, calls = 0;
             if (!presses && which && !has_no_in) continue; /* a person is waited for */
-            if (presses) press(SCAN_DOWN, 0), press(0, 'e'), press(0, 'x'), press(0, '\r');
+            if (presses) press(SCAN_DOWN, 0), press(0, 'e'), press(0, '\r');
             if (which == 2) {
                 int pressed = wait_key(no_limit);
                 expect("a key ends a message, or the time for it", pressed == !has_no_in && now == (pressed ? now : 300000000));
             } else {
                 enum choice chosen = choose_entry();
                 if (presses && !has_no_in)
-                    expect("keys choose and edit", chosen == chosen_with_line && menu.chosen == 1 && strcmp(edited, "x") == 0);
+                    expect("keys choose", chosen == chosen_by_hand && menu.chosen == 1);
                 else if (which) expect("where nobody can choose, the firmware goes on", chosen == to_next && now == 300000000);
                 else expect("where nobody chooses, the time runs out", chosen == chosen_by_time && now == 50000000);
             }
@@ -358,10 +289,6 @@ int main(void) {
     check_menu(5);
     check_menu(18);
     check_menu(32);
-    check_editor(0);
-    check_editor(200);
-    for (int i = 0; i < 5; i++) check_editor(1368 + (size_t)i * 3 - 6);
-    check_other_bytes();
     check_lacking();
     check_shown();
     return failed;

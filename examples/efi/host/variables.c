@@ -11,8 +11,7 @@ static void expect(const char *what, int is_good) {
     if (!is_good) printf("%s\n", what), failed = 1;
 }
 
-/* ---- the firmware: variables by their names, each in a block of its own. Those of the names OsIndications and
-   OsIndicationsSupported are the firmware's own */
+/* ---- the firmware: variables by their names, each in a block of its own */
 
 enum { most = 16, told = 6, kept_too = 7 };
 
@@ -25,10 +24,6 @@ static int refuses; /* to write */
 static const EFI_GUID vendor = {
     0x4a67b082, 0x0a4c, 0x41cf, {0xb6, 0xc7, 0x44, 0x0b, 0x29, 0xbb, 0x8c, 0x4f}};
 
-static const EFI_GUID *vendor_of(const CHAR16 *name) {
-    static const EFI_GUID global = EFI_GLOBAL_VARIABLE;
-    return *name == 'O' ? &global : &vendor;
-}
 static int at_name(const CHAR16 *name) {
     char plain[64] = "";
     int i = 0;
@@ -41,7 +36,7 @@ static EFI_STATUS EFIAPI get(CHAR16 *name, EFI_GUID *id, UINT32 *attributes, UIN
     int at = at_name(name);
     UINTN room = *size;
     (void)attributes;
-    if (variables[at].bytes == NULL || memcmp(id, vendor_of(name), sizeof *id) != 0) return EFI_NOT_FOUND;
+    if (variables[at].bytes == NULL || memcmp(id, &vendor, sizeof *id) != 0) return EFI_NOT_FOUND;
     *size = variables[at].size;
     if (room < *size) return EFI_BUFFER_TOO_SMALL;
     memcpy(bytes, variables[at].bytes, *size);
@@ -50,9 +45,8 @@ static EFI_STATUS EFIAPI get(CHAR16 *name, EFI_GUID *id, UINT32 *attributes, UIN
 static EFI_STATUS EFIAPI set(CHAR16 *name, EFI_GUID *id, UINT32 attributes, UINTN size, VOID *bytes) {
     int at = at_name(name);
     if (refuses) return EFI_OUT_OF_RESOURCES;
-    int is_told = size && vendor_of(name) == &vendor;
-    expect("the interface's are written for this boot, and removed as they were", attributes == (is_told ? told : kept_too));
-    expect("a variable has its vendor", memcmp(id, vendor_of(name), sizeof *id) == 0);
+    expect("the interface's are written for this boot, and removed as they were", attributes == (size ? told : kept_too));
+    expect("a variable has its vendor", memcmp(id, &vendor, sizeof *id) == 0);
     free(variables[at].bytes);
     variables[at].bytes = size ? malloc(size) : NULL;
     variables[at].size = size;
@@ -219,43 +213,8 @@ static void check_written(void) {
     forget();
 }
 
-static void put_bits(const CHAR16 *name, uint64_t bits) {
-    int at = at_name(name);
-    variables[at].bytes = malloc(variables[at].size = sizeof bits);
-    memcpy(variables[at].bytes, &bits, sizeof bits);
-}
-
-static int has_bits(const CHAR16 *name, uint64_t bits) {
-    int at = at_name(name);
-    return variables[at].bytes != NULL && variables[at].size == sizeof bits && memcmp(variables[at].bytes, &bits, sizeof bits) == 0;
-}
-
-static void check_ends(void) {
-    EFI_LOADED_IMAGE self = {.FilePath = NULL};
-    begin();
-    for (uint32_t i = 0; i < 3; i++) menu.entries[2 + i] = (menu_entry){.core.protocol = reboot + i};
-    write_variables(&self);
-    expect("what ends the machine has the ids that systemd-boot gives it",
-           HAS(L"LoaderEntries", "auto-menu-0\0auto-menu-1\0auto-reboot\0auto-poweroff\0auto-reboot-to-firmware-setup"));
-    begin();
-    expect("a firmware that has no setup is not asked", !ask_for_setup() && !is_there(L"OsIndications"));
-    put_bits(L"OsIndicationsSupported", ~(uint64_t)1);
-    expect("a firmware that can't be asked for its setup is not", !ask_for_setup() && !is_there(L"OsIndications"));
-    begin();
-    put_bits(L"OsIndicationsSupported", 1);
-    expect("a firmware is asked for its setup", ask_for_setup() && has_bits(L"OsIndications", 1));
-    begin();
-    put_bits(L"OsIndicationsSupported", 0xff);
-    put_bits(L"OsIndications", 0x44);
-    expect("what it was asked for before stays", ask_for_setup() && has_bits(L"OsIndications", 0x45));
-    refuses = 1;
-    expect("a firmware may refuse to be asked", !ask_for_setup());
-    forget();
-}
-
 int main(void) {
     check_choices();
-    check_ends();
     check_limits();
     check_written();
     return failed;
