@@ -5,10 +5,10 @@ import re
 import tomllib
 from typing import Any, Dict, List, NamedTuple, NoReturn, Optional, Tuple
 
-from firmware import Avoided, Firmware, firmware_lines, firmware_of
+from firmware import Firmware, Region, firmware_lines, firmware_of, regions_of
 from limits import DESCRIPTION_BYTES
-from one_form import bytes_value, tables, text_value, value
 from reading import fault, shown
+from tables import bytes_value, pair_lines, tables, text_value, value
 
 KINDS = ["usable", "reserved", "acpi", "nvs", "bad"]
 PROTOCOLS = ["multiboot2", "linux", "linux64"]
@@ -19,12 +19,6 @@ ALL_FRAMES = 0xFFFFF000  # no part ends above it
 HEADER = r"\[\[(?:region|avoid|entry|entry\.module)\]\]|\[firmware(?:\.(?:screen|efi|smbios))?\]"
 NUMBER, TEXT = "0x[0-9a-f]+", r'"(?:[^"\\]|\\.)*"'
 LINE = re.compile(rf"(?:{HEADER}|[a-z_0-9]+ = (?:{NUMBER}|{TEXT}|\[{NUMBER}, {NUMBER}\]))?")
-
-
-class Region(NamedTuple):
-    base: int
-    length: int
-    kind: str
 
 
 class Module(NamedTuple):
@@ -50,7 +44,7 @@ class Described(NamedTuple):
         return self.initrd.split("\n") if self.initrd is not None else []
 
 
-def pool_of(size: int, regions: List[Region], avoided: List[Avoided]) -> Tuple[int, int]:
+def pool_of(size: int, regions: List[Region], avoided: List[Region]) -> Tuple[int, int]:
     """The longest run of whole frames that a part may lie in, the lowest of equally long ones. The image does not depend on it."""
     longest = (0, 0)
     for region in regions:
@@ -80,7 +74,7 @@ def written(described: Described) -> bytes:
     start, end = pool_of(described.size, described.regions, described.firmware.avoided)
     lines = [f"size = {described.size:#x}", f"pool = [{start:#x}, {end:#x}]", ""]
     for region in described.regions:
-        lines += ["[[region]]", f"base = {region.base:#x}", f"length = {region.length:#x}", f'kind = "{region.kind}"', ""]
+        lines += ["[[region]]", *pair_lines(region._asdict()), ""]
     lines += firmware_lines(described.firmware) + entry_lines(described)
     return "".join(line + "\n" for line in lines).encode()
 
@@ -88,27 +82,17 @@ def written(described: Described) -> bytes:
 # ---- the reader
 
 
-def regions_of(table: Dict[str, Any]) -> List[Region]:
-    found = [Region(value(it, "base", int), value(it, "length", int), value(it, "kind", str)) for it in tables(table, "region")]
-    end, before = 0, ""
-    for region in found:
-        if region.kind not in KINDS or region.length <= 0 or region.base < end or (region.base == end and region.kind == before):
-            fault(f"its region at {region.base:#x} is empty, out of order, or one with that before it")
-        end, before = region.base + region.length, region.kind
-    return found
-
-
 def entry_of(table: Dict[str, Any], size: int, regions: List[Region], firmware: Firmware) -> Described:
-    protocol = value(table, "protocol", str)
+    protocol = value(table, "protocol", str, "it")
     for_multiboot2 = protocol == "multiboot2"
     if protocol not in PROTOCOLS:
         fault(f"its protocol is {shown(protocol.encode())}")
-    copies = [bytes_value(table, key) if key in table and for_multiboot2 else None for key in ("rsdp_old", "rsdp_new")]
-    modules = [Module(value(it, "file", str), value(it, "line", str)) for it in tables(table, "module") if for_multiboot2]
-    initrd = value(table, "initrd", str) if "initrd" in table and not for_multiboot2 else None
+    copies = [bytes_value(table, key, "it") if key in table and for_multiboot2 else None for key in ("rsdp_old", "rsdp_new")]
+    modules = [Module(value(it, "file", str, "it"), value(it, "line", str, "it")) for it in tables(table, "module", "it") if for_multiboot2]
+    initrd = value(table, "initrd", str, "it") if "initrd" in table and not for_multiboot2 else None
     if initrd == "":
         fault("it has an empty initrd")
-    title, kernel, line = (value(table, key, str) for key in ("title", "kernel", "line"))
+    title, kernel, line = (value(table, key, str, "it") for key in ("title", "kernel", "line"))
     return Described(size, regions, firmware, title, protocol, kernel, line, copies[0], copies[1], modules, initrd)
 
 
@@ -123,13 +107,14 @@ def read_description(text: bytes) -> Described:
         fault("it is no text of TOML")
     if other is not None:
         fault_in_line(text.split(b"\n"), other)
-    entries = tables(table, "entry")
+    entries = tables(table, "entry", "it")
     if len(entries) != 1:
         fault(f"it has {len(entries)} entries")
-    size = value(table, "size", int)
+    size = value(table, "size", int, "it")
     if size != SIZE:
         fault(f"its size is {size:#x}, and that of the boot manager is {SIZE:#x}")
-    described = entry_of(entries[0], size, regions_of(table), firmware_of(table))
+    firmware = firmware_of(table, entries[0].get("protocol") != "multiboot2")
+    described = entry_of(entries[0], size, regions_of(table, "region", KINDS), firmware)
     wanted = written(described)
     if text != wanted:
         came, should = text.split(b"\n"), wanted.split(b"\n")

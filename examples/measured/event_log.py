@@ -1,7 +1,6 @@
 """The event log of a firmware, in the crypto-agile form of the TCG PC Client Platform Firmware Profile, and its replay."""
 
 import hashlib
-import struct
 from functools import partial
 from typing import Any, Callable, Dict, Iterable, List, NamedTuple
 
@@ -20,7 +19,6 @@ SIZES = {"sha1": 20, "sha256": 32, "sha384": 48, "sha512": 64, "sha3_256": 32, "
 NO_ACTION = 3  # EV_NO_ACTION: it tells something, and extends no PCR
 PCR_COUNT = 24
 LOCALITY = b"StartupLocality\0"
-MOST_WAYS = 8  # to join a log and its final events
 # what the firmware measures into PCR 5 as it ends: a log that was read before lacks it
 EXIT_CALLED = b"Exit Boot Services Invocation"
 EXIT_FAILED = b"Exit Boot Services Returned with Failure"
@@ -37,6 +35,10 @@ class Event(NamedTuple):
     @property
     def name(self) -> str:
         return f"PCR {self.pcr}, event {self.number}"
+
+    def has(self, measured: bytes) -> bool:
+        """Whether this was measured, by all banks: a kernel can tell what it likes to one that its firmware never extends."""
+        return all(digest(bank, measured) == came for bank, came in self.digests.items())
 
 
 class Log:
@@ -66,18 +68,15 @@ def bank_name(number: int) -> str:
 # ---- the reader
 
 
-def read_logs(log: bytes, final: bytes = b"") -> List[Log]:
-    """A log, and the final events where there are some. Their first ones may stand in the log already; where events are equal it
-    is open how many do. So there may be several ways to join them, and only PCRs tell which one is right."""
+def read_log(log: bytes) -> Log:
     fields = Fields(log, "the log", "little")
     sizes = read_first_event(fields)
-    reader = EventReader(sizes)
     events: List[Event] = []
     while not fields.is_unused():
-        events.append(reader.read(fields, len(events) + 1))
-    added = read_final_events(final, reader) if final else []
-    banks = [bank_name(bank) for bank in sizes]
-    return [Log(banks, joined(events, added[shared:])) for shared in overlaps(events, added)]
+        if len(events) == EVENTS:
+            raise BadInput(f"the log has more than {EVENTS} events")
+        events.append(read_event(fields, len(events) + 1, sizes))
+    return Log([bank_name(bank) for bank in sizes], events)
 
 
 def read_first_event(fields: Fields) -> Dict[int, int]:
@@ -101,93 +100,20 @@ def read_first_event(fields: Fields) -> Dict[int, int]:
     return sizes
 
 
-class EventReader:
-    def __init__(self, sizes: Dict[int, int]) -> None:
-        self.sizes, self.names = sizes, {bank: bank_name(bank) for bank in sizes}
-        # an event whose digests come in the order of the first event's banks, as firmwares write them: where which bytes stand
-        self.usual = struct.Struct("<II4x" + "".join(f"2x{size}s" for size in sizes.values()) + "I")
-        self.marks = [(8, struct.pack("<I", len(sizes)))]
-        place = 12
-        for bank, size in sizes.items():
-            self.marks.append((place, struct.pack("<H", bank)))
-            place += 2 + size
-
-    def read(self, fields: Fields, number: int) -> Event:
-        if number > EVENTS:
-            raise BadInput(f"{fields.what} has more than {EVENTS} events")
-        held, at = fields.held, fields.at
-        for place, mark in self.marks:
-            if not held.startswith(mark, at + place):
-                return self.read_any(fields, number)
-        if at + self.usual.size > len(held):
-            return self.read_any(fields, number)
-        pcr, kind, *digests, length = self.usual.unpack_from(held, at)
-        if pcr >= PCR_COUNT:
-            return self.read_any(fields, number)
-        fields.at = at + self.usual.size
-        return Event(number, pcr, kind, dict(zip(self.names.values(), digests)), fields.take(length))
-
-    def read_any(self, fields: Fields, number: int) -> Event:
-        pcr, kind, count = fields.number(4), fields.number(4), fields.number(4)
-        digests: Dict[str, bytes] = {}
-        for _ in range(count):
-            bank = fields.number(2)
-            if bank not in self.sizes or self.names[bank] in digests:
-                raise BadInput(f"event {number} of the log has the bank {bank_name(bank)}, which its first event lacks, or twice")
-            digests[self.names[bank]] = fields.take(self.sizes[bank])
-        if len(digests) != len(self.sizes) or (pcr >= PCR_COUNT and kind != NO_ACTION):
-            raise BadInput(f"event {number} of the log lacks a bank's digest, or is of no PCR")
-        return Event(number, pcr, kind, digests, fields.take(fields.number(4)))
-
-
-def read_final_events(table: bytes, reader: EventReader) -> List[Event]:
-    fields = Fields(table, "the final events table", "little")
-    if fields.number(8) != 1:
-        raise BadInput("the final events table is of another version than 1")
-    count = fields.number(8)
-    events: List[Event] = []
-    while len(events) < count:
-        events.append(reader.read(fields, len(events) + 1))
-    if not fields.is_unused():
-        fields.end()
-    return events
-
-
-def overlaps(events: List[Event], final: List[Event]) -> List[int]:
-    """With how many of the final events the log may end, the most first: by the borders of Knuth, Morris and Pratt."""
-    if not final:
-        return [0]
-    ours, theirs = [event[1:] for event in events[-len(final) :]], [event[1:] for event in final]
-    borders: List[int] = []
-    at = 0
-
-    def advanced(at: int, event: tuple) -> int:
-        while at and (at == len(theirs) or theirs[at] != event):
-            at = borders[at - 1]
-        return at + (theirs[at] == event)
-
-    for place, event in enumerate(theirs):
-        at = advanced(at, event) if place else 0
-        borders.append(at)
-    at = 0
-    for event in ours:
-        at = advanced(at, event)
-    found = [at]
-    while found[-1] and len(found) < MOST_WAYS:
-        found.append(borders[found[-1] - 1])
-    return found
-
-
-def joined(events: List[Event], added: List[Event]) -> List[Event]:
-    return events + [event._replace(number=len(events) + 1 + i) for i, event in enumerate(added)]
+def read_event(fields: Fields, number: int, sizes: Dict[int, int]) -> Event:
+    pcr, kind, count = fields.number(4), fields.number(4), fields.number(4)
+    digests: Dict[str, bytes] = {}
+    for _ in range(count):
+        bank = fields.number(2)
+        if bank not in sizes or bank_name(bank) in digests:
+            raise BadInput(f"event {number} of the log has the bank {bank_name(bank)}, which its first event lacks, or twice")
+        digests[bank_name(bank)] = fields.take(sizes[bank])
+    if len(digests) != len(sizes) or (pcr >= PCR_COUNT and kind != NO_ACTION):
+        raise BadInput(f"event {number} of the log lacks a bank's digest, or is of no PCR")
+    return Event(number, pcr, kind, digests, fields.take(fields.number(4)))
 
 
 # ---- replay
-
-
-def first_value(pcr: int, bank: str) -> bytes:
-    """After a reset; PCR 17 to 22 wait for a launch of a measured environment."""
-    return (b"\xff" if 17 <= pcr <= 22 else b"\0") * SIZES[bank]
 
 
 def extended(bank: str, value: bytes, digests: Iterable[bytes]) -> bytes:
@@ -198,7 +124,7 @@ def extended(bank: str, value: bytes, digests: Iterable[bytes]) -> bytes:
 
 
 def replayed(log: Log, bank: str, pcr: int) -> bytes:
-    value = first_value(pcr, bank)
+    value = (b"\xff" if 17 <= pcr <= 22 else b"\0") * SIZES[bank]  # 17 to 22 wait for a launch of a measured environment
     if pcr == 0:
         value = value[:-1] + bytes([log.locality])
     return extended(bank, value, (event.digests[bank] for event in log.of_pcr(pcr)))

@@ -1,8 +1,8 @@
-"""PCR values: as `tpm2_pcrread` prints them, or as it and `tpm2_quote` write them, one behind the other or with their numbers."""
+"""PCR values: as `tpm2_pcrread` prints them, or as `tpm2_quote` writes them, with their numbers."""
 
 import re
 from pathlib import Path
-from typing import Dict, List, Optional, Tuple
+from typing import Dict, List, Tuple
 
 from event_log import PCR_COUNT, SIZES, bank_name
 from limits import SMALL_BYTES
@@ -13,23 +13,17 @@ Selection = List[Tuple[str, List[int]]]  # banks in the quote's order, with thei
 
 BANK_LINE = re.compile(r"\s*([a-z]\w+)\s*:\s*")
 VALUE_LINE = re.compile(r"\s*([0-9]{1,2})\s*:\s*0x([0-9A-Fa-f]+)\s*")
-SELECTED = re.compile(r"([a-z]\w+):(all|[0-9]{1,2}(?:,[0-9]{1,2})*)")
 # the sizes of tpm2-tools' records in memory, which it writes as they are
 MOST_BANKS, SELECTED_BYTES, MOST_DIGESTS, DIGEST_ROOM = 16, 4, 8, 64
 
 
-def read_values(path: Path, selection: Optional[Selection]) -> Values:
-    """The selection is the quote's, or that of the command line: values that were written without numbers need one."""
+def read_values(path: Path) -> Values:
     held = file_bytes(path, SMALL_BYTES)
     try:
         text = held.decode("ascii")
     except UnicodeDecodeError:
         text = ""
-    if BANK_LINE.match(text):
-        return printed_values(text)
-    if selection is not None and len(held) == sum(SIZES.get(bank, 0) * len(pcrs) for bank, pcrs in selection):
-        return plain_values(held, selection)
-    return written_values(held)
+    return printed_values(text) if BANK_LINE.match(text) else written_values(held)
 
 
 def put(values: Values, bank: str, pcr: int, value: bytes) -> None:
@@ -56,26 +50,6 @@ def printed_values(text: str) -> Values:
     return values
 
 
-def named_selection(words: str) -> Selection:
-    """As tpm2-tools take it: sha1:0,1+sha256:all. They write the PCRs of a bank in ascending order."""
-    found = [SELECTED.fullmatch(word) for word in words.split("+")]
-    chosen = [(it[1], range(PCR_COUNT) if it[2] == "all" else map(int, it[2].split(","))) for it in found if it]
-    selection = [(bank, sorted(set(pcrs))) for bank, pcrs in chosen]
-    if None in found or any(bank not in SIZES or pcrs[-1] >= PCR_COUNT for bank, pcrs in selection):
-        raise ValueError(f"{words} selects no PCRs: sha1:all+sha256:0,1,2 does, of the banks {', '.join(SIZES)}")
-    return selection
-
-
-def plain_values(held: bytes, selection: Selection) -> Values:
-    fields = Fields(held, "the file of PCR values", "little")
-    values: Values = {}
-    for bank, pcrs in selection:
-        for pcr in pcrs:
-            put(values, bank, pcr, fields.take(SIZES[bank]))
-    fields.end()
-    return values
-
-
 def selected(bits: bytes) -> List[int]:
     return [pcr for pcr in range(8 * len(bits)) if bits[pcr // 8] >> pcr % 8 & 1]
 
@@ -85,7 +59,7 @@ def written_values(held: bytes) -> Values:
     fields = Fields(held, "the file of PCR values", "little")
     count = fields.number(4)
     if count > MOST_BANKS:
-        raise BadInput("the PCR values are neither those of tpm2_pcrread nor those of tpm2_quote; plain ones need --selection")
+        raise BadInput("the PCR values are neither those that tpm2_pcrread prints nor those of tpm2_quote")
     chosen: List[Tuple[str, int]] = []
     for place in range(MOST_BANKS):
         number, size, bits = fields.number(2), fields.number(1), fields.take(SELECTED_BYTES)

@@ -40,12 +40,6 @@ def read_quote(path: Path) -> Quote:
     return Quote(message, nonce, [each for each in selection if each[1]], quoted, clock, resets, restarts)
 
 
-def quoted_bank(quote: Quote) -> str:
-    """The hash of the PCRs' digest is the signature's; where that does not say it, it is told by the digest's length."""
-    by_length = {SIZES[bank]: bank for bank in reversed(STRONG)}
-    return by_length.get(len(quote.digest), "")
-
-
 def check_quote(quote: Quote, nonce: bytes, values: Values, signature: Optional[Signature]) -> None:
     if quote.nonce != nonce or not nonce:
         fault(f"the quote's nonce is {quote.nonce[:64].hex() or 'empty'}, not {nonce.hex() or 'empty'}: it answers another question")
@@ -53,7 +47,8 @@ def check_quote(quote: Quote, nonce: bytes, values: Values, signature: Optional[
     if missing:
         fault(f"the quote is over {missing[0]}, which the PCR values lack")
     whole = b"".join(values[bank][pcr] for bank, pcrs in quote.selection for pcr in pcrs)
-    bank = signature.bank if signature and signature.bank else quoted_bank(quote)
+    # the hash is the signature's; without one the digest's length tells it
+    bank = signature.bank if signature else {SIZES[it]: it for it in reversed(STRONG)}.get(len(quote.digest))
     if not bank or digest(bank, whole) != quote.digest:
         fault("the PCR values are not those that were quoted")
 

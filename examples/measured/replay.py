@@ -2,12 +2,11 @@
 
 from typing import Dict, Iterable, List
 
-from choices import TEXTS
-from event_log import HASHES, Log, digest, is_replayed, replayed
+from event_log import HASHES, STRONG, Log, digest, is_replayed, replayed
 from pcr_values import Values
 from policy import Policy
-from reading import Fault, fault
-from texts import SEPARATORS
+from reading import fault
+from texts import SEPARATORS, TEXTS
 
 # whose values the verdict rests on: drivers, what was started, texts, files, handovers
 DRIVERS, STARTED, FILES, HANDOVERS = 2, 4, 9, 12
@@ -17,40 +16,26 @@ COMPARED = [*range(10), HANDOVERS]
 SEPARATED = range(8)  # where the profile wants a separator, before anything is booted
 
 
-def replayed_log(logs: List[Log], values: Values, policy: Policy) -> Log:
-    """Of the ways to join a log and its final events the one that the PCRs have."""
-    wrong = []
-    for log in logs:
-        try:
-            check_replay(log, values, policy)
-            return log
-        except Fault as found:
-            wrong.append(found)
-    raise wrong[0]
-
-
 def check_replay(log: Log, values: Values, policy: Policy) -> None:
     check_banks(log, values, policy)
-    for pcr in policy.pcrs:
-        if pcr not in values[policy.bank]:
-            fault(f"PCR {pcr} of {policy.bank} is not among the PCR values")
-    for bank in sorted(log.banks, key=lambda it: it != policy.bank):
+    for bank in sorted(log.banks, key=lambda it: it != "sha256"):
         check_bank(log, values[bank], bank)
-    for pcr in (it for it in SEPARATED if it in values[policy.bank]):
-        check_separator(log, policy.bank, pcr)
+    for pcr in SEPARATED:
+        if any(pcr in each for each in values.values()):
+            check_separator(log, pcr)
     for pcr, allowed in policy.pcrs.items():
-        if values[policy.bank][pcr] not in allowed:
-            fault(f"PCR {pcr} of {policy.bank} has a value that the policy does not name, {values[policy.bank][pcr].hex()}")
+        check_value(pcr, allowed, values)
 
 
 def check_banks(log: Log, values: Values, policy: Policy) -> None:
     """Each bank that the TPM has is in the log and among the values: one that either lacks could have been told anything."""
     sides = {"in the log": log.banks, "among the PCR values": list(values)}
-    for where, banks in sides.items():
-        if policy.bank not in banks:
-            fault(f"the bank {policy.bank} is not {where}, only {listed(banks)}")
-    if policy.banks:
-        sides["in the policy"] = policy.banks
+    if policy.wanted_banks:
+        sides["in the policy"] = policy.wanted_banks
+    else:
+        for where, banks in sides.items():
+            if "sha256" not in banks:
+                fault(f"the bank sha256 is not {where}, only {listed(banks)}; the policy names no banks")
     for here, banks in sides.items():
         for there, others in sides.items():
             alone = [bank for bank in banks if bank not in others]
@@ -78,15 +63,27 @@ def check_bank(log: Log, values: Dict[int, bytes], bank: str) -> None:
         fault(f"PCR {listed(differ)} of {bank} is not what the log gives: {why}")
 
 
-def check_separator(log: Log, bank: str, pcr: int) -> None:
-    separators = [digest(bank, it) for it in SEPARATORS]
-    count = sum(event.digests[bank] in separators for event in log.of_pcr(pcr))
-    if count == 0:
-        fault(f"PCR {pcr}: there is no separator, which a firmware measures before it boots anything")
+def check_separator(log: Log, pcr: int) -> None:
+    """One, and each bank was told of it: an event that is one in a single bank counts as a second."""
+    marks = {(bank, digest(bank, it)) for bank in log.banks for it in SEPARATORS}
+    count = sum(not marks.isdisjoint(event.digests.items()) for event in log.of_pcr(pcr))
     if count > 1:
         fault(f"PCR {pcr}: there are {count} separators, so the log is of {count} boots: the TPM was not reset between them")
+    if not any(event.has(it) for event in log.of_pcr(pcr) for it in SEPARATORS):
+        fault(f"PCR {pcr}: there is no separator, which a firmware measures before it boots anything")
 
 
-def others_that_differ(log: Log, values: Values, bank: str) -> List[int]:
+def check_value(pcr: int, allowed: Dict[str, List[bytes]], values: Values) -> None:
+    for bank in allowed:
+        if bank in values and pcr not in values[bank]:
+            fault(f"PCR {pcr} of {bank} is not among the PCR values")
+        if bank in values and values[bank][pcr] not in allowed[bank]:
+            fault(f"PCR {pcr} of {bank} has a value that the policy does not name, {values[bank][pcr].hex()}")
+    if not any(bank in values for bank in allowed if bank in STRONG):
+        fault(f"PCR {pcr}: the policy names no value of {listed(values)}")
+
+
+def others_that_differ(log: Log, values: Values) -> List[int]:
     """For a remark: PCRs that the verdict does not rest on."""
-    return [pcr for pcr, value in values[bank].items() if pcr not in COMPARED and replayed(log, bank, pcr) != value]
+    others = [(bank, pcr) for bank in values for pcr in values[bank] if pcr not in COMPARED]
+    return sorted({pcr for bank, pcr in others if replayed(log, bank, pcr) != values[bank][pcr]})

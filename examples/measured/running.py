@@ -1,12 +1,13 @@
 """Programs that the checker runs: each has a time and so much room for what it says."""
 
 import os
+import resource
 import signal
 import subprocess
 import tempfile
-import time
+from functools import partial
 from pathlib import Path
-from typing import IO, List, NamedTuple
+from typing import List, NamedTuple
 
 from limits import OUTPUT_BYTES
 from reading import BadInput
@@ -21,33 +22,20 @@ class Ran(NamedTuple):
 def ran(words: List[str], folder: Path, seconds: float) -> Ran:
     """A run that has ended; one that takes longer or says more is ended, with all that it started."""
     with tempfile.TemporaryFile() as out, tempfile.TemporaryFile() as err:
+        limited = partial(resource.setrlimit, resource.RLIMIT_FSIZE, (OUTPUT_BYTES, OUTPUT_BYTES))
+        how = {"cwd": folder, "stdin": subprocess.DEVNULL, "stdout": out, "stderr": err}
         try:
-            process = subprocess.Popen(
-                words, cwd=folder, stdin=subprocess.DEVNULL, stdout=out, stderr=err, start_new_session=True
-            )
-        except OSError as error:
-            raise BadInput(f"{words[0]}: {error.strerror}") from None
+            process = subprocess.Popen(words, start_new_session=True, preexec_fn=limited, **how)
+        except (OSError, subprocess.SubprocessError) as error:
+            raise BadInput(f"{words[0]}: {getattr(error, 'strerror', error)}") from None
         try:
-            wait(process, words[0], [out, err], seconds)
+            status = process.wait(seconds)
+        except subprocess.TimeoutExpired:
+            raise BadInput(f"{words[0]} has not ended after {seconds:g} seconds") from None
         finally:
             if process.poll() is None:
                 os.killpg(process.pid, signal.SIGKILL)
                 process.wait()
-        return Ran(process.returncode, said(out), said(err))
-
-
-def wait(process: subprocess.Popen, name: str, streams: List[IO[bytes]], seconds: float) -> None:
-    end = time.monotonic() + seconds
-    pause = 0.001
-    while process.poll() is None:
-        if any(os.fstat(stream.fileno()).st_size > OUTPUT_BYTES for stream in streams):
-            raise BadInput(f"{name} says more than {OUTPUT_BYTES} bytes")
-        if time.monotonic() > end:
-            raise BadInput(f"{name} has not ended after {seconds:g} seconds")
-        time.sleep(pause)
-        pause = min(2 * pause, 0.05)
-
-
-def said(stream: IO[bytes]) -> bytes:
-    stream.seek(0)
-    return stream.read(OUTPUT_BYTES)
+        if any(stream.seek(0, os.SEEK_END) >= OUTPUT_BYTES for stream in (out, err)):
+            raise BadInput(f"{words[0]} says more than {OUTPUT_BYTES} bytes")
+        return Ran(status, *(stream.read() for stream in (out, err) if stream.seek(0) == 0))

@@ -1,4 +1,4 @@
-"""The signature of a quote (TPMT_SIGNATURE of the TPM 2.0 Library, Part 2, or plain), and the key that it is by."""
+"""The signature of a quote (TPMT_SIGNATURE of the TPM 2.0 Library, Part 2), and the key that it is by."""
 
 import base64
 import binascii
@@ -16,15 +16,15 @@ from running import ran
 
 RSASSA, RSAPSS, ECDSA = 0x14, 0x16, 0x18
 OF_PSS = ["-sigopt", "rsa_padding_mode:pss", "-sigopt", "rsa_pss_saltlen:auto"]
-RSA_LENGTHS = [128, 256, 384, 512]  # no signature that says its scheme has one of these
 LONGEST_NUMBER = 67  # of a curve's, with a zero byte before it
+REFUSED = re.compile(rb"(?i)^(?:verification failure|error verifying data)$", re.M)  # what openssl says of a signature
 KEY = re.compile(rb"\s*-----BEGIN PUBLIC KEY-----\s([A-Za-z0-9+/=\s]+)-----END PUBLIC KEY-----\s*")
 
 
 class Signature(NamedTuple):
-    bank: str  # the hash of what is signed; empty where a plain signature does not say it
+    bank: str  # the hash of what is signed
     signed: bytes  # as OpenSSL takes it
-    ways: List[List[str]]  # OpenSSL's options; a plain signature may be of one of two schemes
+    way: List[str]  # OpenSSL's options
 
 
 class Key(NamedTuple):
@@ -41,41 +41,18 @@ class Key(NamedTuple):
 
 
 def read_signature(path: Path) -> Signature:
-    held = file_bytes(path, SMALL_BYTES)
-    if held[:1] == b"\x30" and is_pair(held):
-        return Signature("", held, [[]])
-    if len(held) in RSA_LENGTHS:
-        return Signature("", held, [[], OF_PSS])
-    fields = Fields(held, "the signature", "big")
+    fields = Fields(file_bytes(path, SMALL_BYTES), "the signature", "big")
     scheme, bank = fields.number(2), bank_name(fields.number(2))
     if scheme not in (RSASSA, RSAPSS, ECDSA) or bank not in STRONG:
         raise BadInput("the signature's scheme is none of RSASSA, RSAPSS and ECDSA with SHA-2 or SHA-3")
     parts = [fields.take(fields.number(2)) for _ in range(2 if scheme == ECDSA else 1)]
     fields.end()
-    if scheme == ECDSA:
-        if any(len(part) > LONGEST_NUMBER for part in parts):
-            raise BadInput("the signature has a number that is too long for any curve")
-        numbers = b"".join(encoded(2, part.lstrip(b"\0").rjust(1, b"\0")) for part in parts)
-        return Signature(bank, encoded(0x30, numbers), [[]])
-    return Signature(bank, parts[0], [OF_PSS if scheme == RSAPSS else []])
-
-
-def is_pair(held: bytes) -> bool:
-    """Whether it is ECDSA's pair of whole numbers in DER, as it is encoded below."""
-    fields = Fields(held, "the signature", "big")
-    try:
-        start = 3 if held[1:2] == b"\x81" else 2
-        fields.take(start)
-        parts = []
-        for _ in range(2):
-            fields.take(1)
-            parts.append(fields.take(fields.number(1)))
-        fields.end()
-    except BadInput:
-        return False
-    if not all(0 < len(part) <= LONGEST_NUMBER for part in parts):
-        return False
-    return held == encoded(0x30, b"".join(encoded(2, part.lstrip(b"\0") or b"\0") for part in parts))
+    if scheme != ECDSA:
+        return Signature(bank, parts[0], OF_PSS if scheme == RSAPSS else [])
+    if any(len(part) > LONGEST_NUMBER for part in parts):
+        raise BadInput("the signature has a number that is too long for any curve")
+    numbers = b"".join(encoded(2, part.lstrip(b"\0").rjust(1, b"\0")) for part in parts)
+    return Signature(bank, encoded(0x30, numbers), [])
 
 
 def encoded(tag: int, content: bytes) -> bytes:
@@ -101,7 +78,7 @@ def read_key(path: Path) -> Key:
     return Key(der)
 
 
-def check_signature(message: bytes, bank: str, signature: Signature, key: Key, name: Path) -> None:
+def check_signature(message: bytes, signature: Signature, key: Key, name: Path) -> None:
     openssl = shutil.which("openssl")
     if openssl is None:
         raise BadInput("the quote's signature can't be checked: openssl is not at hand")
@@ -111,6 +88,9 @@ def check_signature(message: bytes, bank: str, signature: Signature, key: Key, n
             (room / file).write_bytes(held)
         if ran([openssl, "pkey", "-pubin", "-in", "key", "-noout"], room, OPENSSL_SECONDS).status != 0:
             raise BadInput(f"{name} is no public key: openssl can't read it")
-        words = [openssl, "dgst", f"-{bank.replace('_', '-')}", "-verify", "key", "-signature", "signature"]
-        if not any(ran([*words, *way, "message"], room, OPENSSL_SECONDS).status == 0 for way in signature.ways):
-            fault("the quote's signature is not this key's")
+        words = [openssl, "dgst", f"-{signature.bank.replace('_', '-')}", "-verify", "key", "-signature", "signature"]
+        tried = ran([*words, *signature.way, "message"], room, OPENSSL_SECONDS)
+    if tried.status == 1 and REFUSED.search(tried.out + tried.err) and b"malloc" not in tried.err:
+        fault("the quote's signature is not this key's")
+    if tried.status != 0:
+        raise BadInput(f"openssl ends with the status {tried.status}, and does not say whether the signature is right")

@@ -5,7 +5,7 @@ import hashlib
 import re
 import struct
 import sys
-from typing import Callable, Dict, Iterable, List, NamedTuple, Set, Tuple
+from typing import Callable, Dict, Iterable, List, NamedTuple, Optional, Set, Tuple
 
 from tests import examples
 from tests.support import TOP
@@ -16,6 +16,7 @@ if "sm3" in hashlib.algorithms_available:
     ALGORITHMS["sm3_256"], HASHES["sm3_256"] = 0x12, "sm3"
 NO_ACTION, SEPARATOR, TAG, VERSION, IPL = 0x03, 0x04, 0x06, 0x08, 0x0D
 TAGS = {4: 0x62630004, 8: 0x62630008, 12: 0x6263000C}  # of the boot manager's events
+MAP_TAG, SMBIOS_TAG = 0x62630011, 0x6263000D  # of those with what a Multiboot2 kernel gets copies of
 VARIABLE, APPLICATION, DRIVER, RUNTIME_DRIVER, ACTION = 0x80000001, 0x80000003, 0x80000004, 0x80000005, 0x80000007
 
 
@@ -28,9 +29,11 @@ class Event(NamedTuple):
     kind: int
     measured: bytes
     data: bytes
+    elsewhere: Optional[bytes] = None  # measured in other banks than that of SHA-256, if it is something else
 
     def digest(self, bank: str) -> bytes:
-        return hashed(bank, self.measured).digest()
+        is_other = bank != "sha256" and self.elsewhere is not None
+        return hashed(bank, self.elsewhere if is_other else self.measured).digest()
 
 
 def told(pcr: int, kind: int, text: bytes) -> Event:
@@ -41,6 +44,11 @@ def told(pcr: int, kind: int, text: bytes) -> Event:
 def tagged(pcr: int, measured: bytes, content: bytes) -> Event:
     """An event of the boot manager's, with TCG_PCClientTaggedEvent."""
     return Event(pcr, TAG, measured, struct.pack("<II", TAGS[pcr], len(content)) + content)
+
+
+def copied(tag: int, held: bytes) -> Event:
+    """What is measured before a handover because the kernel gets a copy of it."""
+    return Event(12, TAG, held, struct.pack("<II", tag, len(held)) + held)
 
 
 def text_told(text: bytes) -> Event:
@@ -54,7 +62,7 @@ def content_of(event: Event) -> bytes:
 
 def retold(event: Event, content: bytes) -> Event:
     """With other content, in the same form; what was measured is the same."""
-    return event._replace(data=tagged(event.pcr, b"", content).data if event.kind == TAG else content)
+    return event._replace(data=event.data[:4] + struct.pack("<I", len(content)) + content if event.kind == TAG else content)
 
 
 # ---- the layouts
@@ -112,7 +120,7 @@ def data_start(event: bytes) -> int:
 
 # what an image need not tell of its description, by whether it is Linux's
 FREE = r'^(?:kernel|initrd|file) = "(.*)"$|^\[\[avoid\]\]\nbase = 0x(.*)\nlength = 0x(.*)$'
-UNTOLD = [FREE + r"|^(?:rsdp|map_address|secure_boot) = 0x(.*)$", FREE + r'|^(?:map|tables) = "(.*)"$|^(?:major|minor) = 0x(.*)$']
+UNTOLD = [FREE + r"|^(?:rsdp|map_address|secure_boot) = 0x(.*)$", FREE]
 
 
 def untold(events: Iterable[Event], banks: Iterable[str], text: str) -> Tuple[Set[int], Set[int]]:
@@ -135,7 +143,7 @@ def untold(events: Iterable[Event], banks: Iterable[str], text: str) -> Tuple[Se
             free.update(range(at + 4, at + 8))
             if event.pcr not in (2, 4, 8, 12) or event.kind in (APPLICATION, DRIVER, RUNTIME_DRIVER):
                 free.update(range(data, end))
-        if event.pcr == 12 and event.kind == TAG:
+        if event.pcr == 12 and event.data.startswith(struct.pack("<I", TAGS[12])):
             for found in re.finditer(UNTOLD["linux" in text], text, re.M):
                 for group, value in enumerate(found.groups(), 1):
                     paths.update(range(data + 8 + found.start(group), data + 8 + found.start(group) + len(value or "")))
@@ -259,6 +267,13 @@ def signable(kernel: bytes) -> bytes:
     return bytes(held)
 
 
+def signed(kernel: bytes) -> bytes:
+    """Such a kernel with a certificate table of 512 bytes behind its section."""
+    held, place = bytearray(signable(kernel.ljust(-(-len(kernel) // 8) * 8, b"\0"))), 0x40 + 24 + 144
+    struct.pack_into("<II", held, place, len(held), 512)
+    return bytes(held) + struct.pack("<IHH", 512, 0x200, 2) + bytes(504)
+
+
 def without_signature(held: bytes) -> bytes:
     """What is measured of an application of the form above."""
     optional = 0x40 + 24
@@ -344,7 +359,7 @@ blue = [0x0, 0x8]
 [firmware.efi]
 bits = 0x40
 system_table = 0x807018
-map = "%s"
+map_size = 0x60
 map_address = 0xf0000
 descriptor_size = 0x30
 descriptor_version = 0x1
@@ -353,7 +368,7 @@ secure_boot = 0x2
 [firmware.smbios]
 major = 0x3
 minor = 0x0
-tables = "7f04feff0000"
+tables_size = 0x6
 
 [[avoid]]
 base = 0x108000
@@ -363,13 +378,21 @@ length = 0x1000
 base = 0x900000
 length = 0x400000
 
-""" % bytes(range(96)).hex()
+"""
+MAP, SMBIOS = bytes(range(96)), bytes.fromhex("7f04feff0000")
 TOLD_POOL = "pool = [0x109000, 0x800000]"  # beside what is avoided
 
 
 def with_firmware(text: str) -> str:
-    """A description on a machine whose firmware tells all."""
-    return text.replace("pool = [0x100000, 0x800000]", TOLD_POOL).replace("[[entry]]\n", FIRMWARE + "[[entry]]\n", 1)
+    """A description on a machine whose firmware tells all that such a kernel is told."""
+    told = FIRMWARE if "multiboot2" in text else re.sub(r"\[firmware.smbios\]\n(.+\n)+\n", "", FIRMWARE)
+    return text.replace("pool = [0x100000, 0x800000]", TOLD_POOL).replace("[[entry]]\n", told + "[[entry]]\n", 1)
+
+
+def whole(text: str, map_: bytes = MAP, smbios: bytes = SMBIOS) -> str:
+    """As `bootcore digest` takes it."""
+    made = text.replace("map_size = 0x60\n", f'map = "{map_.hex()}"\n')
+    return made.replace("tables_size = 0x6\n", f'tables = "{smbios.hex()}"\n')
 
 
 FILES = {
@@ -430,7 +453,7 @@ def image_digest(text: str, files: Dict[str, bytes]) -> bytes:
     def found(name: str) -> bytes:
         return joined(files[each] for each in name.split("\n"))
 
-    handover = booting.boot(text.encode(), found).handover
+    handover = booting.boot(whole(text).encode(), found).handover
     return hashlib.sha256(b"".join(image.chunks(handover))).digest()
 
 
@@ -467,18 +490,25 @@ def handover(text: str, files: Dict[str, bytes]) -> Event:
     return tagged(12, image_digest(text, files), text.encode())
 
 
+def handed_over(text: str, files: Dict[str, bytes]) -> List[Event]:
+    """With what was measured before it."""
+    made = [copied(MAP_TAG, MAP)] if "map_size" in text and "multiboot2" in text else []
+    made += [copied(SMBIOS_TAG, SMBIOS)] if "tables_size" in text else []
+    return [*made, handover(text, files)]
+
+
 def linux_boot(files: Dict[str, bytes], text: str = LINUX) -> List[Event]:
     made = firmware(files["BOOTX64.EFI"])
     made.append(Event(9, IPL, files["menu.txt"], b"bootcore/menu.txt\0"))
     made += attempt("Linux", ["root=/dev/vda1 quiet"], ["vmlinuz", "initrd.img", "more.img"], files)
-    return [*made, handover(text, files), *exit_events()]
+    return [*made, *handed_over(text, files), *exit_events()]
 
 
 def multiboot2_boot(files: Dict[str, bytes], text: str = MULTIBOOT2) -> List[Event]:
     made = firmware(files["BOOTX64.EFI"])
     made.append(Event(9, IPL, files["menu.txt"], b"bootcore/menu.txt\0"))
     made += attempt("Kernel", ['say "hello"', "first @ last", ""], ["kernel.elf", "one", "two"], files)
-    return [*made, handover(text, files), *exit_events()]
+    return [*made, *handed_over(text, files), *exit_events()]
 
 
 Change = Callable[[List[Event]], List[Event]]

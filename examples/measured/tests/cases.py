@@ -7,7 +7,7 @@ from typing import Callable, Dict, List, NamedTuple, Optional
 from examples.measured.tests import boots
 from examples.measured.tests.boots import FILES, IPL, LINUX, MULTIBOOT2, POLICY, Change, Event, Pcrs, at, attempt, tagged, text_told, told
 
-GOOD, WRONG, UNREADABLE, UNSIGNED, BAD_WORDS = 0, 1, 2, 3, 64
+GOOD, WRONG, UNREADABLE, UNSIGNED, PARTLY, BOTH, BAD_WORDS = 0, 1, 2, 3, 4, 5, 64
 ALL_BANKS = ["sha1", "sha256", "sha384", "sha512"]
 OTHER_MANAGER = boots.application([b"other".ljust(512, b"\0")])
 KERNEL_LINES = ['say "hello"', "first @ last", ""]
@@ -55,6 +55,11 @@ def with_data(data: bytes) -> Callable[[Event], List[Event]]:
 
 def retold(content: bytes) -> Callable[[Event], List[Event]]:
     return lambda event: [boots.retold(event, content)]
+
+
+def elsewhere(measured: bytes = b"evil") -> Callable[[Event], List[Event]]:
+    """Other banks than that of SHA-256 were told something else."""
+    return lambda event: [event._replace(elsewhere=measured)]
 
 
 def headed(tag: int, more: int) -> Callable[[Event], List[Event]]:
@@ -148,9 +153,16 @@ def lined(*lines: str, place: int = 1) -> Change:
 
 
 LINUX_TOLD, MULTIBOOT2_TOLD = boots.with_firmware(LINUX), boots.with_firmware(MULTIBOOT2)
+SECURE = LINUX_TOLD.replace("secure_boot = 0x2", "secure_boot = 0x3")
+SIGNED_FILE = boots.signed(FILES["vmlinuz"])
 LAST_AVOIDED = "[[avoid]]\nbase = 0x900000\nlength = 0x400000\n\n"
 UNTAGGED_TEXT = "is no text of the boot manager, by its tag and size"
 UNTAGGED_HANDOVER = "it is no handover of the boot manager, by its tag and size"
+OTHER_SMBIOS = b"\1" + boots.SMBIOS[1:]
+SMBIOS_TOLD = "[firmware.smbios]\nmajor = 0x3\nminor = 0x0\ntables_size = 0x6\n\n"
+UNCOPIED = "it is no map of UEFI's and no tables of SMBIOS's"
+UNORDERED = "UEFI's map and SMBIOS's tables are not in their order before a handover"
+NOT_SIZED = "have not the size that it tells"
 # what a boot says before its last words
 LINUX_SAID = """\
 booted    "Linux" by the protocol linux64
@@ -195,8 +207,8 @@ def with_key(key: str, *words: str) -> str:
     return f"{key} = [{', '.join(chr(34) + word + chr(34) for word in words)}]\n{POLICY}"
 
 
-def with_digest(name: str, digest: str) -> str:
-    return POLICY.replace("\n[[entry]]", f'\n[digests]\n"{name}" = "{digest}"\n\n[[entry]]', 1)
+def with_digests(name: str, *digests: str, policy: str = POLICY) -> str:
+    return policy.replace("\n[[entry]]", f'\n[digests]\n"{name}" = {list(digests)}\n\n[[entry]]', 1)
 
 
 def valued_policy(pcr: int, happened: Change) -> str:
@@ -215,6 +227,23 @@ def verifying(sentence: str, said: str, *added: Event) -> Case:
     return Case(sentence, said, happened=at(9, 1, after(*added)), known=SIGNABLE, booted=SIGNABLE)
 
 
+def two_banks(name: str, held: bytes, policy: str = POLICY) -> str:
+    return with_digests(name, *(boots.hashed(bank, held).hexdigest() for bank in ("sha256", "sha384")), policy=policy)
+
+
+# two versions of one entry, the second one's files being elsewhere
+OTHERS = {name: sha256(name.encode()) for name in ("vmlinuz-2", "initrd-2.img")}
+VERSIONS = """
+[[entry]]
+title = "Linux"
+protocol = "linux64"
+kernel = "vmlinuz-2"
+line = "root=/dev/vda1 quiet"
+ramdisks = ["initrd-2.img"]
+"""
+DIGESTS = "\n[digests]\n" + "".join(f"'{name}' = '{each}'\n" for name, each in OTHERS.items())
+FIFTEEN = told(12, IPL, "quiet splash ro\0".encode("utf-16-le"))
+TWO = ["sha256", "sha384"]
 PCR_POLICY = POLICY.replace("\n[[entry]]", "\n[pcr]\n17 = ['" + 32 * "ff" + "']\n\n[[entry]]", 1)
 
 AS_IT_SHOULD_BE = [
@@ -222,7 +251,6 @@ AS_IT_SHOULD_BE = [
     Case("a boot of a Multiboot2 kernel is told, with its modules", KERNEL_SAID, boot="multiboot2"),
     Case("values that nobody has signed are told to be so", "nobody has signed their values"),
     Case("each bank of a log is replayed", LINUX_SAID, banks=ALL_BANKS),
-    Case("another bank decides where it is named", "of sha384", banks=ALL_BANKS, words=["--bank", "sha384"]),
     Case("the order between two PCRs does not matter", LINUX_SAID, logged=lambda it: first(12)(first(4)(it))),
     Case("the kind of an event does not matter", LINUX_SAID, logged=at(4, -1, lambda it: [it._replace(kind=IPL)])),
     Case("the kind of a text does not matter", LINUX_SAID, logged=at(8, 0, lambda it: [it._replace(kind=IPL)])),
@@ -231,15 +259,13 @@ AS_IT_SHOULD_BE = [
     Case("a file's path in the log does not matter", LINUX_SAID, logged=at(9, 1, with_data(b"elsewhere\0"))),
     Case("a path in a description does not matter", LINUX_SAID, logged=at(12, 0, saying('"vmlinuz"', '"elsewhere"'))),
     *(
-        Case(f"{what} in the description does not matter", "kernel    ", boot=boot, text=text, logged=at(12, 0, saying(old, new)))
+        Case(f"{what} in the description does not matter", "kernel    ", boot=boot, text=text, logged=at(12, -1, saying(old, new)))
         for what, boot, text, old, new in (
             ("a range to avoid that moves no part", "linux", LINUX_TOLD, "length = 0x400000\n\n[[entry", "length = 0x300000\n\n[[entry"),
             ("a range to avoid less, where no module would lie", "multiboot2", MULTIBOOT2_TOLD, LAST_AVOIDED, ""),
             ("the RSDP's address, where a kernel gets copies,", "multiboot2", MULTIBOOT2_TOLD, "rsdp = 0x804014", "rsdp = 0x804015"),
             ("the address of UEFI's map", "multiboot2", MULTIBOOT2_TOLD, "map_address = 0xf0000", "map_address = 0xf0008"),
             ("Secure Boot, of which Multiboot2 does not tell,", "multiboot2", MULTIBOOT2_TOLD, "secure_boot = 0x2", "secure_boot = 0x3"),
-            ("what Linux is not told of SMBIOS", "linux", LINUX_TOLD, 'tables = "7f04fe', 'tables = "7f04ff'),
-            ("what UEFI's map had for Linux", "linux", LINUX_TOLD, 'map = "0001', 'map = "0101'),
         )
     ),
     Case("a log that was read before the firmware ended is enough", LINUX_SAID, logged=lambda it: it[:-2]),
@@ -273,7 +299,7 @@ AS_IT_SHOULD_BE = [
     Case(
         "a policy's texts and comments may have dots",
         LINUX_SAID,
-        policy="# a.b.c.d.e.f.g.h.i.j.k\n" + with_key("revoked", "a.b.c.d.e.f.g.h.i.j.k", "it's 1.2.3.4.5.6.7.8.9.10"),
+        policy="# a.b.c.d.e.f.g.h.i.j.k\n" + with_key("texts", "a.b.c.d.e.f.g.h.i.j.k", "it's 1.2.3.4.5.6.7.8.9.10"),
     ),
     Case("a line that is not told is empty", 'line      ""', happened=lined(""), text=NO_LINE, policy=POLICY.replace(LINUX_LINE, "")),
     Case("a PCR may have a value that the policy names", LINUX_SAID, policy=PCR_POLICY),
@@ -296,7 +322,7 @@ AS_IT_SHOULD_BE = [
         known={"driver.efi": FEW_DIRECTORIES},
         policy=with_key("drivers", "driver.efi"),
     ),
-    Case("a log of SHA-384 alone is judged by it", LINUX_SAID, banks=["sha384"], words=["--bank", "sha384"]),
+    Case("a log of SHA-384 alone, where the policy names it", LINUX_SAID, banks=["sha384"], policy=with_key("banks", "sha384")),
     Case(
         "ramdisks that are empty are none",
         "ramdisk   more.img",
@@ -324,6 +350,14 @@ AS_IT_SHOULD_BE = [
         policy=POLICY.replace('"root=/dev/vda1 quiet"', '"é\\"\\\\\\t and more"'),
     ),
     Case("firmware tells a Linux kernel of all", "kernel    vmlinuz", text=LINUX_TOLD),
+    Case(
+        "a signed kernel's file is handed over without its signature where Secure Boot is on",
+        "kernel    vmlinuz",
+        text=SECURE,
+        known={"vmlinuz": SIGNED_FILE},
+        booted={"vmlinuz": SIGNED_FILE[:-512]},
+        happened=at(9, 1, lambda event: [event._replace(measured=SIGNED_FILE)]),
+    ),
     Case(
         "firmware tells a Multiboot2 kernel of all",
         "kernel    kernel.elf",
@@ -381,15 +415,48 @@ AS_IT_SHOULD_BE = [
         "a file of an entry that was not booted is known by its digest",
         LINUX_SAID,
         happened=at(8, 0, before(*GIVEN_UP)),
-        policy=with_digest("kernel.elf", sha256(FILES["kernel.elf"])),
+        policy=with_digests("kernel.elf", sha256(FILES["kernel.elf"])),
         known={"kernel.elf": None},
     ),
-    Case("a policy's digest is that of the known file", LINUX_SAID, policy=with_digest("vmlinuz", sha256(FILES["vmlinuz"]))),
-    Case("what was not measured may be revoked", LINUX_SAID, policy=with_key("revoked", "Linux 2", 32 * "00")),
+    Case("a policy's digest is that of the known file", LINUX_SAID, policy=with_digests("vmlinuz", sha256(FILES["vmlinuz"]))),
+    *(
+        Case(f"the files of another version, {where}, are not at hand and not asked for", LINUX_SAID, policy=policy)
+        for where, policy in (
+            ("whose entry comes last", POLICY.replace("\n[[entry]]", DIGESTS + "\n[[entry]]", 1) + VERSIONS),
+            ("whose entry comes first", POLICY.replace("\n[[entry]]", DIGESTS + VERSIONS + "\n[[entry]]", 1)),
+        )
+    ),
     Case(
-        "what is revoked in a bank that the log lacks is a remark",
-        "remark    what the policy revokes by a digest of 384 bits is not found here",
-        policy=with_key("revoked", hashlib.sha384(FILES["vmlinuz"]).hexdigest()),
+        "another boot manager's options have fifteen letters, and so the length of a handover",
+        'remark    PCR 12 has the text "quiet splash ro"',
+        happened=at(12, 0, before(FIFTEEN)),
+        policy=with_key("texts", "quiet splash ro"),
+    ),
+    Case(
+        "a file is known by the digests of all banks",
+        LINUX_SAID,
+        banks=TWO,
+        policy=two_banks("menu.txt", FILES["menu.txt"]),
+        known={"menu.txt": None},
+    ),
+    Case(
+        "a driver has a name, and is known by the digests of all banks",
+        "drivers   a card",
+        banks=TWO,
+        happened=at(2, 0, before(DRIVER)),
+        policy=two_banks("a card", b"driver", with_key("drivers", "a card")),
+    ),
+    Case(
+        "a boot manager has a name, and is known by the digests of all banks",
+        "manager   manager 1",
+        banks=TWO,
+        policy=two_banks("manager 1", boots.without_signature(FILES["BOOTX64.EFI"]), POLICY.replace("BOOTX64.EFI", "manager 1")),
+    ),
+    Case(
+        "a PCR has values of all banks that the policy names",
+        LINUX_SAID,
+        banks=TWO,
+        policy=PCR_POLICY.replace("17 = [", f"17 = ['sha384:{48 * 'FF'}', "),
     ),
     *(Case(f"the bank {bank} is replayed", LINUX_SAID, banks=["sha256", bank]) for bank in boots.HASHES),
     Case("a policy may name the banks", LINUX_SAID, banks=ALL_BANKS, policy=with_key("banks", *ALL_BANKS)),
@@ -397,6 +464,49 @@ AS_IT_SHOULD_BE = [
         "a separator may have the bytes 0xFF",
         LINUX_SAID,
         happened=lambda it: [told(e.pcr, e.kind, b"\xff" * 4) if e.kind == boots.SEPARATOR else e for e in it],
+    ),
+]
+
+# what is known by a digest of SHA-256 alone, where the TPM has a second bank
+PARTLY_SO = [
+    Case(
+        "a file that was read besides",
+        f"partly    {sha256(FILES['menu.txt'])} is known by sha256, not by sha384",
+        policy=POLICY.replace('"menu.txt"', f'"{sha256(FILES["menu.txt"])}"'),
+        known={"menu.txt": None},
+    ),
+    Case(
+        "a file with its digest",
+        "partly    menu.txt is known by sha256, not by sha384",
+        policy=with_digests("menu.txt", sha256(FILES["menu.txt"])),
+        known={"menu.txt": None},
+    ),
+    Case(
+        "a file of an entry that was given up",
+        "partly    kernel.elf is known by sha256, not by sha384",
+        happened=at(8, 0, before(*GIVEN_UP)),
+        policy=with_digests("kernel.elf", sha256(FILES["kernel.elf"])),
+        known={"kernel.elf": None},
+    ),
+    Case("a boot manager", f"partly    {DIGEST} is known by sha256, not", policy=POLICY.replace("BOOTX64.EFI", DIGEST)),
+    Case(
+        "a driver",
+        f"partly    {digest_of(DRIVER)} is known by sha256, not by sha384",
+        happened=at(2, 0, before(DRIVER)),
+        policy=with_key("drivers", digest_of(DRIVER)),
+    ),
+    Case("a PCR's value", "partly    PCR 17 is known by sha256, not by sha384", policy=PCR_POLICY),
+    Case(
+        "drivers by the value of PCR 2",
+        "partly    PCR 2 is known by sha256, not by sha384",
+        happened=at(2, 0, before(DRIVER)),
+        policy=valued_policy(2, at(2, 0, before(DRIVER))),
+    ),
+    Case(
+        "a driver of which other banks were told something else",
+        f"partly    {digest_of(DRIVER)} is known by sha256, not by sha384",
+        happened=at(2, 0, before(DRIVER._replace(elsewhere=b"evil"))),
+        policy=with_key("drivers", digest_of(DRIVER)),
     ),
 ]
 
@@ -449,7 +559,7 @@ LOG = [
         banks=["sha256", "sha384"],
         values=lambda it: {"sha384": it["sha384"]},
     ),
-    Case("a log without the bank", "the bank sha384 is not in the log, only sha256", words=["--bank", "sha384"]),
+    Case("a log without the policy's bank", "the bank sha256 is in the log and not in the policy", policy=with_key("banks", "sha384")),
     Case(
         "PCR values without PCR 12",
         "PCR 12 of sha256 is not among the PCR values",
@@ -505,6 +615,110 @@ LOG = [
         "a separator that tells an error",
         "PCR 7: there is no separator",
         happened=at(7, -1, lambda _: [told(7, boots.SEPARATOR, b"\1\0\0\0")]),
+    ),
+]
+
+# a firmware that never extends the bank of SHA-256, which a kernel tells a good boot: the others have what happened
+BANKS = [
+    *(
+        Case(f"a bank that was told another {what}", said, banks=ALL_BANKS, happened=at(pcr, place, elsewhere()))
+        for what, pcr, place, said in (
+            ("boot manager", 4, -1, "PCR 4, event 13: something was started that the policy does not name"),
+            ("text of the firmware", 4, 0, "PCR 4, event 4: something was started that the policy does not name"),
+            ("separator", 7, -1, "PCR 7: there is no separator"),
+            ("separator before drivers", 2, 0, "PCR 2: there is no separator"),
+            ("menu", 9, 0, "PCR 9, event 14: no known file is what was measured"),
+            ("kernel", 9, 1, "PCR 9, event 17: no known file is what was measured"),
+            ("ramdisk", 9, -1, "PCR 9, event 19: no known file is what was measured"),
+            ("choice", 8, 0, 'its text "bootcore_choice: Linux\\x00" is not what was measured'),
+            ("line", 8, 1, "is not what was measured"),
+            ("image", 12, 0, "is not the image of its description with the known files"),
+        )
+    ),
+    Case(
+        "a bank that was told another driver",
+        "PCR 2, event 8: a driver was loaded that the policy does not name",
+        banks=ALL_BANKS,
+        happened=at(2, 0, after(Event(2, boots.DRIVER, boots.without_signature(OTHER_MANAGER), b"", b"evil"))),
+        known={"driver.efi": OTHER_MANAGER},
+        policy=with_key("drivers", "driver.efi"),
+    ),
+    Case(
+        "a bank that was told another command of GRUB's",
+        UNTAGGED_TEXT,
+        banks=ALL_BANKS,
+        happened=at(8, 0, before(GRUB._replace(elsewhere=b"evil"))),
+        policy=with_key("texts", "grub_cmd: set root=hd0"),
+    ),
+    Case(
+        "a bank that was told other options",
+        UNTAGGED_HANDOVER,
+        banks=ALL_BANKS,
+        happened=at(12, 0, before(OPTIONS._replace(elsewhere=b"evil"))),
+        policy=with_key("texts", "quiet splash"),
+    ),
+    Case(
+        "a bank that was told another kernel's verification",
+        "a kernel was verified that is none of the policy's",
+        banks=ALL_BANKS,
+        happened=at(9, 1, after(VERIFIED[0], VERIFIED[1]._replace(elsewhere=b"evil"), VERIFIED[2])),
+        known=SIGNABLE,
+        booted=SIGNABLE,
+    ),
+    Case(
+        "a bank that was told no kernel's verification",
+        "a kernel's verification does not begin or end there",
+        banks=ALL_BANKS,
+        happened=at(9, 1, after(VERIFIED[0]._replace(elsewhere=b"evil"), *VERIFIED[1:])),
+        known=SIGNABLE,
+        booted=SIGNABLE,
+    ),
+    Case(
+        "a bank that was told another map of UEFI's",
+        "it is no map of UEFI's and no tables of SMBIOS's",
+        boot="multiboot2",
+        text=MULTIBOOT2_TOLD,
+        banks=ALL_BANKS,
+        happened=at(12, 0, elsewhere()),
+    ),
+    Case(
+        "a whole good boot that one bank was told, where the others have another",
+        "something was started that the policy does not name",
+        banks=ALL_BANKS,
+        happened=lambda it: [e._replace(elsewhere=b"evil") if e.pcr in (8, 9, 12) or e.kind == boots.APPLICATION else e for e in it],
+        policy=with_key("banks", *ALL_BANKS),
+    ),
+    Case(
+        "a separator that one bank was told besides",
+        "PCR 7: there are 2 separators",
+        banks=TWO,
+        happened=at(7, -1, after(Event(7, boots.ACTION, b"else", b"", bytes(4)))),
+    ),
+    Case(
+        "a PCR whose value another bank has not",
+        "PCR 17 of sha384 has a value that the policy does not name",
+        banks=TWO,
+        policy=PCR_POLICY.replace("17 = [", f"17 = ['{48 * 'FE'}', "),
+    ),
+    Case(
+        "a PCR of whose value the policy names no bank",
+        "PCR 17: the policy names no value of sha256, sha384",
+        banks=TWO,
+        policy=PCR_POLICY.replace(32 * "ff", 64 * "ff"),
+    ),
+    Case(
+        "a file that is known by SHA-1 alone",
+        "no known file is what was measured",
+        banks=["sha1", "sha256"],
+        policy=with_digests("menu.txt", boots.hashed("sha1", FILES["menu.txt"]).hexdigest()),
+        known={"menu.txt": None},
+    ),
+    Case(
+        "a file of which the policy has a wrong digest of one bank",
+        "no known file is what was measured",
+        banks=TWO,
+        policy=with_digests("menu.txt", sha256(FILES["menu.txt"]), 96 * "0"),
+        known={"menu.txt": None},
     ),
 ]
 
@@ -652,12 +866,6 @@ MACHINE = [
             ("with another alphabet's letter", "L\u0456nux".encode(), '"L\\xd1\\x96nux"', POLICY),
             ("with a letter in too many bytes", b"\xc1\x8cinux", '"\\xc1\\x8cinux"', POLICY),
         )
-    ),
-    Case(
-        "an entry that is revoked, whose title looks like a digest",
-        f'PCR 8, event 15: the entry "{64 * "a"}" is revoked',
-        happened=titled(64 * "a", 64 * "a"),
-        policy=with_key("revoked", 64 * "a").replace("Linux", 64 * "a"),
     ),
     Case(
         "an empty line that is not measured",
@@ -823,35 +1031,10 @@ MACHINE = [
         happened=at(8, 0, before(Event(8, IPL, b"bootcore_choice: a\0", b"grub_cmd: bootcore_choice: a\0\0"))),
         policy=with_key("texts", "grub_cmd: bootcore_choice: a", "grub_cmd: bootcore_choice: a\\u0000"),
     ),
-    Case(
-        "an entry that is revoked",
-        'PCR 8, event 15: the entry "Linux" is revoked',
-        policy=with_key("revoked", "Linux"),
-    ),
-    Case(
-        "an entry that was given up and is revoked",
-        'the entry "Kernel" is revoked',
-        happened=at(8, 0, before(*GIVEN_UP)),
-        policy=with_key("revoked", "Kernel"),
-    ),
-    *(
-        Case(f"{what} that is revoked", said, policy=with_key("revoked", revoked), banks=["sha1", "sha256", "sha384"])
-        for what, revoked, said in (
-            ("a file", sha256(FILES["initrd.img"]), "PCR 9, event 18: what was measured there is revoked, by its digest"),
-            ("a file of another bank's digest", hashlib.sha384(FILES["initrd.img"]).hexdigest(), "measured there is revoked"),
-            ("a boot manager", DIGEST, "PCR 4, event 13: what was measured there is revoked"),
-            ("an image", boots.image_digest(LINUX, FILES).hex(), "the image that was handed over is revoked, by its digest"),
-        )
-    ),
-    Case(
-        "a driver that is revoked, with the value of PCR 2 that the policy names",
-        "PCR 2, event 7: what was measured there is revoked",
-        happened=at(2, 0, before(DRIVER)),
-        policy=valued_policy(2, at(2, 0, before(DRIVER))).replace("managers", f'revoked = ["{digest_of(DRIVER)}"]\nmanagers', 1),
-    ),
 ]
 
 HANDOVER = [
+    Case("what no signature covers", "is not the image", text=SECURE, known={"vmlinuz": SIGNED_FILE}, booted={"vmlinuz": SIGNED_FILE}),
     Case(
         "a description of another memory map",
         "is not the image of its description",
@@ -879,7 +1062,7 @@ HANDOVER = [
             "is not the image",
             boot=boot,
             text=LINUX_TOLD if boot == "linux" else MULTIBOOT2_TOLD,
-            logged=at(12, 0, saying(old, new)),
+            logged=at(12, -1, saying(old, new)),
         )
         for what, boot, old, new in (
             ("another address of the RSDP", "linux", "rsdp = 0x804014", "rsdp = 0x804015"),
@@ -889,9 +1072,45 @@ HANDOVER = [
             ("another system table", "multiboot2", "system_table = 0x807018", "system_table = 0x807020"),
             ("Secure Boot", "linux", "secure_boot = 0x2", "secure_boot = 0x3"),
             ("another place of UEFI's map", "linux", "map_address = 0xf0000", "map_address = 0xf0008"),
-            ("another byte of UEFI's map", "multiboot2", 'map = "0001', 'map = "0101'),
-            ("another byte of SMBIOS", "multiboot2", 'tables = "7f04fe', 'tables = "7f04ff'),
+            ("another length of UEFI's map", "linux", "map_size = 0x60", "map_size = 0x90"),
+            ("another version of SMBIOS", "multiboot2", "minor = 0x0", "minor = 0x1"),
         )
+    ),
+    *(
+        Case(f"{what} before a handover", said, boot="multiboot2", text=MULTIBOOT2_TOLD, happened=change)
+        for what, said, change in (
+            ("another map of UEFI's", "is not the image", at(12, 0, lambda _: [boots.copied(boots.MAP_TAG, b"\1" + boots.MAP[1:])])),
+            ("other tables of SMBIOS's", "is not the image", at(12, 1, lambda _: [boots.copied(boots.SMBIOS_TAG, OTHER_SMBIOS)])),
+            ("a longer map", NOT_SIZED, at(12, 0, lambda it: [boots.copied(boots.MAP_TAG, boots.MAP + b"\0")])),
+            ("no map", NOT_SIZED, at(12, 0, gone)),
+            ("no tables", NOT_SIZED, at(12, 1, gone)),
+            ("two maps", UNORDERED, at(12, 0, lambda it: [it, it])),
+            ("tables before the map", UNORDERED, swapped(12, 0)),
+            ("tables twice", UNORDERED, at(12, 1, lambda it: [it, it])),
+            ("an empty map", UNCOPIED, at(12, 0, lambda _: [boots.copied(boots.MAP_TAG, b"")])),
+            ("a map of more than 64 KiB", UNCOPIED, at(12, 0, lambda _: [boots.copied(boots.MAP_TAG, bytes(65537))])),
+            ("another text than what was measured", UNCOPIED, at(12, 0, measuring(b"else"))),
+            ("a text of the other PCR's form", UNTAGGED_HANDOVER, at(12, 0, headed(boots.TAGS[8], 0))),
+        )
+    ),
+    *(
+        Case(f"a map of UEFI's {where}", said, boot=boot, text=text, happened=change)
+        for where, said, boot, text, change in (
+            ("for Linux", "a Linux kernel gets no copy", "linux", LINUX_TOLD, at(12, 0, before(boots.copied(boots.MAP_TAG, boots.MAP)))),
+            ("where none is told", NOT_SIZED, "multiboot2", MULTIBOOT2, at(12, 0, before(boots.copied(boots.MAP_TAG, boots.MAP)))),
+            ("behind the handover", "nothing was handed over behind", "linux", "", ended(boots.copied(boots.MAP_TAG, boots.MAP))),
+        )
+    ),
+    Case(
+        "a handover of an unknown image that says that it is a map of UEFI's",
+        UNCOPIED,
+        happened=at(12, 0, before(boots.copied(boots.MAP_TAG, boots.image_digest(OTHER_MAP, FILES)))),
+    ),
+    Case(
+        "a Linux kernel that is told of SMBIOS",
+        "is not in its one form",
+        text=LINUX_TOLD,
+        logged=at(12, 0, saying("[[avoid]]\nbase = 0x108000", SMBIOS_TOLD + "[[avoid]]\nbase = 0x108000")),
     ),
     Case(
         "a description with a blank more",
@@ -976,7 +1195,7 @@ HANDOVER = [
     ),
     Case(
         "a description with a number above 64 bits",
-        "its key size is missing, or no int",
+        "it: size is no number",
         logged=at(12, 0, saying("size = 0x1", "size = 0x" + 17 * "1")),
     ),
 ]

@@ -5,12 +5,12 @@ import os
 import sys
 import unittest
 from pathlib import Path
-from typing import Dict, Optional
+from typing import Dict, List, Optional
 from unittest import mock
 
 from examples.measured.tests import boots
 from examples.measured.tests.boots import FILES, LINUX, MULTIBOOT2
-from examples.measured.tests.cases import GOOD, UNSIGNED, WRONG, Case
+from examples.measured.tests.cases import BOTH, GOOD, PARTLY, UNSIGNED, WRONG, Case
 from tests.support import PROGRAM, TOP, Checks, Ran, has_tomllib, run
 
 CHECKER = TOP / "examples/measured"
@@ -19,6 +19,8 @@ LAST = {
     GOOD: "^as it should be$",
     WRONG: "^not as it should be: ",
     UNSIGNED: "^as it should be, if these are the TPM's values: nobody has signed them$",
+    PARTLY: "^as it should be, by the digests of some banks alone$",
+    BOTH: "^as it should be, by the digests of some banks alone, if these are the TPM's values: nobody has signed them$",
 }
 
 
@@ -90,11 +92,11 @@ class Within(CheckerChecks):
         asked: Dict[tuple, bytes] = {}
         program_digest = cls.image_digest.program_digest
 
-        def digest_once(held: Dict[str, bytes]) -> bytes:
+        def digest_once(description: bytes, held: Dict[str, List[Path]], kernel_length: int) -> bytes:
             """The same files have the same image: the program is asked once."""
-            key = tuple(sorted(held.items()))
+            key = (description, kernel_length, *sorted((name, *map(str, paths)) for name, paths in held.items()))
             if key not in asked:
-                asked[key] = program_digest(held)
+                asked[key] = program_digest(description, held, kernel_length)
             return asked[key]
 
         for changed in (mock.patch.dict(os.environ, cls.env), mock.patch.object(cls.image_digest, "program_digest", digest_once)):

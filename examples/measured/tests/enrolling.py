@@ -2,8 +2,12 @@
 
 import hashlib
 import importlib
+import os
+import signal
 import struct
+import subprocess
 import sys
+import time
 from pathlib import Path
 from typing import List
 
@@ -127,6 +131,7 @@ class Areas(CheckerChecks):
             self.says(sentence, self.challenged(good, "none", ek), UNREADABLE, said)
         with self.check("a challenge that is refused makes no folder"):
             self.assertFalse((self.room / "none").exists())
+        self.check_cleaned(good)
         for sentence, words in (
             ("no step", []),
             ("a challenge without a key", ["challenge", "--ek", "ek.pem", "folder"]),
@@ -135,6 +140,37 @@ class Areas(CheckerChecks):
             ("an answer with a name of two lines", ["answer", "--name", "a\nb", "folder", "answer"]),
         ):
             self.says(f"refused: {sentence}", self.enroll(*words), BAD_WORDS, "usage: ")
+
+    def check_cleaned(self, area: bytes) -> None:
+        """What fails while the folder is filled leaves none, also if somebody ends it."""
+        (self.room / "area").write_bytes(area)
+        (self.room / "tools").mkdir()
+        maker = self.room / "tools/tpm2_makecredential"
+        env = {**os.environ, "PATH": f"{self.room}/tools:{os.environ['PATH']}"}
+        words = [str(CHECKER / "enroll"), "challenge", "--ek", "ek.pem", "--area", "area", "half"]
+        for sentence, script, said in (
+            ("a maker of credentials that fails", "echo no >&2; exit 3", "tpm2_makecredential ends with the status 3: no"),
+            ("a maker of credentials that makes none", "true", "tpm2_makecredential ends with the status 0"),
+            ("a maker of credentials that says too much", "yes", "says more than"),
+        ):
+            maker.write_text(f"#!/bin/sh\n{script}\n")
+            maker.chmod(0o755)
+            self.says(f"a challenge by {sentence}", run(*words, cwd=self.room, env=env), UNREADABLE, said)
+            with self.check(f"no folder is left by {sentence}"):
+                self.assertFalse((self.room / "half").exists())
+        maker.write_text("#!/bin/sh\necho >started\nexec sleep 60\n")
+        for number in (signal.SIGINT, signal.SIGTERM):
+            with subprocess.Popen(words, cwd=self.room, env=env, stderr=subprocess.PIPE) as process:
+                while not (self.room / "half/started").exists():
+                    time.sleep(0.02)
+                process.send_signal(number)
+                _, err = process.communicate(timeout=30)
+            with self.check(f"a challenge that {number.name} ends has the status 2, and leaves no folder"):
+                self.assertEqual((process.returncode, err), (UNREADABLE, b"enroll: interrupted\n"))
+                self.assertFalse((self.room / "half").exists())
+        with self.check("a challenge whose words can't be written leaves no folder"):
+            ran = run("bash", "-c", "exec \"$@\" >/dev/full", "bash", *words, cwd=self.room)
+            self.assertEqual((ran.status, (self.room / "half").exists()), (UNREADABLE, False), f"ran: {ran}\n{ran.err!r}")
 
     def check_answers(self, area: bytes) -> None:
         for folder in ("first", "second"):

@@ -1,4 +1,4 @@
-"""What a fleet asks for: JSON, the key of a machine, revocation."""
+"""What a fleet asks for: JSON, the key of a machine."""
 
 import hashlib
 import json
@@ -14,10 +14,6 @@ from tests.support import Ran, is_at_hand, run
 SELECTED: boots.Selected = [("sha256", [0, 1, 2, 3, 4, 5, 6, 7, 8, 9, 12])]
 MACHINES = "\n[[machine]]\nname = \"{0}\"\nkey = \"{1}\"\n"
 EK = 64 * "e"
-
-
-def revoked(word: str) -> str:
-    return f'revoked = ["{word}"]\n'
 
 
 class Json(CheckerChecks):
@@ -74,7 +70,7 @@ class Machines(CheckerChecks):
         (folder / "quote").write_bytes(boots.quote_of(pcrs, SELECTED, b"\xc0\xff\xee"))
         keys = {name: self.key(folder, name) for name in ("one", "two", "three")}
         signed = run("openssl", "dgst", "-sha256", "-sign", "one.secret", "quote", cwd=folder).out
-        (folder / "signature").write_bytes(signed)
+        (folder / "signature").write_bytes(boots.signature_of(signed))
         listed = POLICY + "".join(MACHINES.format(f"rack-{name}", keys[name]) for name in ("one", "two"))
         with_ek = listed.replace(f'"{keys["one"]}"\n', f'"{keys["one"]}"\nek = "{EK}"\n')
         other = POLICY + MACHINES.format("rack-three", keys["three"])
@@ -83,9 +79,8 @@ class Machines(CheckerChecks):
             ("a key is that of the machine that is asked for", listed, "rack-one", GOOD, "the key of rack-one"),
             ("a key of another machine", listed, "rack-two", WRONG, "the key is rack-one's, not rack-two's"),
             ("a key of no machine", other, None, WRONG, f"the key is no machine's of the policy, by its fingerprint {keys['one']}"),
-            ("a key that is revoked", revoked(keys["one"]) + listed, None, WRONG, "the key is revoked, by its fingerprint"),
-            ("a TPM that is revoked", revoked(EK) + with_ek, None, WRONG, f"the key's TPM is revoked, by its fingerprint {EK}"),
-            ("another TPM that is revoked", revoked(64 * "f") + with_ek, None, GOOD, "the key of rack-one"),
+            ("a key of a machine with an endorsement key", with_ek, None, GOOD, "the key of rack-one"),
+            ("a key where the last machine was taken out", "machine = []\n" + POLICY, None, WRONG, "the key is no machine's of the policy"),
             ("a machine where the policy has none", POLICY, "rack-one", WRONG, "the key is no machine's, not rack-one's"),
         ):
             (folder / "policy").write_text(policy, encoding="utf-8")

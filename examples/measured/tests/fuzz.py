@@ -22,10 +22,11 @@ SECONDS = None if "MUTATIONS" in os.environ else 45
 SEED = int(os.environ.get("SEED", "1"))
 BANKS = ["sha1", "sha256"]
 SELECTED: boots.Selected = [(bank, [0, 1, 2, 3, 4, 5, 6, 7, 8, 9, 12]) for bank in BANKS]
-NAMES = ["log", "final", "pcrs", "quote", "signature"]
+NAMES = ["log", "pcrs", "quote", "signature"]
 NONCE = bytes.fromhex("c0ffee")
 # what a policy knows beside the boot
-POLICY = cases.with_key("drivers", cases.digest_of(cases.DRIVER)) + "\n"
+DRIVER = [cases.DRIVER.digest(bank).hex() for bank in BANKS]
+POLICY = cases.with_digests("a card", *DRIVER, policy=cases.with_key("drivers", "a card"))
 POLICY = f'texts = ["quiet splash", "grub_cmd: set root=hd0"]\n{POLICY}'
 
 
@@ -44,7 +45,7 @@ class Base(NamedTuple):
     held: Dict[str, bytes]
     policy: Any
     status: int
-    events: List[Tuple[int, bytes]]  # of the log and its final events
+    events: List[Tuple[int, bytes]]  # of the log
     free: frozenset  # places of the log whose bytes no PCR tells
 
 
@@ -59,11 +60,11 @@ class Fuzz(Within):
             ended = cls.booting.digest((folder / "description").read_bytes(), cls.booting.paths_from(str(folder)))
             return cls.running.Ran(ended.status, cls.model_lines(ended.said), cls.model_lines(ended.blamed))
 
-        def check_once(message: bytes, bank: str, signature: Any, key: Any, name: Path) -> None:
-            asked = (message, bank, signature.signed, str(signature.ways), key)
+        def check_once(message: bytes, signature: Any, key: Any, name: Path) -> None:
+            asked = (message, str(signature), key)
             if asked not in checked:
                 try:
-                    check_signature(message, bank, signature, key, name)
+                    check_signature(message, signature, key, name)
                     checked[asked] = ""
                 except cls.reading.Fault as wrong:
                     checked[asked] = str(wrong)
@@ -77,20 +78,20 @@ class Fuzz(Within):
     # ---- what is changed
 
     def base(self, name: str, text: str, status: int, policy: str = POLICY, values: Callable = cases.same) -> Base:
-        """All five inputs of one boot; the log ends before the firmware does, and the final events go on, or begin with its last two."""
+        """All four inputs of one boot."""
         folder = self.folder(name, Case("", "", policy=policy))
         make = boots.linux_boot if "linux" in text else boots.multiboot2_boot
         events = full(make(FILES, text))
         pcrs = values(boots.pcrs_of(events, BANKS))
-        held = {"log": boots.log_of(events[:-2], BANKS), "final": boots.final_of(events[-4 if text == MULTIBOOT2 else -2 :], BANKS)}
+        held = {"log": boots.log_of(events, BANKS)}
         held["pcrs"] = boots.pcr_file_of(pcrs, SELECTED)
         held["quote"] = boots.quote_of(pcrs, SELECTED, NONCE)
         (self.room / "quote").write_bytes(held["quote"])
         signed = run("openssl", "dgst", "-sha256", "-sign", "secret", "quote", cwd=self.room)
         held["signature"] = boots.signature_of(signed.out)
-        free, paths = boots.untold(events[:-2], BANKS, text)
-        known = self.policy.read_policy(folder / "policy", folder / "known", "sha256")
-        whole = boots.parted(boots.log_of(events, BANKS))[1]
+        free, paths = boots.untold(events, BANKS, text)
+        known = self.policy.read_policy(folder / "policy", folder / "known", BANKS)
+        whole = boots.parted(held["log"])[1]
         return Base(name, held, known, status, whole, frozenset(free | paths))
 
     def bases(self) -> List[Base]:
@@ -103,8 +104,8 @@ class Fuzz(Within):
         made = [self.base("linux", LINUX, GOOD), self.base("multiboot2", MULTIBOOT2, GOOD)]
         made += [self.base("firmware and linux", cases.LINUX_TOLD, GOOD), self.base("firmware and multiboot2", cases.MULTIBOOT2_TOLD, GOOD)]
         made += [self.base("another TPM", LINUX, WRONG, values=other)]
-        made += [self.base("no known driver", LINUX, WRONG, policy=POLICY.replace(cases.digest_of(cases.DRIVER), cases.DIGEST))]
-        made += [self.base("a revoked entry", MULTIBOOT2, WRONG, policy='revoked = ["Kernel"]\n' + POLICY)]
+        made += [self.base("no known driver", LINUX, WRONG, policy=POLICY.replace(DRIVER[0], 40 * "0"))]
+        made += [self.base("no such entry", MULTIBOOT2, WRONG, policy=POLICY.replace('"Kernel"', '"Other"'))]
         return made
 
     # ---- the verdict
@@ -113,8 +114,8 @@ class Fuzz(Within):
         for name in NAMES:
             (self.room / name).write_bytes(held[name])
         paths = {name: self.room / name for name in [*NAMES, "key"]}
-        words = Namespace(**paths, nonce=NONCE, bank="sha256", resets=None, restarts=None, machine=None, selection=None)
-        words.policy = words.known = None
+        words = Namespace(**paths, nonce=NONCE, resets=None, restarts=None, machine=None)
+        words.policy = words.known = [None]
         try:
             with mock.patch.object(self.report, "read_policy", lambda *_: base.policy):
                 report = self.report.report(words)
@@ -186,9 +187,8 @@ def confirmed(described: Any) -> Any:
         firmware = described.firmware._replace(rsdp=None, avoided=[], tables=tables)
         untold = {"map_address": 0, "secure_boot": 0}
     else:
-        tables.pop("smbios", None)
         firmware = described.firmware._replace(avoided=[], tables=tables)
-        untold = {"map": len(tables.get("efi", {}).get("map", ""))}
+        untold = {}
     if "efi" in tables:
         tables["efi"].update(untold)
     return described._replace(kernel="", initrd=None, modules=[], firmware=firmware)

@@ -6,19 +6,22 @@ from pathlib import Path
 from typing import Optional
 
 from examples.measured.tests import boots, cases
-from examples.measured.tests.boots import FILES, POLICY
-from examples.measured.tests.cases import BAD_WORDS, DIGEST, GOOD, UNREADABLE, WRONG, Case
+from examples.measured.tests.boots import POLICY
+from examples.measured.tests.cases import BAD_WORDS, DIGEST, GOOD, UNREADABLE, Case
 from examples.measured.tests.checker import CheckerChecks, Within
 
 
+MODULE = "the policy's entry 2, 'Kernel', module 2"
+TWICE = [DIGEST, f"sha256:{DIGEST}"]
+OF_TWO = f"files = ['BOOTX64.EFI']\ndigests.'BOOTX64.EFI' = '{DIGEST}'"
 # what was meant to be a digest
 SLIPS = [
-    ("digest that is cut", DIGEST[:-1]),
-    ("digest with a bank before it", f"sha256:{DIGEST}"),
-    ("digest with a blank", f"{DIGEST} "),
-    ("digest in pairs", ":".join(DIGEST[i : i + 2] for i in range(0, 64, 2))),
-    ("digest of SHA-1", boots.hashed("sha1", FILES["vmlinuz"]).hexdigest()),
-    ("digest of no bank", f"{DIGEST}00"),
+    ("digest that is cut", DIGEST[:-1], "No such file"),
+    ("digest with another bank before it", f"sha384:{DIGEST}", "which is a digest of no bank"),
+    ("digest with an unknown bank before it", f"md5:{DIGEST}", "which is a digest of no bank"),
+    ("digest with a blank", f"{DIGEST} ", "No such file"),
+    ("digest in pairs", ":".join(DIGEST[i : i + 2] for i in range(0, 64, 2)), "No such file"),
+    ("digest of no bank", f"{DIGEST}00", "which is a digest of no bank"),
 ]
 
 
@@ -88,54 +91,6 @@ class Inputs(CheckerChecks):
         self.assertGreater((folder / "log").stat().st_size, 4_000_000)
         self.says("a log of four million bytes is judged", self.checker(folder), GOOD, cases.LINUX_SAID)
 
-    def test_final_events(self) -> None:
-        folder = self.folder("final", Case("", ""))
-        events = boots.linux_boot(FILES)
-        for sentence, kept, final in (
-            ("a final events table goes on where the log ends", events[:-2], events[-2:]),
-            ("a final events table may have events of the log", events[:-1], events[-4:]),
-            ("a final events table may be empty", events, []),
-            ("a final events table may be all of the log", events, events),
-            ("a final events table may be all of a log, and more", events[:-2], events),
-        ):
-            (folder / "log").write_bytes(boots.log_of(kept, ["sha256"]))
-            (folder / "table").write_bytes(boots.final_of(final, ["sha256"]))
-            self.says(sentence, self.checker(folder, final="table"), GOOD, cases.LINUX_SAID)
-        (folder / "table").write_bytes(boots.final_of(events, ["sha256"]) + bytes(32))
-        ran = self.checker(folder, final="table")
-        self.says("zeros behind a final events table are no events", ran, GOOD, cases.LINUX_SAID)
-        whole = boots.final_of(events, ["sha256"])
-        for sentence, table, said in (
-            ("of another version", b"\2" + bytes(15), " is of another version"),
-            ("with bytes behind its events", whole + b"\1", " goes on behind its end"),
-            ("with more events than it counts", whole[:8] + b"\1" + whole[9:], " goes on behind its end"),
-            ("with fewer events than it counts", whole[:8] + b"\xff" + whole[9:], " ends too early"),
-            ("that counts to the end of numbers", whole[:8] + b"\xff" * 8 + whole[16:], " ends too early"),
-            ("that is cut", whole[:15], " ends too early"),
-        ):
-            (folder / "table").write_bytes(table)
-            ran = self.checker(folder, final="table")
-            self.says(f"a final events table {sentence}", ran, UNREADABLE, f"the final events table{said}")
-
-    def test_equal_events(self) -> None:
-        """What is measured twice stands in the table alone, or in both: the PCRs tell."""
-        folder = self.folder("equal", Case("", "", happened=boots.at(12, 0, lambda it: [it, it])))
-        happened = boots.at(12, 0, lambda it: [it, it])(boots.linux_boot(FILES))
-        at = [i for i, event in enumerate(happened) if event.pcr == 12][1]
-        for sentence, kept, final in (
-            ("an event that stands in the final events alone, and is equal to the log's last one", at, at),
-            ("the same event in both", at + 1, at),
-            ("both equal events in both", at + 1, at - 1),
-            ("both equal events in the final events alone", at - 1, at - 1),
-        ):
-            (folder / "log").write_bytes(boots.log_of(happened[:kept], ["sha256"]))
-            (folder / "table").write_bytes(boots.final_of(happened[final:], ["sha256"]))
-            ran = self.checker(folder, final="table")
-            self.says(sentence, ran, GOOD, "the handover was measured 2 times; the last one counts")
-        (folder / "table").write_bytes(boots.final_of(happened[at + 1 :], ["sha256"]))
-        (folder / "log").write_bytes(boots.log_of(happened[:at], ["sha256"]))
-        self.says("an equal event that stands nowhere", self.checker(folder, final="table"), WRONG, "PCR 12 of sha256 is not what")
-
     def test_files(self) -> None:
         folder = self.folder("files", Case("", ""))
         (folder / "empty").write_bytes(b"")
@@ -154,9 +109,10 @@ class Inputs(CheckerChecks):
             ("a boot manager that is no application", '["BOOTX64.EFI"]', '["vmlinuz"]', "vmlinuz is no EFI application"),
             ("a policy whose file is not there", '"more.img"]', '"none.img"]', "none.img: No such file"),
             ("a policy with another protocol", '"linux64"', '"elf"', "'elf'; it may be multiboot2, linux, linux64, efi"),
-            ("a policy's entry without a title", 'title = "Linux"', "", "an entry of the policy has no title"),
+            ("a policy's entry without a title", 'title = "Linux"', "", "the policy's entry 1 has no title"),
             ("a policy's entry without a kernel", 'kernel = "vmlinuz"', "", "has no kernel"),
             ("a policy's entry with another's key", 'kernel = "vmlinuz"', 'kernel = "vmlinuz"\nmodule = []', "has the key 'module'"),
+            ("a policy's module with an unknown key", 'file = "two"', 'file = "two"\nlines = ""', f"{MODULE} has the key 'lines'"),
             ("a policy's line that is no text", "line = 'say", "line = 1 #", "line is no text"),
             ("a policy's PCR that there is not", "\n[[entry]]", "\npcr.24 = []\n[[entry]]", "pcr is no table of PCR numbers"),
             ("a policy that has a PCR twice", "\n[[entry]]", "\npcr.7 = []\npcr.07 = []\n[[entry]]", "the policy's pcr has PCR 7 twice"),
@@ -165,15 +121,18 @@ class Inputs(CheckerChecks):
             ("a policy's bank that there is not", "files =", 'banks = ["md5"]\nfiles =', "the policy's banks have 'md5'"),
             ("a policy's driver that is no driver", "files =", 'drivers = ["vmlinuz"]\nfiles =', "vmlinuz is no EFI application"),
             ("a policy's digest of no file", "\n[[entry]]", "\ndigests.x = '00'\n[[entry]]", "which is no file of the policy"),
-            ("a policy's digest of no bank", "\n[[entry]]", "\ndigests.vmlinuz = '00'\n[[entry]]", "or one of no bank's"),
-            ("a policy's digest that is no text", "\n[[entry]]", "\ndigests.vmlinuz = 1\n[[entry]]", "is no array of texts"),
+            ("a policy's digest of no bank", "\n[[entry]]", "\ndigests.vmlinuz = '00'\n[[entry]]", "no digest in hexadecimal digits"),
+            ("a policy's two digests of a bank", "\n[[entry]]", f"\ndigests.vmlinuz = {TWICE}\n[[entry]]", "two of one bank"),
+            ("a policy's digest of two things", "files =", f"{OF_TWO}\n#", "of an application and of a file"),
+            ("a policy's digest that is no text", "\n[[entry]]", "\ndigests.vmlinuz = 1\n[[entry]]", "vmlinuz is no array"),
             ("a policy's digest of another file", "\n[[entry]]", f"\ndigests.vmlinuz = '{DIGEST}'\n[[entry]]", "has another digest"),
-            ("a policy without a manager of this bank", '["BOOTX64.EFI"]', f'["{2 * DIGEST}"]', "has no managers that sha256 tells"),
-            ("a policy's machine without a key", "\n[[entry]]", "\n[[machine]]\nname = 'a'\n[[entry]]", "machine 'a' has no key"),
+            ("a policy of SHA-1 alone", "files =", 'banks = ["sha1"]\nfiles =', "SHA-1 is too weak"),
+            ("a policy's machine without a key", "\n[[entry]]", "\n[[machine]]\nname = 'a'\n[[entry]]", "machine 1, 'a', has no key"),
             ("a policy's machine with a short key", "\n[[entry]]", "\n[[machine]]\nname = 'a'\nkey = '00'\n[[entry]]", "none of 32 bytes"),
             *(
-                (f"a policy's revoked {what}", "files =", f'revoked = ["{word}"]\nfiles =', f"the policy's revoked has '{word[:40]}")
-                for what, word in SLIPS
+                (f"a policy's {key} with a {what}", "files =", f'{key} = ["{word}"]\n{"#" if key == "files" else "files ="}', said)
+                for what, word, said in SLIPS
+                for key in ("drivers", "files")
             ),
             ("a policy that has a key twice", "files =", "files = []\nfiles =", "the policy is no TOML: Cannot overwrite a value"),
             *(
@@ -189,17 +148,19 @@ class Inputs(CheckerChecks):
             ("a policy with a number of many digits", "files =", f"banks = [{'9' * 5000}]\nfiles =", "the policy is no TOML: Exceeds"),
             ("a policy with a number in place of a text", "files =", f"banks = [0x{'9' * 50000}]\nfiles =", "banks is no array of texts"),
             ("a policy with arrays in arrays", "files =", f"banks = {'[' * 5000}{']' * 5000}\nfiles =", "the policy is no TOML"),
-            ("a policy with a text in place of an array", "files =", 'revoked = "Linux"\nfiles =', "revoked is no array of texts"),
-            ("a policy's title that is a truth value", 'title = "Linux"', "title = true", "an entry of the policy: title is no text"),
+            ("a policy with a text in place of an array", "files =", 'texts = "Linux"\nfiles =', "texts is no array"),
+            ("a policy that revokes", "files =", 'revoked = ["Linux"]\nfiles =', "the policy has the key 'revoked'; it may have managers"),
+            ("a policy's title that is a truth value", 'title = "Linux"', "title = true", "the policy's entry 1: title is no text"),
             ("a policy's entry that is a table", "managers =", "entry.title = 'x'\nmanagers =", "the policy is no TOML"),
             ("a policy's PCRs in an array", "\n[[entry]]", "\npcr = []\n[[entry]]", "the policy: pcr is no table"),
-            ("a policy's PCR value that is no array", "\n[[entry]]", "\npcr.7 = 'aa'\n[[entry]]", "7 is no array of texts"),
-            ("a policy's machine that is a table", "\n[[entry]]", "\nmachine.name = 'a'\n[[entry]]", "machine is no array of tables"),
-            ("a key of two machines", "\n[[entry]]", f"{machine('a')}{machine('b')}\n[[entry]]", "'b' has another machine's key"),
+            ("a policy's PCR value that is no array", "\n[[entry]]", "\npcr.7 = 'aa'\n[[entry]]", "7 is no array"),
+            ("a policy's machine that is a table", "\n[[entry]]", "\nmachine.name = 'a'\n[[entry]]", "machine is no array"),
+            ("a key of two machines", "\n[[entry]]", f"{machine('a')}{machine('b')}\n[[entry]]", "'b', has another machine's key"),
             ("a TPM of two machines", "\n[[entry]]", f"{machine('a', 1)}{machine('b', 2)}\n[[entry]]", "the endorsement key of 'a'"),
-            ("a short endorsement key", "\n[[entry]]", f"{machine('a')}ek = '00'\n[[entry]]", "a key that is none of 32 bytes"),
+            ("a short endorsement key", "\n[[entry]]", f"{machine('a')}ek = '00'\n[[entry]]", "is '00', which is none of 32 bytes"),
             ("a policy with letters that are no UTF-8", "files =", "# \udcff\nfiles =", "the policy is no TOML"),
-            ("a policy's PCR value that is none", "\n[[entry]]", "\npcr.7 = ['g']\n[[entry]]", "none in hexadecimal digits"),
+            ("a policy's PCR value that is none", "\n[[entry]]", "\npcr.7 = ['g']\n[[entry]]", "no digest in hexadecimal digits"),
+            ("a policy's PCR value of no bank", "\n[[entry]]", f"\npcr.7 = ['{DIGEST}00']\n[[entry]]", "the policy's pcr 7 has '"),
         ):
             (folder / "policy").write_text(POLICY.replace(old, new, 1), encoding="utf-8", errors="surrogateescape")
             self.says(sentence, self.checker(folder), UNREADABLE, said)
@@ -228,16 +189,12 @@ class Inputs(CheckerChecks):
             ("a blank nonce", [], {"quote": "quote", "nonce": "  "}),
             ("a nonce with blanks", [], {"quote": "quote", "nonce": "c0 ff ee"}),
             ("a nonce of half a byte", [], {"quote": "quote", "nonce": "c0f"}),
-            ("a selection of no PCR", [], {"selection": "sha256:24"}),
-            ("a selection of no bank", [], {"selection": "md5:1"}),
-            ("a selection of nothing", [], {"selection": "sha256:"}),
-            ("a selection beside a quote", [], {"quote": "quote", "nonce": "00", "selection": "sha256:1"}),
             ("a machine without a key", [], {"quote": "quote", "nonce": "00", "machine": "rack"}),
             ("a count of resets without a quote", [], {"resets": "1"}),
             ("a count of resets that is none", [], {"quote": "quote", "nonce": "00", "resets": "-1"}),
             ("a part of an option's name", ["--unsig"], {"unsigned": None}),
             ("a key without a signature", [], {"quote": "quote", "nonce": "00", "key": "key"}),
-            ("a bank that decides nothing", ["--bank", "sha1"], {}),
+            ("a policy without known files", ["--policy", "policy"], {}),
             ("a word more", ["more"], {}),
         ):
             self.says(f"refused: {sentence}", self.checker(folder, *words, **named), BAD_WORDS, "usage: ")

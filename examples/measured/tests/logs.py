@@ -5,7 +5,7 @@ from typing import Dict
 
 from examples.measured.tests import boots, cases
 from examples.measured.tests.boots import FILES, LINUX
-from examples.measured.tests.cases import GOOD, UNREADABLE, WRONG, Case
+from examples.measured.tests.cases import GOOD, PARTLY, UNREADABLE, WRONG, Case
 from examples.measured.tests.checker import CheckerChecks, Within
 from tests.support import is_at_hand, run
 
@@ -15,7 +15,7 @@ class Bytes(Within):
 
     def status(self, log: bytes, values: Dict[str, Dict[int, bytes]], policy: object) -> int:
         try:
-            self.verdict.verdict(self.event_log.read_logs(log), values, policy)
+            self.verdict.verdict(self.event_log.read_log(log), values, policy)
         except self.reading.Fault:
             return WRONG
         except self.reading.BadInput:
@@ -27,7 +27,7 @@ class Bytes(Within):
         events = boots.linux_boot(FILES)
         pcrs = boots.pcrs_of(events, ["sha256"])
         values = {"sha256": dict(enumerate(pcrs["sha256"]))}
-        policy = self.policy.read_policy(folder / "policy", folder / "known", "sha256")
+        policy = self.policy.read_policy(folder / "policy", folder / "known", ["sha256"])
         log = (folder / "log").read_bytes()
         free, paths = boots.untold(events, ["sha256"], LINUX)
         with self.check("each byte of a log is told by a PCR, but those of kinds, paths and what the firmware tells beside"):
@@ -55,11 +55,13 @@ class Boots(CheckerChecks):
                 self.assertEqual(ran.out.count(b"EventType: EV_EVENT_TAG"), {"Linux": 3, "modules": 5}[name])
 
     def test_cases(self) -> None:
-        tables = ((GOOD, cases.AS_IT_SHOULD_BE), (WRONG, cases.LOG), (WRONG, cases.MACHINE), (WRONG, cases.HANDOVER))
+        cases_of = {GOOD: cases.AS_IT_SHOULD_BE, PARTLY: [case._replace(banks=cases.TWO) for case in cases.PARTLY_SO]}
+        wrong = [case for table in (cases.LOG, cases.BANKS, cases.MACHINE, cases.HANDOVER) for case in table]
+        tables = (*cases_of.items(), (WRONG, wrong))
         listed = [(status, case) for status, table in tables for case in table]
         folders = [self.folder(f"case{i}", case) for i, (_, case) in enumerate(listed)]
         with ThreadPoolExecutor() as pool:
             ran = pool.map(lambda it: self.checker(it[0], *it[1][1].words), zip(folders, listed))
             for (status, case), each in zip(listed, ran):
-                prefix = "as it should be: " if status == GOOD else "not as it should be: "
+                prefix = {GOOD: "as it should be: ", PARTLY: "by a bank alone: ", WRONG: "not as it should be: "}[status]
                 self.says(prefix + case.sentence, each, status, case.said)

@@ -1,5 +1,6 @@
 """A machine in QEMU, from the disk to the verdict."""
 
+import json
 import shutil
 from typing import List, Optional, Tuple
 
@@ -38,7 +39,7 @@ class Machine(CheckerChecks):
         (self.room / "initrd.img").write_bytes(b"hello")
         made = run(TOP / "examples/efi/make_esp", "esp", "vmlinuz", "initrd.img", cwd=self.room)
         self.assertEqual(made.status, 0, f"ran: {made}\n{made.err.decode(errors='replace')}")
-        ran = run(CHECKER / "trial", "esp", "seen", cwd=self.room, env={"NONCE": NONCE}, timeout=900)
+        ran = run(CHECKER / "tests/trial", "esp", "seen", cwd=self.room, env={"NONCE": NONCE}, timeout=900)
         if ran.status == 127:
             self.leave_out(sentence, ran.err.decode(errors="replace").strip())
             return
@@ -51,7 +52,8 @@ class Machine(CheckerChecks):
         self.says("a machine's line that the policy has not", self.checked(policy="policy"), WRONG, "has other lines than those")
         self.check_other_reader((self.room / "seen/log").read_bytes())
         self.check_logs((self.room / "seen/log").read_bytes())
-        self.check_learned("a machine")
+        self.check_predicted("a machine")
+        self.check_described()
         self.check_driver()
         self.check_driver_as_program()
         (self.room / "esp/bootcore/initrd.img").write_bytes(b"hellp")
@@ -64,23 +66,40 @@ class Machine(CheckerChecks):
         with self.check("tpm2_eventlog says nothing against a machine's log"):
             self.assertEqual((ran.status, ran.err), (0, b""), f"ran: {ran}")
 
-    def check_learned(self, whose: str, seen: str = "seen") -> None:
-        learned = run(CHECKER / "learn", "--known", "esp", f"{seen}/log", cwd=self.room)
-        (self.room / "learned").write_bytes(learned.out)
-        ran = self.checked(seen=seen, policy="learned")
-        self.says(f"by the policy that is made of {whose}'s log, it is as it should be", ran, GOOD, 'manager   EFI/BOOT/BOOTX64.EFI\n')
-        with self.check(f"that policy of {whose} leaves nothing open"):
-            self.assertNotIn(b"remark", ran.out)
+    def check_predicted(self, whose: str, seen: str = "seen") -> None:
+        """Of one machine, which starts anew with a new TPM: the log of the first boot tells the second one to the bit."""
+        words = ["--known", "esp", "--entry", str(CHECKER / "policy.toml"), "--title", "Linux"]
+        foretold = run(CHECKER / "predict", *words, f"{seen}/log", cwd=self.room, env=self.env)
+        (self.room / "foretold").write_bytes(foretold.out)
+        ran = self.checked(seen=seen, policy="foretold")
+        self.says(f"by the policy that is made of {whose}'s log, it is as it should be", ran, GOOD, "manager   EFI/BOOT/BOOTX64.EFI\n")
+        told = json.loads(self.checker_json(seen))
+        with self.check(f"that policy of {whose} leaves nothing open, and its image and PCRs are those of the boot"):
+            self.assertNotIn(b"remark    PCR 0", ran.out)
+            self.assertIn(f"\n# image: {told['image']}\n", foretold.out.decode())
+            wanted = [f"# PCR {pcr} of {bank}: {values[str(pcr)]}" for bank, values in told["pcrs"].items() for pcr in (4, 8, 9, 12)]
+            self.assertEqual([line for line in foretold.out.decode().splitlines() if line.startswith("# PCR")], wanted)
+
+    def checker_json(self, seen: str) -> bytes:
+        return self.checked(seen=seen, policy="foretold", json="").out
+
+    def check_described(self) -> None:
+        (self.room / "esp/description").write_bytes(run(CHECKER / "predict", "--describe", "seen/log", cwd=self.room, env=self.env).out)
+        digested = run(self.env["BOOTCORE"], "digest", "description", cwd=self.room / "esp")
+        (self.room / "esp/description").unlink()
+        with self.check("a machine's description is taken by the program, and has the image that was handed over"):
+            image = next(line.split()[-1] for line in digested.out.decode().splitlines() if line.startswith("image "))
+            self.assertIn(f"image     {image}\n", self.checked().out.decode())
 
     def check_driver(self) -> None:
         """A network card of QEMU's has a driver in its ROM, which the firmware loads before it boots."""
-        ran = run(CHECKER / "trial", "esp", "driven", "-device", "e1000", cwd=self.room, env={"NONCE": NONCE}, timeout=900)
+        ran = run(CHECKER / "tests/trial", "esp", "driven", "-device", "e1000", cwd=self.room, env={"NONCE": NONCE}, timeout=900)
         if ran.status != 0 and b"rom" in (self.room / "driven/monitor").read_bytes():
             self.leave_out("a machine with a driver is refused", "QEMU's ROM of the card e1000 is not at hand")
             return
         ran = self.checked(seen="driven")
         self.says("a machine with a driver that the policy does not name", ran, WRONG, "a driver was loaded that the policy does not name")
-        self.check_learned("a machine with a driver", "driven")
+        self.check_predicted("a machine with a driver", "driven")
 
     def check_driver_as_program(self) -> None:
         """The menu's first entry is a program, and the file is a driver."""
@@ -88,7 +107,7 @@ class Machine(CheckerChecks):
         shutil.copytree(known, self.room / "other")
         (self.room / "other/driver.efi").write_bytes(boots.driver())
         (self.room / "other/bootcore/menu.txt").write_text(MENU, encoding="utf-8")
-        ran = run(CHECKER / "trial", "other", "started", cwd=self.room, env={"NONCE": NONCE}, timeout=900)
+        ran = run(CHECKER / "tests/trial", "other", "started", cwd=self.room, env={"NONCE": NONCE}, timeout=900)
         self.ends("a machine that is given a driver in place of a program boots", ran, 0, None)
         with self.check("a driver in place of a program is not started"):
             shown = (self.room / "started/serial").read_bytes()

@@ -67,7 +67,7 @@ class Quotes(CheckerChecks):
                 "PCR 2 of sha1 is not among",
             ),
             *(
-                (f"a quote without PCR {pcr}", self.quoted(f"no{pcr}", over(*cases.ALL_BANKS, but=pcr)), WRONG, f"PCR {pcr} of sha256 is not")
+                (f"a quote without PCR {pcr}", self.quoted(f"{pcr}", over(*cases.ALL_BANKS, but=pcr)), WRONG, f"PCR {pcr} of sha256 is not")
                 for pcr in (2, 4, 8, 9, 12)
             ),
         ):
@@ -85,7 +85,6 @@ class Quotes(CheckerChecks):
         folder = self.quoted("values")
         held = (folder / "pcrs").read_bytes()
         values, few = self.pcrs, {**self.pcrs, "sha512": self.pcrs["sha512"][:9]}
-        plain = boots.plain_of(values, QUOTED)
         more = boots.pcrread({**values, "sha3_256": [bytes(32)] * 24}).encode()
         for sentence, changed, status, said in (
             ("values that were not quoted", cases.one_byte(held, held.index(values["sha256"][8])), WRONG, "not those that were quoted"),
@@ -93,9 +92,7 @@ class Quotes(CheckerChecks):
             ("a bank that has no PCRs", b"  sha3_256:\n" + boots.pcrread(values).encode(), GOOD, "quoted with the nonce"),
             ("values that are not all", boots.pcrread(few).encode(), WRONG, "the quote is over PCR 9 of sha512"),
             ("values of a bank that is not quoted", more, WRONG, "the bank sha3_256 is among the PCR values, and not quoted"),
-            ("values without their numbers", plain, GOOD, "quoted with the nonce"),
-            ("values without their numbers, one of them another", cases.one_byte(plain, 300), WRONG, "not those that were quoted"),
-            ("values without their numbers, one too few", plain[:-64], UNREADABLE, "PCR values"),
+            ("values without their numbers", boots.plain_of(values, QUOTED), UNREADABLE, "PCR values"),
         ):
             (folder / "pcrs").write_bytes(changed)
             self.says(f"a quote beside {sentence}", self.checked(folder), status, said)
@@ -142,11 +139,11 @@ class Quotes(CheckerChecks):
         folder = self.quoted("signed")
         self.make_key(folder, "ec", "ec", "ec_paramgen_curve:P-256")
         self.make_key(folder, "rsa", "rsa", "rsa_keygen_bits:2048")
-        self.make_key(folder, "otherec", "ec", "ec_paramgen_curve:P-256")
-        self.make_key(folder, "otherrsa", "rsa", "rsa_keygen_bits:2048")
+        self.make_key(folder, "other", "ec", "ec_paramgen_curve:P-256")
         signature, message = boots.signature_of(self.signed(folder, "ec")), (folder / "quote").read_bytes()
         self.check_signature("a signature is checked", folder, signature, "ec", GOOD)
-        self.check_signature("a signature by another key", folder, signature, "rsa", WRONG)
+        self.check_signature("a signature by a key of another kind", folder, signature, "rsa", WRONG)
+        self.check_signature("a signature by another key", folder, signature, "other", WRONG)
         self.check_signature("another signature", folder, cases.one_byte(signature, 20), "ec", WRONG)
         for scheme, number, options in (
             ("RSASSA", b"\0\x14", []),
@@ -154,13 +151,6 @@ class Quotes(CheckerChecks):
         ):
             signed = number + b"\0\x0b\x01\0" + self.signed(folder, "rsa", *options)
             self.check_signature(f"a signature by {scheme} is checked", folder, signed, "rsa", GOOD)
-        for name, options in (("ec", []), ("rsa", []), ("rsa", ["-sigopt", "rsa_padding_mode:pss", "-sigopt", "rsa_pss_saltlen:-1"])):
-            plain = self.signed(folder, name, *options)
-            how = " by RSAPSS" if options else ""
-            self.check_signature(f"a plain signature of an {name} key{how} is checked", folder, plain, name, GOOD)
-            self.check_signature(f"a plain signature of an {name} key{how} by another key", folder, plain, "other" + name, WRONG)
-            changed = cases.one_byte(plain, len(plain) - 1)
-            self.check_signature(f"another plain signature of an {name} key{how}", folder, changed, name, WRONG)
         (folder / "quote").write_bytes(cases.one_byte(message, message.index(bytes.fromhex(NONCE)) + 12))
         self.check_signature("a quote that was changed", folder, signature, "ec", WRONG)
         (folder / "signature").write_bytes(signature)
@@ -180,6 +170,7 @@ class Quotes(CheckerChecks):
             ("a signature with a number of 256 bytes", longer, " has a number that is too long"),
             ("a signature of another scheme", b"\0\5" + signature[2:], "'s scheme is none of"),
             ("a signature without a scheme", b"\0\x10", " ends too early"),
+            ("a signature as openssl takes it", self.signed(folder, "ec"), "'s scheme is none of"),
             ("an empty signature", b"", " ends too early"),
             ("a signature by SHA-1", b"\0\x14\0\4\0\1s", "'s scheme is none of"),
             ("a signature that is cut", signature[:-1], " ends too early"),
@@ -227,28 +218,15 @@ class Tpm(TpmChecks):
             ("sha512:1,2+sha256:4,8,9,12", WRONG),
         ):
             self.check_quote(state, folder, selected, status)
-        self.check_values(state, folder)
-
-    def check_values(self, state: Path, folder: Path) -> None:
-        for selected in ("all", "sha256:12,4,2,8,9+sha1:2,4,8,9,12+sha384:2,4,8,9,12+sha512:2,4,8,9,12"):
-            words = [] if selected == "all" else [selected]
-            self.tool(state, folder, "tpm2_pcrread", *words, "-o", "written")
-            named = "+".join(f"{bank}:all" for bank in cases.ALL_BANKS) if selected == "all" else selected
-            ran = self.checker(folder, pcrs="written", selection=named)
-            self.says(f"what tpm2_pcrread writes of {selected} is read by its selection", ran, GOOD, cases.LINUX_SAID)
-            ran = self.checker(folder, pcrs="written")
-            self.says(f"what tpm2_pcrread writes of {selected} needs its selection", ran, UNREADABLE, "PCR values")
 
     def check_quote(self, state: Path, folder: Path, selected: str, status: int) -> None:
         files = ["-m", "quote", "-s", "signature", "-o", "values"]
         said = "by key.pem" if status == GOOD else "the bank "
-        for form in ([], ["-F", "values"], ["-f", "plain"]):
-            self.tool(state, folder, "tpm2_quote", "-c", "key", "-l", selected, "-q", NONCE, "-g", "sha256", *files, *form)
-            named = {"pcrs": "values", "quote": "quote", "signature": "signature", "key": "key.pem", "unsigned": None}
-            ran = self.checker(folder, nonce=NONCE, **named)
-            self.says(f"a TPM's quote of {' '.join([selected, *form])} is judged", ran, status, said)
-            if form or status != GOOD:
-                continue
+        self.tool(state, folder, "tpm2_quote", "-c", "key", "-l", selected, "-q", NONCE, "-g", "sha256", *files)
+        named = {"pcrs": "values", "quote": "quote", "signature": "signature", "key": "key.pem", "unsigned": None}
+        ran = self.checker(folder, nonce=NONCE, **named)
+        self.says(f"a TPM's quote of {selected} is judged", ran, status, said)
+        if status == GOOD:
             for nonce, theirs in ((NONCE, 0), ("00", 1)):
                 with self.check(f"of a quote of {selected} tpm2_checkquote says the same, with the nonce {nonce}"):
                     words = ["-m", "quote", "-s", "signature", "-f", "values", "-u", "key.pem", "-q", nonce, "-g", "sha256"]

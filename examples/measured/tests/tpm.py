@@ -27,9 +27,10 @@ class TpmChecks(CheckerChecks):
 
     @contextlib.contextmanager
     def tpm(self, name: str) -> Iterator[Path]:
-        """The folder of its state; it ends with the block."""
+        """The folder of its state; it ends with the block. Where there is one already, the TPM is reset."""
         state = self.room / name
-        state.mkdir()
+        state.mkdir(exist_ok=True)
+        (state / "control").unlink(missing_ok=True)
         channel = f"type=unixio,path={state}/control"
         words = ["--tpm2", "--tpmstate", f"dir={state}", "--ctrl", channel, "--flags", "not-need-init,startup-clear"]
         with subprocess.Popen(["swtpm", "socket", *words], stdin=subprocess.DEVNULL, stderr=subprocess.DEVNULL) as swtpm:
