@@ -3,15 +3,14 @@
 
 /* ---- copies */
 
-#if __STDC_HOSTED__
-#include <string.h>
-
+#if __STDC_HOSTED__ || !defined(__x86_64__)
+/* Of the libc; or, on other processors, of the plain source's archive, which has its own. */
 static void copy(uint8_t *to, const uint8_t *from, size_t length) {
-    memcpy(to, from, length);
+    __builtin_memcpy(to, from, length);
 }
 
 static void clear(uint8_t *to, size_t length) {
-    memset(to, 0, length);
+    __builtin_memset(to, 0, length);
 }
 #else
 /* The processor's own loops, since there is no libc: the convention of calls has them ascend. */
@@ -26,33 +25,53 @@ static void clear(uint8_t *to, size_t length) {
 
 /* ---- pieces */
 
-/* Memory in pieces. If they ascend and don't meet, `at` is the one where a byte was found last, so that
- * bytes in order are found without a search. */
+/* Memory in pieces. If they don't meet, and ascend as they are or from the last one on, `at` is the one
+ * where a byte was found last, so that bytes in order are found without a search. */
 typedef struct pieces {
     const bootcore_memory *memory;
     size_t count;
-    bool ascend;
+    enum { IN_NO_ORDER, ASCENDING, DESCENDING } order;
     size_t at;
 } pieces;
 
-static bool do_ascend(const bootcore_memory *memory, size_t count) {
+/* Piece i of those in order, counted from the lowest one on. */
+static const bootcore_memory *nth(const pieces *all, size_t i) {
+    return &all->memory[all->order == DESCENDING ? all->count - 1 - i : i];
+}
+
+static bool are_in_order(const pieces *all) {
     size_t i;
-    for (i = 1; i < count; i++) {
-        const bootcore_memory *before = &memory[i - 1];
-        if (memory[i].address < before->address ||
-            memory[i].address - before->address < before->length) {
+    for (i = 1; i < all->count; i++) {
+        const bootcore_memory *before = nth(all, i - 1), *piece = nth(all, i);
+        if (piece->address < before->address ||
+            piece->address - before->address < before->length) {
             return false;
         }
     }
     return true;
 }
 
-/* The last of ascending pieces that begins at the address or below; the first, if none does. */
-static size_t last_below(const bootcore_memory *memory, size_t count, uint64_t address) {
-    size_t low = 0, high = count;
+static void find_order(pieces *all) {
+    all->order = ASCENDING;
+    if (are_in_order(all)) {
+        return;
+    }
+    all->order = DESCENDING;
+    if (!are_in_order(all)) {
+        all->order = IN_NO_ORDER;
+    }
+}
+
+static bool begins_below(const pieces *all, size_t i, uint64_t address) {
+    return i < all->count && nth(all, i)->address <= address;
+}
+
+/* The last of pieces in order that begins at the address or below; the lowest one, if none does. */
+static size_t last_below(const pieces *all, uint64_t address) {
+    size_t low = 0, high = all->count;
     while (high - low > 1) {
         size_t middle = low + (high - low) / 2;
-        if (memory[middle].address <= address) {
+        if (begins_below(all, middle, address)) {
             low = middle;
         } else {
             high = middle;
@@ -61,17 +80,13 @@ static size_t last_below(const bootcore_memory *memory, size_t count, uint64_t a
     return low;
 }
 
-static bool begins_below(const pieces *all, size_t piece, uint64_t address) {
-    return piece < all->count && all->memory[piece].address <= address;
-}
-
-/* Of pieces that ascend and don't meet, the one that can have an address. */
+/* Of pieces in order, the one that can have an address. */
 static size_t find_in_order(pieces *all, uint64_t address) {
     if (begins_below(all, all->at + 1, address)) {
         all->at++;
     }
     if (!begins_below(all, all->at, address) || begins_below(all, all->at + 1, address)) {
-        all->at = last_below(all->memory, all->count, address);
+        all->at = last_below(all, address);
     }
     return all->at;
 }
@@ -96,16 +111,18 @@ static size_t search(const pieces *all, uint64_t address, uint64_t *most) {
  * an earlier one begins; *to is where it lies, and the answer 0 if no piece has it. */
 static size_t find(pieces *all, uint64_t address, uint8_t **to) {
     uint64_t most = UINT64_MAX, into;
-    size_t i = all->ascend ? find_in_order(all, address) : search(all, address, &most);
+    size_t i = all->order ? find_in_order(all, address) : search(all, address, &most);
+    const bootcore_memory *piece;
     if (!begins_below(all, i, address)) {
         return 0;
     }
-    into = address - all->memory[i].address;
-    if (into >= all->memory[i].length) {
+    piece = nth(all, i);
+    into = address - piece->address;
+    if (into >= piece->length) {
         return 0;
     }
-    *to = (uint8_t *)all->memory[i].bytes + into;
-    return (size_t)(all->memory[i].length - into < most ? all->memory[i].length - into : most);
+    *to = (uint8_t *)piece->bytes + into;
+    return (size_t)(piece->length - into < most ? piece->length - into : most);
 }
 
 /* ---- steps */
@@ -259,13 +276,13 @@ BOOTCORE_CALL
 uint32_t bootcore_carry_out(const bootcore_layout *layout, const bootcore_bytes *files,
                             size_t file_count, const bootcore_memory *memory,
                             size_t memory_count) {
-    pieces all = {memory, memory_count, false, 0};
+    pieces all = {memory, memory_count, IN_NO_ORDER, 0};
     uint32_t status;
     size_t i;
     if (has_null(layout, files, file_count, memory, memory_count)) {
         return BOOTCORE_STATUS_NULL;
     }
-    all.ascend = do_ascend(memory, memory_count);
+    find_order(&all);
     status = find_fault(layout, files, file_count, &all);
     if (status != BOOTCORE_STATUS_DONE) {
         return status;

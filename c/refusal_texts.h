@@ -42,7 +42,7 @@ static const struct refusal_text texts[] = {
     {18, NOTHING, "BadAlign",
      "the alignment is no power of two: kernel_alignment of a relocatable kernel"},
     {19, NOTHING, "NotUsable",
-     "a part at a fixed address has a byte that is not usable"},
+     "a part at a fixed address has a byte that is not usable, or is avoided"},
     {20, NOTHING, "NoRoom",
      "no address is permitted for a part"},
     {21, NOTHING, "NoPool",

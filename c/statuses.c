@@ -71,9 +71,11 @@ const char *bootcore_status_text(uint32_t status) {
     case BOOTCORE_STATUS_BAD_SCREEN_PLACE:
         return "a bad place of the screen: at 0, with an end above 2^52, or over a usable byte";
     case BOOTCORE_STATUS_BAD_RSDP:
-        return "a bad address of the RSDP: 0, or its 36 bytes are over a usable one";
+        return "a bad address of the RSDP: 0, with an end of its 36 bytes above 2^52, or over a "
+               "usable byte";
     case BOOTCORE_STATUS_BAD_SYSTEM_TABLE:
-        return "a bad address of the UEFI system table: 0, or with 32 bits at 4 GiB or above";
+        return "a bad address of the UEFI system table: 0, with 32 bits at 4 GiB or above, or "
+               "with an end above 2^52";
     case BOOTCORE_STATUS_BAD_DESCRIPTORS:
         return "bad descriptors of the UEFI memory map: another version than 1, or a size below "
                "40 or no multiple of 8";

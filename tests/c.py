@@ -10,7 +10,7 @@ from typing import List, Optional, Tuple
 from tests import examples
 from tests.c_core import CC, FREESTANDING, HEADER, WARNINGS, CoreChecks, build, build_freestanding, libraries, why_left_out
 from tests.changed_images import change, changed_images
-from tests.support import PROGRAM, TOP, Checks, Ran, has_tomllib, is_at_hand, need_built, run
+from tests.support import PLAIN, PROGRAM, TOP, Checks, Ran, has_tomllib, is_at_hand, need_built, run
 
 DISK = """\
 entry 0 refused 2 1
@@ -121,6 +121,15 @@ class Header(CoreChecks):
                 self.assertNotEqual(ran.status, 0, f"ran: {ran}")
                 self.assertIn(wanted, ran.err.replace(b'error: "', b'error: #error "'), f"ran: {ran}")
 
+    def test_processors_from_source(self) -> None:
+        words = ["-DBOOTCORE_FROM_SOURCE", "-ffreestanding", *WARNINGS, "-fsyntax-only", "-x", "c", HEADER]
+        for target, status in (("aarch64-linux-gnu", 0), ("aarch64-none-elf", 0), ("x86_64-linux-gnu", 0), ("aarch64_be-linux-gnu", 1), ("riscv64", 1)):
+            sentence = f"include/bootcore.h beside an archive of the plain source {'refuses' if status else 'is for'} {target}"
+            if is_at_hand("clang"):
+                self.ends(sentence, run("clang", f"--target={target}", *words), status, "", None if status else "")
+            else:
+                self.leave_out(sentence, "clang is not at hand")
+
     def test_abi(self) -> None:
         for compiler in ("gcc", "clang"):
             sentence = f"include/abi.txt is what {compiler} says of the headers"
@@ -159,6 +168,8 @@ class Archives(CoreChecks):
 
     def test_versions(self) -> None:
         """two shared objects with archives of two versions, in one process, each have their own"""
+        if PLAIN:
+            self.skipTest("the core of the plain source is not kept beside its archive")
         other = self.room / "other"
         for part in ("c", "include", "tools/c_archive", "crates/bootcore_c/out/libbootcore_c.a"):
             (other / part).parent.mkdir(parents=True, exist_ok=True)
@@ -392,6 +403,30 @@ class Cases(CoreChecks):
         if FREESTANDING.exists():
             driver = self.driver("cases", "-DARENA", archive=FREESTANDING)
             self.run_cases("each case ends as wanted by way of C for firmware", driver)
+            self.link_for_windows()
+
+    def link_for_windows(self) -> None:
+        """By the two commands of docs/EMBED.md the archive for firmware is an object for a linker of PE/COFF."""
+        sentence = "a program of UEFI is linked with the archive for firmware by a linker of PE/COFF"
+        missing = [tool for tool in ("ar", "objcopy", "clang", "lld-link") if shutil.which(tool) is None]
+        if missing:
+            self.leave_out(sentence, f"{missing[0]} is not at hand")
+            return
+        folder = self.room / "pe"
+        folder.mkdir()
+        (folder / "app.c").write_text(
+            '#include "bootcore.h"\nint efi_main(void *image, void *table) { return (int)bootcore_version() + (image == table); }\n', encoding="utf-8"
+        )
+        for words in [
+            ["ar", "x", FREESTANDING],
+            ["objcopy", "-O", "pe-x86-64", "bootcore.o", "bootcore.obj"],
+            ["clang", "--target=x86_64-unknown-windows", "-ffreestanding", "-mno-red-zone", f"-I{TOP / 'include'}", "-c", "app.c", "-o", "app.obj"],
+            ["lld-link", "/subsystem:efi_application", "/entry:efi_main", "/nodefaultlib", "/out:app.efi", "app.obj", "bootcore.obj"],
+        ]:
+            ran = run(*words, cwd=folder)
+            if ran.status != 0:
+                break
+        self.ends(sentence, ran, 0)
 
     def run_cases(self, sentence: str, driver: Optional[Path]) -> None:
         if driver is None:

@@ -6,10 +6,11 @@ import unittest
 from pathlib import Path
 from typing import Dict, List, Optional, Tuple
 
-from tests import examples
+from tests import c_aarch64, examples
 from tests.c_core import CC, FREESTANDING, HEADER, WARNINGS, CoreChecks, build_freestanding, libraries, why_left_out
-from tests.support import PROGRAM, TOP, has_tomllib, is_at_hand, need_built, run
+from tests.support import PLAIN, PROGRAM, TOP, has_tomllib, is_at_hand, need_built, run
 
+MODULES = [c_aarch64] if PLAIN else []  # only the plain source makes a library for it
 ONE_MINUTE = 60
 QUIET = {"PYTHONDONTWRITEBYTECODE": "1"}
 NO_TOMLLIB = "python3 of 3.11 or later is not at hand"
@@ -111,7 +112,7 @@ class Needs(CoreChecks):
 
     def test_stack(self) -> None:
         needs = self.measured("the stack of calls is measured over the cases and the largest entries", self.driver("needs"))
-        self.has_stack(needs, "libbootcore.a", 16384)
+        self.has_stack(needs, "libbootcore.a", constant("BOOTCORE_STACK") if PLAIN else 16384)
 
     def test_arena(self) -> None:
         self.ends("the archive for firmware defines what the headers declare, and wants nothing", build_freestanding())
@@ -124,6 +125,9 @@ class Needs(CoreChecks):
             most, stated = needs["arena",], constant("BOOTCORE_ARENA", "bootcore_arena.h")
             with self.check(f"no load and no plan needs more of an arena than the {stated} bytes of BOOTCORE_ARENA: at most {most}"):
                 self.assertLessEqual(most, stated)
+            if PLAIN:
+                self.leave_out("docs/EMBED.md says of each call what it needs of an arena", "those numbers are the proved archive's")
+                return
             with self.check("docs/EMBED.md says of each call what it needs of an arena, rounded up to a thousand bytes"):
                 self.assertEqual(said_needs(), {call: rounded(needs, call) for call in said_needs()})
                 self.assertGreater(len(said_needs()), 6, "rows of the table")

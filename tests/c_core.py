@@ -8,11 +8,11 @@ from pathlib import Path
 from typing import Dict, List, Optional, Union
 
 from tests import changed_images, examples
-from tests.support import C_ARCHIVE, PROGRAM, STARTED, TOP, ProgramChecks, Ran, is_at_hand, run
+from tests.support import C_ARCHIVE, PLAIN, PROGRAM, STARTED, TOP, ProgramChecks, Ran, is_at_hand, run
 
-OUT = TOP / "examples/c/out"
+OUT = PLAIN / "examples" if PLAIN else TOP / "examples/c/out"
 HEADER = TOP / "include/bootcore.h"
-FREESTANDING = OUT / "libbootcore_freestanding.a"
+FREESTANDING = (PLAIN or OUT) / "libbootcore_freestanding.a"
 WARNINGS = ["-Wall", "-Wextra", "-Wpedantic", "-Wconversion", "-Werror"]
 SANITIZERS = ["-fsanitize=address,undefined", "-fno-sanitize-recover=all"]
 CC = (os.environ.get("CC") or "cc").split()
@@ -34,7 +34,9 @@ def why_left_out() -> Optional[str]:
 
 @lru_cache(maxsize=None)
 def build() -> Ran:
-    """The core and the examples, built once for all checks."""
+    """The core and the examples, built once for all checks; over an archive of the plain source the examples alone."""
+    if PLAIN:
+        return run(TOP / "examples/c/build", C_ARCHIVE, OUT, timeout=600)
     print("c: the static library for C is built: minutes, if its crates were not built before", flush=True)
     return run(TOP / "examples/c/build", timeout=3 * HOURS)
 
@@ -42,13 +44,15 @@ def build() -> Ran:
 @lru_cache(maxsize=None)
 def build_freestanding() -> Ran:
     """The archive for firmware, built once for all checks."""
+    if PLAIN:
+        return run("test", "-f", FREESTANDING)
     return run(TOP / "tools/c_archive", "--freestanding", FREESTANDING, timeout=3 * HOURS)
 
 
 @lru_cache(maxsize=None)
 def libraries() -> List[Path]:
     """What a program in C links."""
-    return [OUT / "libbootcore.a"]
+    return [C_ARCHIVE if PLAIN else OUT / "libbootcore.a"]
 
 
 def working_sanitizers(room: Path) -> List[str]:

@@ -5,9 +5,13 @@ import re
 import subprocess
 from typing import Iterable, Iterator, List, NamedTuple
 
-from tests.support import C_ARCHIVE, PROGRAM, TOP, Checks, Ran, need_built, run
+from tests.support import C_ARCHIVE, PLAIN, PROGRAM, TOP, Checks, Ran, need_built, run
 
 NOT_AT_HAND = 127  # the status with which examples/efi/build ends if it has not what it needs
+SHIPPED = TOP / "examples/efi/out/BOOTX64.EFI"
+OVER = {"CORE_LIBRARIES": str(PLAIN / "libbootcore_freestanding.a")} if PLAIN else {}
+# with which distributions build their packages
+PACKAGERS = "-g -O2 -flto=auto -fstack-protector-strong -fstack-clash-protection -fcf-protection -D_FORTIFY_SOURCE=2 -Werror"
 
 MARKED = re.compile(r"(ok|FAILED|skipped:) +(.+)")
 
@@ -43,23 +47,27 @@ def reports(lines: Iterable[str]) -> Iterator[Reported]:
 
 class BootManager(Checks):
     built: Ran
+    shipped = b""
 
     @classmethod
     def setUpClass(cls) -> None:
         super().setUpClass()
         if C_ARCHIVE.exists():
-            cls.built = run(TOP / "examples/efi/build", timeout=1800)
-            if cls.built.status == 0:
-                cls.built = run(TOP / "examples/efi/build", env={"TESTS": "yes"}, timeout=1800)
+            for more in ({}, {"TESTS": "yes"}, {"UNVERIFIED": "yes", "CFLAGS": PACKAGERS}):
+                cls.built = run(TOP / "examples/efi/build", env={**OVER, **more}, timeout=1800)
+                if cls.built.status != 0:
+                    break
+                cls.shipped = cls.shipped or SHIPPED.read_bytes()
         else:
             cls.built = Ran(["examples/efi/build"], TOP, NOT_AT_HAND, b"", b"the core for C is not built\n")
 
     def test_build(self) -> None:
-        """the boot manager is built, as it is shipped and for tests"""
+        """the boot manager is built: as it is shipped, for tests, and, with a packager's flags, for what nobody verified"""
         if self.built.status == NOT_AT_HAND:
             written = (self.built.out + self.built.err).decode(errors="replace")
             self.skipTest((written.splitlines() or ["examples/efi/build does not say what it needs"])[-1])
         self.assert_ended(self.built, 0, None)
+        self.assertEqual(SHIPPED.read_bytes(), self.shipped, "the boot manager that is shipped was written over")
 
     def test_check(self) -> None:
         """the boot manager boots in QEMU under OVMF"""

@@ -1,5 +1,6 @@
 """installation and release: what stands where, programs that are built on it, the archive in an empty root"""
 
+import json
 import os
 import re
 import shutil
@@ -13,19 +14,31 @@ from tests import examples
 from tests.c import GUEST
 from tests.c_core import CC, HEADER, why_left_out
 from tests.kvm import assert_restarted, why_no_kvm
-from tests.support import C_ARCHIVE, PROGRAM, TOP, ProgramChecks, Ran, is_at_hand, need_built, run
+from tests.support import C_ARCHIVE, PLAIN, PROGRAM, TOP, Checks, ProgramChecks, Ran, is_at_hand, run, sha256
 
 INSTALL = TOP / "install"
 RELEASE = TOP / "tools/release"
 HALF_AN_HOUR = 1800.0  # the library for C is built first, if it is not
 NOT_AT_HAND = 127
+# where Debian's packages of crates lie, and how cargo is told so
+PACKAGED = Path("/usr/share/cargo/registry")
+DEBIAN_CRATES = f'[source.crates-io]\nreplace-with = "debian"\n[source.debian]\ndirectory = "{PACKAGED}"\n'
 
 
 def setUpModule() -> None:
     why = why_left_out()
     if why:
         raise unittest.SkipTest(why.replace("the core for C", "the library that is installed"))
-    need_built(PROGRAM, "tools/build")
+
+
+class ProvedChecks(ProgramChecks):
+    """Checks of what is proved, as it is installed and released."""
+
+    @classmethod
+    def setUpClass(cls) -> None:
+        if PLAIN:
+            raise unittest.SkipTest("it is what is proved that is installed by these")
+        super().setUpClass()
 
 
 def installed(folder: Path) -> List[str]:
@@ -33,7 +46,13 @@ def installed(folder: Path) -> List[str]:
     return sorted(str(path) for path in folder.rglob("*") if path.is_symlink() or not path.is_dir())
 
 
-class Installed(ProgramChecks):
+def dead_links(folder: Path) -> List[str]:
+    """The links of a folder's pages to what is not there, but for those to the web."""
+    links = ((page.name, link) for page in folder.glob("*.md") for link in re.findall(r"\]\(([^)#]+)", page.read_text(encoding="utf-8")))
+    return [f"{page}: {link}" for page, link in links if "://" not in link and not (folder / link).exists()]
+
+
+class Installed(ProvedChecks):
     """An installation into a prefix of its own."""
 
     prefix: Path
@@ -47,11 +66,13 @@ class Installed(ProgramChecks):
         cls.ran = run(*words, timeout=HALF_AN_HOUR)
 
     def test_files(self) -> None:
-        with self.check("install puts nineteen files into a prefix and reports each"):
+        with self.check("install puts twenty files into a prefix and reports each"):
             self.assert_ended(self.ran, 0, None, None)
             reported = re.findall(rb"^installed (.+)$", self.ran.out, re.M)
             self.assertEqual(sorted(map(os.fsdecode, reported)), installed(self.prefix), f"ran: {self.ran}")
-            self.assertEqual(len(reported), 19, f"ran: {self.ran}\nfiles that it reports")
+            self.assertEqual(len(reported), 20, f"ran: {self.ran}\nfiles that it reports")
+        with self.check("each link of the installed pages leads to one that is installed"):
+            self.assertEqual(dead_links(self.prefix / "share/doc/bootcore"), [])
         with self.check("install --list names exactly the files that install puts there"):
             ran = run(INSTALL, "--list", "--prefix", self.prefix)
             self.assert_ended(ran, 0, None)
@@ -112,7 +133,7 @@ class Installed(ProgramChecks):
         self.assert_text(ran, f"bootcore {version}", ran.out.split(b"\n")[0], "first line")
 
 
-class Removed(ProgramChecks):
+class Removed(ProvedChecks):
     def test_removal(self) -> None:
         prefix = self.room / "prefix"
         run(INSTALL, "--prefix", prefix, timeout=HALF_AN_HOUR)
@@ -139,7 +160,7 @@ class Removed(ProgramChecks):
             self.assertIn(f"{header} can't be written", ran.err.decode(), f"ran: {ran}\nstandard error")
 
 
-class Released(ProgramChecks):
+class Released(ProvedChecks):
     """The archive for those without the toolchain."""
 
     name: str
@@ -153,6 +174,7 @@ class Released(ProgramChecks):
         version = run(TOP / "tools/version").out.decode().strip()
         cls.name = f"bootcore-{version}-x86_64-linux"
         cls.archives = [cls.room / folder / f"{cls.name}.tar.gz" for folder in ("once", "again")]
+        cls.sources = [archive.with_name(f"bootcore-{version}-source.tar.gz") for archive in cls.archives]
         cls.ran = [run(RELEASE, cls.room / "once", timeout=HALF_AN_HOUR)]
         other = check_out(cls.room / "another checkout")
         words = ["bash", "-c", 'umask 077; exec "$@"', "bash", other / "tools/release", cls.room / "again"]
@@ -170,6 +192,7 @@ class Released(ProgramChecks):
             self.leave_out(sentence, "this checkout has changes that are not committed, which the archive tells")
         else:
             self.are_same_file(sentence, *self.archives)
+            self.are_same_file(f"{sentence}; of the plain source too", *self.sources)
         ran = run("sha256sum", "-c", f"{self.name}.tar.gz.sha256", cwd=self.room / "once")
         self.ends("the SHA-256 beside the archive is the archive's", ran, 0, f"{self.name}.tar.gz: OK\n")
         with tarfile.open(self.archives[0]) as archive, self.check("the archive tells nothing of who made it, and when"):
@@ -233,6 +256,128 @@ class Released(ProgramChecks):
         boot = f"cd /{self.name} && bin/bootcore boot examples/first.toml --out /tmp/first.image"
         self.assert_ended(run(*enter, root, "/bin/sh", "-c", boot), 0, "booted 0 row one\n")
         self.assert_digest(examples.FIRST_IMAGE[1], root / "tmp/first.image")
+
+
+class FromSource(Checks):
+    """An installation, and a release, of what cargo builds of the plain source."""
+
+    prefix: Path
+    top: Path  # what the released workspace unpacks to
+    ran: List[Ran]
+
+    @classmethod
+    def setUpClass(cls) -> None:
+        super().setUpClass()
+        for tool in ("cargo", "rustfmt"):
+            if run(tool, "--version").status != 0:
+                raise unittest.SkipTest(f"the plain source: {tool} is not at hand")
+        cls.prefix = cls.room / "prefix"
+        cls.ran = [run(INSTALL, "--source", "--prefix", cls.prefix, timeout=HALF_AN_HOUR)]
+        for folder, umask in (("once", "022"), ("again", "077")):
+            words = ["bash", "-c", f'umask {umask}; exec "$@"', "bash", RELEASE, "--source", cls.room / folder]
+            cls.ran.append(run(*words, env={"TZ": "JST-9"}, timeout=600))
+        version = run(TOP / "tools/version").out.decode().strip()
+        cls.top = cls.room / f"bootcore-{version}-source"
+        run("tar", "-xzf", cls.room / f"once/{cls.top.name}.tar.gz", "-C", cls.room)
+
+    def test_installed(self) -> None:
+        with self.check("install --source puts the same files into a prefix"):
+            self.assert_ended(self.ran[0], 0, None, None)
+            ran = run(INSTALL, "--list", "--prefix", self.prefix)
+            listed = sorted(os.fsdecode(line.split(b"\t")[0]) for line in ran.out.splitlines())
+            self.assertEqual(listed, installed(self.prefix), f"ran: {ran}")
+        with self.check("each link of the installed pages leads to one that is installed"):
+            self.assertEqual(dead_links(self.prefix / "share/doc/bootcore"), [])
+        ran = run(self.prefix / "bin/bootcore", "boot", examples.FIRST, "--out", self.room / "image")
+        self.ends("the installed program boots the first example", ran, 0, "booted 0 row one\n")
+        self.has_digest("its image is the expected one", examples.FIRST_IMAGE[1], self.room / "image")
+        with self.check("the packages for pkg-config say that they are of the plain source, and the header too"):
+            for name in ("bootcore", "bootcore-freestanding"):
+                said = (self.prefix / f"lib/pkgconfig/{name}.pc").read_text()
+                self.assertRegex(said, "(?m)^Description: a loader core for .*, of the plain source$", f"{name}.pc")
+            self.assertRegex((self.prefix / "include/bootcore.h").read_text(encoding="utf-8"), "(?m)^#define BOOTCORE_FROM_SOURCE 1 ")
+        with self.check("NOTICES has the licence of each library that is linked in"):
+            said = (self.prefix / "share/doc/bootcore/NOTICES").read_text(encoding="utf-8")
+            named = set(re.findall(r"(?m)^---- (\w+) [\d.]+ \(.*(?:MIT|Apache).*\)$", said))
+            self.assertLessEqual({"clap", "hex", "serde", "sha2", "toml"}, named)
+        if not is_at_hand("pkg-config"):
+            self.leave_out("a program in C is built on what is installed from source", "pkg-config is not at hand")
+            return
+        command = 'exec $CC -std=c99 -O2 -Wall -Wextra "$1" $(pkg-config --cflags --libs bootcore) -o "$2"'
+        env = {"CC": " ".join(CC), "PKG_CONFIG_PATH": str(self.prefix / "lib/pkgconfig")}
+        ran = run("bash", "-c", command, "bash", TOP / "examples/c/guest.c", self.room / "guest", env=env)
+        self.ends("a program in C is built on what is installed from source", ran)
+        (self.room / "kernel.elf").write_bytes(examples.multiboot2_kernel())
+        (self.room / "m.bin").write_bytes(b"hello")
+        ran = run(self.room / "guest", "multiboot2", "kernel.elf", "k", "m.bin", cwd=self.room)
+        self.ends("and loads its guest", ran, 0, GUEST)
+
+    def test_archive(self) -> None:
+        for ran in self.ran[1:]:
+            self.ends(f"tools/release --source makes the archive in {Path(ran.words[-1]).name}", ran, 0, None, None)
+        archives = [self.room / folder / f"{self.top.name}.tar.gz" for folder in ("once", "again")]
+        sentence = "the plain source of one commit has the same bytes under another umask and time zone"
+        if has_changes():
+            self.leave_out(sentence, "this checkout has changes that are not committed, and may get others meanwhile")
+        else:
+            self.are_same_file(sentence, *archives)
+        with self.check("SHA256SUMS has each other file of it, and its sum"):
+            self.assert_ended(run("sha256sum", "--strict", "--quiet", "-c", "SHA256SUMS", cwd=self.top))
+            listed = [line[66:] for line in (self.top / "SHA256SUMS").read_text().splitlines()]
+            self.assertEqual(sorted(["SHA256SUMS", *listed]), [os.path.relpath(it, self.top) for it in installed(self.top)])
+
+    def test_empty_root(self) -> None:
+        """in a root that has only a toolchain, cargo and a compiler of C build the released workspace, offline, and it boots"""
+        sysroot = run("rustc", "--print", "sysroot").out.decode().strip()
+        if not (PACKAGED / "clap-4.0.32").exists() or not Path(sysroot, "bin/cargo").exists():
+            self.skipTest("Debian's packages of crates, or a toolchain of Rust in a folder of its own, are not at hand")
+        root = self.room / "root"
+        for folder in ("usr", "etc/alternatives", "toolchain", "proc", "dev", "tmp", "build"):
+            (root / folder).mkdir(parents=True)
+        for link in ("bin", "lib", "lib64"):
+            (root / link).symlink_to(f"usr/{link}")
+        shutil.copytree(self.top, root / "build", dirs_exist_ok=True)
+        (root / "build/.cargo").mkdir()
+        (root / "build/.cargo/config.toml").write_text(DEBIAN_CRATES)
+        places = {folder: folder for folder in ("/usr", "/etc/alternatives", "/dev", "/proc")}
+        mounts = " && ".join(f'mount --rbind "{it}" "{root}{to}"' for it, to in {**places, sysroot: "/toolchain"}.items())
+        build = "cd /build && cargo build --quiet --release --offline -p bootcore-cli && bootcore-c/archive libbootcore.a"
+        inside = f'env -i PATH=/toolchain/bin:/usr/bin HOME=/tmp sh -c "{build}"'
+        as_root = [] if os.geteuid() == 0 else ["-r"]
+        if run("unshare", *as_root, "-m", "sh", "-c", f"{mounts} && chroot {root} true").status != 0:
+            self.skipTest("unshare and mount may not be called here, or a system has no merged /usr")
+        ran = run("unshare", *as_root, "-m", "sh", "-c", f"{mounts} && chroot {root} {inside}", timeout=HALF_AN_HOUR)
+        self.assert_ended(ran, 0, None, None)
+        image = self.room / "image of the workspace"
+        ran = run(root / "build/target/release/bootcore", "boot", examples.FIRST, "--out", image)
+        self.assert_ended(ran, 0, "booted 0 row one\n")
+        self.assert_digest(examples.FIRST_IMAGE[1], image)
+        self.assertTrue((root / "build/libbootcore.a").exists(), "the library for C")
+
+    def test_packages(self) -> None:
+        """cargo packs each package that may be published, and builds it of what it packed"""
+        if not (PACKAGED / "clap-4.0.32").exists():
+            self.skipTest("Debian's packages of crates are not at hand")
+        crates, target = self.room / "crates", self.room / "packed"
+        crates.mkdir()
+        for crate in PACKAGED.iterdir():
+            (crates / crate.name).symlink_to(crate)
+        config = self.room / "config.toml"
+        config.write_text(DEBIAN_CRATES.replace(str(PACKAGED), str(crates)))
+        words = ["--config", config, "--offline", "--registry", "crates-io", "--allow-dirty"]
+        for package in ("bootcore", "bootcore-cli", "bootcore-c"):
+            ran = run("cargo", "package", *words, "-p", package, cwd=self.top, env={"CARGO_TARGET_DIR": str(target)}, timeout=900)
+            self.ends(f"cargo packs {package}, and builds it of what it packed", ran, 0, None, None)
+            made = next((target / "package").glob(f"{package}-[0-9]*.crate"), None)
+            if made is None:
+                return
+            run("tar", "-xzf", made, "-C", crates)  # as if it were published, for those that use it
+            packed = crates / made.stem
+            with self.check(f"{package} has both licences"):
+                for name in ("LICENSE-MIT", "LICENSE-APACHE"):
+                    self.assert_same_file(TOP / name, packed / name)
+            told = {"files": {}, "package": sha256(made)}
+            (packed / ".cargo-checksum.json").write_text(json.dumps(told))
 
 
 def has_changes() -> bool:

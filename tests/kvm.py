@@ -7,7 +7,7 @@ import unittest
 from pathlib import Path
 from typing import Dict, List, Optional
 
-from tests.c_core import CC, OUT, WARNINGS, working_sanitizers
+from tests.c_core import CC, OUT, WARNINGS, libraries, working_sanitizers
 from tests.support import PROGRAM, TOP, Checks, Ran, need_built, run
 
 MONITOR = TOP / "examples/kvm/run"
@@ -31,7 +31,7 @@ PRINTED = re.compile(r"\b(ip|ax|bx|si|cr[034]|efer|gdt|[c-gs]s) ([0-9a-f]+)")
 
 
 def setUpModule() -> None:
-    if not (OUT / "libbootcore.a").exists():
+    if not libraries()[0].exists():
         raise unittest.SkipTest("the core for C is not built: examples/c/build does it")
 
 
@@ -63,7 +63,7 @@ class MonitorChecks(Checks):
     @classmethod
     def setUpClass(cls) -> None:
         super().setUpClass()
-        built = run(TOP / "examples/kvm/build", env={"CFLAGS": "-Werror"})
+        built = run(TOP / "examples/kvm/build", env={"CFLAGS": "-Werror", "CORE_LIBRARIES": str(libraries()[0])})
         if built.status == NOT_AT_HAND:
             raise unittest.SkipTest(built.err.decode(errors="replace").strip())
         if built.status != 0:
@@ -79,7 +79,7 @@ class MonitorChecks(Checks):
         sources = [TOP / "tests/drivers/kvm_state.c", *(monitor / f"{name}.c" for name in ("acpi", "load", "machine", "memory"))]
         built = run(
             *CC, "-std=c99", "-g", "-O2", *WARNINGS, *cls.sanitizers, f"-I{TOP / 'include'}", f"-I{monitor}", f"-I{MADE / 'acpi'}",
-            *sources, OUT / "libbootcore.a", "-o", state,
+            *sources, libraries()[0], "-o", state,
         )  # fmt: skip
         if built.status != 0:
             raise AssertionError(f"ran: {built}\n{built.err.decode(errors='replace')}")
@@ -223,7 +223,8 @@ class OnThisKvm(MonitorChecks):
     def test_processors(self) -> None:
         """a small kernel runs on the first of three processors, in the monitor under the sanitizers"""
         made = self.room / "made"
-        built = run(TOP / "examples/kvm/build", made, env={"CFLAGS": " ".join(["-Werror", "-g", *self.sanitizers])})
+        env = {"CFLAGS": " ".join(["-Werror", "-g", *self.sanitizers]), "CORE_LIBRARIES": str(libraries()[0])}
+        built = run(TOP / "examples/kvm/build", made, env=env)
         self.assert_ended(built, 0, None)
         ran = run(made / "vmm", "linux64", "512", "3", self.line("linux64"), MADE / "linux64", self.file, timeout=120)
         self.assert_told(ran, "linux64", ran.out.decode(errors="replace"))
@@ -292,7 +293,8 @@ class OnEmulatedKvm(MonitorChecks):
     def setUpClass(cls) -> None:
         super().setUpClass()
         root = os.environ.get("KVM_ROOT")
-        cls.ran = run(TOP / "tests/kvm_nested", *([root] if root else []), timeout=1200)
+        over = {"CORE_LIBRARIES": str(libraries()[0])}
+        cls.ran = run(TOP / "tests/kvm_nested", *([root] if root else []), env=over, timeout=1200)
         if cls.ran.status == NOT_AT_HAND:
             raise unittest.SkipTest(cls.ran.err.decode(errors="replace").strip())
 

@@ -131,6 +131,24 @@ class SameAsProved(ProgramChecks):
                 self.assertEqual(came, wanted, f"ran: {proved}\nstatus, both outputs and image: without a proof, and proved")
 
 
+class PlainSameAsProved(ProgramChecks):
+    """The program of the plain source, by which the look is where cargo is at hand, and the proved one, in the same folder."""
+
+    def test_words(self) -> None:
+        if not is_at_hand("cargo"):
+            self.skipTest("cargo is not at hand")
+        folder, plain = self.room / "a room", TOP / "out/plain/bootcore"
+        self.ends("cargo builds the program of the plain source", run(TOP / "tools/plain", "bootcore", timeout=1200), 0, "", None)
+        write_room(folder)
+        for words, status in WORDS:
+            with self.check(f"the plain program says and writes of `{words}` what the proved program does"):
+                proved = run(PROGRAM, *words.split(), cwd=folder)
+                wanted = (status, proved.out, proved.err, taken(folder / "new.image"))
+                came = run(plain, *words.split(), cwd=folder)
+                told = (came.status, came.out, came.err, taken(folder / "new.image"))
+                self.assertEqual(told, wanted, f"ran: {proved}\nstatus, both outputs and image: by the plain source, and proved")
+
+
 def taken(file: Path) -> Optional[bytes]:
     """A file's bytes, if it is there; then it is taken away."""
     if not file.is_file():

@@ -51,6 +51,13 @@ DIFFERENCES: List[Tuple[str, str, str, str, int, Optional[str]]] = [
     ("status (0 before, 1 now), image", f"{BOOTS}; exit 1", OUT, "", 1, None),
     ("image", 'note; echo "booted 0 row one"; image "another image" "$@"', OUT, "", 0, "another image"),
 ]
+# where there is cargo: tools/plain is a stand-in too, which makes the plain program, another stand-in, unless that stands
+MAKES_PLAIN = 'if [ "$1" = --needed ]; then [ ! -e "$PLAIN" ]; else note; mkdir -p "${PLAIN%/*}" && cp "$0" "$PLAIN"; fi'
+BUILDS_PLAIN = "bootcore: without 'rt' cargo builds the program of the plain source, in about a minute\n"
+RUNS_PLAIN = "bootcore: nothing was proved here: this is the program of the plain source\n"
+COMPILES_PLAIN = "look: cargo builds the program of the plain source, which takes up to a minute\n"
+LOOKED_PLAIN = "look: nothing is proved yet: this was a run of the program of the plain source, which cargo built\n"
+
 LIMIT = "checked: no-answer: the program did not end within the time limit"
 # which look is not reported, what rt does, and what is said
 NO_ANSWERS: List[Tuple[str, str, str]] = [
@@ -62,8 +69,14 @@ NO_ANSWERS: List[Tuple[str, str, str]] = [
 ]
 
 
-class StandIns(Checks):
-    """What the script does with words, by what those that it calls do."""
+# what the scripts and the stand-ins call
+TOOLS = (
+    "bash cat cmp cp dirname env find grep id kill ln mkdir mktemp mv printf ps python3 readlink realpath rm sed setsid sleep stat touch"
+).split()
+
+
+class StandInChecks(Checks):
+    """The script in a clone of its own, beside what it calls."""
 
     BOOT = ("boot", "first.toml", "--out", "new.image")
 
@@ -78,6 +91,9 @@ class StandIns(Checks):
         write_script(cls.top / "tools/build", STAND_IN)
         write_script(cls.room / "bin/rt", STAND_IN)
         shutil.copy(FIRST, cls.folder)
+        (cls.room / "bare").mkdir()
+        for tool in filter(shutil.which, TOOLS):
+            (cls.room / "bare" / tool).symlink_to(sys.executable if tool == "python3" else str(shutil.which(tool)))
         cls.calls, cls.stays = cls.room / "calls", cls.room / "stays"
         cls.built, cls.image = cls.top / "crates/bootcore/out/bootcore", cls.folder / "new.image"
 
@@ -92,7 +108,8 @@ class StandIns(Checks):
     def env(self, acts: dict) -> dict:
         told = {f"ACT_{name}": act for name, act in {**ACTS, **acts}.items()}
         told.update(CALLS=str(self.calls), STAYS=str(self.stays), BUILT=str(self.built), TMPDIR=str(self.temporary))
-        return {**told, "PATH": f"{self.room / 'bin'}:{os.environ['PATH']}"}
+        # a cargo that is at hand is not on this PATH
+        return {**told, "PATH": f"{self.room / 'bin'}:{self.room / 'bare'}"}
 
     def script(self, *words: str, **acts: str) -> Ran:
         """Runs the script as it would be called from another folder."""
@@ -117,6 +134,10 @@ class StandIns(Checks):
             self.assertEqual(self.calls.read_text().split(), called.split(), "what was called, in this order")
             self.assertEqual(os.listdir(self.temporary), [], f"what is left in {self.temporary}")
             self.assertEqual(self.image.read_text() if self.image.exists() else None, image, f"what is in {self.image}")
+
+
+class StandIns(StandInChecks):
+    """What the script does with words, by what those that it calls do."""
 
     def test_both(self) -> None:
         ran = self.script(*self.BOOT, rt=f"{BOOTS}; echo a line >&2; end 0", bootcore=f"{BOOTS}; echo a line >&2")
@@ -196,19 +217,75 @@ class StandIns(Checks):
         self.ends("what is edited during a build is built by the next call", self.script(*self.BOOT), 0, OUT, BUILDS_CHANGED)
 
     def test_without_rt(self) -> None:
-        bare = self.room / "bare"
-        bare.mkdir()
-        for tool in "bash cat dirname find python3 realpath rm sed".split():
-            (bare / tool).symlink_to(sys.executable if tool == "python3" else str(shutil.which(tool)))
-        why = "the command 'rt' of the Rattle toolchain is not on the PATH\n"
-        for words, err in ((["boot"], f"bootcore: {why}"), (["--look", "map", "first.toml"], f"{COMPILES}{NONE}{why}")):
-            ran = run(self.top / "bootcore", *words, cwd=self.folder, env={"PATH": str(bare)})
-            self.ends(f"with no rt on the PATH `bootcore {' '.join(words)}` says so", ran, 127, "", err)
-        ran = run(self.top / "bootcore", "--look", "--help", env={"PATH": str(bare)})
+        bare = {"PATH": str(self.room / "bare")}
+        err = "bootcore: the command 'rt' of the Rattle toolchain is not on the PATH; without a proof cargo serves too\n"
+        for words in (["boot"], ["--look", "map", "first.toml"], ["--no-look", "map", "first.toml"]):
+            ran = run(self.top / "bootcore", *words, cwd=self.folder, env=bare)
+            self.ends(f"with no rt and no cargo on the PATH `bootcore {' '.join(words)}` says so", ran, 127, "", err)
+        ran = run(self.top / "bootcore", "--look", "--help", env=bare)
         with self.check("--help prints the program's words, also where it is not built, and the script's options"):
             self.assert_ended(ran, 0, None)
             form = rf"bootcore {version()}\nusage: bootcore boot DESC .*\noptions of the script .*\n +--look +.*\n +--no-look +.*\n"
             self.assertRegex(ran.out.decode(), f"(?s)^{form}$")
+
+
+class ByCargo(StandInChecks):
+    """The same where there is cargo, with `rt` or without."""
+
+    @classmethod
+    def setUpClass(cls) -> None:
+        super().setUpClass()
+        write_script(cls.room / "bin/cargo", STAND_IN)
+        write_script(cls.top / "tools/plain", STAND_IN)
+        cls.rt, cls.plain = cls.room / "bin/rt", cls.top / "out/plain/bootcore"
+        cls.hidden = cls.rt.rename(cls.room / "rt")
+
+    def setUp(self) -> None:
+        super().setUp()
+        shutil.rmtree(self.plain.parent, ignore_errors=True)
+
+    def env(self, acts: dict) -> dict:
+        return {**super().env({"plain": MAKES_PLAIN, **acts}), "PLAIN": str(self.plain)}
+
+    def test_without_rt(self) -> None:
+        for option in ([], ["--look"]):
+            self.setUp()
+            ran = self.script(*option, *self.BOOT)
+            self.ends(f"without rt cargo builds the plain program, and it runs, with {option}", ran, 0, OUT, BUILDS_PLAIN + RUNS_PLAIN)
+            self.did(f"without rt nothing else is called, with {option}", "plain bootcore")
+        ran = self.script(*self.BOOT, bootcore=f"{BOOTS}; echo a line >&2; exit 1")
+        self.ends("what stands is run at once, with its status", ran, 1, OUT, f"{RUNS_PLAIN}a line\n")
+        self.setUp()
+        ran = self.script(*self.BOOT, plain='[ "$1" = --needed ] || { echo "plain: why" >&2; exit 127; }')
+        self.ends("that cargo builds nothing is told", ran, 127, "", f"{BUILDS_PLAIN}plain: why\n")
+        why = "bootcore: the command 'rt' of the Rattle toolchain is not on the PATH; without a proof cargo serves too\n"
+        self.ends("--no-look wants a proof", self.script("--no-look", *self.BOOT), 127, "", why)
+
+    def test_look(self) -> None:
+        shutil.copy2(self.hidden, self.rt)
+        self.addCleanup(self.rt.unlink)
+        ran = self.script("--look", *self.BOOT)
+        self.ends("--look is by cargo, where it is at hand", ran, 0, OUT, COMPILES_PLAIN + LOOKED_PLAIN)
+        self.did("a look by cargo calls no rt", "plain bootcore")
+        ran = self.script("--look", *self.BOOT, bootcore="echo a line >&2; exit 2")
+        self.ends("it has the program's status", ran, 2, "", f"a line\n{LOOKED_PLAIN}")
+        self.setUp()
+        err = f"{COMPILES_PLAIN}{LOOKED_PLAIN}{BUILDS}{SAME}"
+        self.ends("a proof follows a look by cargo, and the runs are compared", self.script(*self.BOOT), 0, OUT, err)
+        self.did("the proved program runs after a look by cargo", "plain bootcore build bootcore")
+        self.setUp()
+        other = f'{BOOTS}; case $0 in */plain/*) ;; *) image "another" "$@" ;; esac'
+        ran = self.script(*self.BOOT, bootcore=other)
+        said = f"{COMPILES_PLAIN}{LOOKED_PLAIN}{BUILDS}{PROVED}THE RUNS DIFFER: image; the proved program's lines follow\n"
+        self.ends("that the proved program writes another image than the plain one is reported", ran, 0, OUT * 2, said)
+        self.setUp()
+        ran = self.script("--look", *self.BOOT, plain='[ "$1" = --needed ] || { echo "plain: why" >&2; exit 1; }')
+        self.ends("where cargo builds nothing the look is by rt", ran, 0, OUT, f"{COMPILES_PLAIN}plain: why\n{COMPILES}{LOOKED}")
+        self.did("where cargo builds nothing rt is called", "rt")
+        self.setUp()
+        ran = self.script("boot", "first.toml", "--out", "first.toml")
+        err = f"{COMPILES_PLAIN}{NONE}first.toml is also a file that is read\n{BUILDS}"
+        self.ends("there is no look of words that change what is read", ran, 0, OUT, err)
 
 
 class Beside(Checks):

@@ -31,7 +31,7 @@ class Alone(ModelChecks):
 
 
 class WithProgram(ModelChecks):
-    """What compares the proved programs with the model."""
+    """What compares the proved program, or that of the plain source, with the model."""
 
     @classmethod
     def setUpClass(cls) -> None:
@@ -39,9 +39,11 @@ class WithProgram(ModelChecks):
         need_built(PROGRAM, "tools/build")
 
     def test_program(self) -> None:
-        self.model("the program does as the model with what is drawn at random", "fuzz", "300", "1")
-        self.model("the program does as the model with descriptions changed in a key", "fuzz_keys", "900")
-        self.model("the program prints the digests that the model computes, of each case and of each changed image", "digests")
+        program = ["--program", str(PROGRAM)]
+        self.model("the program does as the model with what is drawn at random", "fuzz", "300", "1", *program)
+        self.model("the program does as the model with descriptions changed in a key", "fuzz_keys", "900", *program)
+        sentence = "the program prints the digests that the model computes, of each case and of each changed image"
+        self.model(sentence, "digests", *program)
 
 
 class WithProbe(ModelChecks):
@@ -53,4 +55,5 @@ class WithProbe(ModelChecks):
         need_built(PROBE, "rt run in crates/test_probe")
 
     def test_probe(self) -> None:
-        self.model("the probe answers as the model in rows drawn at random", "fuzz", "300", "1", "--rows")
+        program = ["--program", str(PROBE)]
+        self.model("the probe answers as the model in rows drawn at random", "fuzz", "300", "1", "--rows", *program)

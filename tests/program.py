@@ -10,7 +10,7 @@ from typing import Sequence
 from tests import examples
 from tests.examples import EXAMPLES, FIRMWARE, FIRST, FIRST_MAP, SECOND
 from tests.program_checks import ImageChecks, static_busybox, version
-from tests.support import PROGRAM, TOP, Ran, is_at_hand, run, sha256
+from tests.support import PLAIN, PROGRAM, TOP, Ran, is_at_hand, run, sha256
 
 BOOTED = "booted 0 row one\n"
 REFUSED_1 = "refused 0 1\nno entry left\n"
@@ -71,6 +71,9 @@ class Examples(ImageChecks):
             self.ends(sentence, self.program("map", EXAMPLES / f"{name}.toml"), 0, wanted)
 
     def test_script(self) -> None:
+        if PLAIN:
+            self.leave_out("the script ./bootcore starts the built program at once", "it is the proved one")
+            return
         # The PATH has no rt: a program that is older than its sources is then reported, and not proved anew in a test.
         tools = self.room / "tools"
         tools.mkdir()

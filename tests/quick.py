@@ -19,9 +19,10 @@ def run() -> int:
     """Runs the parts that need no proof; what the toolchain compiles without one is begun first, and looked at last."""
     support.may_lack_programs = True
     began = time.monotonic()
-    if are_built():
+    if support.PLAIN or are_built():
         parts = ["docs", "scripts", "rows", "cases", "program", "images", "digest", "model"]
-        of_what = "quick: rows, cases, images and the program's runs are those of the proved programs in crates/*/out"
+        which = "the programs of the plain source in out/plain" if support.PLAIN else "the proved programs in crates/*/out"
+        of_what = f"quick: rows, cases, images and the program's runs are those of {which}"
     else:
         quick_look.begin()
         quick_rows.begin()

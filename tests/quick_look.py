@@ -21,7 +21,7 @@ def begin() -> None:
     room = tempfile.mkdtemp(prefix="bootcore-test-")
     atexit.register(shutil.rmtree, room, ignore_errors=True)
     # by the script that ./bootcore --look calls, so that it is this run also where a proved program stands
-    words = [str(TOP / "tools/look"), "boot", str(FIRST), "--out", f"{room}/first.image"]
+    words = [str(TOP / "tools/look"), "--by", "rt", "boot", str(FIRST), "--out", f"{room}/first.image"]
     how = {"stdin": subprocess.DEVNULL, "stdout": subprocess.PIPE, "stderr": subprocess.PIPE}
     _begun.append(subprocess.Popen(words, **how))
     atexit.register(_begun[0].wait)

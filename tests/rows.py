@@ -5,7 +5,7 @@ from concurrent.futures import ThreadPoolExecutor
 from pathlib import Path
 
 from tests import tables
-from tests.support import PROBE, TOP, Checks, Ran, need_built, run
+from tests.support import PLAIN, PROBE, TOP, Checks, Ran, need_built, run
 
 EXAMPLES_PRINTED = TOP / "crates/example_callers/printed.txt"
 
@@ -28,6 +28,8 @@ class Rows(Checks):
 
     def test_examples(self) -> None:
         with self.check("the examples of crates/example_callers print what its README says"):
+            if PLAIN:
+                self.skipTest("the plain source leaves them out")
             ran = run(PROBE, "examples")
             self.assertEqual((ran.status, ran.out), (0, EXAMPLES_PRINTED.read_bytes()), "status and lines")
         with self.check("the probe refuses words that it does not know, and reads no row"):

@@ -1,6 +1,7 @@
 """Runs parts of the test: a line for each check as it ends, then what was left out and what failed, then the count."""
 
 import importlib
+import os
 import re
 import sys
 import textwrap
@@ -8,11 +9,14 @@ import time
 import unittest
 from typing import Callable, Iterable, List, Tuple
 
-from tests import support
+from tests import plain, support
 
 PARTS = (
-    "gate rows cases model program images told digest docs scripts look c c_calls rust qemu efi measured kvm install".split()
+    "gate rows cases model program images told digest docs scripts look c c_calls rust source qemu efi measured kvm install".split()
 )
+
+
+LATEST = 150 * 60.0  # no part takes longer than what CI has left then, which ends after three hours
 
 
 class Result(unittest.TestResult):
@@ -81,7 +85,9 @@ class Result(unittest.TestResult):
 
     def addSkip(self, test, reason: str) -> None:
         self.checked_within = True
-        name = self.name_of(test)
+        self.leave_out(self.name_of(test), reason)
+
+    def leave_out(self, name: str, reason: str) -> None:
         self.left_out.append((name, reason))
         support.lacking.update(re.findall(r"(?:^|: |command ')([\w.+-]+)'? is not at hand", reason))  # as scripts say it
         print(f"skipped {name}: {reason}", flush=True)
@@ -124,7 +130,13 @@ def run_parts(parts: Iterable[str], remarks: Callable[[], Iterable[str]] = tuple
         began = time.monotonic()
         print(f"---- {part}: {says(part)}", flush=True)
         before, left_out = result.passed + len(result.failed), len(result.left_out)
-        InOrder().loadTestsFromModule(module_of(part)).run(result)
+        why = plain.why_left_out(part)
+        if os.environ.get("CI") and time.monotonic() - support.STARTED > LATEST:
+            why = why or "CI ends after three hours, and two and a half are over"
+        if why:
+            result.leave_out(f"the part {part}", why)
+        else:
+            InOrder().loadTestsFromModule(module_of(part)).run(result)
         if (before, left_out) == (result.passed + len(result.failed), len(result.left_out)):
             result.bad(f"{part} checks something", "no check ran, and none was left out")
         took = time.monotonic() - began

@@ -74,7 +74,7 @@ class Calls(Checks):
 
     def test_modules(self) -> None:
         """each module with tests is a part of the test, or one that a part names"""
-        parts = [*map(runner.module_of, [*runner.PARTS, "quick_look", "quick_rows"])]
+        parts = [*map(runner.module_of, [*runner.PARTS, "quick_look", "quick_rows", "c_aarch64"])]
         named = {each.__name__ for part in parts for each in (part, *getattr(part, "MODULES", ()))}
         sources = [name for name in repository.files() if re.fullmatch(r"(tests|examples/.*/tests)/\w+\.py", name)]
         with_tests = [name for name in sources if re.search(r"^    def test_", (TOP / name).read_text(encoding="utf-8"), re.M)]

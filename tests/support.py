@@ -15,9 +15,12 @@ from pathlib import Path
 from typing import Iterator, NamedTuple, Optional, Sequence, Set, Union
 
 TOP = Path(__file__).resolve().parent.parent
-PROGRAM = TOP / "crates/bootcore/out/bootcore"
-PROBE = TOP / "crates/test_probe/out/test_probe"
-C_ARCHIVE = TOP / "crates/bootcore_c/out/libbootcore_c.a"
+# The folder of a plain build that is tested in place of what is proved: bootcore, bootcore-rows, and the two archives for C as
+# tools/c_archive --source makes them. What is not in it fails as what is not built.
+PLAIN = Path(os.environ["BOOTCORE_PLAIN"]).resolve() if os.environ.get("BOOTCORE_PLAIN") else None
+PROGRAM = PLAIN / "bootcore" if PLAIN else TOP / "crates/bootcore/out/bootcore"
+PROBE = PLAIN / "bootcore-rows" if PLAIN else TOP / "crates/test_probe/out/test_probe"
+C_ARCHIVE = PLAIN / "libbootcore.a" if PLAIN else TOP / "crates/bootcore_c/out/libbootcore_c.a"
 STARTED = time.monotonic()  # when ./test began, which imports this first
 
 Text = Union[str, bytes]
@@ -112,7 +115,8 @@ def need_built(program: Path, built_by: str) -> None:
     """Ends a class of tests whose program is not built: left out in the quick test, else failed."""
     if os.access(program, os.R_OK):
         return
-    why = f"{program.relative_to(TOP)} is not built: ./test gate or {built_by} does it"
+    built_by = "tools/plain" if PLAIN else f"./test gate or {built_by}"
+    why = f"{os.path.relpath(program, TOP)} is not built: {built_by} does it"
     raise unittest.SkipTest(why) if may_lack_programs else AssertionError(why)
 
 

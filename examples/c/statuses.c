@@ -254,7 +254,7 @@ static void try_firmware(void) {
     TELLS(BOOTCORE_STATUS_DONE, firmware.efi.system_table = 0; firmware.efi.bits = 16; firmware.efi.secure_boot = 4);
     TELLS(BOOTCORE_STATUS_DONE, firmware.smbios.tables.length = 0; firmware.rsdp = 0; firmware.avoided_count = 0);
     TELLS(BOOTCORE_STATUS_DONE, firmware.efi = no_efi; firmware.smbios = no_smbios);
-    TELLS(BOOTCORE_STATUS_DONE, firmware.rsdp = UINT64_MAX);
+    TELLS(BOOTCORE_STATUS_DONE, firmware.rsdp = ((uint64_t)1 << 52) - 36);
     TELLS(BOOTCORE_STATUS_DONE, firmware.avoided_count = BOOTCORE_MAX_AVOIDED);
     TELLS(BOOTCORE_STATUS_REFUSED, firmware.avoided = all);
     TELLS(BOOTCORE_STATUS_NULL, firmware.efi.map.bytes = NULL; firmware.efi.system_table = 0);

@@ -6,7 +6,7 @@ from typing import Dict, Iterator, List, NamedTuple, Set, Tuple
 
 TOP = Path(__file__).resolve().parent.parent.parent
 OWN = ("README.md", "CONTRIBUTING.md", "SECURITY.md", "docs/*.md", "crates/*/README.md")
-ALL = OWN + ("cases/README.md", "model/README.md", "bindings/*/README.md")
+ALL = OWN + ("cases/README.md", "model/README.md", "source/README.md", "source/*/README.md")
 
 # in .rt
 HEAD = re.compile(r"(?:unsafe )?(?:impl|(?:pub(?:\([a-z]+\))? )?(?:unsafe )?(trait|enum|struct))[ <]")

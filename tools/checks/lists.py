@@ -27,7 +27,7 @@ def found(pattern: str, *where: str) -> List[str]:
 def lines_of_refusal(name: str, number: str) -> List[str]:
     constant = re.sub(r"([A-Z])", r"_\1", name).strip("_").upper()
     lines = found(rf"\b{name}\b", "crates/*/src/**", "crates/*/specs/**", "crates/*/proofs/**", "crates/*/must-fail/**", "crates/*/README.md",
-                  "model/**", "docs/**", "examples/**", "cases/**", "rows/**", "tests/drivers/**", "c/**", "bindings/rust/src/**")
+                  "model/**", "docs/**", "examples/**", "cases/**", "rows/**", "tests/drivers/**", "c/**", "source/bootcore/src/**")
     # in the header it has capitals: MapTooLong, MAP_TOO_LONG
     lines += found(rf"\bBOOTCORE_REFUSAL_{constant}\b", "include/**")
     # a number alone may count anything, so it is looked for in the forms that only a refusal has

@@ -125,7 +125,7 @@ class Names:
             if path == "docs/bootcore.1":
                 continue
             texts.append(without_comments(path, text))
-            if path.endswith(".rt") or path.startswith("bindings/"):
+            if path.endswith(".rt") or re.match(r"source/.*\.rs$", path):
                 self.read_calls(re.match(r"crates/\w+/|", path)[0], texts[-1])
             elif path.endswith(".antt"):
                 self.read_records(texts[-1])
