@@ -139,9 +139,9 @@ class Header(CoreChecks):
                 self.leave_out(sentence, f"{compiler} is not at hand")
 
     def test_length(self) -> None:
-        """include/bootcore.h has at most 560 lines, of at most 100 columns"""
+        """include/bootcore.h has at most 540 lines beside the numbers of refusals and faults, of at most 100 columns"""
         lines = HEADER.read_text(encoding="utf-8").splitlines()
-        self.assertLessEqual(len(lines), 560)
+        self.assertLessEqual(sum(not re.match(r"    BOOTCORE_(REFUSAL|FAULT)_", line) for line in lines), 540)
         self.assertEqual([line for line in lines if len(line) > 100], [])
 
 

@@ -1,9 +1,10 @@
 """The plain source's library for C on aarch64, emulated: Linux with what firmware tells, misuses, the cases"""
 
+import os
 import re
 import unittest
 from pathlib import Path
-from typing import Union
+from typing import Optional, Union
 
 from tests import examples
 from tests.c import CASES_COUNT, GUEST, TOLD_LINUX, Examples, changed_for_64
@@ -15,16 +16,27 @@ TOOLS = {"CARGO_BUILD_TARGET": TARGET, "CC": "aarch64-linux-gnu-gcc", "LD": "aar
 EMULATED = ["qemu-aarch64", "-L", "/usr/aarch64-linux-gnu"]
 
 
+def path_of_rust() -> Optional[str]:
+    """PATH with the first of these compilers in front that has a library for the target: the one at hand, Debian's beside it."""
+    for folder in ("", "/usr/bin"):
+        path = os.pathsep.join(filter(None, [folder, os.environ["PATH"]]))
+        libraries = run("rustc", "--print", "target-libdir", "--target", TARGET, env={"PATH": path})
+        if libraries.status == 0 and any(Path(libraries.out.decode().strip()).glob("libcore-*")):
+            return path
+    return None
+
+
 def setUpModule() -> None:
     if not PLAIN:
         raise unittest.SkipTest("the library for C on aarch64: only the plain source makes one")
     for tool in (TOOLS["CC"], EMULATED[0], "rustc"):
         if not is_at_hand(tool):
             raise unittest.SkipTest(f"the library for C on aarch64: {tool} is not at hand")
-    libraries = run("rustc", "--print", "target-libdir", "--target", TARGET)
-    if libraries.status != 0 or not any(Path(libraries.out.decode().strip()).glob("libcore-*")):
+    path = path_of_rust()
+    if path is None:
         why = "rustc has no library for it: `rustup target add`, or of Debian libstd-rust-dev:arm64, brings one"
         raise unittest.SkipTest(f"the library for C on aarch64: {why}")
+    TOOLS["PATH"] = path
 
 
 class Aarch64(Checks):
