@@ -1,29 +1,18 @@
 """The plain source's library for C on aarch64, emulated: Linux with what firmware tells, misuses, the cases"""
 
-import os
 import re
 import unittest
 from pathlib import Path
-from typing import Optional, Union
+from typing import Union
 
 from tests import examples
 from tests.c import CASES_COUNT, GUEST, TOLD_LINUX, Examples, changed_for_64
 from tests.c_core import HEADER, WARNINGS
-from tests.support import PLAIN, TOP, Checks, Ran, has_tomllib, is_at_hand, run
+from tests.support import PLAIN, TOP, Checks, Ran, has_tomllib, is_at_hand, path_with_rust, run
 
 TARGET = "aarch64-unknown-linux-gnu"
 TOOLS = {"CARGO_BUILD_TARGET": TARGET, "CC": "aarch64-linux-gnu-gcc", "LD": "aarch64-linux-gnu-ld", "OBJCOPY": "aarch64-linux-gnu-objcopy"}
 EMULATED = ["qemu-aarch64", "-L", "/usr/aarch64-linux-gnu"]
-
-
-def path_of_rust() -> Optional[str]:
-    """PATH with the first of these compilers in front that has a library for the target: the one at hand, Debian's beside it."""
-    for folder in ("", "/usr/bin"):
-        path = os.pathsep.join(filter(None, [folder, os.environ["PATH"]]))
-        libraries = run("rustc", "--print", "target-libdir", "--target", TARGET, env={"PATH": path})
-        if libraries.status == 0 and any(Path(libraries.out.decode().strip()).glob("libcore-*")):
-            return path
-    return None
 
 
 def setUpModule() -> None:
@@ -32,7 +21,7 @@ def setUpModule() -> None:
     for tool in (TOOLS["CC"], EMULATED[0], "rustc"):
         if not is_at_hand(tool):
             raise unittest.SkipTest(f"the library for C on aarch64: {tool} is not at hand")
-    path = path_of_rust()
+    path = path_with_rust(TARGET)
     if path is None:
         why = "rustc has no library for it: `rustup target add`, or of Debian libstd-rust-dev:arm64, brings one"
         raise unittest.SkipTest(f"the library for C on aarch64: {why}")

@@ -9,7 +9,7 @@ from pathlib import Path
 from typing import Iterator, List, NamedTuple, Tuple
 
 from tests import plain, tables
-from tests.support import STARTED, TOP, Checks, Ran, has_tomllib, is_at_hand, run
+from tests.support import STARTED, TOP, Checks, Ran, has_tomllib, is_at_hand, path_with_rust, run
 
 EXPORTER = TOP / "tools/source"
 WORKSPACE = TOP / "out/source"  # where tools/plain has it
@@ -22,6 +22,8 @@ HALF_AN_HOUR = 1800.0
 LATEST = 120 * 60.0  # what is dear takes a quarter of an hour, and CI ends at three
 DRAWN = 20000
 AARCH64 = "aarch64-unknown-linux-gnu"
+# what another compiler than that at hand builds
+OTHER = TOP / "out/target-other"
 BARE = ("x86_64-unknown-uefi", "x86_64-unknown-none")
 
 # A source that no rule of the exporter knows, or a name that would mean something else in Rust, with what is said of it and its line.
@@ -102,9 +104,10 @@ class SourceChecks(Checks):
                     to.symlink_to(path)
         return top
 
-    def cargo(self, *words: str, workspace: Path = WORKSPACE, target: Path = TOP / "out/target", flags: str = "", doc: str = "") -> Ran:
+    def cargo(self, *words: str, workspace: Path = WORKSPACE, target: Path = TOP / "out/target", **settings: str) -> Ran:
         """Cargo in a workspace, where tools/plain says of which registry the libraries are."""
-        env = {"CARGO_TARGET_DIR": str(target), "RUSTFLAGS": flags, "RUSTDOCFLAGS": doc}
+        flags, doc, path = (settings.get(name, "") for name in ("flags", "doc", "path"))
+        env = {"CARGO_TARGET_DIR": str(target), "RUSTFLAGS": flags, "RUSTDOCFLAGS": doc, "PATH": path or os.environ["PATH"]}
         return run("cargo", *words, cwd=workspace, timeout=HALF_AN_HOUR, env=env)
 
     def assert_good(self, ran: Ran) -> None:
@@ -264,35 +267,31 @@ class Built(SourceChecks):
     def test_targets(self) -> None:
         for target in (*BARE, AARCH64):
             with self.check(f"the core is compiled for {target}"):
-                if not has_core(target):
+                path = path_with_rust(target)
+                if path is None:
                     self.skipTest(f"rustc has no core of {target}: rustup target add {target}")
                 words = f"build --offline --release --target {target} -p bootcore --no-default-features --features digest"
-                self.assert_good(self.cargo(*words.split()))
+                self.assert_good(self.cargo(*words.split(), target=OTHER, path=path))
         with self.check("a target of another order of bytes or width is refused as the core is compiled"):
             text = (TOP / "source/bootcore/src/shim.rs").read_text(encoding="utf-8")
             self.assertRegex(text, r"cfg\(not\(all\(target_pointer_width = \"64\", target_endian = \"little\"\)\)\)\]\ncompile_error!")
 
     def test_aarch64(self) -> None:
         tools = ("aarch64-linux-gnu-gcc", "qemu-aarch64")
-        missing = [tool for tool in tools if not is_at_hand(tool)]
-        if missing or not has_core(AARCH64):
+        missing, path = [tool for tool in tools if not is_at_hand(tool)], path_with_rust(AARCH64)
+        if missing or path is None:
             why = f"{missing[0]} is not at hand" if missing else f"rustc has no library of {AARCH64}: rustup target add {AARCH64}"
             return self.leave_out("rows and cases on aarch64, by qemu-user", why)
         folder = self.room / "aarch64"
         folder.mkdir()
         for package, program in (("bootcore-cli", "bootcore"), ("bootcore-rows", "bootcore-rows")):
             flags = "-Clinker=aarch64-linux-gnu-gcc"
-            self.assert_good(self.cargo("build", "--offline", "--release", "--target", AARCH64, "-p", package, flags=flags))
-            emulated = folder / program
-            made = TOP / "out/target" / AARCH64 / "release" / program
+            words = ("build", "--offline", "--release", "--target", AARCH64, "-p", package)
+            self.assert_good(self.cargo(*words, target=OTHER, flags=flags, path=path))
+            emulated, made = folder / program, OTHER / AARCH64 / "release" / program
             emulated.write_text(f'#!/bin/sh\nexec qemu-aarch64 -L /usr/aarch64-linux-gnu {made} "$@"\n')
             emulated.chmod(0o755)
         self.compare("the plain source on aarch64, by qemu-user", folder, ["rows", "cases"])
-
-
-def has_core(target: str) -> bool:
-    ran = run("rustc", "--print", "target-libdir", "--target", target)
-    return ran.status == 0 and bool(list(Path(ran.out.decode().strip()).glob("libcore-*.rlib")))
 
 
 class Planted(SourceChecks):

@@ -95,6 +95,16 @@ def sha256(source: Union[Path, bytes]) -> str:
     return hashlib.sha256(source if isinstance(source, bytes) else source.read_bytes()).hexdigest()
 
 
+def path_with_rust(target: str) -> Optional[str]:
+    """PATH with a compiler first that has a core for the target: the one at hand, else Debian's beside it."""
+    for folder in ("", "/usr/bin"):
+        path = os.pathsep.join(filter(None, [folder, os.environ["PATH"]]))
+        ran = run("rustc", "--print", "target-libdir", "--target", target, env={"PATH": path})
+        if ran.status == 0 and any(Path(ran.out.decode().strip()).glob("libcore-*.rlib")):
+            return path
+    return None
+
+
 def is_at_hand(tool: str) -> bool:
     if shutil.which(tool) is None:
         lacking.add(tool)
