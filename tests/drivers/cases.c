@@ -16,7 +16,7 @@
  *
  * Before that, if memory is small, the same call is made with each of its requests to malloc and realloc refused in turn, and all
  * after it; of a boot the first MOST. The answer must be BOOTCORE_STATUS_NO_MEMORY, and memory as before, of a boot outside the pool. So
- * it is with the walk of an image, with a plan and with digests. The linker is told to wrap the two. With -DARENA, for
+ * it is with a session of the menu, the walk of an image, a preparation, a plan and digests. The linker is told to wrap the two. With -DARENA, for
  * libbootcore_freestanding.a, no request is refused.
  */
 #define _XOPEN_SOURCE 700
@@ -408,7 +408,18 @@ static void compare_plan(const bootcore_entry *entry, uint32_t status) {
     uint32_t came;
     size_t grants;
     memcpy(loaded_places, places, sizeof places);
-    came = bootcore_prepare(&machine, &bare, &prepared);
+    for (grants = numbers[SIZE] <= SMALL ? 0 : SIZE_MAX;; grants++) {
+        bootcore_outcome untold_outcome = empty_outcome();
+        granted = grants;
+        came = bootcore_prepare(&machine, &bare, &prepared);
+        granted = SIZE_MAX;
+        if (came != BOOTCORE_STATUS_NO_MEMORY || grants == SIZE_MAX) {
+            break;
+        }
+        if (memcmp(&prepared, &untold_outcome, sizeof prepared)) {
+            puts("a preparation tells something, though memory ran out");
+        }
+    }
     if (came != status || memcmp(&prepared, &loaded, sizeof loaded) || memcmp(loaded_places, places, sizeof places) ||
         memcmp(&refusal, refusals, sizeof refusal)) {
         puts("a preparation tells otherwise");
@@ -481,6 +492,37 @@ static uint32_t tell_pieces(bootcore_session *session, const bootcore_memory *wh
                                          (const uint8_t *)of.bytes + (size_t)request.piece * BOOTCORE_PIECE, request.length);
     }
     return status;
+}
+
+/* Tells a session pieces with so many requests granted. Whether it has no memory then, which its outcome must tell, and no more. */
+static int lacks_memory(size_t grants) {
+    bootcore_outcome ended = empty_outcome(), untold_outcome = empty_outcome();
+    bootcore_session session = {NULL};
+    bootcore_memory whole = {0, NULL, 0, 0};
+    uint32_t status;
+    whole.bytes = memory;
+    whole.length = numbers[SIZE];
+    memset(memory, (int)numbers[FILL], numbers[SIZE]);
+    granted = grants;
+    status = bootcore_session_make(&session, &machine, &menu);
+    if (status != BOOTCORE_STATUS_DONE) {
+        granted = SIZE_MAX;
+        if (status != BOOTCORE_STATUS_NO_MEMORY || session.kept) {
+            printf("no session is made, and the status is %" PRIu32 "\n", status);
+        }
+        return 1;
+    }
+    status = tell_pieces(&session, &whole, 0);
+    granted = SIZE_MAX;
+    if (bootcore_session_outcome(&session, &ended) != BOOTCORE_STATUS_NO_MEMORY) {
+        bootcore_session_free(&session);
+        return 0;
+    }
+    if (status != BOOTCORE_STATUS_FAILED || memcmp(&ended, &untold_outcome, sizeof ended)) {
+        puts("a session tells something, though memory ran out");
+    }
+    bootcore_session_free(&session);
+    return 1;
 }
 
 /* Compares a boot that ended so with a session that is told pieces in another order. */
@@ -747,6 +789,12 @@ int main(int argc, char **argv) {
         }
         if (!is_as_before(is_load)) {
             printf("memory changed, though request %zu was refused\n", grants);
+            return 0;
+        }
+    }
+    for (grants = 0; numbers[SIZE] <= SMALL && !is_load && grants < number && lacks_memory(grants); grants++) {
+        if (!is_as_before(is_load)) {
+            printf("a session changed memory, though request %zu was refused\n", grants);
             return 0;
         }
     }
