@@ -3,7 +3,7 @@ BYTES."""
 
 from typing import Dict, Iterator, List, Tuple
 
-from language import BadRow, Line, demand, digits, pair
+from language import BadRow, Line, demand, digits
 
 from . import ALL_BYTES, NO_BYTES, Call, Table
 from .answers import Answer, Refusals, Refusing, Sweep
@@ -39,13 +39,6 @@ def each_set(data: bytes, value: bytes) -> Iterator[Tuple[int, bytes]]:
         yield n, data[:n] + value + data[n + 1:]
 
 
-def each_swap(data: bytes, at: int, end: int) -> Iterator[Tuple[int, bytes]]:
-    """The two bytes at `at` swapped with each two after them, up to `end`."""
-    demand(at % 2 == 0 and at + 2 <= end <= len(data))
-    for n in range(at + 2, end - 1, 2):
-        yield n, data[:at] + data[n:n + 2] + data[at + 2:n] + data[at:at + 2] + data[n + 2:]
-
-
 def answer(table: Table, calls: Dict[str, Call], words: List[str]) -> Answer:
     """The answer of a row's call."""
     if words[:1] == ["refuse"]:
@@ -62,12 +55,9 @@ def answer(table: Table, calls: Dict[str, Call], words: List[str]) -> Answer:
         line = read_line(table, calls, words[2:])
         changed = each_cut(line.data)
     else:
-        demand(words[1] in ("set", "swap") and len(words) > 2)
+        demand(words[1] == "set" and len(words) > 2)
         line = read_line(table, calls, words[3:])
-        if words[1] == "set":
-            changed = each_set(line.data, digits(words[2]))
-        else:
-            changed = each_swap(line.data, *pair(words[2], ".."))
+        changed = each_set(line.data, digits(words[2]))
     demand(calls[line.name].takes != NO_BYTES)
     return Sweep((n, once(table, calls, line._replace(data=data))) for n, data in changed)
 
