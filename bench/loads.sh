@@ -1,5 +1,5 @@
 # shellcheck shell=bash
-# Sourced by guest.sh and from_c.sh: how long ten loads of one entry take, in a plain program and in the one under test.
+# Sourced by from_c.sh: how long ten loads of one entry take, in a plain program and in the one under test.
 # shellcheck source-path=SCRIPTDIR source=measure.sh
 source "$(dirname "${BASH_SOURCE[0]}")/measure.sh"
 

@@ -24,7 +24,7 @@ segment_bytes=0xC96000
 payload_bytes=$((10 << 20))
 
 reader=${READER:+$(realpath -m "$READER")}
-crates=(test_refusing bl_mem bl_map bl_elf bl_mb2head bl_bzimage)
+crates=(bl_mem bl_map bl_elf bl_mb2head bl_bzimage)
 cd "$work"
 
 # Writes the crate of the proved program.

@@ -1,4 +1,4 @@
-"""The language of rows (crates/test_probe/README.md): numbers, pieces, names, bytes as an answer
+"""The language of rows (source/bootcore-rows/README.md): numbers, pieces, names, bytes as an answer
 spells them."""
 
 import re

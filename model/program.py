@@ -16,9 +16,9 @@ class NoEnd(Exception):
     """A run that does not end within a minute."""
 
 
-def program_at(path: Optional[str], crate: str = "bootcore") -> str:
+def program_at(path: Optional[str], built: str = "crates/bootcore/out/bootcore") -> str:
     """The program that is named, or else the one that is built; without it there is nothing to do."""
-    program = os.path.abspath(path or os.path.join(TOP, "crates", crate, "out", crate))
+    program = os.path.abspath(path or os.path.join(TOP, built))
     if not os.path.isfile(program):
         print(f"there is no program {program}: build it, or name one with --program")
         raise SystemExit(64)

@@ -39,8 +39,6 @@ TOOLS = [
     ("docs/PLANTS.md has a row of each crate but those of tests, and a reason in each", "tools/plants", "--check"),
 ]
 
-EXAMPLE_PROGRAMS = ["guest", "by_hand", "disk", "disk_boot", "check", "guest_from_files"]
-
 # what each shell does, the words on the line after `bootcore`, and what is offered for the last of them, sorted
 COMPLETIONS = [
     ("completes the subcommand walk", "w", "walk"),
@@ -147,9 +145,8 @@ class Pages(Checks):
         self.finds_none("no file has a conflict of a merge", found)
 
     def test_lengths(self) -> None:
-        for name in EXAMPLE_PROGRAMS:
-            path = f"crates/example_callers/src/{name}.rt"
-            self.finds_none(f"the example program {name}.rt has at most 60 lines", longer_files([path], 60))
+        example = "crates/example_guest/src/guest.rt"
+        self.finds_none(f"the example {example} has at most 60 lines", longer_files([example], 60))
         sources = [
             name for name in repository.files() if re.fullmatch(r"crates/[^/]+/(src/.*\.rt|specs/.*\.antt)", name)
         ]

@@ -3,7 +3,7 @@
 import sys
 import unittest
 
-from tests.support import PROBE, PROGRAM, TOP, Checks, has_tomllib, need_built
+from tests.support import PROGRAM, ROWS_PROGRAM, TOP, Checks, has_tomllib, need_built, need_rows_program
 
 
 class ModelChecks(Checks):
@@ -24,7 +24,6 @@ class Alone(ModelChecks):
 
     def test_rows(self) -> None:
         self.model("the model computes the same answer for each row of rows/", "rows")
-        self.model("the model computes the same answer for each worked row", "rows", "crates/test_probe/stdin")
 
     def test_cases(self) -> None:
         self.model("the model computes the same outcome for each case", "cases")
@@ -46,14 +45,14 @@ class WithProgram(ModelChecks):
         self.model(sentence, "digests", *program)
 
 
-class WithProbe(ModelChecks):
-    """What compares the proved probe with the model."""
+class WithRows(ModelChecks):
+    """What compares the rows' program with the model."""
 
     @classmethod
     def setUpClass(cls) -> None:
         super().setUpClass()
-        need_built(PROBE, "rt run in crates/test_probe")
+        need_rows_program()
 
-    def test_probe(self) -> None:
-        program = ["--program", str(PROBE)]
-        self.model("the probe answers as the model in rows drawn at random", "fuzz", "300", "1", "--rows", *program)
+    def test_rows(self) -> None:
+        program = ["--program", str(ROWS_PROGRAM)]
+        self.model("the core answers as the model in rows drawn at random", "fuzz", "300", "1", "--rows", *program)

@@ -1,24 +1,22 @@
-"""the libraries row by row: each line of rows/ is a call, and the proved probe's answer must be the line's own"""
+"""the core and the program row by row: each line of rows/ is a call, and the plain source's answer must be the line's own"""
 
 import os
 from concurrent.futures import ThreadPoolExecutor
 from pathlib import Path
 
 from tests import tables
-from tests.support import PLAIN, PROBE, TOP, Checks, Ran, need_built, run
-
-EXAMPLES_PRINTED = TOP / "crates/example_callers/printed.txt"
+from tests.support import ROWS_PROGRAM, Checks, Ran, need_rows_program, run
 
 
 def answered(table: Path) -> Ran:
-    return run(PROBE, stdin=table.read_bytes(), timeout=600)
+    return run(ROWS_PROGRAM, stdin=table.read_bytes(), timeout=600)
 
 
 class Rows(Checks):
     @classmethod
     def setUpClass(cls) -> None:
         super().setUpClass()
-        need_built(PROBE, "rt run in crates/test_probe")
+        need_rows_program()
 
     def test_rows(self) -> None:
         found = tables.all_tables()
@@ -26,27 +24,22 @@ class Rows(Checks):
             for table, ran in zip(found, pool.map(answered, found)):
                 self.compare(table, ran)
 
-    def test_examples(self) -> None:
-        with self.check("the examples of crates/example_callers print what its README says"):
-            if PLAIN:
-                self.skipTest("the plain source leaves them out")
-            ran = run(PROBE, "examples")
-            self.assertEqual((ran.status, ran.out), (0, EXAMPLES_PRINTED.read_bytes()), "status and lines")
-        with self.check("the probe refuses words that it does not know, and reads no row"):
-            ran = run(PROBE, "rows", stdin=b"| gdt64\n")
+    def test_words(self) -> None:
+        with self.check("the rows' program refuses words, and reads no row"):
+            ran = run(ROWS_PROGRAM, "rows", stdin=b"| gdt64\n")
             self.assertEqual((ran.status, ran.out), (1, b""), "status and lines")
 
     def compare(self, table: Path, ran: Ran) -> None:
         name = tables.name_of(table)
         if ran.status != 0:
-            with self.check(f"the probe answers each line of {name} and ends with status 0"):
+            with self.check(f"the rows' program answers each line of {name} and ends with status 0"):
                 self.fail(self.how_it_ended(name, table.read_bytes(), ran))
             return
         it = tables.compared(name, table.read_bytes(), ran.out)
         self.tally(f"each row of {name} has the answer that the rules give", it.passed, it.failed, it.why)
 
     def how_it_ended(self, name: str, wanted: bytes, ran: Ran) -> str:
-        """Of a run that ended badly. The probe buffers what it writes: it may have been some rows further."""
+        """Of a run that ended badly. The program buffers what it writes: it may have been some rows further."""
         lines, count = tables.lines_of(wanted), ran.out.count(b"\n")
         told = [f"ran: {ran} <{name}", f"status {ran.status}, wanted 0"]
         told.append(f"{count} of {len(lines)} lines came; what ended it stands after {name}:{count}")

@@ -21,7 +21,7 @@ OVER_MODEL = ["model/*", "tests/drivers/*"]
 # what shellcheck may find: in sed's words quotes stand beside backslashes, and a key of a description has no blank
 SHELLCHECK_EXCLUDES = {"cases/expand": "SC1003,SC2013"}
 # rows whose last cell is empty, and an edit's context
-WITH_TRAILING_BLANKS = ["rows/*.rows", "crates/test_probe/std*", "crates/*/must-fail/*.edit"]
+WITH_TRAILING_BLANKS = ["rows/*.rows", "crates/*/must-fail/*.edit"]
 
 TRAILING_BLANK = re.compile(r"[ \t\r]$")
 
@@ -74,7 +74,7 @@ class Calls(Checks):
 
     def test_modules(self) -> None:
         """each module with tests is a part of the test, or one that a part names"""
-        parts = [*map(runner.module_of, [*runner.PARTS, "quick_look", "quick_rows", "c_aarch64"])]
+        parts = [*map(runner.module_of, [*runner.PARTS, "quick_look", "c_aarch64"])]
         named = {each.__name__ for part in parts for each in (part, *getattr(part, "MODULES", ()))}
         sources = [name for name in repository.files() if re.fullmatch(r"(tests|examples/.*/tests)/\w+\.py", name)]
         with_tests = [name for name in sources if re.search(r"^    def test_", (TOP / name).read_text(encoding="utf-8"), re.M)]

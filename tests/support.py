@@ -19,7 +19,7 @@ TOP = Path(__file__).resolve().parent.parent
 # tools/c_archive --source makes them. What is not in it fails as what is not built.
 PLAIN = Path(os.environ["BOOTCORE_PLAIN"]).resolve() if os.environ.get("BOOTCORE_PLAIN") else None
 PROGRAM = PLAIN / "bootcore" if PLAIN else TOP / "crates/bootcore/out/bootcore"
-PROBE = PLAIN / "bootcore-rows" if PLAIN else TOP / "crates/test_probe/out/test_probe"
+ROWS_PROGRAM = (PLAIN or TOP / "out/plain") / "bootcore-rows"  # plain Rust, whatever else is tested
 C_ARCHIVE = PLAIN / "libbootcore.a" if PLAIN else TOP / "crates/bootcore_c/out/libbootcore_c.a"
 STARTED = time.monotonic()  # when ./test began, which imports this first
 
@@ -128,6 +128,18 @@ def need_built(program: Path, built_by: str) -> None:
     built_by = "tools/plain" if PLAIN else f"./test gate or {built_by}"
     why = f"{os.path.relpath(program, TOP)} is not built: {built_by} does it"
     raise unittest.SkipTest(why) if may_lack_programs else AssertionError(why)
+
+
+def need_rows_program() -> None:
+    """Builds the rows' program. A class of tests that has none is left out where cargo or its libraries are not at hand."""
+    if PLAIN:
+        return need_built(ROWS_PROGRAM, "tools/plain")
+    ran = run(TOP / "tools/plain", "bootcore-rows", timeout=1800)
+    told = (ran.out + ran.err).decode(errors="replace").strip()
+    if ran.status == 127:
+        raise unittest.SkipTest(f"the rows' program, which is plain Rust, is not built: {told}")
+    if ran.status != 0:
+        raise AssertionError(f"ran: {ran}\n{told[-4000:]}")
 
 
 class Checks(unittest.TestCase):

@@ -12,8 +12,7 @@ MISSING = "(no line)"
 
 
 def all_tables() -> List[Path]:
-    """The tables, and the worked rows, which are the stored run of the rows' program."""
-    return [*sorted(TOP.glob("rows/*.rows")), TOP / "crates/test_probe/stdin"]
+    return sorted(TOP.glob("rows/*.rows"))
 
 
 def name_of(table: Path) -> str:

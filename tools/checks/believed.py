@@ -245,7 +245,7 @@ def trusted() -> Iterator[str]:
         has |= files
         if page[at] != new:
             yield f"{TRUSTED}:{at + 1}: it is {new[:150]}"
-    wanted = {path for crate in crates() if not crate.name.startswith(("test_", "example_")) for path in believed(crate)}
+    wanted = {path for crate in crates() if not crate.name.startswith("example_") for path in believed(crate)}
     for path in sorted((wanted | files_of("c") | files_of("include")) - has):
         yield f"{TRUSTED}: no row counts {path}"
 

@@ -47,9 +47,9 @@ def names() -> Iterator[str]:
     """a name that the definitions of all crates, or their public items, declare more than once, but those of tools/checks/names.txt
 
     It looks at each definition of the libraries' specs/, at each constructor of a definition by `data`, and at each public function, type,
-    trait and constant of their sources that stands outside of an `impl`; crates of tests do not count."""
+    trait and constant of their sources that stands outside of an `impl`."""
     found: Dict[Tuple[str, str], List[str]] = collections.defaultdict(list)
-    for crate in (crate for crate in crates() if not crate.name.startswith("test_")):
+    for crate in crates():
         for file in sorted(crate.glob("specs/**/*.antt")):
             path = str(file.relative_to(TOP))
             for item in definitions(path):

@@ -20,15 +20,14 @@ HELD = ("variant", "field", "constructor")  # by a type
 # ---- the crates
 
 # Colours with their meanings, how the names of their crates begin, and the names of the specification and of what is given out,
-# which do not begin so. What only tests and examples need has thin lines.
+# which do not begin so. What only examples need has thin lines.
 KINDS = (
     ("examples", "examples", "example_", ()),
     ("c", "for C", "c_", ("bootcore_c",)),
     ("core", "core of the specification", "bl_", ("bootcore",)),
     ("program", "the program's libraries", "program_", ()),
-    ("tests", "tests", "test_", ()),
 )
-FAINT = ("examples", "tests")
+FAINT = ("examples",)
 CHARACTERS = 26  # of a line of text in a crate's box
 # names are in dark text on each of the colours
 CRATES_STYLE = """\
@@ -40,7 +39,6 @@ rect { stroke: #57606a }
 .core { fill: #f5c56b }
 .program { fill: #a9d8f5 }
 .c { fill: #d3c6ee }
-.tests { fill: #e8ebee }
 .examples { fill: #c4ebca }
 """
 
@@ -61,12 +59,11 @@ def direct_uses(text: str) -> Dict[str, List[str]]:
 
 
 def does(name: str) -> str:
-    """What a crate does, by the first line of its page. The colour says what is only for tests."""
+    """What a crate does, by the first line of its page."""
     head, _, words = text_of(f"crates/{name}/README.md").partition("\n")[0].partition(": ")
     if head != f"# {name}" or not words:
         raise BadInput(f"crates/{name}/README.md does not begin with '# {name}: ' and what it does")
-    first = "only for tests, "
-    return words[len(first) :] if words.startswith(first) else words
+    return words
 
 
 def shortened(words: str) -> Tuple[str, ...]:

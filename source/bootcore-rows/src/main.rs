@@ -1,20 +1,27 @@
-//! Answers the rows of standard input, as the proved program of the crate test_probe does. An answer that a row has is dropped.
+//! Answers the rows of standard input. A row's call is made, and the line is written with the call's own answer in place of the one
+//! that stands there; README.md has the language of rows.
 #![forbid(unsafe_code)]
 
-use bootcore::shim::alloc::Global;
-use bootcore_rows::proved::test_probe::AllCalls;
-use bootcore_rows::proved::test_rows::session::Session;
+mod calls;
+mod entries;
+mod menus;
+mod pieces;
+mod refusing;
+mod row;
+mod session;
+mod sweep;
+mod words;
+
 use std::io::{self, BufRead, BufWriter, Error, ErrorKind, Write};
 
 fn main() -> io::Result<()> {
     if std::env::args_os().len() > 1 {
         return Err(Error::new(ErrorKind::InvalidInput, "usage: bootcore-rows <ROWS"));
     }
-    let mut session = Session::new(Global);
+    let mut session = session::Session::new();
     let mut out = BufWriter::new(io::stdout().lock());
     for line in io::stdin().lock().lines() {
-        let answered = session.answer_line(&AllCalls, &line?).map_err(|_| Error::from(ErrorKind::OutOfMemory))?;
-        writeln!(out, "{answered}")?;
+        writeln!(out, "{}", session.answer_line(&line?))?;
     }
     out.flush()
 }

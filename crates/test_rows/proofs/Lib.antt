@@ -1,2 +1,0 @@
-mod AskedLemmas
-mod ScriptLemmas
