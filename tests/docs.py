@@ -36,7 +36,7 @@ TOOLS = [
     ("each list of refusals has the numbers, the names and the meanings of docs/REFUSALS.md", "tools/refusals", "--check"),
     ("each must-fail edit changes a line that stands once, those of docs/EDITS.md in the function named there", "tools/pages", "edits"),
     ("the completions have the subcommands, options and values of the usage text", "tools/pages", "completions"),
-    ("docs/PLANTS.md has a row of each crate but those of tests, and a reason in each", "tools/plants", "--check"),
+    ("docs/PLANTS.md has a row of each crate, and a reason in each", "tools/plants", "--check"),
 ]
 
 # what each shell does, the words on the line after `bootcore`, and what is offered for the last of them, sorted
