@@ -465,7 +465,7 @@ pub mod sha2 {
         }
 
         /// `Sha256::clone`, which never fails: it has no block of its own.
-        pub fn clone(&self) -> Result<Sha256, AllocError> {
+        pub fn try_clone(&self) -> Result<Sha256, AllocError> {
             Ok(Sha256(self.0.clone()))
         }
 

@@ -234,7 +234,7 @@ fn sha256() {
     assert_eq!(hex(Sha256::digest(b"abc")), ABC);
     let mut hasher = Sha256::new();
     hasher.update(b"a");
-    let mut other = hasher.clone().unwrap();
+    let mut other = hasher.try_clone().unwrap();
     hasher.update(b"bc");
     assert_eq!(hex(hasher.finalize()), ABC);
     other.update(b"");
