@@ -49,10 +49,11 @@ ODD = [
     ("fn a(b: &[u8]) -> Vec<u8> {\n    b.to_vec()\n}\n", 2, "no rule knows to_vec without an allocator, or of another type"),
     ("fn a() -> String {\n    format!(\"\")\n}\n", 2, "a text is formatted without an allocator"),
     ("#[derive(Error)]\nenum A { #[error(\"\")] B, C }\n", 2, "no rule knows the error A: 2 variants, of which 1 have a message"),
-    ("const A: &str = r\"\\\";\n", 1, "no rule knows a raw text, or a comment of this form: r\""),
-    ("/* a /* b */ c \" */\nfn a() {}\n", 1, "no rule knows a raw text, or a comment of this form: /*"),
-    ("const A: &str = \"a\";\nconst B: &str = \"a \nb\";\n", 2, "a text over several lines would be written otherwise"),
-    ("const A: &str = \"{\n\nb\";\n", 1, "a text over several lines would be written otherwise"),
+    ("const A: &str = r\"\\\";\n", 1, "no rule knows a text or a comment of this form: r\""),
+    ("/* a /* b */ c \" */\nfn a() {}\n", 1, "no rule knows a text or a comment of this form: /*"),
+    ("fn a()\n    requires { ⊤ -- \"so\n    }\n{\n    b();\n}\n", 2, "no rule knows a text or a comment of this form: --"),
+    ("const A: &str = \"a\";\nconst B: &str = \"a \nb\";\n", 2, "no rule knows a text or a comment of this form: \""),
+    ("const A: &str = \"{\n\nb\";\n", 1, "no rule knows a text or a comment of this form: \""),
     ("use core::mem::replace;\n", 1, "no rule knows core, of Rust or the shim"),
     ("fn a() -> usize {\n    size_of::<(u8, u32, u8)>()\n}\n", 2, "size_of tells a layout, which is another in Rust"),
     ("fn a(b: u8) -> usize {\n    size_of_val(&b)\n}\n", 2, "size_of_val tells a layout, which is another in Rust"),
@@ -62,13 +63,23 @@ ODD = [
     ("use std::mem::forget;\n", 1, "no rule knows forget, of Rust or the shim"),
     ("fn a() {\n    for _ in 250u8.. {}\n}\n", 2, "a range without an end goes on otherwise in Rust"),
     ("fn a() {\n    b((1..).rev());\n}\n", 2, "a range without an end goes on otherwise in Rust"),
-    ("trait A {\n    fn isqrt(self);\n}\nimpl A for u64 {\n    fn isqrt(self) {}\n}\n", 4, "isqrt of this type would be Rust's, or the shim's"),
+    ("trait A {\n    fn isqrt(self) {}\n}\nimpl A for u64 {}\n", 4, "isqrt of this type would be Rust's, or the shim's"),
     ("trait A {}\nimpl<T> A for T {\n    fn now(&self) {}\n}\n", 2, "now of this type would be Rust's, or the shim's"),
     ("fn collect_with() {}\n", 1, "collect_with would be taken for the shim's"),
     ("trait Model {\n    fn a(&self);\n}\n", 1, "Model means something to the rules"),
     ("fn a() -> &'static str {\n    stringify!(a+b)\n}\n", 2, "stringify would be laid out otherwise"),
     ("/// A.\npub fn a()\n    // ```\n    ensures { ⊤ }\n{\n    b();\n}\n", 2, "a clause would end its part of the documentation"),
+    ("fn a() {\n    size_of::<u8>();\n}\nfn size_of() {}\n", 2, "size_of tells a layout, which is another in Rust"),
+    ("fn a(b: &A) -> A {\n    Clone::clone(b)\n}\nstruct A;\n", 2, "no rule knows clone but as a method"),
     ("fn odd()\n    ensures { ⊤ }\n{}\nmod b {\n    fn odd() {}\n}\n", 5, "a law has the name of a function: odd"),
+]
+
+# Files of a crate, with a file of the package and what is to stand in it.
+WRITTEN = [
+    ({"odd.rt": '#[derive(Error)]\nenum A { #[error("{{0}} {0}")] B(u8) }\n'}, "odd.rs", 'write!(f, "{{0}} {_0}")'),
+    ({"odd.rt": "fn a()\n    ensures { ⊤ }\n{}\npub use crate::flat::Flat;\n"}, "odd.rs", "pub use crate::proved::bl_mem::flat::Flat;"),
+    ({"odd.rt": 'pub extern "C" fn a()\n    ensures { ⊤ }\n{}\n'}, "odd.rs", 'pub extern "C" fn a()'),
+    ({"odd.rt": "mod lib;\n", "odd/lib.rt": "fn a() {}\n"}, "mod.rs", "mod flat;"),
 ]
 
 
@@ -143,6 +154,17 @@ class Exporter(SourceChecks):
         for sentence, why in odd_faults(self, self.tree("odd", "crates/bl_mem/")):
             with self.check(sentence):
                 self.assertEqual(why, "")
+
+    def test_written(self) -> None:
+        """what a rule writes, where the tree has no such thing"""
+        top = self.tree("written", "crates/bl_mem/")
+        for number, (files, written, wanted) in enumerate(WRITTEN):
+            for path, text in files.items():
+                (top / "crates/bl_mem/src" / path).parent.mkdir(exist_ok=True)
+                (top / "crates/bl_mem/src" / path).write_text(text, encoding="utf-8")
+            with self.check(f"the exporter writes of the odd source {number}: {wanted}"):
+                self.assert_ended(self.export(top, top / "out"))
+                self.assertIn(wanted, (top / "out/bootcore/src/proved/bl_mem" / written).read_text(encoding="utf-8"))
 
     def test_counts(self) -> None:
         ran = run(EXPORTER, "--counts", self.room / "counted", timeout=120)
