@@ -59,6 +59,8 @@ extern "C" {
 #elif defined(__AARCH64EL__) && defined(__LP64__) && defined(BOOTCORE_FROM_SOURCE)
 #define BOOTCORE_CALL
 #define BOOTCORE_CHECKED __attribute__((warn_unused_result))
+#elif defined(__AARCH64EL__) && defined(__LP64__)
+#error "bootcore is for x86-64; with the plain source's archive define BOOTCORE_FROM_SOURCE"
 #else
 #error "bootcore is for x86-64, and for compilers with the attributes of GCC and Clang"
 #endif
