@@ -18,7 +18,8 @@ numbered! {
     }
 }
 
-/// A file of an entry.
+/// A file of an entry. Whatever gives bytes becomes one by its bytes, a text too: no call opens a
+/// path.
 #[derive(Clone, Copy, PartialEq, Eq, Hash)]
 #[non_exhaustive]
 pub enum File<'a> {

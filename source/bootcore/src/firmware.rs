@@ -118,7 +118,7 @@ pub struct Efi {
     pub bits: EfiBits,
     /// The address of its system table, with 32 bits below 4 GiB. At 0 no UEFI is told.
     pub system_table: u64,
-    /// Its memory map, whole descriptors, of which a Multiboot2 kernel gets a copy.
+    /// Its memory map, whole descriptors, 64 KiB at most, of which a Multiboot2 kernel gets a copy.
     pub map: Vec<u8>,
     /// Where the map lies, for Linux: at a multiple of 8, below 4 GiB, where no byte is usable.
     pub map_address: u64,
@@ -194,10 +194,12 @@ pub struct Firmware {
     /// A screen.
     pub screen: Option<Screen>,
     /// The address of ACPI's root pointer, of whose 36 bytes none is usable. It is not told at 0.
+    /// Linux alone is told it: a Multiboot2 kernel gets copies, which its entry has
+    /// ([`rsdp_old`](crate::Multiboot2::rsdp_old), [`rsdp_new`](crate::Multiboot2::rsdp_new)).
     pub rsdp: Option<u64>,
     /// UEFI.
     pub efi: Option<Efi>,
-    /// SMBIOS.
+    /// SMBIOS. A Multiboot2 kernel alone is told it: Linux finds the tables by UEFI.
     pub smbios: Option<Smbios>,
     /// Ranges in which nothing is placed, at most [`MAX_AVOIDED`](crate::MAX_AVOIDED); the pool
     /// meets none. The kernel is told of them as what they are: they are for memory that is free
@@ -217,7 +219,7 @@ impl Firmware {
         self
     }
 
-    /// With ACPI's root pointer at this address.
+    /// With ACPI's root pointer at this address, which Linux is told.
     pub fn rsdp(mut self, address: u64) -> Firmware {
         self.rsdp = Some(address);
         self
