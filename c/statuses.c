@@ -29,7 +29,8 @@ const char *bootcore_status_text(uint32_t status) {
     case BOOTCORE_STATUS_BAD_KIND:
         return "a region has a kind that there is not";
     case BOOTCORE_STATUS_BAD_SIZE:
-        return "the machine's size is no multiple of 4096 from 1 MiB to 4 GiB";
+        return "the machine's size is no multiple of 4096 from 1 MiB to 4 GiB: what lies above 4 GiB "
+               "is a region alone";
     case BOOTCORE_STATUS_TOO_MANY_REGIONS:
         return "there are more than 128 regions";
     case BOOTCORE_STATUS_BAD_REGION:
@@ -42,11 +43,11 @@ const char *bootcore_status_text(uint32_t status) {
     case BOOTCORE_STATUS_BAD_PROTOCOL:
         return "an entry has a protocol that there is not";
     case BOOTCORE_STATUS_TOO_MANY_ENTRIES:
-        return "there are too many entries";
+        return "there are more than 32 entries";
     case BOOTCORE_STATUS_TOO_MANY_MODULES:
-        return "an entry has too many modules";
+        return "an entry has more than 64 modules";
     case BOOTCORE_STATUS_LONG_RSDP:
-        return "a copy of an RSDP is too long";
+        return "a copy of an RSDP has more than 256 bytes";
     case BOOTCORE_STATUS_BAD_INDEX:
         return "a menu's first entry or a fallback is no entry";
     case BOOTCORE_STATUS_NO_SESSION:

@@ -40,15 +40,16 @@ misuses! {
         NoBytes = 101, "a file is known by its length alone, and its bytes are read";
         BadFile = 103, "a file can't be read, or a plan is carried out with too few or too short \
             files";
-        BadSize = 106, "the machine's size is no multiple of 4096 from 1 MiB to 4 GiB";
+        BadSize = 106, "the machine's size is no multiple of 4096 from 1 MiB to 4 GiB: what lies \
+            above 4 GiB is a region alone";
         TooManyRegions = 107, "there are more than 128 regions";
         BadRegion = 108, "a region ends above 2^52";
         BadPool = 109, "the pool is not of whole frames, or not all of it is usable";
         BadMemory = 110, "memory does not reach to the machine's size, or for a boot does not end \
             there";
-        TooManyEntries = 112, "there are too many entries";
-        TooManyModules = 113, "an entry has too many modules";
-        LongRsdp = 114, "a copy of an RSDP is too long";
+        TooManyEntries = 112, "there are more than 32 entries";
+        TooManyModules = 113, "an entry has more than 64 modules";
+        LongRsdp = 114, "a copy of an RSDP has more than 256 bytes";
         BadIndex = 115, "a menu's first entry or a fallback is no entry";
         LowPool = 117, "the pool begins below the memory that is given";
         Unwanted = 118, "a digest is fed more bytes than it wants";
