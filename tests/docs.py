@@ -401,6 +401,7 @@ class Guide(ProgramChecks):
                 continue
             with self.check(sentence):
                 ran = run("bash", "-c", command, cwd=folder, env=env)
+                self.assertNotEqual(ran.status, 124, f"ran: {ran}\nit did not end in time")
                 self.assertRegex(ran.out.decode(), lines_like(wanted), f"ran: {ran}\nstandard output")
 
 
