@@ -1,5 +1,5 @@
-//! The entries of rows: `multiboot2 line=BYTES module=BYTES:BYTES .. rsdp_old=BYTES rsdp_new=BYTES`, `linux line=BYTES initrd=BYTES`,
-//! or the same with `linux64`; prepared and loaded, and why they are refused.
+//! The entries of rows: `multiboot2 line=BYTES module=BYTES:BYTES .. rsdp_old=BYTES rsdp_new=BYTES`, `linux line=BYTES
+//! initrd=BYTES`, or the same with `linux64`; prepared and loaded, and why they are refused.
 
 use crate::refusing::Refusing;
 use crate::row::{Answered, Row, Stop, require};

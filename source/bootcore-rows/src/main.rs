@@ -1,5 +1,5 @@
-//! Answers the rows of standard input. A row's call is made, and the line is written with the call's own answer in place of the one
-//! that stands there; README.md has the language of rows.
+//! Answers the rows of standard input. A row's call is made, and the line is written with the call's own answer in place of the
+//! one that stands there; README.md has the language of rows.
 #![forbid(unsafe_code)]
 
 mod calls;

@@ -3,7 +3,8 @@
 use bootcore::shim::alloc::{AllocError, Allocator};
 use std::cell::Cell;
 
-/// Counts requests, and refuses from the `nth` on; at 0 it refuses none. A growth is a request too, since it asks for a new block.
+/// Counts requests, and refuses from the `nth` on; at 0 it refuses none. A growth is a request too, since it asks for a new
+/// block.
 pub struct Refusing {
     nth: u64,
     asked: Cell<u64>,

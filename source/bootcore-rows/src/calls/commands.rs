@@ -135,8 +135,8 @@ pub fn answer_walk(row: &mut Row<'_>) -> Answered {
     Ok(())
 }
 
-/// Converts an image over the heap: `blamed=B` was blamed before, `limit=N` is the sink's room, `takes=N` how many bytes it takes at
-/// most at a write; the other fields are the source's.
+/// Converts an image over the heap: `blamed=B` was blamed before, `limit=N` is the sink's room, `takes=N` how many bytes it takes
+/// at most at a write; the other fields are the source's.
 pub fn answer_convert(row: &mut Row<'_>) -> Answered {
     let mut fields = SourceFields::new();
     let (mut blamed, mut limit, mut takes) = (Vec::new(), 0x1_0000, 0x1_0000);

@@ -1,5 +1,5 @@
-//! `image limit=N step=N fill=VV ENTRY of KERNEL` and `images limits=A..B step=N fill=VV ENTRY of KERNEL`, on the last machine: into a
-//! sink in memory, or into one of each limit. `image_of fill=VV ENTRY of KERNEL`: what memory holds.
+//! `image limit=N step=N fill=VV ENTRY of KERNEL` and `images limits=A..B step=N fill=VV ENTRY of KERNEL`, on the last machine:
+//! into a sink in memory, or into one of each limit. `image_of fill=VV ENTRY of KERNEL`: what memory holds.
 
 use crate::calls::read_image::say_image;
 use crate::entries::{LoadedEntry, loaded_entry};

@@ -1,5 +1,5 @@
-//! `read_setup BYTES`: the fields of a Linux kernel's setup header, how many bytes it has, and the payload as `OFFSET+LENGTH`; or the
-//! fault. `setup_fault BYTES`: the fault alone, or `none`.
+//! `read_setup BYTES`: the fields of a Linux kernel's setup header, how many bytes it has, and the payload as `OFFSET+LENGTH`; or
+//! the fault. `setup_fault BYTES`: the fault alone, or `none`.
 
 use crate::entries::fault;
 use crate::row::{Answered, Row, say};

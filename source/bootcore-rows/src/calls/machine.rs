@@ -1,7 +1,7 @@
 //! `machine size=SIZE pool=START..END region=BASE+LENGTH:KIND ..`: the machine that later rows are about.
 //!
-//! A region may stand there several times: `BASE+LENGTH:KIND*COUNT`, or each a step after the last: `..*COUNT/STEP`. Beside regions
-//! stand the words of what firmware tells.
+//! A region may stand there several times: `BASE+LENGTH:KIND*COUNT`, or each a step after the last: `..*COUNT/STEP`. Beside
+//! regions stand the words of what firmware tells.
 
 use crate::calls::firmware;
 use crate::refusing::Refusing;

@@ -1,5 +1,5 @@
-//! `memory size=SIZE fill=BYTE STEP; STEP ..`, `sparse ..` and `slice_memory base=ADDRESS ..`: one step after the other on new memory
-//! in one block, on memory that keeps only the frames which have room, or on a slice from a base address on.
+//! `memory size=SIZE fill=BYTE STEP; STEP ..`, `sparse ..` and `slice_memory base=ADDRESS ..`: one step after the other on new
+//! memory in one block, on memory that keeps only the frames which have room, or on a slice from a base address on.
 
 use crate::pieces::pieces;
 use crate::row::{Answered, Row, Stop, require, say};

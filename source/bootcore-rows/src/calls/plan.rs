@@ -1,7 +1,7 @@
 //! `plan STEP; STEP ..`: one step after the other on a new planner of the machine.
 //!
-//! A step is `take START..END`, `place len=N align=N low=N high=N lowest` (or `highest`), `prefer at=N len=N align=N low=N high=N`,
-//! or `taken`.
+//! A step is `take START..END`, `place len=N align=N low=N high=N lowest` (or `highest`), `prefer at=N len=N align=N low=N
+//! high=N`, or `taken`.
 
 use crate::refusing::Refusing;
 use crate::row::{Answered, Row, Stop, require, say};

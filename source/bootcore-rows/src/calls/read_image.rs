@@ -1,6 +1,6 @@
-//! `read_image FIELD .. of BYTES`, `image_fault BYTES` (the fault alone, or `none`), and `read_images fails=A..B FIELD .. of BYTES`
-//! (where each read from A to B - 1 is a fault). A FIELD is `step=N`, how many bytes a read gives at most, or `fail=N`, which read is
-//! a fault.
+//! `read_image FIELD .. of BYTES`, `image_fault BYTES` (the fault alone, or `none`), and `read_images fails=A..B FIELD .. of
+//! BYTES` (where each read from A to B - 1 is a fault). A FIELD is `step=N`, how many bytes a read gives at most, or `fail=N`,
+//! which read is a fault.
 
 use crate::calls::prepare::{place_text, say_registers};
 use crate::pieces::pieces;

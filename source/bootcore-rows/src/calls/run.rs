@@ -20,8 +20,8 @@ fn boot<'h>(row: &mut Row<'_>, heap: &'h Refusing, plan: &Plan<'h>, store: impl 
     say_end(row, &memory, &pool, end.as_ref())
 }
 
-/// Boots a menu over a store. The machine, the menu and the files stand over another heap, so that their requests are not refused,
-/// and what a script says.
+/// Boots a menu over a store. The machine, the menu and the files stand over another heap, so that their requests are not
+/// refused, and what a script says.
 pub fn answer(row: &mut Row<'_>) -> Answered {
     let (heap, beside) = (row.heap, &row.session.beside);
     let fields = BootFields::of(row.session, row.rest())?;

@@ -1,8 +1,8 @@
 //! `session MENU .. do STEP; STEP ..`: a session that is told one letter after the other.
 //!
 //! A step is a letter (`start`, `piece A.F.P BYTES`, `fault A.F.P`), `waiting`, `missing` (the piece that is awaited first),
-//! `missing A.F.P` (the first one after that of this ticket), `outcome`, `outside` (whether memory outside the pool and the parts is
-//! as it was), or `read AT LENGTH`.
+//! `missing A.F.P` (the first one after that of this ticket), `outcome`, `outside` (whether memory outside the pool and the parts
+//! is as it was), or `read AT LENGTH`.
 
 use crate::calls::memory::{self, give_pool};
 use crate::menus::boot_end::{parts_of, say_end};

@@ -1,7 +1,7 @@
-//! `stage sizes=N,N frames=A,B STEP; STEP ..`: files of these sizes staged in these frames of the machine's pool, or with `frames=any`
-//! in frames that the stage chooses; then one step after the other: `put FILE INDEX BYTES`, `puts FILE.INDEX=PIECE ..`, `complete`,
-//! `view FILE`, `evacuate A..B ..`, `scrub A..B ..`, and those of memory. The memory has the machine's size, is a5 everywhere and one
-//! block; that of `sparse_stage ..` keeps only the frames which have room.
+//! `stage sizes=N,N frames=A,B STEP; STEP ..`: files of these sizes staged in these frames of the machine's pool, or with
+//! `frames=any` in frames that the stage chooses; then one step after the other: `put FILE INDEX BYTES`, `puts FILE.INDEX=PIECE
+//! ..`, `complete`, `view FILE`, `evacuate A..B ..`, `scrub A..B ..`, and those of memory. The memory has the machine's size, is
+//! a5 everywhere and one block; that of `sparse_stage ..` keeps only the frames which have room.
 
 use crate::calls::memory::{self, give_pool};
 use crate::menus::memory_after::FILL;

@@ -1,5 +1,5 @@
-//! `sink N END PART ..`: parts, one after the other, to a sink over a writer that takes at most two bytes at each of N writes; then
-//! it takes nothing (END is `nothing`) or has an error. A PART is `write=BYTES` (one write) or `all=BYTES`.
+//! `sink N END PART ..`: parts, one after the other, to a sink over a writer that takes at most two bytes at each of N writes;
+//! then it takes nothing (END is `nothing`) or has an error. A PART is `write=BYTES` (one write) or `all=BYTES`.
 
 use crate::row::{Answered, Row, Stop, say};
 use crate::words::{cut, pick};

@@ -1,10 +1,10 @@
 //! What a row says of a boot: a menu, its files, and how they come.
 //!
 //! `file=BYTES`, `file=missing`, `file=long`: the files, by their index. `entry=ENTRY`: the entries, as
-//! `multiboot2:KERNEL:LINE+FILE:LINE ..`, `linux:KERNEL:LINE+INITRD`, or the same with `linux64`; `entry=ENTRY*COUNT`: one so often;
-//! `modules=N`: N more modules of the last one before; `rsdp_old=BYTES`, `rsdp_new=BYTES`: its copies of the RSDP. `default=N`,
-//! `fallback=N,N`. `store=forward`, `reverse`, `silent`, or `script`, and then `twice=A.F.P,..`, `fail=A.F.P,..`, `picks=N,N,..`.
-//! `answers=N`: the store gives so many answers, and then nothing more.
+//! `multiboot2:KERNEL:LINE+FILE:LINE ..`, `linux:KERNEL:LINE+INITRD`, or the same with `linux64`; `entry=ENTRY*COUNT`: one so
+//! often; `modules=N`: N more modules of the last one before; `rsdp_old=BYTES`, `rsdp_new=BYTES`: its copies of the RSDP.
+//! `default=N`, `fallback=N,N`. `store=forward`, `reverse`, `silent`, or `script`, and then `twice=A.F.P,..`, `fail=A.F.P,..`,
+//! `picks=N,N,..`. `answers=N`: the store gives so many answers, and then nothing more.
 
 use crate::entries::{RowEntry, protocol_of};
 use crate::menus::script_store::Script;

@@ -1,5 +1,5 @@
-//! A store that gives so many answers, and then nothing more: from then on each attempt that asks for a piece is refused for the file
-//! of its first missing one.
+//! A store that gives so many answers, and then nothing more: from then on each attempt that asks for a piece is refused for the
+//! file of its first missing one.
 
 use crate::refusing::Refusing;
 use bootcore::proved::bl_session::{Completion, Store, Ticket};

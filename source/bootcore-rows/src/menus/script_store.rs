@@ -7,9 +7,9 @@ use bootcore::shim::vec::{CollectWith, Vec as CoreVec};
 use std::collections::VecDeque;
 
 /// What a store is told. A ticket of `fail` comes as a fault, and else one of `twice` comes twice, the second time with each byte
-/// exclusive-or 0xFF. A call of `next` takes what is at the first place of `picks` of what is still to come, modulo its number, and
-/// the first of it once the picks are used up. One that finds nothing uses its pick up too; one that is refused memory does not
-/// count.
+/// exclusive-or 0xFF. A call of `next` takes what is at the first place of `picks` of what is still to come, modulo its number,
+/// and the first of it once the picks are used up. One that finds nothing uses its pick up too; one that is refused memory does
+/// not count.
 #[derive(Default)]
 pub struct Script {
     pub twice: Vec<Ticket>,
