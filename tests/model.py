@@ -41,6 +41,7 @@ class WithProgram(ModelChecks):
         program = ["--program", str(PROGRAM)]
         self.model("the program does as the model with what is drawn at random", "fuzz", "300", "1", *program)
         self.model("the program does as the model with descriptions changed in a key", "fuzz_keys", "900", *program)
+        self.model("the program explains each case in the model's words", "explain", *program)
         sentence = "the program prints the digests that the model computes, of each case and of each changed image"
         self.model(sentence, "digests", *program)
 

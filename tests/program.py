@@ -274,6 +274,17 @@ class Descriptions(ImageChecks):
             "refused 1 NoFile(0): the file can't be read: it is missing, or no regular file\nno entry left\n",
             "file fault: none.elf: No such file or directory (os error 2)\n",
         )
+        big = self.room / "big"
+        with open(big, "wb") as file:
+            file.truncate(0x40000001)
+        self.ends(
+            "explain prints which file is too long",
+            self.program("explain", self.described("kernel", f'"{big}"')),
+            1,
+            f"entry 0 row one\nfile 0 1073741825 262145 {big}\nfile 1 5 1 m.bin\n"
+            "refused 3 FileTooLong(0): the file is too long: it has more than 0x40000000 bytes\nno entry left\n",
+        )
+        big.unlink()
         with self.check("explain prints the handover"):
             ran = self.program("explain", FIRST, "--order", "reverse")
             lines = ran.out.decode(errors="replace").splitlines()

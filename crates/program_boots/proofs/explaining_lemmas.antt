@@ -2,5 +2,5 @@ pub mod ExplainLemmas
 pub mod DetailLemmas
 pub mod NoPlaceLemmas
 pub mod RefusedLemmas
-pub mod HeldLemmas
 pub mod StepLemmas
+pub mod ToldLemmas

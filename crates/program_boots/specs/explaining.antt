@@ -1,5 +1,5 @@
 pub mod Details
 pub mod EntrySteps
-pub mod ExplanationLines
+pub mod ToldBoots
 pub mod TextPlaces
 pub mod AttemptedEntries

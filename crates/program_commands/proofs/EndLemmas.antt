@@ -1,37 +1,39 @@
 -- How boots, their digests and their explanations end, by what their steps answer.
 use Rattle.std.proofs.Common.{◌≡◌, ℕ, List, [], Some, None, Result, Ok, Err, All, refl, subst}
-use Rattle.std.proofs.Common.{inl, inr}
+use Rattle.std.proofs.Common.{◌≢◌, inl, inr, sym}
+use Rattle.bl_map.specs.FirmwareFaults.{HasFirstMachineFault}
 use Rattle.bl_map.specs.MachineFacts.{MachineFacts}
+use Rattle.bl_map.specs.declared.fault.MapFault.{MapFault}
+use Rattle.bl_map.specs.declared.fault.MapFault.TheVariants as map_fault
 use Rattle.bl_load.specs.WellFormedEntry.{IsWellFormedValue}
 use Rattle.bl_stage.specs.Files.{File}
 use Rattle.bl_session.specs.menu.Menu.{MenuFacts}
 use Rattle.bl_session.proofs.menu_lemmas.MenuLemmas.{offered_values}
 use Rattle.program_desc.specs.declared.desc.Description.{Description}
-use Rattle.program_desc.specs.Described.{described}
+use Rattle.program_desc.specs.Described.{DescriptionFacts, described}
 use Rattle.program_desc.specs.declared.fault.DescFault.{DescFault}
 use Rattle.program_desc.specs.declared.fault.DescFault.TheVariants as desc_fault
 use Rattle.program_desc.specs.Views.{view}
-use Rattle.program_say.specs.blame.BlameLines.{blame_lines}
 use Rattle.program_say.specs.declared.subjects.blame.Blame.{Blame}
 use Rattle.program_say.specs.declared.subjects.blame.Blame.TheVariants.{BadMachine}
 use Rattle.program_boots.specs.described.BootCases.{BootCase, boot_of, entry_value_at}
 use Rattle.program_boots.specs.described.DescribedMachine.{IsMachineOf}
 use Rattle.program_boots.specs.described.DescribedMenu.{attempted_file_names, menu_of}
 use Rattle.program_boots.specs.described.FoundFiles.{AreFound}
-use Rattle.program_boots.specs.explaining.ExplanationLines.{sought_in}
+use Rattle.program_boots.specs.explaining.ToldBoots.{sought_in}
 use Rattle.program_commands.specs.Ends.{Surroundings}
 use Rattle.program_commands.specs.declared.boot_end.End.{End}
 use Rattle.program_commands.specs.declared.boot_end.End.TheVariants.{Booted, NoEntryLeft}
 use Rattle.program_commands.specs.declared.boot_end.EndFault.{EndFault}
 use Rattle.program_commands.specs.declared.boot_end.EndFault.TheVariants.{BadDescription}
 use Rattle.program_commands.specs.declared.boot_end.EndFault.TheVariants.{Device, NoMemory}
-use Rattle.program_commands.specs.explaining.BlameConditions.{HasBlame}
+use Rattle.program_commands.specs.explaining.BlameConditions.{HasBlame, TellsBlame}
 use Rattle.program_commands.specs.internal.CallEnds.{BootEnds, CountsSinkFault, FoundBootEnds}
 use Rattle.program_commands.specs.internal.DigestEnds.{DigestEnds, FoundDigestEnds}
 use Rattle.program_commands.specs.internal.ExplanationEnds.{ExplainEnds, ExplainFoundEnds}
 use Rattle.program_commands.specs.internal.CallEnds.{end_fault_of_desc_fault}
 use Rattle.program_commands.specs.internal.Readings.{IsMachineBlame, IsReadBlame, IsReadingFault}
-use Rattle.program_commands.specs.internal.Readings.{SaysLines}
+use Rattle.program_commands.specs.internal.Readings.{SaysMore}
 
 -- ---- no machine is described, or memory ran out
 
@@ -40,12 +42,29 @@ pub sound_unread : (faults : ℕ) (fault : DescFault)
 sound_unread faults desc_fault.BadDescription = refl
 sound_unread faults desc_fault.NoMemory = refl
 
--- a blame that stands of what describes nothing is said
+-- a blame of what describes nothing is told of these bytes, which are that text
+pub tells_nothing : (desc text : List ℕ) (blame : Blame) → desc ≡ text
+    → described text ≡ None → HasBlame text blame → TellsBlame desc blame None
+tells_nothing desc text blame same none stands =
+    let told : TellsBlame text blame None = record { stands = stands; is_described = none } in
+    subst (λ (bytes : List ℕ). TellsBlame bytes blame None) (sym same) told
+
+-- a machine's first fault is told of what describes it
+pub tells_machine : (desc : List ℕ) (d : DescriptionFacts) (fault : MapFault)
+    → described desc ≡ Some d → (fault ≢ map_fault.NoMemory)
+    → HasFirstMachineFault d.size d.regions d.pool d.firmware fault
+    → TellsBlame desc (BadMachine fault) (Some d)
+tells_machine desc d fault is named first = record {
+  stands = record { description = d; is_described = is; named = named; first = first };
+  is_described = is;
+}
+
+-- a blame that stands of what describes nothing is told
 pub blamed_for : (desc : List ℕ) (blame : Blame) (old new : List ℕ) (fault : DescFault)
     → described desc ≡ None → HasBlame desc blame
-    → SaysLines (blame_lines blame None) old new fault → IsReadBlame desc old new fault
+    → SaysMore old new fault → IsReadBlame desc old new fault
 blamed_for desc blame old new desc_fault.BadDescription none stands said =
-    record { bad = inl none; blame = blame; stands = stands; said = rw none said }
+    record { bad = inl none; blame = blame; stands = stands; said = said }
 blamed_for desc blame old new desc_fault.NoMemory none stands said = said
 
 -- files of a type F
@@ -80,7 +99,7 @@ module _ {F : Type 0} (answers : F → List ℕ → File → Type 0) (faults : F
         bad = inr (view d, is, record { fault = m.0; named = m.1; first = m.2 });
         blame = BadMachine m.0;
         stands = record { description = view d; is_described = is; named = m.1; first = m.2 };
-        said = rw is m.3;
+        said = m.3;
       },
       refl,
     )

@@ -1,4 +1,4 @@
-pub mod blame_lemmas
+pub mod AddressLemmas
 pub mod HexLemmas
 pub mod SaidLemmas
 pub mod FrameLemmas

@@ -8,7 +8,7 @@ use Rattle.hex.specs.Hex.{encode_lower}
 use Rattle.bl_digest.specs.DigestsFacts.{DigestsFacts}
 use Rattle.bl_digest.specs.declared.part_digest.PartDigest.{PartDigest}
 use Rattle.program_say.specs.PartNames.{part_name}
-use Rattle.program_say.specs.blame.Addresses.{hex8}
+use Rattle.program_say.specs.Addresses.{hex8}
 
 -- ---- fields
 

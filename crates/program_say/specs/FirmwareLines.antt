@@ -1,11 +1,9 @@
--- The lines of what firmware tells. Own.
-use Rattle.std.specs.Prelude.{ℕ, List, [], ◌++◌, length, Option, Some, None, option_map}
+-- The lines of what a kernel sees of what firmware tells. Own.
+use Rattle.std.specs.Prelude.{ℕ, List, [], ◌++◌, length, Option, Some, None}
 use Rattle.std.specs.Prelude.{codes, decimal}
-use Rattle.std.specs.List.{flat_map}
-use Rattle.std.specs.declared.ops.Range.{Range}
 use Rattle.hex.specs.Hex.{encode_lower}
 use Rattle.sha2.specs.Sha256.{sha256}
-use Rattle.bl_map.specs.Firmware.{FirmwareFacts, SmbiosFacts, efi_info}
+use Rattle.bl_map.specs.Firmware.{SmbiosFacts}
 use Rattle.bl_map.specs.FirmwareNumbers.{efi_bits_number, secure_boot_number}
 use Rattle.bl_map.specs.declared.firmware.efi.EfiBits.{EfiBits}
 use Rattle.bl_map.specs.declared.firmware.efi.EfiInfo.{EfiInfo}
@@ -88,16 +86,3 @@ firmware_lines seen =
     lines_if screen_line seen.screen ++ lines_if rsdp_line seen.rsdp
     ++ lines_if efi_info_lines seen.efi_info ++ lines_if efi_tables_lines seen.efi_tables
     ++ lines_if smbios_line seen.smbios
-
--- ---- of a machine, for a person
-
--- a range to avoid: its start, its end
-unfoldable pub avoid_line : Range ℕ → List ℕ
-avoid_line range = codes "avoid " ++ hex16 range.start ++ codes " " ++ hex16 range.end ++ codes "\n"
-
--- what its firmware tells, whatever the protocol of an entry, and the ranges to avoid
-abbrev pub machine_firmware_lines : FirmwareFacts → List ℕ
-machine_firmware_lines firmware =
-    lines_if screen_line firmware.screen ++ lines_if rsdp_line firmware.rsdp
-    ++ lines_if efi_info_lines (option_map efi_info firmware.efi)
-    ++ lines_if smbios_line firmware.smbios ++ flat_map avoid_line firmware.avoided

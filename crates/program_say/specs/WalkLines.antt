@@ -10,7 +10,7 @@ use Rattle.bl_plan.specs.declared.protocol.Protocol.{Protocol}
 use Rattle.bl_plan.specs.Protocols.{protocol_name}
 use Rattle.bl_walk.specs.SeenFacts.{SeenModuleFacts, SeenFileFacts, SeenFacts}
 use Rattle.bl_walk.specs.declared.seen.SeenPart.{SeenPart}
-use Rattle.program_say.specs.blame.Addresses.{hex8}
+use Rattle.program_say.specs.Addresses.{hex8}
 use Rattle.program_say.specs.BootAndMapLines.{hex16}
 use Rattle.program_say.specs.FirmwareLines.{firmware_lines}
 

@@ -15,4 +15,4 @@ mod word_hints;
 pub use blame_lines::say_blame;
 pub use region_hints::say_region_hints;
 pub use shown_names::say_name;
-pub use unusable::{say_address, say_unplaceable};
+pub use unusable::say_unplaceable;

@@ -1,5 +1,6 @@
 //! The lines of boots, maps, walks, digests and explanations, and that of a bad image.
 
+mod addresses;
 mod attempts;
 mod cut_kernels;
 mod digests;
@@ -20,6 +21,7 @@ mod refusal_words;
 mod sought;
 mod walk;
 
+pub use addresses::say_address;
 pub use attempts::{say_attempt, say_refused_attempts};
 pub use digests::say_digests;
 pub use frames::say_handoff_frames;

@@ -35,7 +35,7 @@ use Rattle.program_desc.specs.EntryNames.{file_names, file_index}
 use Rattle.program_boots.specs.explaining.Details.{value_sought}
 use Rattle.program_boots.specs.explaining.AttemptedEntries.{HasPlaceRefusal, is_placing}
 use Rattle.program_say.specs.Sought.{SoughtFacts}
-use Rattle.program_boots.specs.explaining.ExplanationLines.{refused_in, sought_in}
+use Rattle.program_boots.specs.explaining.ToldBoots.{refused_in, sought_in}
 use Rattle.program_boots.proofs.explaining_lemmas.NoPlaceLemmas.{IsOther, no_other, other_if}
 use Rattle.program_boots.proofs.explaining_lemmas.NoPlaceLemmas.{other_is, other_or}
 

@@ -17,7 +17,7 @@ use Rattle.program_boots.specs.described.BootCases.{boot_of}
 use Rattle.program_boots.specs.described.DescribedMenu.{menu_of}
 use Rattle.program_boots.specs.explaining.AttemptedEntries.{HasHandoverAt}
 use Rattle.program_say.specs.Sought.{SoughtFacts}
-use Rattle.program_boots.specs.explaining.ExplanationLines.{sought_in}
+use Rattle.program_boots.specs.explaining.ToldBoots.{sought_in}
 use Rattle.program_boots.proofs.explaining_lemmas.RefusedLemmas.{value_of_entry}
 
 handed_entry : (d : DescriptionFacts) (facts : MachineFacts) (files : List File) (entry : ℕ)

@@ -1,11 +1,9 @@
-//! What a boot came to is told.
-ghost use Rattle.std.specs.Prelude.{◌≡◌, ◌≤◌, ◌++◌, OnOk, OnErr, Some, length};
-ghost use Rattle.program_boots.specs.described.DescribedMenu.{described_entry};
-ghost use Rattle.program_say.specs.BootAndMapLines.{booted_line};
-ghost use Rattle.program_say.specs.Hints.{hint_lines};
-ghost use Rattle.program_boots.specs.explaining.ExplanationLines.{booted_lines};
-ghost use Rattle.program_boots.specs.explaining.ExplanationLines.{entry_handoff_lines};
-ghost use Rattle.program_boots.specs.explaining.ExplanationLines.{none_left_lines};
+//! What a boot came to is told, for a person.
+ghost use Rattle.std.specs.Prelude.{◌≡◌, ◌≤◌, OnOk, OnErr, length, map};
+ghost use Rattle.std.specs.Io.{StartsWith};
+ghost use Rattle.bl_stage.specs.Files.{size_of};
+ghost use Rattle.bl_session.specs.session.Phases.{boot_facts};
+ghost use Rattle.program_boots.specs.explaining.ToldBoots.{TellsBooted, TellsNoneLeft};
 ghost use Rattle.program_desc.specs.Views.{view};
 
 use crate::described::{DescribedBoot, title_of};
@@ -17,8 +15,9 @@ use program_say::{
 };
 use std::alloc::{AllocError, Allocator};
 
-/// Appends the lines of a boot in which each entry that was attempted was refused. An error leaves
-/// the text as it was.
+/// Appends the lines of a boot in which each entry that was attempted was refused: what firmware
+/// tells, each attempt with its files and its refusal, and the hints. An error leaves the text as
+/// it was.
 pub fn tell_none_left<A: Allocator + Copy, B: Allocator>(
     alloc: A,
     boot: &DescribedBoot<'_, A>,
@@ -27,10 +26,11 @@ pub fn tell_none_left<A: Allocator + Copy, B: Allocator>(
     refused: &[RefusedEntry],
     say: &mut Vec<u8, B>,
 ) -> Result<(), AllocError>
-    requires { length boot.now.description.now.entries.items ≤ 32 }
-    ensures ok { OnOk result (say.new.items ≡ say.old.items
-        ++ none_left_lines (view boot.now.description.now) boot.now.machine.now sought.now
-        told.now refused.now) }
+    requires few { length boot.now.description.now.entries.items ≤ 32 }
+    requires facts { TellsNoneLeft (boot_facts boot.now.machine.now boot.now.menu.now
+        (map size_of sought.now.files)) (view boot.now.description.now).entries sought.now
+        refused.now told.now }
+    ensures ok { OnOk result (StartsWith say.new.items say.old.items) }
     ensures err { OnErr result (say.new.items ≡ say.old.items) }
 {
     let mut lines = Vec::new(alloc);
@@ -50,13 +50,6 @@ fn say_outcome<A: Allocator + Copy>(
     outcome: &Outcome<A>,
 ) -> Result<(), AllocError>
     requires { length boot.now.description.now.entries.items ≤ 32 }
-    ensures { OnOk result (out.new.items ≡ out.old.items
-        ++ booted_line outcome.now.entry
-        (described_entry (view boot.now.description.now) outcome.now.entry).title
-        ++ entry_handoff_lines (view boot.now.description.now).entries sought.now steps.now
-        boot.now.machine.now.pool outcome.now.entry outcome.now.handoff
-        ++ hint_lines (view boot.now.description.now) sought.now outcome.now.refused.items
-        (Some outcome.now.entry)) }
 {
     let entry = outcome.entry;
     say_booted(out, entry as u64, title_of(boot.description, entry))?;
@@ -72,8 +65,9 @@ fn say_outcome<A: Allocator + Copy>(
     say_hints(out, boot.description, sought, &outcome.refused, Some(entry))
 }
 
-/// Appends the lines of a boot in which an entry is handed over by these steps. An error leaves the
-/// text as it was.
+/// Appends the lines of a boot in which an entry is handed over by these steps: what firmware
+/// tells, each attempt that was refused, the entry with its files and what it hands over, and the
+/// hints. An error leaves the text as it was.
 pub fn tell_booted<A: Allocator + Copy, B: Allocator>(
     alloc: A,
     boot: &DescribedBoot<'_, A>,
@@ -83,12 +77,11 @@ pub fn tell_booted<A: Allocator + Copy, B: Allocator>(
     outcome: &Outcome<A>,
     say: &mut Vec<u8, B>,
 ) -> Result<(), AllocError>
-    requires { length boot.now.description.now.entries.items ≤ 32 }
-    ensures ok { OnOk result (say.new.items ≡ say.old.items
-        ++ booted_lines (view boot.now.description.now) boot.now.machine.now sought.now
-        outcome.now.entry told.now outcome.now.refused.items
-        (entry_handoff_lines (view boot.now.description.now).entries sought.now steps.now
-        boot.now.machine.now.pool outcome.now.entry outcome.now.handoff)) }
+    requires few { length boot.now.description.now.entries.items ≤ 32 }
+    requires facts { TellsBooted A (boot_facts boot.now.machine.now boot.now.menu.now
+        (map size_of sought.now.files)) (view boot.now.description.now).entries sought.now
+        outcome.now.entry outcome.now.refused.items outcome.now.handoff told.now steps.now }
+    ensures ok { OnOk result (StartsWith say.new.items say.old.items) }
     ensures err { OnErr result (say.new.items ≡ say.old.items) }
 {
     let mut lines = Vec::new(alloc);

@@ -1,5 +1,6 @@
--- When a blame of a description stands. Own.
-use Rattle.std.specs.Prelude.{◌≡◌, ◌≢◌, ◌≤◌, ℕ, true, false, List, length, take, Some, None}
+-- When a blame of a description stands, and what is told with it. Own.
+use Rattle.std.specs.Prelude.{◌≡◌, ◌≢◌, ◌≤◌, ℕ, true, false, List, length, take, Option, Some}
+use Rattle.std.specs.Prelude.{None}
 use Rattle.std.specs.Str.{is_utf8}
 use Rattle.toml.specs.Data.{Members}
 use Rattle.toml.specs.Parse.{parse_document}
@@ -45,3 +46,10 @@ HasBlame desc blames.NotUtf8 = is_utf8 desc ≡ false
 HasBlame desc (blames.NotToml place) = IsNotToml desc place
 HasBlame desc (blames.BadKey bad) = HasBadKey desc bad
 HasBlame desc (blames.BadMachine fault) = HasBadMachine desc fault
+
+-- what is told for a person of bytes that are a bad description: a blame that stands, and what the
+-- bytes describe, if anything. In which words, no definition says.
+pub record TellsBlame (desc : List ℕ) (blame : Blame) (description : Option DescriptionFacts)
+    : Type 0 where
+  pub stands : HasBlame desc blame
+  pub is_described : described desc ≡ description

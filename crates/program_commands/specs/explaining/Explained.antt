@@ -1,27 +1,26 @@
--- How the explanation of a boot ends. Own.
-use Rattle.std.specs.Prelude.{◌≡◌, ℕ, List, ◌++◌}
+-- How the explanation of a boot ends: what is told, each fact exact, and that it is told behind
+-- what was said before. In which words, no definition says: the words are tested. Own.
+use Rattle.std.specs.Prelude.{ℕ, List}
+use Rattle.std.specs.Io.{StartsWith}
 use Rattle.bl_load.specs.Handover.{Handover}
 use Rattle.bl_load.specs.declared.refused_entry.RefusedEntry.{RefusedEntry}
 use Rattle.bl_load.specs.declared.step.Step.{Step}
 use Rattle.bl_stage.specs.Files.{File}
 use Rattle.bl_session.specs.session.BootSteps.{State, handed_over, none_left}
-use Rattle.program_desc.specs.Described.{described}
 use Rattle.program_say.specs.declared.subjects.blame.Blame.{Blame}
 use Rattle.program_commands.specs.explaining.BlameConditions.{HasBlame}
-use Rattle.program_say.specs.blame.BlameLines.{blame_lines}
 use Rattle.program_boots.specs.described.DescribedMachine.{IsBadDescription}
 use Rattle.program_boots.specs.described.BootCases.{BootCase, HasOutcome}
 use Rattle.program_boots.specs.explaining.Details.{AreToldRefusals}
 use Rattle.program_boots.specs.explaining.EntrySteps.{AreToldSteps}
-use Rattle.program_boots.specs.explaining.ExplanationLines.{refused_in, sought_in}
-use Rattle.program_boots.specs.explaining.ExplanationLines.{explanation_lines}
+use Rattle.program_boots.specs.explaining.ToldBoots.{refused_in, sought_in}
 use Rattle.program_say.specs.declared.subjects.refusal_detail.ToldRefusal.{ToldRefusal}
 
 -- with files of a type F: what they may answer for a name, and how many faults they had; and with
 -- memory from an A
 module _ (A : Type 0) {F : Type 0} (answers : F → List ℕ → File → Type 0) (faults : F → ℕ) where
-  -- the boot that is described comes to this, and what is said tells it, with each refusal's
-  -- detail, and the steps of the entry that is handed over
+  -- the boot that is described comes to this. It is told, with each refusal's detail, and with the
+  -- steps of the entry that is handed over, behind what was said before
   pub record IsExplained (desc : List ℕ) (before after : F) (old new : List ℕ)
       (state : State) : Type 0 where
     pub case : BootCase answers faults desc before after
@@ -32,9 +31,7 @@ module _ (A : Type 0) {F : Type 0} (answers : F → List ℕ → File → Type 0
     pub steps : List Step
     pub are_steps : AreToldSteps A case.facts case.description.entries
         (sought_in case.description case.files) state steps
-    pub said : new
-        ≡ old ++ explanation_lines case.description case.facts
-        (sought_in case.description case.files) told steps state
+    pub said : StartsWith new old
 
   -- an entry would be handed over
   pub record ExplainsBoot (desc : List ℕ) (before after : F) (old new : List ℕ) : Type 0 where
@@ -49,9 +46,9 @@ module _ (A : Type 0) {F : Type 0} (answers : F → List ℕ → File → Type 0
     pub refused : List RefusedEntry
     pub explained : IsExplained desc before after old new (none_left refused)
 
--- the description is a bad one, for what is said
+-- the description is a bad one, for this blame, which is told behind what was said before
 pub record ExplainsBlame (desc old new : List ℕ) : Type 0 where
   pub bad : IsBadDescription desc
   pub blame : Blame
   pub stands : HasBlame desc blame
-  pub said : new ≡ old ++ blame_lines blame (described desc)
+  pub said : StartsWith new old

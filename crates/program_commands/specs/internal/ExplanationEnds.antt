@@ -1,5 +1,6 @@
 -- What the code keeps of how an explanation ends, by its result. Own.
-use Rattle.std.specs.Prelude.{◌≡◌, ℕ, ◌++◌, List, [], Result, Ok, Err}
+use Rattle.std.specs.Prelude.{◌≡◌, ℕ, List, Result, Ok, Err}
+use Rattle.std.specs.Io.{StartsWith}
 use Rattle.bl_load.specs.Handover.{Handover}
 use Rattle.bl_load.specs.declared.refused_entry.RefusedEntry.{RefusedEntry}
 use Rattle.bl_load.specs.declared.step.Step.{Step}
@@ -18,11 +19,10 @@ use Rattle.program_commands.specs.explaining.Explained.{ExplainsRefusals}
 use Rattle.program_say.specs.Sought.{SoughtFacts}
 use Rattle.program_boots.specs.explaining.Details.{AreToldRefusals}
 use Rattle.program_boots.specs.explaining.EntrySteps.{AreStepsAt}
-use Rattle.program_boots.specs.explaining.ExplanationLines.{explanation_lines}
 use Rattle.program_say.specs.declared.subjects.refusal_detail.ToldRefusal.{ToldRefusal}
 
 -- the boot of what was found for a description is explained so: what it came to, of these files,
--- and what is said
+-- and what is told of it, behind what was said before
 abbrev pub ExplainFoundEnds :
     Type 0 → DescriptionFacts → BootFacts → List File → SoughtFacts → (old new : List ℕ)
     → Result End EndFault → Type 0
@@ -32,15 +32,12 @@ ExplainFoundEnds A description facts files sought old new (Ok Booted) =
     × (told : List ToldRefusal)
     × AreToldRefusals facts.machine description.entries sought earlier told
     × (steps : List Step) × AreStepsAt A facts.machine description.entries sought entry steps
-    × (new ≡ old
-    ++ explanation_lines description facts.machine sought told steps
-    (handed_over entry earlier handover))
+    × StartsWith new old
 ExplainFoundEnds A description facts files sought old new (Ok NoEntryLeft) =
     (refused : List RefusedEntry) × IsOutcome facts files no_fault (none_left refused)
     × (told : List ToldRefusal)
     × AreToldRefusals facts.machine description.entries sought refused told
-    × (new ≡ old
-    ++ explanation_lines description facts.machine sought told [] (none_left refused))
+    × StartsWith new old
 ExplainFoundEnds A description facts files sought old new (Err BadDescription) = ⊥
 ExplainFoundEnds A description facts files sought old new (Err Device) = ⊥
 ExplainFoundEnds A description facts files sought old new (Err NoMemory) = new ≡ old

@@ -1,5 +1,6 @@
 -- What the code keeps of a description that is read, with its machine, or of why it is not. Own.
-use Rattle.std.specs.Prelude.{◌≡◌, ◌≢◌, ℕ, ◌++◌, List, Result, Ok, Err, Some}
+use Rattle.std.specs.Prelude.{◌≡◌, ◌≢◌, ℕ, List, Result, Ok, Err, Some}
+use Rattle.std.specs.Io.{StartsWith}
 use Rattle.bl_map.specs.FirmwareFaults.{HasFirstMachineFault}
 use Rattle.bl_map.specs.MachineFacts.{MachineFacts}
 use Rattle.bl_map.specs.declared.fault.MapFault.{MapFault}
@@ -9,8 +10,6 @@ use Rattle.program_desc.specs.Views.{HasMenu, view}
 use Rattle.program_desc.specs.declared.desc.Description.{Description}
 use Rattle.program_desc.specs.declared.fault.DescFault.{DescFault}
 use Rattle.program_desc.specs.declared.fault.DescFault.TheVariants.{BadDescription, NoMemory}
-use Rattle.program_say.specs.declared.subjects.blame.Blame.TheVariants.{BadMachine}
-use Rattle.program_say.specs.blame.BlameLines.{blame_lines}
 use Rattle.program_boots.specs.described.DescribedMachine.{IsBadDescription, IsMachineOf}
 use Rattle.program_commands.specs.declared.described.machine.DescribedMachine.{DescribedMachine}
 use Rattle.program_commands.specs.explaining.Explained.{ExplainsBlame}
@@ -28,12 +27,13 @@ IsReadingFault desc NoMemory = Unit {0}
 
 -- ---- with what is said
 
--- these lines were said, or memory ran out
-abbrev pub SaysLines : (lines old new : List ℕ) → DescFault → Type 0
-SaysLines lines old new BadDescription = new ≡ old ++ lines
-SaysLines lines old new NoMemory = new ≡ old
+-- a blame was told behind what was said before, or memory ran out
+abbrev pub SaysMore : (old new : List ℕ) → DescFault → Type 0
+SaysMore old new BadDescription = StartsWith new old
+SaysMore old new NoMemory = new ≡ old
 
--- why the bytes are not read: they are a bad description, for what is said, or memory ran out
+-- why the bytes are not read: they are a bad description, for a blame that is told, or memory ran
+-- out
 abbrev pub IsReadBlame : (desc old new : List ℕ) → DescFault → Type 0
 IsReadBlame desc old new BadDescription = ExplainsBlame desc old new
 IsReadBlame desc old new NoMemory = new ≡ old
@@ -49,13 +49,13 @@ abbrev pub IsReadOrBlamed : {A : Type 0} → (desc old new : List ℕ)
 IsReadOrBlamed desc old new (Ok description) = IsRead desc old new description
 IsReadOrBlamed desc old new (Err fault) = IsReadBlame desc old new fault
 
--- why there is no such machine: a rule is broken, for what is said, or memory ran out
+-- why there is no such machine: a rule is broken, which is told, or memory ran out
 abbrev pub IsMachineBlame : DescriptionFacts → (old new : List ℕ) → DescFault → Type 0
 IsMachineBlame description old new BadDescription =
     (fault : MapFault) × (fault ≢ map_fault.NoMemory)
     × HasFirstMachineFault description.size description.regions description.pool
     description.firmware fault
-    × (new ≡ old ++ blame_lines (BadMachine fault) (Some description))
+    × StartsWith new old
 IsMachineBlame description old new NoMemory = new ≡ old
 
 -- there is one, and nothing is said

@@ -35,7 +35,7 @@ fn run_explain<A: Allocator + Copy, F: Files, B: Allocator>(
     ensures sought { SeeksNamesOf F.answers F.faults F.asked desc.now files.old files.new result }
 {
     let description = read_or_blame(alloc, global, desc, say)?;
-    let machine = machine_or_blame(alloc, &description, say)?;
+    let machine = machine_or_blame(alloc, desc, &description, say)?;
     let ready = ready_boot(alloc, &description, machine.size(), files, order_of(order))?;
     let ReadyBoot {
         names,

@@ -1,4 +1,4 @@
-//! A description is read, or it is said why not.
+//! A description is read, or it is told why not.
 ghost use Rattle.std.specs.Prelude.{◌≡◌, true, None};
 ghost use Rattle.std.specs.Str.{is_utf8};
 ghost use Rattle.toml.specs.Errors.{IsMemory, IsWithin};
@@ -11,7 +11,7 @@ use program_desc::{DescFault, Description, TableFault, described_in};
 use program_say::Blame;
 use std::alloc::{Allocator, Global};
 
-/// Says what an error of toml's tells of a text that is UTF-8.
+/// Tells what an error of toml's tells of a text that is UTF-8.
 fn say_toml_blame<A: Allocator + Copy, B: Allocator>(
     alloc: A,
     text: &str,
@@ -25,14 +25,15 @@ fn say_toml_blame<A: Allocator + Copy, B: Allocator>(
 {
     match error.span() {
         Some(range) => {
-            let before = &text.as_bytes()[..range.start];
-            blamed(alloc, &Blame::NotToml(text_place(before)), None, say)
+            let desc = text.as_bytes();
+            let place = text_place(&desc[..range.start]);
+            blamed(alloc, desc, &Blame::NotToml(place), None, say)
         }
         None => DescFault::NoMemory,
     }
 }
 
-/// What a text describes, or what is wrong with it, which is said.
+/// What a text describes, or what is wrong with it, which is told.
 fn read_text_or_blame<A: Allocator + Copy, B: Allocator>(
     alloc: A,
     global: Global,
@@ -48,12 +49,15 @@ fn read_text_or_blame<A: Allocator + Copy, B: Allocator>(
     };
     match described_in(alloc, global, &table) {
         Ok(description) => Ok(description),
-        Err(TableFault::BadKey(bad)) => Err(blamed(alloc, &Blame::BadKey(bad), None, say)),
+        Err(TableFault::BadKey(bad)) => {
+            let desc = text.as_bytes();
+            Err(blamed(alloc, desc, &Blame::BadKey(bad), None, say))
+        }
         Err(TableFault::NoMemory) => Err(DescFault::NoMemory),
     }
 }
 
-/// What these bytes describe, or why they describe nothing, which is said.
+/// What these bytes describe, or why they describe nothing, which is told.
 pub fn read_or_blame<A: Allocator + Copy, B: Allocator>(
     alloc: A,
     global: Global,
@@ -64,6 +68,6 @@ pub fn read_or_blame<A: Allocator + Copy, B: Allocator>(
 {
     match std::str::from_utf8(desc) {
         Ok(text) => read_text_or_blame(alloc, global, text, say),
-        Err(_) => Err(blamed(alloc, &Blame::NotUtf8, None, say)),
+        Err(_) => Err(blamed(alloc, desc, &Blame::NotUtf8, None, say)),
     }
 }

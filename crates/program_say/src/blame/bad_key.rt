@@ -1,6 +1,4 @@
 //! A bad key of a description, in words.
-ghost use Rattle.std.specs.Prelude.{◌≡◌, ◌++◌, OnOk, map};
-ghost use Rattle.program_say.specs.blame.BadKeyWords as words;
 
 use crate::blame::key_values::{say_bad_value, say_instead, say_missing};
 use crate::blame::shown_names::say_name;
@@ -9,9 +7,10 @@ use program_desc::{BadKey, Key, KeyFault, KeySet, TablePlace, keys_of};
 use std::alloc::{AllocError, Allocator};
 
 /// Appends a table's path; that of the whole is empty.
-fn say_table<A: Allocator + Copy>(out: &mut Vec<u8, A>, table: TablePlace) -> Result<(), AllocError>
-    ensures { OnOk result (out.new.items ≡ out.old.items ++ words.table_words table) }
-{
+fn say_table<A: Allocator + Copy>(
+    out: &mut Vec<u8, A>,
+    table: TablePlace,
+) -> Result<(), AllocError> {
     match table {
         TablePlace::Description => Ok(()),
         TablePlace::Region(i) => say!(out, "region[{i}]"),
@@ -27,9 +26,7 @@ fn say_table<A: Allocator + Copy>(out: &mut Vec<u8, A>, table: TablePlace) -> Re
 }
 
 /// What joins a table's path to its key.
-fn dot_words(table: TablePlace) -> &'static str
-    ensures { result.now ≡ words.dot_words table }
-{
+fn dot_words(table: TablePlace) -> &'static str {
     match table {
         TablePlace::Description => "",
         _ => ".",
@@ -37,24 +34,18 @@ fn dot_words(table: TablePlace) -> &'static str
 }
 
 /// Appends a key's path.
-#[tactic(auto, unfolding(crate::specs::blame::BadKeyWords::path_words))]
 fn say_path<A: Allocator + Copy>(
     out: &mut Vec<u8, A>,
     table: TablePlace,
     key: &str,
-) -> Result<(), AllocError>
-    ensures { OnOk result (out.new.items ≡ out.old.items ++ words.path_words table key.now) }
-{
+) -> Result<(), AllocError> {
     say_table(out, table)?;
     out.extend_from_slice(dot_words(table).as_bytes())?;
     say_name(out, key.as_bytes())
 }
 
 /// Appends the names of keys, one after the other.
-fn say_keys<A: Allocator + Copy>(out: &mut Vec<u8, A>, keys: &[Key]) -> Result<(), AllocError>
-    ensures { OnOk result (out.new.items
-        ≡ out.old.items ++ words.listed_words (map (λ key. key.name.now) keys.now)) }
-{
+fn say_keys<A: Allocator + Copy>(out: &mut Vec<u8, A>, keys: &[Key]) -> Result<(), AllocError> {
     match keys {
         [] => Ok(()),
         [last] => out.extend_from_slice(last.name.as_bytes()),
@@ -66,9 +57,7 @@ fn say_keys<A: Allocator + Copy>(out: &mut Vec<u8, A>, keys: &[Key]) -> Result<(
 }
 
 /// Appends that a key may not be there, and which may.
-fn say_unknown<A: Allocator + Copy>(out: &mut Vec<u8, A>, known: KeySet) -> Result<(), AllocError>
-    ensures { OnOk result (out.new.items ≡ out.old.items ++ words.unknown_words known) }
-{
+fn say_unknown<A: Allocator + Copy>(out: &mut Vec<u8, A>, known: KeySet) -> Result<(), AllocError> {
     out.extend_from_slice(b" is no key; the keys are ")?;
     say_keys(out, keys_of(known))
 }
@@ -77,9 +66,7 @@ fn say_unknown<A: Allocator + Copy>(out: &mut Vec<u8, A>, known: KeySet) -> Resu
 pub fn say_bad_key<A: Allocator + Copy>(
     out: &mut Vec<u8, A>,
     bad: &BadKey<'_>,
-) -> Result<(), AllocError>
-    ensures { OnOk result (out.new.items ≡ out.old.items ++ words.bad_key_words bad.now) }
-{
+) -> Result<(), AllocError> {
     let table = bad.table;
     match bad.fault {
         KeyFault::NoTable(value) => {

@@ -1,19 +1,13 @@
 //! Whether a word is another one but for one edit of its bytes.
-ghost use Rattle.std.specs.Prelude.{◌≡◌};
-ghost use Rattle.program_say.specs.blame.EditDistance as near;
 
-fn has_extra(word: &[u8], other: &[u8]) -> bool
-    ensures { result ≡ near.has_extra word.now other.now }
-{
+fn has_extra(word: &[u8], other: &[u8]) -> bool {
     match word {
         [] => false,
         [_, rest @ ..] => rest == other,
     }
 }
 
-fn has_replaced(word: &[u8], other: &[u8]) -> bool
-    ensures { result ≡ near.has_replaced word.now other.now }
-{
+fn has_replaced(word: &[u8], other: &[u8]) -> bool {
     match word {
         [] => false,
         [_, rest @ ..] => match other {
@@ -23,9 +17,7 @@ fn has_replaced(word: &[u8], other: &[u8]) -> bool
     }
 }
 
-fn has_swapped(word: &[u8], other: &[u8]) -> bool
-    ensures { result ≡ near.has_swapped word.now other.now }
-{
+fn has_swapped(word: &[u8], other: &[u8]) -> bool {
     match word {
         [] => false,
         [_] => false,
@@ -38,10 +30,7 @@ fn has_swapped(word: &[u8], other: &[u8]) -> bool
 }
 
 /// Whether they are the same but for one edit at the front.
-#[tactic(auto, unfolding(crate::specs::blame::EditDistance::is_edited))]
-fn is_edited(word: &[u8], other: &[u8]) -> bool
-    ensures { result ≡ near.is_edited word.now other.now }
-{
+fn is_edited(word: &[u8], other: &[u8]) -> bool {
     has_extra(word, other)
         || has_extra(other, word)
         || has_replaced(word, other)
@@ -50,10 +39,7 @@ fn is_edited(word: &[u8], other: &[u8]) -> bool
 
 /// Whether one edit makes a word the other one: a byte more, a byte less, another byte, or two
 /// neighbours swapped.
-#[tactic(auto, unfolding(crate::specs::blame::EditDistance::is_one_edit_away))]
-pub fn is_one_edit_away(word: &[u8], other: &[u8]) -> bool
-    ensures { result ≡ near.is_one_edit_away word.now other.now }
-{
+pub fn is_one_edit_away(word: &[u8], other: &[u8]) -> bool {
     match word {
         [] => is_edited(word, other),
         [first, rest @ ..] => match other {

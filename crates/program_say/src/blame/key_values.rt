@@ -1,7 +1,4 @@
 //! What a key of a description holds, and what is allowed there, in words.
-ghost use Rattle.std.specs.Prelude.{◌≡◌, ◌++◌, OnOk};
-ghost use Rattle.toml.specs.View.{view};
-ghost use Rattle.program_say.specs.blame.BadKeyWords as words;
 
 use crate::blame::shown_names::say_name;
 use crate::say;
@@ -10,10 +7,7 @@ use std::alloc::{AllocError, Allocator};
 use toml::Value;
 
 /// Appends a text, or how long it is.
-#[tactic(auto, unfolding(crate::specs::blame::BadKeyWords::held_text_words))]
-fn say_text<A: Allocator + Copy>(out: &mut Vec<u8, A>, text: &str) -> Result<(), AllocError>
-    ensures { OnOk result (out.new.items ≡ out.old.items ++ words.held_text_words text.now) }
-{
+fn say_text<A: Allocator + Copy>(out: &mut Vec<u8, A>, text: &str) -> Result<(), AllocError> {
     if text.len() <= 64 {
         out.extend_from_slice(b"\"")?;
         say_name(out, text.as_bytes())?;
@@ -23,16 +17,12 @@ fn say_text<A: Allocator + Copy>(out: &mut Vec<u8, A>, text: &str) -> Result<(),
     say!(out, "a text of {length} bytes")
 }
 
-fn say_array<A: Allocator + Copy>(out: &mut Vec<u8, A>, count: usize) -> Result<(), AllocError>
-    ensures { OnOk result (out.new.items ≡ out.old.items ++ words.array_words count) }
-{
+fn say_array<A: Allocator + Copy>(out: &mut Vec<u8, A>, count: usize) -> Result<(), AllocError> {
     say!(out, "an array of {count}")
 }
 
 /// Appends what a value is.
-fn say_held<A: Allocator + Copy>(out: &mut Vec<u8, A>, value: &Value) -> Result<(), AllocError>
-    ensures { OnOk result (out.new.items ≡ out.old.items ++ words.held_words (view value.now)) }
-{
+fn say_held<A: Allocator + Copy>(out: &mut Vec<u8, A>, value: &Value) -> Result<(), AllocError> {
     match value {
         Value::String(text) => say_text(out, text.as_str()),
         Value::Integer(n) => say!(out, "{}", *n),
@@ -46,9 +36,7 @@ fn say_held<A: Allocator + Copy>(out: &mut Vec<u8, A>, value: &Value) -> Result<
 }
 
 /// What is allowed, but for how many entries there are.
-fn allowed_front(allowed: Allowed) -> &'static str
-    ensures { result.now ≡ words.allowed_front allowed }
-{
+fn allowed_front(allowed: Allowed) -> &'static str {
     match allowed {
         Allowed::Number => "a number of 0 or more",
         Allowed::Byte => "a number from 0 to 255",
@@ -76,9 +64,7 @@ fn allowed_front(allowed: Allowed) -> &'static str
 pub fn say_allowed<A: Allocator + Copy>(
     out: &mut Vec<u8, A>,
     allowed: Allowed,
-) -> Result<(), AllocError>
-    ensures { OnOk result (out.new.items ≡ out.old.items ++ words.allowed_words allowed) }
-{
+) -> Result<(), AllocError> {
     out.extend_from_slice(allowed_front(allowed).as_bytes())?;
     match allowed {
         Allowed::IndexBelow(count) => say!(out, "{count}"),
@@ -86,22 +72,15 @@ pub fn say_allowed<A: Allocator + Copy>(
     }
 }
 
-#[tactic(auto, unfolding(crate::specs::blame::BadKeyWords::actual_words))]
-fn say_is<A: Allocator + Copy>(out: &mut Vec<u8, A>, value: &Value) -> Result<(), AllocError>
-    ensures { OnOk result (out.new.items ≡ out.old.items ++ words.actual_words (view value.now)) }
-{
+fn say_is<A: Allocator + Copy>(out: &mut Vec<u8, A>, value: &Value) -> Result<(), AllocError> {
     out.extend_from_slice(b" is ")?;
     say_held(out, value)
 }
 
-#[tactic(auto, unfolding(crate::specs::blame::BadKeyWords::must_words))]
 fn say_must_be<A: Allocator + Copy>(
     out: &mut Vec<u8, A>,
     allowed: Allowed,
-) -> Result<(), AllocError>
-    ensures { OnOk result
-        (out.new.items ≡ out.old.items ++ words.must_words (words.allowed_words allowed)) }
-{
+) -> Result<(), AllocError> {
     out.extend_from_slice(b"; it must be ")?;
     say_allowed(out, allowed)
 }
@@ -110,23 +89,17 @@ fn say_must_be<A: Allocator + Copy>(
 pub fn say_missing<A: Allocator + Copy>(
     out: &mut Vec<u8, A>,
     allowed: Allowed,
-) -> Result<(), AllocError>
-    ensures { OnOk result (out.new.items ≡ out.old.items ++ words.missing_words allowed) }
-{
+) -> Result<(), AllocError> {
     out.extend_from_slice(b" is missing; it must be ")?;
     say_allowed(out, allowed)
 }
 
 /// Appends what a value is, and what must stand in its place.
-#[tactic(auto, unfolding(crate::specs::blame::BadKeyWords::must_words))]
 pub fn say_instead<A: Allocator + Copy>(
     out: &mut Vec<u8, A>,
     value: &Value,
     allowed: &str,
-) -> Result<(), AllocError>
-    ensures { OnOk result (out.new.items
-        ≡ out.old.items ++ words.instead_words (view value.now) allowed.now) }
-{
+) -> Result<(), AllocError> {
     say_is(out, value)?;
     say!(out, "; it must be {allowed}")
 }
@@ -136,10 +109,7 @@ pub fn say_bad_value<A: Allocator + Copy>(
     out: &mut Vec<u8, A>,
     value: &Value,
     allowed: Allowed,
-) -> Result<(), AllocError>
-    ensures { OnOk result (out.new.items
-        ≡ out.old.items ++ words.instead_words (view value.now) (words.allowed_words allowed)) }
-{
+) -> Result<(), AllocError> {
     say_is(out, value)?;
     say_must_be(out, allowed)
 }

@@ -1,15 +1,11 @@
 //! A machine's fault, in words.
-ghost use Rattle.std.specs.Prelude.{◌≡◌, ◌++◌, OnOk};
-ghost use Rattle.program_say.specs.blame.BlameLine as blames;
 
 use crate::say;
 use bl_map::MapFault;
 use std::alloc::{AllocError, Allocator};
 
 /// The name of a machine's fault.
-fn map_fault_name(fault: MapFault) -> &'static str
-    ensures { result.now ≡ blames.map_fault_name fault }
-{
+fn map_fault_name(fault: MapFault) -> &'static str {
     match fault {
         // >>> tools/refusals: names of MapFault
         MapFault::BadSize => "BadSize",
@@ -36,9 +32,7 @@ fn map_fault_name(fault: MapFault) -> &'static str
 }
 
 /// What a machine's fault means.
-fn map_fault_meaning(fault: MapFault) -> &'static str
-    ensures { result.now ≡ blames.map_fault_meaning fault }
-{
+fn map_fault_meaning(fault: MapFault) -> &'static str {
     match fault {
         // >>> tools/refusals: meanings of MapFault
         MapFault::BadSize => "a bad size: not 1 MiB to 4 GiB in whole frames",
@@ -87,9 +81,10 @@ fn map_fault_meaning(fault: MapFault) -> &'static str
 }
 
 /// Appends what a machine's fault carries, in brackets: the index of a region, of a range to avoid.
-fn say_carried<A: Allocator + Copy>(out: &mut Vec<u8, A>, fault: MapFault) -> Result<(), AllocError>
-    ensures { OnOk result (out.new.items ≡ out.old.items ++ blames.map_fault_told fault) }
-{
+fn say_carried<A: Allocator + Copy>(
+    out: &mut Vec<u8, A>,
+    fault: MapFault,
+) -> Result<(), AllocError> {
     match fault {
         MapFault::BadRegion(index) | MapFault::BadAvoided(index) => say!(out, "({index})"),
         _ => Ok(()),
@@ -100,9 +95,7 @@ fn say_carried<A: Allocator + Copy>(out: &mut Vec<u8, A>, fault: MapFault) -> Re
 pub(crate) fn say_map_fault<A: Allocator + Copy>(
     out: &mut Vec<u8, A>,
     fault: MapFault,
-) -> Result<(), AllocError>
-    ensures { OnOk result (out.new.items ≡ out.old.items ++ blames.map_fault_words fault) }
-{
+) -> Result<(), AllocError> {
     say!(out, "{} {}", fault.number(), map_fault_name(fault))?;
     say_carried(out, fault)?;
     say!(out, ": {}", map_fault_meaning(fault))

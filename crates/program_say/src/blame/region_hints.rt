@@ -1,25 +1,16 @@
 //! Hints on usable regions that are not made of whole frames, line by line.
-ghost use Rattle.std.specs.Prelude.{◌≡◌, ◌++◌, OnOk};
-ghost use Rattle.bl_map.specs.NormalMap.{region_end};
-ghost use Rattle.program_say.specs.blame.RegionHints as hints;
-ghost use Rattle.program_say.specs.blame.RegionHints.{region_hint, region_hint_at};
 
 use crate::say;
 use bl_map::{FRAME_SIZE, Region};
 use std::alloc::{AllocError, Allocator};
 
 /// Whether the region begins within a frame.
-fn begins_in_frame(region: &Region) -> bool
-    ensures { result ≡ hints.is_unaligned region.now.base }
-{
+fn begins_in_frame(region: &Region) -> bool {
     region.base % FRAME_SIZE != 0
 }
 
 /// Whether the region ends within a frame.
-#[tactic(auto, using(crate::proofs::blame_lemmas::RegionHintLemmas::frame_sum))]
-fn ends_in_frame(region: &Region) -> bool
-    ensures { result ≡ hints.is_unaligned (region_end region.now) }
-{
+fn ends_in_frame(region: &Region) -> bool {
     (region.base % FRAME_SIZE + region.length % FRAME_SIZE) % FRAME_SIZE != 0
 }
 
@@ -27,10 +18,7 @@ fn say_begin_hint<A: Allocator + Copy>(
     out: &mut Vec<u8, A>,
     index: u64,
     region: &Region,
-) -> Result<(), AllocError>
-    ensures { OnOk result
-        (out.new.items ≡ out.old.items ++ hints.region_begin_hint index region.now) }
-{
+) -> Result<(), AllocError> {
     if begins_in_frame(region) {
         return say!(out, "hint: region {index} begins within a frame\n");
     }
@@ -41,10 +29,7 @@ fn say_end_hint<A: Allocator + Copy>(
     out: &mut Vec<u8, A>,
     index: u64,
     region: &Region,
-) -> Result<(), AllocError>
-    ensures { OnOk result
-        (out.new.items ≡ out.old.items ++ hints.region_end_hint index region.now) }
-{
+) -> Result<(), AllocError> {
     if ends_in_frame(region) {
         return say!(out, "hint: region {index} ends within a frame\n");
     }
@@ -56,9 +41,7 @@ fn say_region_hint<A: Allocator + Copy>(
     out: &mut Vec<u8, A>,
     index: u64,
     region: &Region,
-) -> Result<(), AllocError>
-    ensures { OnOk result (out.new.items ≡ out.old.items ++ region_hint index region.now) }
-{
+) -> Result<(), AllocError> {
     if region.kind.number() != 1 {
         return Ok(());
     }
@@ -70,9 +53,7 @@ fn say_region_hint_at<A: Allocator + Copy>(
     out: &mut Vec<u8, A>,
     regions: &[Region],
     index: usize,
-) -> Result<(), AllocError>
-    ensures { OnOk result (out.new.items ≡ out.old.items ++ region_hint_at regions.now index) }
-{
+) -> Result<(), AllocError> {
     match regions.get(index) {
         Some(region) => say_region_hint(out, index as u64, region),
         None => Ok(()),
@@ -83,9 +64,7 @@ fn say_region_hint_at<A: Allocator + Copy>(
 pub fn say_region_hints<A: Allocator + Copy>(
     out: &mut Vec<u8, A>,
     regions: &[Region],
-) -> Result<(), AllocError>
-    ensures { OnOk result (out.new.items ≡ out.old.items ++ hints.region_hints regions.now) }
-{
+) -> Result<(), AllocError> {
     for index in 0..regions.len() {
         say_region_hint_at(out, regions, index)?;
     }

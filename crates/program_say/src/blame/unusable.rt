@@ -1,28 +1,11 @@
 //! A byte on which no part may lie.
-ghost use Rattle.std.specs.Prelude.{◌≡◌, ◌++◌, OnOk};
-ghost use Rattle.program_say.specs.blame.UnusableAddress as words;
 
-use crate::say;
+use crate::lines::say_address;
 use bl_map::{FIRST_USABLE, Kind, USABLE_LIMIT};
 use std::alloc::{AllocError, Allocator};
 
-/// Appends an address between two texts.
-pub fn say_address<A: Allocator + Copy>(
-    out: &mut Vec<u8, A>,
-    before: &str,
-    address: u64,
-    behind: &str,
-) -> Result<(), AllocError>
-    ensures { OnOk result (out.new.items ≡ out.old.items
-        ++ words.address_words before.now address behind.now) }
-{
-    say!(out, "{before}{address:08x}{behind}")
-}
-
 /// Why no part may lie on a byte of kind usable.
-fn limit_words(size: u64, address: u64) -> &'static str
-    ensures { result.now ≡ words.limit_words size address }
-{
+fn limit_words(size: u64, address: u64) -> &'static str {
     if address < FIRST_USABLE {
         return "in the first frame";
     }
@@ -33,9 +16,7 @@ fn limit_words(size: u64, address: u64) -> &'static str
 }
 
 /// Why no part may lie on a byte of this kind.
-fn unusable_words(size: u64, address: u64, kind: Option<Kind>) -> &'static str
-    ensures { result.now ≡ words.unusable_words size address kind }
-{
+fn unusable_words(size: u64, address: u64, kind: Option<Kind>) -> &'static str {
     match kind {
         None => "in no region",
         Some(Kind::Usable) => limit_words(size, address),
@@ -49,18 +30,14 @@ pub fn say_unusable<A: Allocator + Copy>(
     size: u64,
     address: u64,
     kind: Option<Kind>,
-) -> Result<(), AllocError>
-    ensures { OnOk result (out.new.items ≡ out.old.items ++ words.unusable_line size address kind) }
-{
+) -> Result<(), AllocError> {
     say_address(out, "not usable ", address, " ")?;
     out.extend_from_slice(unusable_words(size, address, kind).as_bytes())?;
     out.extend_from_slice(b"\n")
 }
 
 /// Whether a byte of kind usable is usable.
-fn is_within_limits(size: u64, address: u64) -> bool
-    ensures { result ≡ words.is_within_limits size address }
-{
+fn is_within_limits(size: u64, address: u64) -> bool {
     FIRST_USABLE <= address && address < size && address < USABLE_LIMIT
 }
 
@@ -71,10 +48,7 @@ pub fn say_unplaceable<A: Allocator + Copy>(
     size: u64,
     address: u64,
     kind: Option<Kind>,
-) -> Result<(), AllocError>
-    ensures { OnOk result (out.new.items
-        ≡ out.old.items ++ words.unplaceable_line size address kind) }
-{
+) -> Result<(), AllocError> {
     match kind {
         Some(Kind::Usable) => {
             if is_within_limits(size, address) {

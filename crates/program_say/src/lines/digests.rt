@@ -1,7 +1,7 @@
 //! The digests of an image and of its parts, line by line.
 ghost use Rattle.std.specs.Prelude.{◌≡◌, ◌++◌, OnOk, IfOk, decimal, string_bytes};
 ghost use Rattle.std.specs.List.{flat_map};
-ghost use Rattle.program_say.specs.blame.Addresses.{hex8};
+ghost use Rattle.program_say.specs.Addresses.{hex8};
 ghost use Rattle.program_say.specs.DigestLines as says;
 ghost use Rattle.program_say.specs.DigestLines.{at_right, part_digest_line};
 

@@ -1,10 +1,9 @@
 //! The frames of the pool that an entry's files take, in a line.
-ghost use Rattle.std.specs.Prelude.{◌≡◌, ◌*◌, ◌≤◌, ◌^◌, ◌++◌, OnOk, length, map};
+ghost use Rattle.std.specs.Prelude.{◌≡◌, ◌*◌, ◌≤◌, ◌^◌, OnErr, OnOk, length, map};
+ghost use Rattle.std.specs.Io.{StartsWith};
 ghost use Rattle.bl_map.specs.PoolFrames as room;
-ghost use Rattle.bl_plan.specs.Placed.{place_range};
 ghost use Rattle.program_desc.specs.EntryNames.{file_names, names_beside};
-ghost use Rattle.program_say.specs.Frames.{frames_line, frames_wanted, length_found, names_at};
-ghost use Rattle.program_say.specs.Frames.{number_between, sought_frames_line};
+ghost use Rattle.program_say.specs.internal.Frames.{frames_wanted, length_found, names_at};
 ghost use Rattle.program_desc.specs.Views.{entry_view, form_view, module_view, view};
 
 use crate::say;
@@ -83,16 +82,12 @@ pub fn frames_at<A: Allocator, B: Allocator>(
 }
 
 /// Appends a number between two texts.
-#[tactic(auto, unfolding(crate::specs::Frames::number_between))]
 pub fn say_counted<A: Allocator + Copy>(
     out: &mut Vec<u8, A>,
     before: &str,
     count: u64,
     behind: &str,
-) -> Result<(), AllocError>
-    ensures { OnOk result
-        (out.new.items ≡ out.old.items ++ number_between before.now count behind.now) }
-{
+) -> Result<(), AllocError> {
     say!(out, "{before}{count}{behind}")
 }
 
@@ -101,15 +96,14 @@ pub fn say_frames<A: Allocator + Copy>(
     wanted: u64,
     beside: u64,
     all: u64,
-) -> Result<(), AllocError>
-    ensures { OnOk result (out.new.items ≡ out.old.items ++ frames_line wanted beside all) }
-{
+) -> Result<(), AllocError> {
     say_counted(out, "frames ", wanted, " wanted, ")?;
     say_counted(out, "", beside, " open, ")?;
     say_counted(out, "", all, " in all\n")
 }
 
-/// Appends the line of the frames of an entry that is handed over.
+/// Appends the line of the frames of an entry that is handed over. An error leaves the text as it
+/// was.
 pub fn say_handoff_frames<A: Allocator + Copy, B: Allocator>(
     out: &mut Vec<u8, A>,
     description: &Description<B>,
@@ -118,14 +112,15 @@ pub fn say_handoff_frames<A: Allocator + Copy, B: Allocator>(
     entry: u32,
     handoff: &Handoff<B>,
 ) -> Result<(), AllocError>
-    ensures { OnOk result (out.new.items ≡ out.old.items
-        ++ sought_frames_line sought.now (names_at (view description.now).entries entry)
-        machine.now.pool (map place_range handoff.now.places)) }
+    ensures ok { OnOk result (StartsWith out.new.items out.old.items) }
+    ensures err { OnErr result (out.new.items ≡ out.old.items) }
 {
     let wanted = frames_at(description, sought, entry);
     let pool = machine.pool();
     // For the proof: places ascend.
     handoff.len();
     let beside = open_frames(&pool, handoff.ranges());
-    say_frames(out, wanted, beside, frames_in(&pool))
+    let mut lines = Vec::new(*out.allocator());
+    say_frames(&mut lines, wanted, beside, frames_in(&pool))?;
+    out.extend_from_slice(&lines)
 }

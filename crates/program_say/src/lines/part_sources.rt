@@ -1,8 +1,6 @@
 //! Where the bytes of a part come from, in words.
-ghost use Rattle.std.specs.Prelude.{◌≡◌, ◌++◌, OnOk};
-ghost use Rattle.std.specs.List.{filter};
-ghost use Rattle.program_say.specs.PartSources as sources;
-ghost use Rattle.program_say.specs.PartSources.{is_told, steps_words};
+ghost use Rattle.std.specs.Prelude.{◌≡◌};
+ghost use Rattle.program_say.specs.internal.PartSources.{is_told};
 
 use crate::say;
 use bl_load::{Place, Step, StepSource};
@@ -10,7 +8,7 @@ use std::alloc::{AllocError, Allocator};
 
 /// Whether the step begins at the place and is not of zeros.
 fn is_of(place: &Place, step: &Step) -> bool
-    ensures { result ≡ sources.is_told place.now step.now }
+    ensures { result ≡ is_told place.now step.now }
 {
     if let StepSource::Zeros = step.source {
         return false;
@@ -26,9 +24,7 @@ fn say_file<A: Allocator + Copy>(
     out: &mut Vec<u8, A>,
     is_first: bool,
     file: usize,
-) -> Result<(), AllocError>
-    ensures { OnOk result (out.new.items ≡ out.old.items ++ sources.file_front is_first file) }
-{
+) -> Result<(), AllocError> {
     if is_first {
         return say!(out, "file {file}");
     }
@@ -40,10 +36,7 @@ fn say_step<A: Allocator + Copy>(
     out: &mut Vec<u8, A>,
     is_first: bool,
     step: &Step,
-) -> Result<(), AllocError>
-    ensures { OnOk result (out.new.items
-        ≡ out.old.items ++ sources.step_words is_first step.now.source step.now.length) }
-{
+) -> Result<(), AllocError> {
     let count = step.length;
     match step.source {
         StepSource::File { file, offset } => {
@@ -62,10 +55,7 @@ pub fn say_steps<A: Allocator + Copy>(
     is_first: bool,
     steps: &[Step],
     place: &Place,
-) -> Result<(), AllocError>
-    ensures { OnOk result (out.new.items
-        ≡ out.old.items ++ steps_words is_first (filter (is_told place.now) steps.now)) }
-{
+) -> Result<(), AllocError> {
     match steps {
         [] => {
             if is_first {

@@ -1,6 +1,4 @@
 //! A refusal, told by its number, its name and its meaning.
-ghost use Rattle.std.specs.Prelude.{◌≡◌, ◌++◌, OnOk};
-ghost use Rattle.program_say.specs.RefusalLine.{refusal_told, refusal_line};
 
 use crate::lines::refusal_words::{refusal_meaning, refusal_name};
 use crate::say;
@@ -12,9 +10,7 @@ use std::alloc::{AllocError, Allocator};
 fn say_carried<A: Allocator + Copy>(
     out: &mut Vec<u8, A>,
     refusal: Refusal,
-) -> Result<(), AllocError>
-    ensures { OnOk result (out.new.items ≡ out.old.items ++ refusal_told refusal) }
-{
+) -> Result<(), AllocError> {
     match refusal {
         // >>> tools/refusals: brackets of Refusal
         Refusal::NoFile(n)
@@ -35,9 +31,7 @@ fn say_carried<A: Allocator + Copy>(
 pub fn say_explained_refusal<A: Allocator + Copy>(
     out: &mut Vec<u8, A>,
     refusal: Refusal,
-) -> Result<(), AllocError>
-    ensures { OnOk result (out.new.items ≡ out.old.items ++ refusal_line refusal) }
-{
+) -> Result<(), AllocError> {
     say!(
         out,
         "refused {} {}",

@@ -1,40 +1,30 @@
 //! The detail of a refusal, line by line.
-ghost use Rattle.std.specs.Prelude.{◌≡◌, ◌++◌, OnOk};
-ghost use Rattle.bl_map.specs.Kinds.{kind_of};
-ghost use Rattle.bl_map.specs.NormalMap.{kind_at};
-ghost use Rattle.program_say.specs.DetailLines as words;
-ghost use Rattle.program_desc.specs.Views.{view};
 
-use crate::blame::{say_address, say_unplaceable};
+use crate::blame::say_unplaceable;
+use crate::lines::addresses::say_address;
 use crate::lines::frames::{frames_at, say_counted, say_frames};
 use crate::lines::part_names::part_name;
 use crate::say;
 use crate::subjects::{RefusalDetail, Sought};
 use bl_load::{Choice, Row};
-use bl_map::{Kind, Machine, frames_in};
+use bl_map::{Machine, frames_in};
 use program_desc::Description;
 use std::alloc::{AllocError, Allocator};
 
 /// Appends where a part may lie.
-#[tactic(auto, unfolding(crate::specs::blame::UnusableAddress::address_words))]
 fn say_window<A: Allocator + Copy>(
     out: &mut Vec<u8, A>,
     align: u64,
     low: u64,
     high: u64,
-) -> Result<(), AllocError>
-    ensures { OnOk result (out.new.items ≡ out.old.items ++ words.window_words align low high) }
-{
+) -> Result<(), AllocError> {
     say_address(out, "from ", low, " to ")?;
     say_address(out, "", high, ", alignment ")?;
     say!(out, "{align}")
 }
 
 /// Appends how a part's address is chosen.
-#[tactic(auto, unfolding(crate::specs::blame::UnusableAddress::address_words))]
-fn say_choice<A: Allocator + Copy>(out: &mut Vec<u8, A>, choice: Choice) -> Result<(), AllocError>
-    ensures { OnOk result (out.new.items ≡ out.old.items ++ words.choice_words choice) }
-{
+fn say_choice<A: Allocator + Copy>(out: &mut Vec<u8, A>, choice: Choice) -> Result<(), AllocError> {
     match choice {
         Choice::Fixed(at) => say_address(out, "at ", at, ""),
         Choice::Lowest { align, low, high } => {
@@ -59,9 +49,7 @@ fn say_choice<A: Allocator + Copy>(out: &mut Vec<u8, A>, choice: Choice) -> Resu
 
 /// Appends the line of a part that finds no place: which one of its role it is, its length, and
 /// how its address is chosen.
-fn say_no_place<A: Allocator + Copy>(out: &mut Vec<u8, A>, row: &Row) -> Result<(), AllocError>
-    ensures { OnOk result (out.new.items ≡ out.old.items ++ words.no_place_line row.now) }
-{
+fn say_no_place<A: Allocator + Copy>(out: &mut Vec<u8, A>, row: &Row) -> Result<(), AllocError> {
     say!(
         out,
         "no place {} {} {} ",
@@ -73,21 +61,11 @@ fn say_no_place<A: Allocator + Copy>(out: &mut Vec<u8, A>, row: &Row) -> Result<
     out.extend_from_slice(b"\n")
 }
 
-/// The kind of an address, if it has one.
-fn kind_of_byte<B: Allocator>(machine: &Machine<B>, address: u64) -> Option<Kind>
-    ensures { result ≡ kind_of (kind_at machine.now.runs address) }
-{
-    machine.kind_at(address)
-}
-
 /// Appends how many ranges the machine has to avoid, if there are any.
 fn say_avoided_count<A: Allocator + Copy, B: Allocator>(
     out: &mut Vec<u8, A>,
     machine: &Machine<B>,
-) -> Result<(), AllocError>
-    ensures { OnOk result (out.new.items ≡ out.old.items
-        ++ words.avoided_count_line machine.now) }
-{
+) -> Result<(), AllocError> {
     match machine.avoided().len() {
         0 => Ok(()),
         count => say!(out, "ranges {count} avoided\n"),
@@ -99,13 +77,10 @@ fn say_unplaceable_if<A: Allocator + Copy, B: Allocator>(
     out: &mut Vec<u8, A>,
     machine: &Machine<B>,
     unplaceable: Option<u64>,
-) -> Result<(), AllocError>
-    ensures { OnOk result (out.new.items ≡ out.old.items
-        ++ words.unplaceable_lines machine.now unplaceable) }
-{
+) -> Result<(), AllocError> {
     match unplaceable {
         Some(address) => {
-            let kind = kind_of_byte(machine, address);
+            let kind = machine.kind_at(address);
             say_unplaceable(out, machine.size(), address, kind)
         }
         None => say_avoided_count(out, machine),
@@ -118,10 +93,7 @@ fn say_pool_frames<A: Allocator + Copy>(
     wanted: u64,
     all: u64,
     beside: Option<u64>,
-) -> Result<(), AllocError>
-    ensures { OnOk result (out.new.items ≡ out.old.items
-        ++ words.pool_frames_line wanted all beside) }
-{
+) -> Result<(), AllocError> {
     match beside {
         Some(beside) => say_frames(out, wanted, beside, all),
         None => {
@@ -139,10 +111,7 @@ pub fn say_detail<A: Allocator + Copy, B: Allocator>(
     sought: &Sought<'_, A>,
     entry: u32,
     detail: RefusalDetail,
-) -> Result<(), AllocError>
-    ensures { OnOk result (out.new.items ≡ out.old.items
-        ++ words.detail_lines (view description.now).entries machine.now sought.now entry detail) }
-{
+) -> Result<(), AllocError> {
     match detail {
         RefusalDetail::Nothing => Ok(()),
         RefusalDetail::NoPlace { row, unplaceable } => {

@@ -1,13 +1,9 @@
 //! The names and the meanings of refusals.
-ghost use Rattle.std.specs.Prelude.{◌≡◌};
-ghost use Rattle.program_say.specs.RefusalWords as words;
 
 use bl_load::Refusal;
 
 /// The refusal's name.
-pub fn refusal_name(refusal: Refusal) -> &'static str
-    ensures { result.now ≡ words.refusal_name refusal }
-{
+pub fn refusal_name(refusal: Refusal) -> &'static str {
     match refusal {
         // >>> tools/refusals: names of Refusal
         Refusal::NoFile(_) => "NoFile",
@@ -45,9 +41,7 @@ pub fn refusal_name(refusal: Refusal) -> &'static str
 }
 
 /// What the refusal means.
-pub fn refusal_meaning(refusal: Refusal) -> &'static str
-    ensures { result.now ≡ words.refusal_meaning refusal }
-{
+pub fn refusal_meaning(refusal: Refusal) -> &'static str {
     match refusal {
         // >>> tools/refusals: meanings of Refusal
         Refusal::NoFile(_) => "the file can't be read: it is missing, or no regular file",

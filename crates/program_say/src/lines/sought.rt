@@ -1,9 +1,5 @@
 //! The files of an entry that is attempted, line by line.
-ghost use Rattle.std.specs.Prelude.{◌≡◌, ◌+◌, ◌<◌, ◌^◌, ◌++◌, OnOk, Option, length, map};
-ghost use Rattle.program_desc.specs.EntryNames.{file_names};
-ghost use Rattle.program_say.specs.Sought as sought_files;
-ghost use Rattle.program_say.specs.Sought.{sought_line, sought_lines};
-ghost use Rattle.program_desc.specs.Views.{entry_view, module_view};
+ghost use Rattle.std.specs.Prelude.{◌+◌, ◌<◌, ◌^◌, length};
 
 use crate::blame::say_name;
 use crate::say;
@@ -18,9 +14,7 @@ fn say_front<A: Allocator + Copy>(
     out: &mut Vec<u8, A>,
     place: u64,
     size: Option<u64>,
-) -> Result<(), AllocError>
-    ensures { OnOk result (out.new.items ≡ out.old.items ++ sought_files.sought_front place size) }
-{
+) -> Result<(), AllocError> {
     match size {
         None => say!(out, "no file {place} "),
         Some(size) => say!(out, "file {place} {size} {} ", frames_of(size)),
@@ -33,9 +27,7 @@ fn say_sought<A: Allocator + Copy>(
     sought: &Sought<'_, A>,
     place: u64,
     name: &str,
-) -> Result<(), AllocError>
-    ensures { OnOk result (out.new.items ≡ out.old.items ++ sought_line sought.now place name.now) }
-{
+) -> Result<(), AllocError> {
     say_front(out, place, sought.size(name))?;
     say_name(out, name.as_bytes())?;
     out.extend_from_slice(b"\n")
@@ -49,8 +41,6 @@ fn say_modules<A: Allocator + Copy, B: Allocator>(
     modules: &[ModuleRow<B>],
 ) -> Result<(), AllocError>
     requires { place + length modules.now < 2 ^ 64 }
-    ensures { OnOk result (out.new.items ≡ out.old.items
-        ++ sought_lines sought.now place (map (λ m. m.file) (map module_view modules.now))) }
 {
     match modules {
         [] => Ok(()),
@@ -66,10 +56,7 @@ pub fn say_entry_files<A: Allocator + Copy, B: Allocator>(
     out: &mut Vec<u8, A>,
     sought: &Sought<'_, A>,
     entry: &EntryRow<B>,
-) -> Result<(), AllocError>
-    ensures { OnOk result (out.new.items ≡ out.old.items
-        ++ sought_lines sought.now 0 (file_names (entry_view entry.now))) }
-{
+) -> Result<(), AllocError> {
     say_sought(out, sought, 0, entry.kernel.as_str())?;
     match &entry.form {
         EntryForm::Multiboot2 { modules, .. } => say_modules(out, sought, 1, &modules.rows),

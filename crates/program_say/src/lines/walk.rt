@@ -1,5 +1,5 @@
 //! What a kernel sees in an image, line by line.
-#![tactic(auto, unfolding(crate::specs::blame::UnusableAddress::address_words))]
+#![tactic(auto, unfolding(crate::specs::Addresses::address_words))]
 
 ghost use Rattle.std.specs.Prelude.{◌≡◌, ◌≤◌, ◌++◌, All, OnOk, OnErr, codes};
 ghost use Rattle.std.specs.List.{flat_map};
@@ -10,7 +10,7 @@ ghost use Rattle.program_say.specs.FirmwareLines.{firmware_lines};
 ghost use Rattle.program_say.specs.WalkLines as says;
 ghost use Rattle.program_say.specs.WalkLines.{kernel_line, module_line, seen_run_line};
 
-use crate::blame::say_address;
+use crate::lines::addresses::say_address;
 use crate::lines::firmware::say_firmware;
 use crate::lines::hex16::say_hex16;
 use crate::say;

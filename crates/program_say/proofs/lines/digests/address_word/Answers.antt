@@ -1,7 +1,7 @@
 use Rattle.std.proofs.Common.{arith, ◌≡◌, ◌∙◌, ◌^◌, ◌-◌}
 use Rattle.std.specs.Prelude.{string_bytes}
 use Rattle.std.proofs.lemmas.Grind.{common_steps}
-use Rattle.program_say.proofs.blame_lemmas.AddressLemmas.{hex8_hole, hex8_is}
+use Rattle.program_say.proofs.AddressLemmas.{hex8_hole, hex8_is}
 use Rattle.program_say.proofs.lines.digests.address_word.Goals as goal
 
 pub returns : goal.returns

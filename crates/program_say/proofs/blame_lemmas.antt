@@ -1,6 +1,0 @@
-pub mod AddressLemmas
-pub mod CountedLemmas
-pub mod KeyLemmas
-pub mod RegionHintLemmas
-pub mod PoolLemmas
-pub mod RadixHintLemmas
