@@ -16,7 +16,7 @@ fn reserve<M: PhysMem>(memory: &mut M, ranges: &[Range<u64>]) -> Answered {
 /// Gives room to so many bytes from an address on.
 fn give_room<M: PhysMem>(memory: &mut M, at: u64, count: u64) -> Answered {
     let end = at.checked_add(count).ok_or(Stop::BadRow)?;
-    reserve(memory, &[at..end])
+    reserve(memory, std::slice::from_ref(&(at..end)))
 }
 
 /// Gives room to the pool, as a call asks. An empty one needs none, wherever it is.
