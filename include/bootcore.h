@@ -59,10 +59,8 @@ extern "C" {
 #elif defined(__AARCH64EL__) && defined(__LP64__) && defined(BOOTCORE_FROM_SOURCE)
 #define BOOTCORE_CALL
 #define BOOTCORE_CHECKED __attribute__((warn_unused_result))
-#elif defined(__AARCH64EL__) && defined(__LP64__)
-#error "bootcore is for x86-64; with the plain source's archive define BOOTCORE_FROM_SOURCE"
 #else
-#error "bootcore is for x86-64, and for compilers with the attributes of GCC and Clang"
+#error "bootcore is for x86-64, by GCC or Clang; BOOTCORE_FROM_SOURCE is for aarch64's archive"
 #endif
 
 #define BOOTCORE_VERSION 10000 /* major * 10000 + minor * 100 + patch */
