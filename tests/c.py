@@ -3,6 +3,8 @@
 import hashlib
 import re
 import shutil
+import subprocess
+import time
 import unittest
 from pathlib import Path
 from typing import List, Optional, Tuple
@@ -11,6 +13,8 @@ from tests import examples
 from tests.c_core import CC, FREESTANDING, HEADER, WARNINGS, CoreChecks, build, build_freestanding, libraries, why_left_out
 from tests.changed_images import change, changed_images
 from tests.support import PLAIN, PROGRAM, TOP, Checks, Ran, has_tomllib, is_at_hand, need_built, run
+
+OVMF = Path("/usr/share/ovmf/OVMF.fd")
 
 DISK = """\
 entry 0 refused 2 1
@@ -406,27 +410,48 @@ class Cases(CoreChecks):
             self.link_for_windows()
 
     def link_for_windows(self) -> None:
-        """By the two commands of docs/EMBED.md the archive for firmware is an object for a linker of PE/COFF."""
+        """By tools/coff the archive for firmware is an object for a linker of PE/COFF: what that links does in firmware what it does here."""
         sentence = "a program of UEFI is linked with the archive for firmware by a linker of PE/COFF"
-        missing = [tool for tool in ("ar", "objcopy", "clang", "lld-link") if shutil.which(tool) is None]
+        missing = [tool for tool in ("ar", "clang", "lld-link") if shutil.which(tool) is None]
         if missing:
             self.leave_out(sentence, f"{missing[0]} is not at hand")
             return
-        folder = self.room / "pe"
-        folder.mkdir()
-        (folder / "app.c").write_text(
-            '#include "bootcore.h"\nint efi_main(void *image, void *table) { return (int)bootcore_version() + (image == table); }\n', encoding="utf-8"
-        )
+        folder, source = self.room / "pe", TOP / "tests/drivers/coff.c"
+        boot = folder / "disk/EFI/BOOT"
+        boot.mkdir(parents=True)
+        numbers = ", ".join(map(str, examples.multiboot2_kernel()))
+        (folder / "kernel.h").write_text(f"static const unsigned char kernel[] = {{{numbers}}};\n", encoding="utf-8")
+        flags = ["-std=c99", *WARNINGS, "-I", str(HEADER.parent), "-I", str(folder), *(["-DBOOTCORE_FROM_SOURCE"] if PLAIN else [])]
+        alone = ["--target=x86_64-unknown-windows", "-ffreestanding", "-mno-red-zone", "-fno-stack-protector"]
         for words in [
-            ["ar", "x", FREESTANDING],
-            ["objcopy", "-O", "pe-x86-64", "bootcore.o", "bootcore.obj"],
-            ["clang", "--target=x86_64-unknown-windows", "-ffreestanding", "-mno-red-zone", f"-I{TOP / 'include'}", "-c", "app.c", "-o", "app.obj"],
-            ["lld-link", "/subsystem:efi_application", "/entry:efi_main", "/nodefaultlib", "/out:app.efi", "app.obj", "bootcore.obj"],
+            [TOP / "tools/coff", FREESTANDING, "bootcore.obj"],
+            ["clang", *alone, *flags, "-c", source, "-o", "app.obj"],
+            ["lld-link", "/subsystem:efi_application", "/entry:efi_main", "/nodefaultlib", f"/out:{boot}/BOOTX64.EFI", "app.obj", "bootcore.obj"],
         ]:
             ran = run(*words, cwd=folder)
             if ran.status != 0:
                 break
         self.ends(sentence, ran, 0)
+        self.run_in_firmware(folder, run(*CC, *flags, source, FREESTANDING, "-o", folder / "here"))
+
+    def run_in_firmware(self, folder: Path, built: Ran) -> None:
+        sentence = "that program prints under OVMF what it prints here"
+        if not is_at_hand("qemu-system-x86_64") or not OVMF.exists():
+            self.leave_out(sentence, "qemu-system-x86_64 with OVMF is not at hand")
+            return
+        self.assert_ended(built)
+        here, log = run(folder / "here"), folder / "log"
+        machine = "-m 256 -display none -net none -no-reboot -global isa-debugcon.iobase=0x402".split()
+        disk = ["-drive", f"file=fat:rw:{folder}/disk,format=raw", "-debugcon", f"file:{log}"]
+        with subprocess.Popen(["qemu-system-x86_64", "-bios", OVMF, *machine, *disk], stdout=subprocess.DEVNULL, stderr=subprocess.DEVNULL) as emulated:
+            told, ends = "", time.monotonic() + 120
+            while "the end\n" not in told and time.monotonic() < ends:
+                time.sleep(0.5)
+                told = log.read_text(encoding="utf-8", errors="replace") if log.exists() else ""
+            emulated.kill()
+        with self.check(sentence):
+            self.assertRegex(here.out.decode(), r"\Aversion (?s:.*)\nthe end\n\Z")
+            self.assertIn(here.out.decode(), told)
 
     def run_cases(self, sentence: str, driver: Optional[Path]) -> None:
         if driver is None:
